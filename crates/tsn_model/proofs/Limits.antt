@@ -1,0 +1,88 @@
+-- How large the numbers of a network within its limits are.
+use Rattle.std.proofs.Common.{ℕ, ◌+◌, ◌*◌, ◌≤◌, ◌<◌, [], length, take, All, arith, mul-le-mul, mul-pos, length-take}
+use Rattle.std.proofs.lemmas.List.Sums.{sum_by-le}
+use Rattle.std.proofs.lemmas.List.Elements.{All-take, All-weaker}
+use Rattle.tsn_model.specs.Network.{Network, IsWellFormed, IsLink, IsStream, stream_count, stream_at, octets_of, route_of, hop_count, link_at, proc_at}
+use Rattle.tsn_model.proofs.Routes.{rate-pos}
+use Rattle.tsn_model.specs.Timing.{occupancy, transfer, hop_delay, start}
+
+module _ (network : Network) (formed : IsWellFormed network) where
+  stream_formed : (i : ℕ) → i < stream_count network → IsStream network (stream_at network i)
+  unfolding stream_at
+  stream_formed i below = formed.streams i (record { octets = 0; route = [] }) below
+
+  pub octets-le : (i : ℕ) → i < stream_count network → octets_of network i ≤ 1522
+  unfolding octets_of
+  octets-le i below = (stream_formed i below).not_long
+
+  pub hops-le : (i : ℕ) → i < stream_count network → hop_count network i ≤ 16
+  unfolding route_of
+  hops-le i below = (stream_formed i below).route.few_links
+
+  pub hops-pos : (i : ℕ) → i < stream_count network → 1 ≤ hop_count network i
+  unfolding route_of
+  hops-pos i below = (stream_formed i below).route.some_link
+
+  pub route_exists : (i : ℕ) → i < stream_count network → All (λ link. link < length network.links) (route_of network i)
+  unfolding route_of
+  route_exists i below = (stream_formed i below).route.links_exist
+
+  link_formed : (link : ℕ) → link < length network.links → IsLink network (link_at network link)
+  unfolding link_at
+  link_formed link below = formed.links link (record { from = 0; to = 0; r = 0; prop = 0 }) below
+
+  pub rate-le : (link : ℕ) → link < length network.links → (link_at network link).r ≤ 800
+  rate-le link below = let is = (link_formed link below).rate in grind (arith, is)
+
+  pub prop-le : (link : ℕ) → link < length network.links → (link_at network link).prop ≤ 1000000
+  prop-le link below = (link_formed link below).prop
+
+  pub to-lt : (link : ℕ) → link < length network.links → (link_at network link).to < length network.procs
+  to-lt link below = (link_formed link below).to
+
+  pub proc-le : (node : ℕ) → node < length network.procs → proc_at network node ≤ 1000000
+  proc-le node below = formed.procs node 0 below
+
+  pub occupancy-le : (i link : ℕ) → i < stream_count network → link < length network.links → occupancy network i link ≤ 1233600
+  unfolding occupancy
+  occupancy-le i link stream_below link_below =
+      let octets = octets-le i stream_below in
+      let rate = rate-le link link_below in
+      let sum : octets_of network i + 20 ≤ 1542 = omega arith in
+      let product : (octets_of network i + 20) * (link_at network link).r ≤ 1542 * 800 = mul-le-mul sum rate in
+      omega arith
+
+  pub occupancy-ge : (i link : ℕ) → link < length network.links → 1 ≤ occupancy network i link
+  unfolding occupancy
+  occupancy-ge i link below =
+      let rate = rate-pos network formed link below in
+      let product : 0 < (octets_of network i + 20) * (link_at network link).r = mul-pos (omega arith) rate in
+      omega arith
+
+  pub transfer-le : (i link : ℕ) → i < stream_count network → link < length network.links → transfer network i link ≤ 2224000
+  unfolding transfer
+  transfer-le i link stream_below link_below =
+      let octets = octets-le i stream_below in
+      let rate = rate-le link link_below in
+      let prop = prop-le link link_below in
+      let sum : octets_of network i + 8 ≤ 1530 = omega arith in
+      let product : (octets_of network i + 8) * (link_at network link).r ≤ 1530 * 800 = mul-le-mul sum rate in
+      omega arith
+
+  pub hop_delay-le : (i link : ℕ) → i < stream_count network → link < length network.links → hop_delay network i link ≤ 3224000
+  unfolding hop_delay
+  hop_delay-le i link stream_below link_below =
+      let whole = transfer-le i link stream_below link_below in
+      let proc = proc-le (link_at network link).to (to-lt link link_below) in
+      omega arith
+
+  pub start-le : (i k : ℕ) → i < stream_count network → start network i k ≤ 51584000
+  unfolding start
+  start-le i k below =
+      let each : All (λ link. hop_delay network i link ≤ 3224000) (take k (route_of network i)) =
+      All-take (λ link. hop_delay network i link ≤ 3224000) k (route_of network i)
+      (All-weaker (λ link. link < length network.links) (λ link. hop_delay network i link ≤ 3224000) (λ link exists. hop_delay-le i link below exists) (route_of network i) (route_exists i below)) in
+      let sum = sum_by-le (hop_delay network i) 3224000 (take k (route_of network i)) each in
+      let short = length-take k (route_of network i) in
+      let hops = hops-le i below in
+      omega arith

@@ -1,0 +1,73 @@
+//! The definitions that every crate of the planner speaks of (`specs/`), and the small plain types that they name.
+#![tactic(auto)]
+
+pub mod laws;
+pub mod plain;
+
+use std::alloc::AllocError;
+use thiserror::Error;
+
+/// A growth was refused: there is no memory for it.
+#[derive(Clone, Copy, Debug, PartialEq, Eq, Error)]
+#[error("no memory")]
+pub struct NoMemory;
+
+impl From<AllocError> for NoMemory {
+    fn from(_refused: AllocError) -> NoMemory {
+        NoMemory
+    }
+}
+
+/// A directed link. An octet takes `r` nanoseconds to send on it, and `prop` nanoseconds to its other end.
+#[derive(Clone, Copy, Debug, PartialEq, Eq)]
+pub struct Link {
+    pub from: usize,
+    pub to: usize,
+    pub r: u64,
+    pub prop: u64,
+}
+
+/// Two streams, `left` below `right`, and a link that both use.
+#[derive(Clone, Copy, Debug, PartialEq, Eq)]
+pub struct Triple {
+    pub left: usize,
+    pub right: usize,
+    pub link: usize,
+}
+
+/// Which stream of a triple goes first on its link.
+#[derive(Clone, Copy, Debug, PartialEq, Eq)]
+pub enum Side {
+    Left,
+    Right,
+}
+
+/// A triple, and which of its streams goes first.
+#[derive(Clone, Copy, Debug, PartialEq, Eq)]
+pub struct Decision {
+    pub triple: Triple,
+    pub side: Side,
+}
+
+/// The offset of stream `to` is at least that of stream `from` plus `weight`.
+#[derive(Clone, Copy, Debug, PartialEq, Eq)]
+pub struct Arc {
+    pub from: usize,
+    pub to: usize,
+    pub weight: i64,
+}
+
+/// Why a list of offsets isn't a valid schedule.
+#[derive(Clone, Copy, Debug, PartialEq, Eq)]
+pub enum Violation {
+    WrongCount,
+    PastCycle(usize),
+    Overlap(Triple),
+}
+
+/// An entry of a gate control list: bit i of the octet opens (1) or closes (0) the gate of traffic class i, for so many nanoseconds.
+#[derive(Clone, Copy, Debug, PartialEq, Eq)]
+pub struct GateEntry {
+    pub interval: u64,
+    pub octet: u8,
+}
