@@ -1,0 +1,149 @@
+use Rattle.std.proofs.Common.{◌≡◌, ◌≢◌, ℕ, zero, suc, ◌*◌, ◌<◌, ◌≤◌, ℤ, pos, neg_ℤ, ◌+ℤ◌, ◌≤ℤ◌, false, List, length, get_or, set, sum, All, slice_index, Option, Some, None, refl, sym, ◌∙◌, ⊎_elim, arith, length-set, get_or-set_other, get_or-set_same, to_z, of_z, w64, nat_abs}
+use Rattle.std.proofs.lemmas.Bool.{cases_eq}
+use Rattle.std.proofs.lemmas.Int.{ints}
+use Rattle.std.proofs.lemmas.List.{get_or_default, get_or_read}
+use Rattle.std.proofs.lemmas.List.Sums.{sum_by-le, sum_by-set}
+use Rattle.tsn_model.specs.declared.Arc.{Arc}
+use Rattle.tsn_diff.specs.declared.labels.Step.{Step}
+use Rattle.tsn_model.specs.Arcs.{arc_at}
+use Rattle.tsn_diff.specs.Limits.{IsArcAmong}
+use Rattle.tsn_model.specs.Arcs.{chain_sum}
+use Rattle.tsn_diff.specs.Forest.{Labelling, last_of, IsStep, IsForest, HasSteps, places_of}
+use Rattle.tsn_diff.specs.Progress.{KeepsRaised, passes_within}
+use Rattle.tsn_diff.proofs.Cases.{by_option, Some-injective}
+use Rattle.tsn_diff.proofs.Paths.{length-path, passes_within-false, Rooted-kept, Rooted-moved}
+use Rattle.tsn_diff.proofs.Sums.{explained, places_in, chain_sum-le, length-places_of}
+
+pub HasSteps-from_forest : {arcs : List Arc} {labels : Labelling} → IsForest arcs labels → HasSteps labels
+HasSteps-from_forest {arcs} {labels} f = record { count = f.count; from_in = λ i s h. omega (arith, f.count, (f.steps i s h).from_in) }
+
+-- no offset is above the greatest release and what n - 1 arcs add
+pub offset_small : {arcs : List Arc} {labels : Labelling} → IsForest arcs labels → All (IsArcAmong (length labels.offsets)) arcs → (i : ℕ) → i < length labels.offsets → slice_index labels.offsets i ≤ 13700000000
+offset_small {arcs} {labels} f among i l =
+    let r = f.rooted i in
+    let few : length r.steps < length labels.offsets = length-path (length labels.offsets) (λ j s h. (f.steps j s h).from_in) r.path r.ends l in
+    let above = explained arcs labels.offsets labels.last f.steps r.path in
+    let heavy = chain_sum-le arcs (length labels.offsets) (places_of r.steps) among (places_in arcs labels.offsets labels.last f.steps r.path) in
+    let heavy' : chain_sum arcs (places_of r.steps) ≤ℤ pos (100000000 * length r.steps) = rw length-places_of at heavy in
+    let early = f.early r.root r.ends in
+    let short = f.few in
+    omega (arith, ints, few, above, heavy', early, short)
+
+pub offsets_small : {arcs : List Arc} {labels : Labelling} → IsForest arcs labels → All (IsArcAmong (length labels.offsets)) arcs → sum labels.offsets ≤ length labels.offsets * 13700000000
+offsets_small {arcs} {labels} f among = sum_by-le (λ x. x) 13700000000 labels.offsets (λ k d l. rw (get_or_default labels.offsets k d 0 l) (offset_small f among k l))
+
+-- the test on the way back fails at its first stream too
+pub unlike_from_passes : (last : List (Option Step)) (n v i : ℕ) → 0 < n → passes_within n last v i ≡ false → i ≢ v
+unlike_from_passes last zero v i l t = absurd (omega arith)
+unlike_from_passes last (suc n) v i l t = (passes_within-false last n v i t).0
+
+-- an arc that is not met, and whose first stream's way back does not pass its last one
+pub record Raises (arcs : List Arc) (labels : Labelling) (place value : ℕ) : Type 0 where
+  pub forest : IsForest arcs labels
+  pub among : IsArcAmong (length labels.offsets) (arc_at arcs place)
+  pub place_in : place < length arcs
+  pub value_is : pos value ≡ pos (slice_index labels.offsets (arc_at arcs place).from) +ℤ (arc_at arcs place).weight
+  pub higher : slice_index labels.offsets (arc_at arcs place).to < value
+  pub aside : passes_within (length labels.last) labels.last (arc_at arcs place).to (arc_at arcs place).from ≡ false
+
+-- the labels when the arc's last stream has been raised to this value
+abbrev pub raised_labels : List Arc → Labelling → ℕ → ℕ → Labelling
+raised_labels arcs labels place value =
+    record { offsets = set labels.offsets (arc_at arcs place).to value; last = set labels.last (arc_at arcs place).to (Some (record { place = place; from = (arc_at arcs place).from })) }
+
+module _ (arcs : List Arc) (labels : Labelling) (place value : ℕ) (r : Raises arcs labels place value) where
+  to_in : (arc_at arcs place).to < length labels.last
+  to_in = omega (arith, r.forest.count, r.among.to_below)
+
+  unlike : (arc_at arcs place).from ≢ (arc_at arcs place).to
+  unlike = unlike_from_passes labels.last (length labels.last) (arc_at arcs place).to (arc_at arcs place).from (let l = to_in in omega arith) r.aside
+
+  offset_same : slice_index (raised_labels arcs labels place value).offsets (arc_at arcs place).to ≡ value
+  offset_same = get_or-set_same labels.offsets (arc_at arcs place).to value 0 r.among.to_below
+
+  offset_other : (i : ℕ) → i ≢ (arc_at arcs place).to → slice_index (raised_labels arcs labels place value).offsets i ≡ slice_index labels.offsets i
+  offset_other i e = get_or-set_other labels.offsets (arc_at arcs place).to i value 0 e
+
+  last_other : (i : ℕ) → i ≢ (arc_at arcs place).to → last_of (raised_labels arcs labels place value).last i ≡ last_of labels.last i
+  last_other i e = get_or-set_other labels.last (arc_at arcs place).to i _ None e
+
+  last_same : last_of (raised_labels arcs labels place value).last (arc_at arcs place).to ≡ Some (record { place = place; from = (arc_at arcs place).from })
+  last_same = get_or-set_same labels.last (arc_at arcs place).to _ None to_in
+
+  offset_rises : (i : ℕ) → slice_index labels.offsets i ≤ slice_index (raised_labels arcs labels place value).offsets i
+  offset_rises i =
+      ⊎_elim (λ (e : i ≡ (arc_at arcs place).to). let h = r.higher in rw (e, offset_same) (omega (arith, h)))
+      (λ (e : i ≢ (arc_at arcs place).to). omega (arith, offset_other i e)) (cases_eq i (arc_at arcs place).to)
+
+  raised_step : (i : ℕ) (s : Step) → last_of (raised_labels arcs labels place value).last i ≡ Some s → IsStep arcs (raised_labels arcs labels place value).offsets i s
+  raised_step i s h =
+      ⊎_elim (λ (e : i ≡ (arc_at arcs place).to).
+      let new : record { place = place; from = (arc_at arcs place).from } ≡ s = Some-injective (sym last_same ∙ (rw e at h)) in
+      rw (e, ← new) (record {
+        place_in = r.place_in;
+        ends = refl;
+        begins = refl;
+        from_in = rw length-set r.among.from_below;
+        explains = rw (offset_same, offset_other (arc_at arcs place).from unlike) (omega (arith, ints, r.value_is));
+      }))
+      (λ (e : i ≢ (arc_at arcs place).to).
+      let f = r.forest.steps i s (sym (last_other i e) ∙ h) in
+      record {
+        place_in = f.place_in;
+        ends = f.ends;
+        begins = f.begins;
+        from_in = rw length-set f.from_in;
+        explains = rw (offset_other i e) (omega (arith, ints, f.explains, offset_rises s.from));
+      }) (cases_eq i (arc_at arcs place).to)
+
+  pub IsForest-raised : IsForest arcs (raised_labels arcs labels place value)
+  IsForest-raised = record {
+    count = rw (length-set, length-set) r.forest.count;
+    few = rw length-set r.forest.few;
+    early = λ i h. ⊎_elim (λ (e : i ≡ (arc_at arcs place).to). let h' = rw (e, last_same) at h in cc)
+        (λ (e : i ≢ (arc_at arcs place).to). rw (offset_other i e) (r.forest.early i (sym (last_other i e) ∙ h))) (cases_eq i (arc_at arcs place).to);
+    steps = raised_step;
+    rooted = λ i.
+        let under = r.forest.rooted (arc_at arcs place).from in
+        let short = length-path (length labels.last) (HasSteps-from_forest r.forest).from_in under.path under.ends (omega (arith, r.forest.count, r.among.from_below)) in
+        let way = r.forest.rooted i in
+        Rooted-moved labels.last (arc_at arcs place).to (record { place = place; from = (arc_at arcs place).from }) to_in (Rooted-kept labels.last (arc_at arcs place).to (record { place = place; from = (arc_at arcs place).from }) to_in (length labels.last) under.path under.ends short r.aside) way.path way.ends;
+  }
+
+  pub KeepsRaised-raised : KeepsRaised labels (raised_labels arcs labels place value)
+  KeepsRaised-raised = λ releases old. record {
+    count = rw length-set old.count;
+    kept = λ i h. ⊎_elim (λ (e : i ≡ (arc_at arcs place).to). let h' = rw (e, last_same) at h in cc)
+        (λ (e : i ≢ (arc_at arcs place).to). offset_other i e ∙ old.kept i (sym (last_other i e) ∙ h)) (cases_eq i (arc_at arcs place).to);
+    raised = λ i s h. ⊎_elim
+        (λ (e : i ≡ (arc_at arcs place).to). rw (e, offset_same)
+        (by_option (last_of labels.last (arc_at arcs place).to)
+        (λ n. let k = old.kept (arc_at arcs place).to n in let g = r.higher in omega arith)
+        (λ t n. let k = old.raised (arc_at arcs place).to t n in let g = r.higher in omega arith)))
+        (λ (e : i ≢ (arc_at arcs place).to). rw (offset_other i e) (old.raised i s (sym (last_other i e) ∙ h))) (cases_eq i (arc_at arcs place).to);
+  }
+
+  pub sum-raised : sum labels.offsets < sum (raised_labels arcs labels place value).offsets
+  sum-raised =
+      let e = sum_by-set (λ x. x) labels.offsets (arc_at arcs place).to value 0 r.among.to_below in
+      let h = r.higher in
+      omega (arith, e, h)
+
+-- an offset as the code reads it
+pub read_small : (arcs : List Arc) (labels : Labelling) (i x : ℕ) → IsForest arcs labels → All (IsArcAmong (length labels.offsets)) arcs → i < length labels.offsets → x ≡ get_or labels.offsets i x → (x ≡ slice_index labels.offsets i) × (x ≤ 13700000000)
+read_small arcs labels i x forest among l e =
+    let is : x ≡ slice_index labels.offsets i = get_or_read labels.offsets i x l e 0 in
+    let small = offset_small forest among i l in
+    (is, omega (arith, is, small))
+
+-- an arc of the list
+pub arc_among : (arcs : List Arc) (n place : ℕ) → All (IsArcAmong n) arcs → place < length arcs → IsArcAmong n (arc_at arcs place)
+arc_among arcs n place among l = among place (record { from = 0; to = 0; weight = pos 0 }) l
+
+-- what the code computes for the arc's last stream
+pub reach_is : (x : ℕ) (w : ℤ) → x ≤ 13700000000 → neg_ℤ (pos 100000000) ≤ℤ w → w ≤ℤ pos 100000000 → to_z w64 (of_z w64 (to_z w64 x +ℤ to_z w64 (of_z w64 w))) ≡ pos x +ℤ w
+reach_is x w small above below = omega (arith, ints)
+
+-- the value that it stores there
+abbrev pub reach_value : ℕ → ℤ → ℕ
+reach_value x w = nat_abs (to_z w64 (of_z w64 (to_z w64 x +ℤ to_z w64 (of_z w64 w))))

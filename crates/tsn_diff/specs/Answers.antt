@@ -1,0 +1,25 @@
+use Rattle.std.specs.Prelude.{ℕ, ◌<◌, ℤ, List, length, slice_index, All}
+use Rattle.tsn_model.specs.declared.Arc.{Arc}
+use Rattle.tsn_diff.specs.declared.solve.Outcome.{Outcome}
+use Rattle.tsn_diff.specs.declared.solve.Outcome.TheVariants.{Least, Positive}
+use Rattle.tsn_model.specs.Arcs.{IsMet}
+use Rattle.tsn_diff.specs.Offsets.{IsLeast, Shows, IsPositiveCycle}
+use Rattle.tsn_diff.specs.Forest.{Labelling, IsForest, IsRaised, chain_of}
+
+-- the least offsets, with a chain for each stream that shows its offset
+pub record Solves (releases : List ℕ) (arcs : List Arc) (labels : Labelling) : Type 0 where
+  pub least : IsLeast releases arcs labels.offsets
+  pub chains : (stream : ℕ) → stream < length releases → Shows releases arcs (chain_of labels stream) stream (slice_index labels.offsets stream)
+  -- how the chains hang together, which `least_from` goes on from
+  pub forest : IsForest arcs labels
+  pub raised : IsRaised releases labels
+
+-- a closed chain of positive sum, for which no offsets at all meet every arc
+pub record Refutes (n : ℕ) (arcs : List Arc) (chain : List ℕ) : Type 0 where
+  pub cycle : IsPositiveCycle n arcs chain
+  pub none : (offset : ℕ → ℤ) → ¬ All (IsMet offset) arcs
+
+-- what an outcome says of a list of arcs
+abbrev pub Answers : List ℕ → List Arc → Outcome → Type 0
+Answers releases arcs (Least least) = Solves releases arcs least
+Answers releases arcs (Positive chain) = Refutes (length releases) arcs chain.items

@@ -1,0 +1,127 @@
+ghost use Rattle.std.specs.Prelude.{◌≡◌, ◌<◌, All, IfOk, length};
+ghost use Rattle.tsn_diff.specs.Limits.{IsArcAmong};
+ghost use Rattle.tsn_diff.specs.Forest.{HasSteps, IsForest, steps_back, places_of};
+ghost use Rattle.tsn_diff.specs.Progress.{KeepsRaised, passes_within, Corrects, CorrectsAll};
+ghost use Rattle.tsn_diff.specs.Labels.{labelling_of};
+
+use std::alloc::{AllocError, Global};
+use tsn_model::Arc;
+
+/// The last arc of a stream's chain: its place in the list of arcs, and the stream where it begins.
+#[derive(Clone, Copy, Debug, PartialEq, Eq)]
+pub struct Step {
+    pub place: usize,
+    pub from: usize,
+}
+
+/// For each stream the offset that it was raised to, and the last arc of the chain that raised it.
+#[derive(Debug, Drop)]
+pub struct Labels {
+    pub offsets: Vec<u64>,
+    pub last: Vec<Option<Step>>,
+}
+
+/// What correcting the labels by one arc, or by all of them in turn, came to.
+#[derive(Clone, Copy, Debug)]
+pub enum Progress {
+    /// The arcs are met, and no label changed.
+    Steady,
+    /// Some label was raised.
+    Raised,
+    /// The arc at this place is not met, and the chain of its first stream passes its last one.
+    Closed(usize),
+}
+
+impl Labels {
+    /// Corrects the labels by each arc in turn, until one closes a chain.
+    pub fn round(&mut self, arcs: &[Arc]) -> Progress
+        requires arcs { All (IsArcAmong (length self.old.offsets.items)) arcs.now }
+        requires forest { IsForest arcs.now (labelling_of self.old) }
+        ensures count { length self.new.offsets.items ≡ length self.old.offsets.items }
+        ensures forest { IsForest arcs.now (labelling_of self.new) }
+        ensures raised { KeepsRaised (labelling_of self.old) (labelling_of self.new) }
+        ensures progress { CorrectsAll arcs.now (labelling_of self.old) (labelling_of self.new) result }
+    {
+        let mut progress = Progress::Steady;
+        for place in 0..arcs.len() {
+            match self.correct(arcs, place) {
+                Progress::Steady => {}
+                Progress::Raised => progress = Progress::Raised,
+                Progress::Closed(place) => return Progress::Closed(place),
+            }
+        }
+        progress
+    }
+
+    /// Raises the last stream of an arc that is not met.
+    fn correct(&mut self, arcs: &[Arc], place: usize) -> Progress
+        requires arcs { All (IsArcAmong (length self.old.offsets.items)) arcs.now }
+        requires place { place < length arcs.now }
+        requires forest { IsForest arcs.now (labelling_of self.old) }
+        ensures count { length self.new.offsets.items ≡ length self.old.offsets.items }
+        ensures forest { IsForest arcs.now (labelling_of self.new) }
+        ensures raised { KeepsRaised (labelling_of self.old) (labelling_of self.new) }
+        ensures progress { Corrects arcs.now place (labelling_of self.old) (labelling_of self.new) result }
+    {
+        let arc = arcs[place];
+        let reach = self.offsets[arc.from] as i64 + arc.weight;
+        if reach <= self.offsets[arc.to] as i64 {
+            return Progress::Steady;
+        }
+        if self.passes(arc.from, arc.to) {
+            return Progress::Closed(place);
+        }
+        self.offsets[arc.to] = reach as u64;
+        self.last[arc.to] = Some(Step {
+            place,
+            from: arc.from,
+        });
+        Progress::Raised
+    }
+
+    /// Whether the chain of `stream` passes the stream `through`.
+    fn passes(&self, mut stream: usize, through: usize) -> bool
+        requires steps { HasSteps (labelling_of self.now) }
+        requires stream { stream < length self.now.last.items }
+        ensures { result
+            ≡ passes_within (length self.now.last.items) self.now.last.items through stream }
+    {
+        for _ in 0..self.last.len() {
+            if stream == through {
+                return true;
+            }
+            let Some(step) = self.last[stream] else {
+                return false;
+            };
+            stream = step.from;
+        }
+        false
+    }
+
+    /// The places of the arcs that lead to `stream`: all of its chain, or what follows `top` in it.
+    pub fn chain(
+        &self,
+        alloc: Global,
+        top: Option<usize>,
+        mut stream: usize,
+    ) -> Result<Vec<usize>, AllocError>
+        requires steps { HasSteps (labelling_of self.now) }
+        requires stream { stream < length self.now.last.items }
+        ensures { IfOk result (λ chain. chain.items
+            ≡ places_of (steps_back (length self.now.last.items) self.now.last.items top stream)) }
+    {
+        let mut chain = Vec::new(alloc);
+        for _ in 0..self.last.len() {
+            if Some(stream) == top {
+                break;
+            }
+            let Some(step) = self.last[stream] else {
+                break;
+            };
+            chain.push(step.place)?;
+            stream = step.from;
+        }
+        chain.reverse();
+        Ok(chain)
+    }
+}

@@ -1,0 +1,8 @@
+//! Least offsets of streams under arcs, each of which says that one stream starts at least so much
+//! after another: a system of difference constraints, solved by label correcting.
+#![tactic(auto)]
+
+mod labels;
+mod solve;
+
+pub use solve::{Least, MAX_RELEASE, MAX_STREAMS, MAX_WEIGHT, Net, Outcome};
