@@ -1,0 +1,5 @@
+//! The tests of the repository, one module a subject.
+#![tactic(auto)]
+
+#[cfg(test)]
+mod least_offsets;
