@@ -1,0 +1,33 @@
+-- The tables that a `Timing` keeps, beside the network that they are of.
+use Rattle.std.specs.Prelude.{◌≡◌, ℕ, ◌≤◌, ◌<◌, List, length, slice_index_or}
+use Rattle.tsn_model.specs.Network.{Network, IsWellFormed, stream_count, hop_count, route_link}
+use Rattle.tsn_model.specs.Timing.{occupancy, start, arrival, span}
+use Rattle.tsn_timing.specs.declared.tables.Hop.{Hop}
+use Rattle.tsn_timing.specs.declared.tables.StreamTable.{StreamTable}
+
+-- a list of n elements, each right for its place
+pub record AreRight {X : Type 0} (IsRightAt : ℕ → X → Type 0) (n : ℕ) (xs : List X) : Type 0 where
+  pub count : length xs ≡ n
+  pub each : (k : ℕ) (d : X) → k < n → IsRightAt k (slice_index_or xs k d)
+
+-- the numbers of stream i's hop k, with how large they are at most
+pub record IsHop (network : Network) (i k : ℕ) (hop : Hop) : Type 0 where
+  pub same_link : hop.link ≡ route_link network i k
+  pub starts : hop.start ≡ start network i k
+  pub occupies : hop.occupancy ≡ occupancy network i (route_link network i k)
+  pub some : 1 ≤ hop.occupancy
+  pub short : hop.occupancy ≤ 1233600
+  pub early : hop.start ≤ 51584000
+
+-- the numbers of stream i, with how large they are at most
+pub record IsTable (network : Network) (i : ℕ) (table : StreamTable) : Type 0 where
+  pub route : AreRight (IsHop network i) (hop_count network i) table.hops.items
+  pub arrives : table.arrival ≡ arrival network i
+  pub spans : table.span ≡ span network i
+  pub soon : table.arrival ≤ 60000000
+  pub short : table.span ≤ 60000000
+
+-- the network is within its limits, and the numbers are those of its streams
+pub record AreTables (network : Network) (tables : List StreamTable) : Type 0 where
+  pub formed : IsWellFormed network
+  pub right : AreRight (IsTable network) (stream_count network) tables

@@ -1,0 +1,11 @@
+//! When the frames of a problem's streams are where, and whether offsets are a no-wait schedule.
+#![tactic(auto)]
+
+mod copy;
+mod tables;
+pub mod timing;
+pub mod valid;
+
+pub use timing::{Timing, Validity};
+pub use tsn_model::{NoMemory, Triple, Violation};
+pub use valid::Valid;
