@@ -6,22 +6,37 @@ use std::test::Fail;
 use tsn_net::read_problem;
 use tsn_timing::{Timing, Triple, Validity, Violation};
 
-/// Stations A, B and C round a bridge; 1000 Mb/s on all cables but the last.
-fn star(alloc: Global, cycle: u64, mbps: u64, streams: &str) -> Result<Timing, Fail> {
-    let text = format!(in alloc; "cycle = {cycle}
-node = [
-    {{name = 'A', kind = 'station'}},
-    {{name = 'B', kind = 'station'}},
-    {{name = 'C', kind = 'station'}},
-    {{name = 'S', kind = 'bridge', proc = 1000}},
+/// Stations A, B and C, and a bridge.
+const NODES: &str = "node = [
+    {name = 'A', kind = 'station'},
+    {name = 'B', kind = 'station'},
+    {name = 'C', kind = 'station'},
+    {name = 'S', kind = 'bridge', proc = 1000},
 ]
-link = [
-    {{a = 'A', b = 'S', mbps = 1000, prop = 50}},
-    {{a = 'B', b = 'S', mbps = 1000, prop = 50}},
-    {{a = 'S', b = 'C', mbps = {mbps}, prop = 50}},
+";
+
+/// The cables from A and B to the bridge, and the one from there to C.
+const FAST: &str = "link = [
+    {a = 'A', b = 'S', mbps = 1000, prop = 50},
+    {a = 'B', b = 'S', mbps = 1000, prop = 50},
+    {a = 'S', b = 'C', mbps = 1000, prop = 50},
 ]
-stream = [{streams}]
-")?;
+";
+
+/// The same with 100 Mb/s on the last one.
+const SLOW: &str = "link = [
+    {a = 'A', b = 'S', mbps = 1000, prop = 50},
+    {a = 'B', b = 'S', mbps = 1000, prop = 50},
+    {a = 'S', b = 'C', mbps = 100, prop = 50},
+]
+";
+
+/// The timing of a network round one bridge.
+fn star(alloc: Global, cycle: u64, cables: &str, streams: &str) -> Result<Timing, Fail> {
+    let mut text = format!(in alloc; "cycle = {cycle}\n")?;
+    text.push_str(NODES)?;
+    text.push_str(cables)?;
+    text.push_str(streams)?;
     timing_of(alloc, text.as_str())
 }
 
@@ -30,13 +45,20 @@ fn timing_of(alloc: Global, text: &str) -> Result<Timing, Fail> {
     Ok(Timing::of(alloc, &problem)?)
 }
 
-const ONE: &str = "{name = 'one', octets = 64, route = ['A', 'S', 'C']}";
+const ONE: &str = "stream = [{name = 'one', octets = 64, route = ['A', 'S', 'C']}]
+";
 
-const TWO: &str = "{name = 'one', octets = 64, route = ['A', 'S', 'C']},
-    {name = 'two', octets = 64, route = ['B', 'S', 'C']}";
+const TWO: &str = "stream = [
+    {name = 'one', octets = 64, route = ['A', 'S', 'C']},
+    {name = 'two', octets = 64, route = ['B', 'S', 'C']},
+]
+";
 
-const LONG: &str = "{name = 'one', octets = 64, route = ['A', 'S', 'C']},
-    {name = 'two', octets = 1522, route = ['B', 'S', 'C']}";
+const LONG: &str = "stream = [
+    {name = 'one', octets = 64, route = ['A', 'S', 'C']},
+    {name = 'two', octets = 1522, route = ['B', 'S', 'C']},
+]
+";
 
 /// Stations A, B and C, bridges S, T, V and U without processing time; the cable from T to V is long.
 const LOOP: &str = "cycle = 1000000
@@ -86,14 +108,14 @@ fn has_times(
 #[test]
 fn tells_times(rt: HostRuntime) -> Result<(), Fail> {
     let alloc = rt.alloc();
-    let one = star(alloc, 1_000_000, 1000, ONE)?;
+    let one = star(alloc, 1_000_000, FAST, ONE)?;
     assert_eq!(rt; one.cycle(), 1_000_000);
     assert_eq!(rt; one.links(), 6);
     assert_eq!(rt; one.streams(), 1);
     has_times(&rt, &one, 0, &[0, 1626], 2252, 2298);
-    let long = star(alloc, 1_000_000, 1000, LONG)?;
+    let long = star(alloc, 1_000_000, FAST, LONG)?;
     has_times(&rt, &long, 1, &[0, 13290], 25580, 25626);
-    let slow = star(alloc, 1_000_000, 100, TWO)?;
+    let slow = star(alloc, 1_000_000, SLOW, TWO)?;
     has_times(&rt, &slow, 0, &[0, 1626], 7436, 8346);
     let round = timing_of(alloc, LOOP)?;
     has_times(&rt, &round, 0, &[0, 576, 1152, 2496, 3072], 3648, 3744);
@@ -116,7 +138,7 @@ fn has_hops(rt: &impl Abort, timing: &Timing, stream: usize, hops: &[(usize, u64
 #[test]
 fn tells_hops(rt: HostRuntime) -> Result<(), Fail> {
     let alloc = rt.alloc();
-    let slow = star(alloc, 1_000_000, 100, LONG)?;
+    let slow = star(alloc, 1_000_000, SLOW, LONG)?;
     has_hops(&rt, &slow, 0, &[(0, 672), (4, 6720)]);
     has_hops(&rt, &slow, 1, &[(2, 12336), (4, 123_360)]);
     assert!(rt; 0 < slow.streams());
@@ -139,7 +161,10 @@ fn judges(
 ) -> Result<(), Fail> {
     assert!(rt; timing.validity(offsets) == validity, "of {offsets:?}");
     assert_eq!(rt; timing.is_valid(offsets), validity == Validity::Valid);
-    assert_eq!(rt; timing.plain().is_valid(offsets), validity == Validity::Valid);
+    assert_eq!(rt;
+        timing.plain().is_valid(offsets),
+        validity == Validity::Valid
+    );
     match timing.valid(offsets.to_vec(alloc)?) {
         Ok(valid) => {
             assert!(rt; validity == Validity::Valid);
@@ -166,7 +191,7 @@ const fn overlap(left: usize, right: usize, link: usize) -> Validity {
 #[test]
 fn judges_offsets(rt: HostRuntime) -> Result<(), Fail> {
     let alloc = rt.alloc();
-    let two = star(alloc, 1_000_000, 1000, TWO)?;
+    let two = star(alloc, 1_000_000, FAST, TWO)?;
     for (offsets, validity) in [
         ([0, 672].as_slice(), Validity::Valid),
         (&[0, 671], overlap(0, 1, 4)),
@@ -184,7 +209,7 @@ fn judges_offsets(rt: HostRuntime) -> Result<(), Fail> {
     ] {
         judges(&rt, alloc, &two, offsets, validity)?;
     }
-    let tight = star(alloc, 2298, 1000, ONE)?;
+    let tight = star(alloc, 2298, FAST, ONE)?;
     judges(&rt, alloc, &tight, &[0], Validity::Valid)?;
     judges(&rt, alloc, &tight, &[1], past_cycle(0))?;
     let round = timing_of(alloc, LOOP)?;
@@ -206,12 +231,12 @@ fn finishes(rt: &impl Abort, timing: &Timing, offsets: &[u64], flowspan: u64) {
 #[test]
 fn tells_flowspans(rt: HostRuntime) -> Result<(), Fail> {
     let alloc = rt.alloc();
-    let two = star(alloc, 1_000_000, 1000, TWO)?;
+    let two = star(alloc, 1_000_000, FAST, TWO)?;
     finishes(&rt, &two, &[0, 672], 2924);
     finishes(&rt, &two, &[1_000_000, 0], 1_002_252);
-    let long = star(alloc, 1_000_000, 1000, LONG)?;
+    let long = star(alloc, 1_000_000, FAST, LONG)?;
     finishes(&rt, &long, &[0, 0], 25580);
-    let slow = star(alloc, 1_000_000, 100, TWO)?;
+    let slow = star(alloc, 1_000_000, SLOW, TWO)?;
     finishes(&rt, &slow, &[0, 6720], 14156);
     let round = timing_of(alloc, LOOP)?;
     finishes(&rt, &round, &[0, 672], 3648);
@@ -223,11 +248,14 @@ fn tells_flowspans(rt: HostRuntime) -> Result<(), Fail> {
 fn agrees_with_the_plain_program(rt: HostRuntime) -> Result<(), Fail> {
     let alloc = rt.alloc();
     for text in [TWO, LONG] {
-        let timing = star(alloc, 30_000, 1000, text)?;
+        let timing = star(alloc, 30_000, FAST, text)?;
         for first in 0..30 {
             for second in 0..30 {
                 let offsets = [first * 1000, second * 1000];
-                assert_eq!(rt; timing.is_valid(&offsets), timing.plain().is_valid(&offsets));
+                assert_eq!(rt;
+                    timing.is_valid(&offsets),
+                    timing.plain().is_valid(&offsets)
+                );
             }
         }
     }
