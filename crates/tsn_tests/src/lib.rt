@@ -1,5 +1,6 @@
 //! The tests of all crates, a module a subject. A crate with tests is proved twice, so they stand apart.
 #![tactic(auto)]
+//! Tests of the planner's crates, a module a subject.
 
 #[cfg(test)]
 mod certificate_files;
@@ -7,6 +8,8 @@ mod certificate_files;
 mod command_words;
 #[cfg(test)]
 mod least_offsets;
+#[cfg(test)]
+mod network;
 #[cfg(test)]
 mod timing;
 #[cfg(test)]
