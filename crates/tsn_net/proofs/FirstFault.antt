@@ -79,10 +79,10 @@ module _ (code : Code) (d : Document) where
     where
       none : (place : Place) → IsIn d place → IsBefore place Top → holds code d place ≡ false
       none Text within before = absurd within
-      none Top within before = absurd (elim before [ | inl h ↦ omega arith | inr h ↦ omega (arith, h.1) ])
-      none (Node n) within before = absurd (elim before [ | inl h ↦ omega arith | inr h ↦ omega (arith, h.0) ])
-      none (Link k) within before = absurd (elim before [ | inl h ↦ omega arith | inr h ↦ omega (arith, h.0) ])
-      none (Stream i) within before = absurd (elim before [ | inl h ↦ omega arith | inr h ↦ omega (arith, h.0) ])
+      none Top within before = absurd (elim before [ inl h ↦ omega arith | inr h ↦ omega (arith, h.1) ])
+      none (Node n) within before = absurd (elim before [ inl h ↦ omega arith | inr h ↦ omega (arith, h.0) ])
+      none (Link k) within before = absurd (elim before [ inl h ↦ omega arith | inr h ↦ omega (arith, h.0) ])
+      none (Stream i) within before = absurd (elim before [ inl h ↦ omega arith | inr h ↦ omega (arith, h.0) ])
 
   at_node : (found : Place) → test Top ≡ false → IsFirstNumber test (λ n. Node n) 0 (length d.nodes) found → IsFirstPlace code d found
   at_node found top f = subst (IsFirstPlace code d) (sym f.is) (record { there = let w = f.within in omega arith; holding = ap test (sym f.is) ∙ f.passes; not_before = none })
@@ -90,9 +90,9 @@ module _ (code : Code) (d : Document) where
       none : (place : Place) → IsIn d place → IsBefore place (Node f.number) → holds code d place ≡ false
       none Text within before = absurd within
       none Top within before = top
-      none (Node n) within before = f.first n (omega arith) (elim before [ | inl h ↦ absurd (omega arith) | inr h ↦ h.1 ])
-      none (Link k) within before = absurd (elim before [ | inl h ↦ omega arith | inr h ↦ omega (arith, h.0) ])
-      none (Stream i) within before = absurd (elim before [ | inl h ↦ omega arith | inr h ↦ omega (arith, h.0) ])
+      none (Node n) within before = f.first n (omega arith) (elim before [ inl h ↦ absurd (omega arith) | inr h ↦ h.1 ])
+      none (Link k) within before = absurd (elim before [ inl h ↦ omega arith | inr h ↦ omega (arith, h.0) ])
+      none (Stream i) within before = absurd (elim before [ inl h ↦ omega arith | inr h ↦ omega (arith, h.0) ])
 
   at_link : (found : Place) → test Top ≡ false → find test (node_places d) ≡ None → IsFirstNumber test (λ k. Link k) 0 (length d.links) found → IsFirstPlace code d found
   at_link found top nodes f = subst (IsFirstPlace code d) (sym f.is) (record { there = let w = f.within in omega arith; holding = ap test (sym f.is) ∙ f.passes; not_before = none })
@@ -101,8 +101,8 @@ module _ (code : Code) (d : Document) where
       none Text within before = absurd within
       none Top within before = top
       none (Node n) within before = find_none-range test (λ n. Node n) (length d.nodes) n nodes within
-      none (Link k) within before = f.first k (omega arith) (elim before [ | inl h ↦ absurd (omega arith) | inr h ↦ h.1 ])
-      none (Stream i) within before = absurd (elim before [ | inl h ↦ omega arith | inr h ↦ omega (arith, h.0) ])
+      none (Link k) within before = f.first k (omega arith) (elim before [ inl h ↦ absurd (omega arith) | inr h ↦ h.1 ])
+      none (Stream i) within before = absurd (elim before [ inl h ↦ omega arith | inr h ↦ omega (arith, h.0) ])
 
   at_stream : (found : Place) → test Top ≡ false → find test (node_places d) ≡ None → find test (link_places d) ≡ None → IsFirstNumber test (λ i. Stream i) 0 (length d.streams) found → IsFirstPlace code d found
   at_stream found top nodes links f = subst (IsFirstPlace code d) (sym f.is) (record { there = let w = f.within in omega arith; holding = ap test (sym f.is) ∙ f.passes; not_before = none })
@@ -112,16 +112,16 @@ module _ (code : Code) (d : Document) where
       none Top within before = top
       none (Node n) within before = find_none-range test (λ n. Node n) (length d.nodes) n nodes within
       none (Link k) within before = find_none-range test (λ k. Link k) (length d.links) k links within
-      none (Stream i) within before = f.first i (omega arith) (elim before [ | inl h ↦ absurd (omega arith) | inr h ↦ h.1 ])
+      none (Stream i) within before = f.first i (omega arith) (elim before [ inl h ↦ absurd (omega arith) | inr h ↦ h.1 ])
 
   below_top : (found : Place) → test Top ≡ false → option_or (find test (node_places d)) (option_or (find test (link_places d)) (find test (stream_places d))) ≡ Some found → IsFirstPlace code d found
   below_top found top h = elim (or_some (find test (node_places d)) _ found h) [
-      | inl node ↦ at_node found top (find_some test (λ n. Node n) 0 (length d.nodes) found node)
-      | inr rest ↦ elim (or_some (find test (link_places d)) (find test (stream_places d)) found rest.1) [
-        | inl link ↦ at_link found top rest.0 (find_some test (λ k. Link k) 0 (length d.links) found link)
-        | inr last ↦ at_stream found top rest.0 last.0 (find_some test (λ i. Stream i) 0 (length d.streams) found last.1)
-      ]
+    | inl node ↦ at_node found top (find_some test (λ n. Node n) 0 (length d.nodes) found node)
+    | inr rest ↦ elim (or_some (find test (link_places d)) (find test (stream_places d)) found rest.1) [
+      | inl link ↦ at_link found top rest.0 (find_some test (λ k. Link k) 0 (length d.links) found link)
+      | inr last ↦ at_stream found top rest.0 last.0 (find_some test (λ i. Stream i) 0 (length d.streams) found last.1)
     ]
+  ]
 
   first_place-first : (found : Place) → first_place code d ≡ Some found → IsFirstPlace code d found
   first_place-first found h = by (test Top) refl (sym (first_place-in_turn code d) ∙ h)
@@ -157,13 +157,13 @@ least_some (c ∷ cs) d fault h =
     let at : Place → NetFault = λ p. record { code = c; place = p } in
     elim (or_some (option_map at (first_place c d)) (least_fault cs d) fault h) [
       | inl here ↦ (let m = map_some at (first_place c d) fault here in
-        record {
-          number = 0;
-          within = omega arith;
-          code = sym (ap (λ (f : NetFault). f.code) m.2);
-          place = ap (λ k. first_place k d) (sym (ap (λ (f : NetFault). f.code) m.2)) ∙ m.1 ∙ ap (λ (f : NetFault). Some f.place) m.2;
-          none = λ j low. absurd (omega arith);
-        })
+          record {
+            number = 0;
+            within = omega arith;
+            code = sym (ap (λ (f : NetFault). f.code) m.2);
+            place = ap (λ k. first_place k d) (sym (ap (λ (f : NetFault). f.code) m.2)) ∙ m.1 ∙ ap (λ (f : NetFault). Some f.place) m.2;
+            none = λ j low. absurd (omega arith);
+          })
       | inr later ↦ after c cs d fault (map_none at (first_place c d) later.0) (least_some cs d fault later.1)
     ]
 
@@ -237,19 +237,19 @@ place_by_number-place (Stream i) = refl
 
 in_order : (p q : Place) → IsBefore p q ⊎ (IsBefore q p ⊎ (p ≡ q))
 in_order p q = elim (cases_lt (kind_order p) (kind_order q)) [
-    | inl less ↦ inl (inl less)
-    | inr most ↦ elim (cases_lt (kind_order q) (kind_order p)) [
-      | inl more ↦ inr (inl (inl more))
-      | inr least ↦ (let kinds : kind_order p ≡ kind_order q = omega arith in elim (cases_lt (place_number p) (place_number q)) [
-        | inl less ↦ inl (inr (kinds, less))
-        | inr some ↦ elim (cases_lt (place_number q) (place_number p)) [
-          | inl more ↦ inr (inl (inr (sym kinds, more)))
-          | inr rest ↦ (let numbers : place_number p ≡ place_number q = omega arith in
+  | inl less ↦ inl (inl less)
+  | inr most ↦ elim (cases_lt (kind_order q) (kind_order p)) [
+    | inl more ↦ inr (inl (inl more))
+    | inr least ↦ (let kinds : kind_order p ≡ kind_order q = omega arith in elim (cases_lt (place_number p) (place_number q)) [
+      | inl less ↦ inl (inr (kinds, less))
+      | inr some ↦ elim (cases_lt (place_number q) (place_number p)) [
+        | inl more ↦ inr (inl (inr (sym kinds, more)))
+        | inr rest ↦ (let numbers : place_number p ≡ place_number q = omega arith in
             inr (inr (sym (place_by_number-place p) ∙ (λ j. place_by_number (kinds j) (numbers j)) ∙ place_by_number-place q)))
-        ]
-      ])
-    ]
+      ]
+    ])
   ]
+]
 
 never : (b : Bool) → b ≡ true → b ≡ false → ⊥
 never b holds_so fails = false≢true (sym fails ∙ holds_so)
@@ -273,8 +273,8 @@ module _ (d : Document) where
           | inr rest ↦ elim rest [
             | inl e ↦ nothing_holds code place (inr e)
             | inr c ↦ (let is = c.is in
-              let low : c.number < l.number = omega arith in
-              clear_at code d (IsClear-from_none code d (ap (λ k. first_place k d) (sym c.at) ∙ l.none c.number low)) place within)
+                let low : c.number < l.number = omega arith in
+                clear_at code d (IsClear-from_none code d (ap (λ k. first_place k d) (sym c.at) ∙ l.none c.number low)) place within)
           ]
         ];
       }
@@ -302,13 +302,13 @@ module _ (d : Document) where
 
   none_holds : fault_of d ≡ None → (code : Code) (place : Place) → IsIn d place → holds code d place ≡ false
   none_holds h code place within = elim (code_cases code) [
-      | inl e ↦ nothing_holds code place (inl e)
-      | inr rest ↦ elim rest [
-        | inl e ↦ nothing_holds code place (inr e)
-        | inr c ↦ (let is = c.is in
+    | inl e ↦ nothing_holds code place (inl e)
+    | inr rest ↦ elim rest [
+      | inl e ↦ nothing_holds code place (inr e)
+      | inr c ↦ (let is = c.is in
           clear_at code d (IsClear-from_none code d (ap (λ k. first_place k d) (sym c.at) ∙ least_none conditions d c.number h c.within)) place within)
-      ]
     ]
+  ]
 
   first_is_fault : (fault : NetFault) → IsFirstFault d fault → fault_of d ≡ Some fault
   first_is_fault fault first = by (fault_of d) refl
