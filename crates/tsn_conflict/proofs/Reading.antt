@@ -3,13 +3,17 @@ use Rattle.std.proofs.Common.{◌≡◌, ℕ, ◌+◌, ◌≤◌, ◌<◌, true,
 use Rattle.std.specs.Prelude.{nat_lt}
 use Rattle.std.specs.List.{range_with_len}
 use Rattle.std.proofs.lemmas.Bool.{lt-ltb}
+use Rattle.std.proofs.lemmas.List.{length-map}
 use Rattle.std.proofs.lemmas.List.FromFn.{length-map-range_with_len, get_or-map-range_with_len, map-range_with_len_more}
 use Rattle.tsn_model.specs.Network.{Network, IsWellFormed, stream_count}
 use Rattle.tsn_model.specs.Timing.{occupancy, start, hop_on, UsesLink, start_on}
 use Rattle.tsn_model.proofs.Routes.{hop_on_found, UsesLink-counted, UsesLink-exists}
 use Rattle.tsn_model.proofs.Limits.{occupancy-le, occupancy-ge, start-le}
 use Rattle.tsn_conflict.specs.declared.uses.Use.{Use}
-use Rattle.tsn_conflict.specs.Kept.{use_at, uses_of, use_in}
+use Rattle.tsn_conflict.specs.declared.uses.Row.{Row}
+use Rattle.tsn_conflict.specs.Rows.{uses_in}
+use Rattle.tsn_model.specs.Arcs.{conflicts_of}
+use Rattle.tsn_conflict.specs.Kept.{Kept, use_at, uses_of, use_in, AreConflictsOf}
 
 module _ (network : Network) (i link : ℕ) where
   pub use_at-hop : (hop : ℕ) → hop_on network i link ≡ Some hop → use_at network i link ≡ record { start = start network i hop; occupancy = occupancy network i link }
@@ -54,6 +58,9 @@ uses_of_is network = refl
 
 -- ---- reading the uses that are kept
 
+pub length-uses_in : (rows : List Row) → length (uses_in rows) ≡ length rows
+length-uses_in rows = length-map rows (λ (row : Row). row.uses.items)
+
 module _ (network : Network) where
   pub length-uses_of : length (uses_of network) ≡ stream_count network
   unfolding uses_of
@@ -77,6 +84,9 @@ row_kept network uses i same below = let long = ap length same ∙ length-uses_o
 
 pub link_kept : (network : Network) (uses : List (List Use)) (i link : ℕ) → uses ≡ uses_of network → i < stream_count network → link < length network.links → link < length (get_or uses i [])
 link_kept network uses i link same below inside = let long = ap (λ (us : List (List Use)). length (get_or us i [])) same ∙ length-row network i below in omega arith
+
+pub link_exists : (network : Network) (uses : List (List Use)) (i link : ℕ) → uses ≡ uses_of network → i < stream_count network → link < length (get_or uses i []) → link < length network.links
+link_exists network uses i link same below inside = let long = ap (λ (us : List (List Use)). length (get_or us i [])) same ∙ length-row network i below in omega arith
 
 -- what they have there tells whether the stream uses the link
 pub occupied_in : (network : Network) (uses : List (List Use)) (i link : ℕ) (read : Use) → IsWellFormed network → uses ≡ uses_of network → i < stream_count network → link < length network.links
@@ -117,3 +127,6 @@ Reads-used network uses i link formed same used =
             let early = start-le network formed i hop (UsesLink-counted network i link used) in
             let same = (hop_on_found network i link hop on).2 in
             omega arith
+
+pub AreConflictsOf-from : (network : Network) (kept : Kept) → IsWellFormed network → kept.uses ≡ uses_of network → kept.triples ≡ conflicts_of network → AreConflictsOf network kept
+AreConflictsOf-from network kept formed uses triples = record { formed = formed; streams = ap length uses ∙ length-uses_of network; uses = uses; triples = triples }

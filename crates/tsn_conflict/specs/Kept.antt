@@ -31,6 +31,7 @@ use_in uses i link = slice_index_or (slice_index_or uses i []) link (record { st
 -- the network is within its limits, and this is what is kept of it
 pub record AreConflictsOf (network : Network) (kept : Kept) : Type 0 where
   pub formed : IsWellFormed network
+  pub streams : length kept.uses ≡ stream_count network
   pub uses : kept.uses ≡ uses_of network
   pub triples : kept.triples ≡ conflicts_of network
 

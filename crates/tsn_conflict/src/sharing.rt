@@ -8,7 +8,7 @@ ghost use Rattle.tsn_model.specs.PlainWords.{AreApart};
 ghost use Rattle.tsn_model.specs.Arcs.{arc_between, arc_on};
 ghost use Rattle.tsn_conflict.specs.Kept.{AreConflictsOf};
 
-use crate::uses::{Row, Use, look_up};
+use crate::uses::{Row, Use, has_link, look_up};
 use std::marker::Model;
 use tsn_model::{Arc, Side, Triple};
 
@@ -37,6 +37,16 @@ impl Conflicts {
         ensures { result.now ≡ self.now.triples }
     {
         &self.triples
+    }
+
+    /// Whether the triple, of any numbers, is one of them.
+    pub fn has(&self, triple: Triple) -> bool
+        ensures { IsTrue result ↔ Contains self.now.triples triple }
+    {
+        if triple.left >= triple.right || triple.right >= self.rows.len() {
+            return false;
+        }
+        self.is_used(triple.left, triple.link) && self.is_used(triple.right, triple.link)
     }
 
     /// What it asks of the offsets that this stream of the triple goes first on the link: the other one starts there
@@ -112,5 +122,12 @@ impl Conflicts {
         ensures occupancy { (network : Network) → AreConflictsOf network self.now → result.occupancy ≡ occupancy network stream link }
     {
         look_up(&self.rows, stream, link)
+    }
+    /// Whether a stream uses a link, of any number.
+    fn is_used(&self, stream: usize, link: usize) -> bool
+        requires { stream < length self.now.uses }
+        ensures { (network : Network) → AreConflictsOf network self.now → IsTrue result ↔ UsesLink network stream link }
+    {
+        has_link(&self.rows, stream, link) && look_up(&self.rows, stream, link).occupancy > 0
     }
 }
