@@ -22,17 +22,23 @@ fn triple(left: usize, right: usize, link: usize) -> Triple {
 fn ten_to_one(alloc: Global) -> Result<Timing, Fail> {
     let mut text = format!(in alloc; "cycle = 1000000\n")?;
     for sender in 0..10u64 {
-        text.push_str(format!(in alloc; "[[node]]\nname = 'A{sender}'\nkind = 'station'\n")?.as_str())?;
+        text.push_str(format!(in alloc;
+            "[[node]]\nname = 'A{sender}'\nkind = 'station'\n"
+        )?.as_str())?;
     }
-    text.push_str("[[node]]\nname = 'C'\nkind = 'station'\n[[node]]\nname = 'S'\nkind = 'bridge'\nproc = 1000\n")?;
+    text.push_str(
+        "[[node]]\nname = 'C'\nkind = 'station'\n[[node]]\nname = 'S'\nkind = 'bridge'\nproc = 1000\n",
+    )?;
     for sender in 0..10u64 {
-        text.push_str(format!(in alloc; "[[link]]\na = 'A{sender}'\nb = 'S'\nmbps = 1000\nprop = 50\n")?.as_str())?;
+        text.push_str(format!(in alloc;
+            "[[link]]\na = 'A{sender}'\nb = 'S'\nmbps = 1000\nprop = 50\n"
+        )?.as_str())?;
     }
     text.push_str("[[link]]\na = 'S'\nb = 'C'\nmbps = 1000\nprop = 50\n")?;
     for sender in 0..10u64 {
-        text.push_str(
-            format!(in alloc; "[[stream]]\nname = 's{sender}'\noctets = 64\nroute = ['A{sender}', 'S', 'C']\n")?.as_str(),
-        )?;
+        text.push_str(format!(in alloc;
+            "[[stream]]\nname = 's{sender}'\noctets = 64\nroute = ['A{sender}', 'S', 'C']\n"
+        )?.as_str())?;
     }
     timing_of(alloc, text.as_str())
 }
@@ -63,7 +69,10 @@ fn lists_triples(rt: HostRuntime) -> Result<(), Fail> {
     let none = conflicts(alloc, &star(alloc, 1_000_000, FAST, THERE_AND_BACK)?)?;
     assert_eq!(rt; none.triples().len(), 0);
     let apart_between = conflicts(alloc, &timing_of(alloc, LOOP)?)?;
-    assert_eq!(rt; apart_between.triples(), [triple(0, 1, 4), triple(0, 1, 12)].as_slice());
+    assert_eq!(rt;
+        apart_between.triples(),
+        [triple(0, 1, 4), triple(0, 1, 12)].as_slice()
+    );
 
     let ten = conflicts(alloc, &ten_to_one(alloc)?)?;
     let mut pairs = Vec::new(alloc);
@@ -102,12 +111,52 @@ fn weighs_arcs(rt: HostRuntime) -> Result<(), Fail> {
     let alloc = rt.alloc();
     let long = conflicts(alloc, &star(alloc, 1_000_000, FAST, LONG)?)?;
     let on = triple(0, 1, 4);
-    expect_arc(&rt, &long, on, Side::Left, Arc { from: 0, to: 1, weight: -10_992 });
-    expect_arc(&rt, &long, on, Side::Right, Arc { from: 1, to: 0, weight: 24_000 });
+    expect_arc(
+        &rt,
+        &long,
+        on,
+        Side::Left,
+        Arc {
+            from: 0,
+            to: 1,
+            weight: -10_992,
+        },
+    );
+    expect_arc(
+        &rt,
+        &long,
+        on,
+        Side::Right,
+        Arc {
+            from: 1,
+            to: 0,
+            weight: 24_000,
+        },
+    );
     let apart_between = conflicts(alloc, &timing_of(alloc, LOOP)?)?;
-    expect_arc(&rt, &apart_between, on, Side::Left, Arc { from: 0, to: 1, weight: 672 });
+    expect_arc(
+        &rt,
+        &apart_between,
+        on,
+        Side::Left,
+        Arc {
+            from: 0,
+            to: 1,
+            weight: 672,
+        },
+    );
     let later = triple(0, 1, 12);
-    expect_arc(&rt, &apart_between, later, Side::Right, Arc { from: 1, to: 0, weight: -672 });
+    expect_arc(
+        &rt,
+        &apart_between,
+        later,
+        Side::Right,
+        Arc {
+            from: 1,
+            to: 0,
+            weight: -672,
+        },
+    );
     Ok(())
 }
 
