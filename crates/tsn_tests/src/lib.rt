@@ -11,6 +11,8 @@ mod least_offsets;
 #[cfg(test)]
 mod network;
 #[cfg(test)]
+mod shared_links;
+#[cfg(test)]
 mod timing;
 #[cfg(test)]
 mod valid_command;

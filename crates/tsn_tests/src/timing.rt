@@ -16,7 +16,7 @@ const NODES: &str = "node = [
 ";
 
 /// The cables from A and B to the bridge, and the one from there to C.
-const FAST: &str = "link = [
+pub const FAST: &str = "link = [
     {a = 'A', b = 'S', mbps = 1000, prop = 50},
     {a = 'B', b = 'S', mbps = 1000, prop = 50},
     {a = 'S', b = 'C', mbps = 1000, prop = 50},
@@ -32,7 +32,7 @@ const SLOW: &str = "link = [
 ";
 
 /// The timing of a network round one bridge.
-fn star(alloc: Global, cycle: u64, cables: &str, streams: &str) -> Result<Timing, Fail> {
+pub fn star(alloc: Global, cycle: u64, cables: &str, streams: &str) -> Result<Timing, Fail> {
     let mut text = format!(in alloc; "cycle = {cycle}\n")?;
     text.push_str(NODES)?;
     text.push_str(cables)?;
@@ -40,7 +40,7 @@ fn star(alloc: Global, cycle: u64, cables: &str, streams: &str) -> Result<Timing
     timing_of(alloc, text.as_str())
 }
 
-fn timing_of(alloc: Global, text: &str) -> Result<Timing, Fail> {
+pub fn timing_of(alloc: Global, text: &str) -> Result<Timing, Fail> {
     let problem = read_problem(alloc, text.as_bytes()).map_err(|_| "the network is refused")?;
     Ok(Timing::of(alloc, &problem)?)
 }
@@ -48,20 +48,20 @@ fn timing_of(alloc: Global, text: &str) -> Result<Timing, Fail> {
 const ONE: &str = "stream = [{name = 'one', octets = 64, route = ['A', 'S', 'C']}]
 ";
 
-const TWO: &str = "stream = [
+pub const TWO: &str = "stream = [
     {name = 'one', octets = 64, route = ['A', 'S', 'C']},
     {name = 'two', octets = 64, route = ['B', 'S', 'C']},
 ]
 ";
 
-const LONG: &str = "stream = [
+pub const LONG: &str = "stream = [
     {name = 'one', octets = 64, route = ['A', 'S', 'C']},
     {name = 'two', octets = 1522, route = ['B', 'S', 'C']},
 ]
 ";
 
 /// Stations A, B and C, bridges S, T, V and U without processing time; the cable from T to V is long.
-const LOOP: &str = "cycle = 1000000
+pub const LOOP: &str = "cycle = 1000000
 node = [
     {name = 'A', kind = 'station'},
     {name = 'B', kind = 'station'},

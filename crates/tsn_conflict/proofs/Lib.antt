@@ -1,0 +1,4 @@
+pub mod Reading
+pub mod Triples
+pub mod Listed
+pub mod Order

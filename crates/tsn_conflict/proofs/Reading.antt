@@ -1,0 +1,132 @@
+-- What is known of a stream's use of a link.
+use Rattle.std.proofs.Common.{◌≡◌, ℕ, ◌+◌, ◌≤◌, ◌<◌, true, false, List, [], ◌∷◌, ◌++◌, length, map, get_or, Option, Some, None, is_some, refl, sym, ap, ◌∙◌, subst, arith}
+use Rattle.std.specs.Prelude.{nat_lt}
+use Rattle.std.specs.List.{range_with_len}
+use Rattle.std.proofs.lemmas.Bool.{lt-ltb}
+use Rattle.std.proofs.lemmas.List.{length-map}
+use Rattle.std.proofs.lemmas.List.FromFn.{length-map-range_with_len, get_or-map-range_with_len, map-range_with_len_more}
+use Rattle.tsn_model.specs.Network.{Network, IsWellFormed, stream_count}
+use Rattle.tsn_model.specs.Timing.{occupancy, start, hop_on, UsesLink, start_on}
+use Rattle.tsn_model.proofs.Routes.{hop_on_found, UsesLink-counted, UsesLink-exists}
+use Rattle.tsn_model.proofs.Limits.{occupancy-le, occupancy-ge, start-le}
+use Rattle.tsn_conflict.specs.declared.uses.Use.{Use}
+use Rattle.tsn_conflict.specs.declared.uses.Row.{Row}
+use Rattle.tsn_conflict.specs.Rows.{uses_in}
+use Rattle.tsn_model.specs.Arcs.{conflicts_of}
+use Rattle.tsn_conflict.specs.Kept.{Kept, use_at, uses_of, use_in, AreConflictsOf}
+
+module _ (network : Network) (i link : ℕ) where
+  pub use_at-hop : (hop : ℕ) → hop_on network i link ≡ Some hop → use_at network i link ≡ record { start = start network i hop; occupancy = occupancy network i link }
+  unfolding use_at
+  use_at-hop hop on = rw on refl
+
+  pub use_at-none : hop_on network i link ≡ None → use_at network i link ≡ record { start = 0; occupancy = 0 }
+  unfolding use_at
+  use_at-none off = rw off refl
+
+  used_by : (hop : Option ℕ) → hop_on network i link ≡ hop → UsesLink network i link → use_at network i link ≡ record { start = start_on network i link; occupancy = occupancy network i link }
+  used_by None off uses = let none : false ≡ true = ap is_some (sym off) ∙ uses in cc
+  used_by (Some hop) on uses =
+      let same : start network i hop ≡ start_on network i link = (hop_on_found network i link hop on).2 in
+      use_at-hop hop on ∙ (λ k. record { start = same k; occupancy = occupancy network i link })
+
+  -- a stream that uses the link starts there and occupies it as the timing says
+  pub use_at-used : UsesLink network i link → use_at network i link ≡ record { start = start_on network i link; occupancy = occupancy network i link }
+  use_at-used uses = used_by (hop_on network i link) refl uses
+
+  occupied_by : (hop : Option ℕ) → hop_on network i link ≡ hop → IsWellFormed network → link < length network.links → nat_lt 0 (use_at network i link).occupancy ≡ is_some (hop_on network i link)
+  occupied_by None off formed below = rw (use_at-none off, off) refl
+  occupied_by (Some hop) on formed below =
+      let some = occupancy-ge network formed i link below in
+      rw (use_at-hop hop on, on) (lt-ltb 0 (occupancy network i link) (omega arith))
+
+  -- it occupies the link for some time exactly where it uses it
+  pub use_at-occupied : IsWellFormed network → link < length network.links → nat_lt 0 (use_at network i link).occupancy ≡ is_some (hop_on network i link)
+  use_at-occupied formed below = occupied_by (hop_on network i link) refl formed below
+
+-- ---- the uses of the first streams
+
+abbrev pub rows_first : Network → ℕ → List (List Use)
+rows_first network n = map (λ i. map (use_at network i) (range_with_len 0 (length network.links))) (range_with_len 0 n)
+
+pub rows_first-more : (network : Network) (n : ℕ) → rows_first network (n + 1) ≡ rows_first network n ++ map (use_at network n) (range_with_len 0 (length network.links)) ∷ []
+rows_first-more network n = map-range_with_len_more (λ i. map (use_at network i) (range_with_len 0 (length network.links))) 0 n n (omega arith)
+
+pub uses_of_is : (network : Network) → uses_of network ≡ rows_first network (stream_count network)
+unfolding uses_of
+uses_of_is network = refl
+
+-- ---- reading the uses that are kept
+
+pub length-uses_in : (rows : List Row) → length (uses_in rows) ≡ length rows
+length-uses_in rows = length-map rows (λ (row : Row). row.uses.items)
+
+module _ (network : Network) where
+  pub length-uses_of : length (uses_of network) ≡ stream_count network
+  unfolding uses_of
+  length-uses_of = length-map-range_with_len (λ i. map (use_at network i) (range_with_len 0 (length network.links))) 0 (stream_count network)
+
+  row_at : (i : ℕ) → i < stream_count network → get_or (uses_of network) i [] ≡ map (use_at network i) (range_with_len 0 (length network.links))
+  unfolding uses_of
+  row_at i below = get_or-map-range_with_len (λ j. map (use_at network j) (range_with_len 0 (length network.links))) 0 (stream_count network) i i [] below (omega arith)
+
+  pub length-row : (i : ℕ) → i < stream_count network → length (get_or (uses_of network) i []) ≡ length network.links
+  length-row i below = ap length (row_at i below) ∙ length-map-range_with_len (use_at network i) 0 (length network.links)
+
+  pub use_in-uses_of : (i link : ℕ) → i < stream_count network → link < length network.links → use_in (uses_of network) i link ≡ use_at network i link
+  use_in-uses_of i link below inside =
+      ap (λ (row : List Use). get_or row link (record { start = 0; occupancy = 0 })) (row_at i below)
+      ∙ get_or-map-range_with_len (use_at network i) 0 (length network.links) link link (record { start = 0; occupancy = 0 }) inside (omega arith)
+
+-- the uses of a network have a place for each stream and link
+pub row_kept : (network : Network) (uses : List (List Use)) (i : ℕ) → uses ≡ uses_of network → i < stream_count network → i < length uses
+row_kept network uses i same below = let long = ap length same ∙ length-uses_of network in omega arith
+
+pub link_kept : (network : Network) (uses : List (List Use)) (i link : ℕ) → uses ≡ uses_of network → i < stream_count network → link < length network.links → link < length (get_or uses i [])
+link_kept network uses i link same below inside = let long = ap (λ (us : List (List Use)). length (get_or us i [])) same ∙ length-row network i below in omega arith
+
+pub link_exists : (network : Network) (uses : List (List Use)) (i link : ℕ) → uses ≡ uses_of network → i < stream_count network → link < length (get_or uses i []) → link < length network.links
+link_exists network uses i link same below inside = let long = ap (λ (us : List (List Use)). length (get_or us i [])) same ∙ length-row network i below in omega arith
+
+-- what they have there tells whether the stream uses the link
+pub occupied_in : (network : Network) (uses : List (List Use)) (i link : ℕ) (read : Use) → IsWellFormed network → uses ≡ uses_of network → i < stream_count network → link < length network.links
+    → read ≡ use_in uses i link → nat_lt 0 read.occupancy ≡ is_some (hop_on network i link)
+occupied_in network uses i link read formed same below inside is =
+    let value : read ≡ use_at network i link = is ∙ ap (λ (us : List (List Use)). use_in us i link) same ∙ use_in-uses_of network i link below inside in
+    ap (λ (u : Use). nat_lt 0 u.occupancy) value ∙ use_at-occupied network i link formed inside
+
+-- a stream's use of a link, as it is read: where it is kept, what it is, and how large its numbers are
+pub record Reads (network : Network) (uses : List (List Use)) (i link : ℕ) : Type 0 where
+  pub row_kept : i < length uses
+  pub link_kept : link < length (get_or uses i [])
+  pub value : use_in uses i link ≡ record { start = start_on network i link; occupancy = occupancy network i link }
+  pub early : start_on network i link ≤ 51584000
+  pub short : occupancy network i link ≤ 1233600
+
+pub Reads-used : (network : Network) (uses : List (List Use)) (i link : ℕ) → IsWellFormed network → uses ≡ uses_of network → UsesLink network i link → Reads network uses i link
+Reads-used network uses i link formed same used =
+    let counted = UsesLink-counted network i link used in
+    let exists = UsesLink-exists network i link formed used in
+    let rows = length-uses_of network in
+    let long = length-row network i counted in
+    let hop = start_hop in
+    subst (λ (us : List (List Use)). Reads network us i link) (sym same) (record {
+      row_kept = omega arith;
+      link_kept = omega arith;
+      value = use_in-uses_of network i link counted exists ∙ use_at-used network i link used;
+      early = hop;
+      short = occupancy-le network formed i link counted exists;
+    })
+  where
+    start_hop : start_on network i link ≤ 51584000
+    start_hop = start_by (hop_on network i link) refl
+      where
+        start_by : (hop : Option ℕ) → hop_on network i link ≡ hop → start_on network i link ≤ 51584000
+        start_by None off = let none : false ≡ true = ap is_some (sym off) ∙ used in cc
+        start_by (Some hop) on =
+            let early = start-le network formed i hop (UsesLink-counted network i link used) in
+            let same = (hop_on_found network i link hop on).2 in
+            omega arith
+
+pub AreConflictsOf-from : (network : Network) (kept : Kept) → IsWellFormed network → kept.uses ≡ uses_of network → kept.triples ≡ conflicts_of network → AreConflictsOf network kept
+AreConflictsOf-from network kept formed uses triples = record { formed = formed; streams = ap length uses ∙ length-uses_of network; uses = uses; triples = triples }

@@ -1,0 +1,20 @@
+use Rattle.std.proofs.Common.{◌≡◌, ◌+◌, pos, ◌-ℤ◌, arith}
+use Rattle.std.proofs.lemmas.Int.{ints}
+use Rattle.tsn_model.specs.Timing.{occupancy, start_on}
+use Rattle.tsn_model.specs.Arcs.{arc_between}
+use Rattle.tsn_conflict.proofs.sharing.Conflicts.arc_between.Goals as goal
+
+pub returns-clause-value : goal.returns-clause-value
+unfolding arc_between
+returns-clause-value c =
+    λ network is.
+    let before_start = c.use_on-before.ensures.start network is in
+    let before_occupancy = c.use_on-before.ensures.occupancy network is in
+    let after_start = c.use_on-after.ensures.start network is in
+    let early = c.use_on-before.ensures.early in
+    let short = c.use_on-before.ensures.short in
+    let early_after = c.use_on-after.ensures.early in
+    let first = c.args.first in
+    let second = c.args.second in
+    let weight : _ ≡ pos (start_on network c.args.first c.args.link + occupancy network c.args.first c.args.link) -ℤ pos (start_on network c.args.second c.args.link) = omega (arith, ints) in
+    (λ k. record { from = first; to = second; weight = weight k })

@@ -1,0 +1,18 @@
+-- Words of the private contracts.
+use Rattle.std.specs.Prelude.{ℕ, List, map, length, flat_map}
+use Rattle.std.specs.List.{range_with_len}
+use Rattle.tsn_model.specs.declared.Triple.{Triple}
+use Rattle.tsn_model.specs.Network.{Network}
+use Rattle.tsn_conflict.specs.declared.uses.Use.{Use}
+use Rattle.tsn_conflict.specs.declared.uses.Row.{Row}
+
+-- the uses that the rows hold
+abbrev pub uses_in : List Row → List (List Use)
+uses_in rows = map (λ (row : Row). row.uses.items) rows
+
+-- the triples of two streams, and those of a left stream with the first n streams
+abbrev pub triples_with : Network → ℕ → ℕ → List Triple
+triples_with network i j = map (λ link. record { left = i; right = j; link = link }) (range_with_len 0 (length network.links))
+
+abbrev pub triples_left : Network → ℕ → ℕ → List Triple
+triples_left network i n = flat_map (triples_with network i) (range_with_len 0 n)

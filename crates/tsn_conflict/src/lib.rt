@@ -1,0 +1,26 @@
+//! The links that two streams share, and what going first on one of them asks of the offsets.
+#![tactic(auto)]
+
+ghost use Rattle.std.specs.Prelude.{IfOk};
+ghost use Rattle.tsn_conflict.specs.Kept.{AreConflictsOf};
+
+mod listing;
+pub mod sharing;
+mod uses;
+
+use crate::listing::triples_of;
+use crate::sharing::Conflicts;
+use crate::uses::rows_of;
+use std::alloc::Global;
+pub use tsn_model::{Arc, NoMemory, Side, Triple};
+use tsn_timing::Timing;
+
+/// The conflicts of a network. The error says that there was no memory.
+pub fn conflicts(alloc: Global, timing: &Timing) -> Result<Conflicts, NoMemory>
+    ensures { IfOk result (AreConflictsOf timing.now) }
+{
+    let _limit = timing.cycle();
+    let rows = rows_of(alloc, timing)?;
+    let triples = triples_of(alloc, timing, &rows)?;
+    Ok(Conflicts { rows, triples })
+}

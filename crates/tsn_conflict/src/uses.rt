@@ -1,0 +1,80 @@
+//! Which links a stream uses, and when.
+ghost use Rattle.std.specs.Prelude.{◌≡◌, ◌<◌, ◌↔◌, IsTrue, length, slice_index_or, List, [], map, IfOk};
+ghost use Rattle.std.specs.List.{range_with_len};
+ghost use Rattle.tsn_model.specs.Network.{stream_count};
+ghost use Rattle.tsn_conflict.specs.Kept.{use_at, use_in, uses_of};
+ghost use Rattle.tsn_conflict.specs.Rows.{uses_in};
+
+use std::alloc::{AllocError, Global};
+use tsn_timing::Timing;
+
+/// When a stream's frame starts on a link, counted from the offset, and how long it occupies it. Where the stream
+/// doesn't use the link, it occupies it for no time.
+#[derive(Clone, Copy, Debug)]
+pub struct Use {
+    pub start: u64,
+    pub occupancy: u64,
+}
+
+/// A stream's use of each link.
+#[derive(Debug, Drop)]
+pub struct Row {
+    pub uses: Vec<Use>,
+}
+
+/// A stream's use of a link.
+fn use_of(timing: &Timing, stream: usize, link: usize) -> Use
+    requires { stream < stream_count timing.now }
+    ensures { result ≡ use_at timing.now stream link }
+{
+    match timing.hop_on(stream, link) {
+        Some(hop) => Use {
+            start: timing.start(stream, hop),
+            occupancy: timing.occ(stream, hop),
+        },
+        None => Use {
+            start: 0,
+            occupancy: 0,
+        },
+    }
+}
+
+/// A stream's use of each link.
+fn row_of(alloc: Global, timing: &Timing, stream: usize) -> Result<Row, AllocError>
+    requires { stream < stream_count timing.now }
+    ensures { IfOk result (λ row. row.uses.items ≡ map (use_at timing.now stream) (range_with_len 0 (length timing.now.links))) }
+{
+    let mut uses = Vec::new(alloc);
+    for link in 0..timing.links() {
+        uses.push(use_of(timing, stream, link))?;
+    }
+    Ok(Row { uses })
+}
+
+/// Each stream's use of each link.
+pub fn rows_of(alloc: Global, timing: &Timing) -> Result<Vec<Row>, AllocError>
+    ensures { IfOk result (λ rows. uses_in rows.items ≡ uses_of timing.now) }
+{
+    let mut rows = Vec::new(alloc);
+    for stream in 0..timing.streams() {
+        rows.push(row_of(alloc, timing, stream)?)?;
+    }
+    Ok(rows)
+}
+
+/// Whether the row of a stream has the link.
+pub fn has_link(rows: &[Row], stream: usize, link: usize) -> bool
+    requires { stream < length (uses_in rows.now) }
+    ensures { IsTrue result ↔ (link < length (slice_index_or (uses_in rows.now) stream [])) }
+{
+    link < rows[stream].uses.len()
+}
+
+/// A stream's use of a link, as the rows have it.
+pub fn look_up(rows: &[Row], stream: usize, link: usize) -> Use
+    requires stream { stream < length (uses_in rows.now) }
+    requires link { link < length (slice_index_or (uses_in rows.now) stream []) }
+    ensures { result ≡ use_in (uses_in rows.now) stream link }
+{
+    rows[stream].uses[link]
+}
