@@ -1,5 +1,16 @@
-//! Tests of the crates: what no contract says, and worked examples.
+//! The tests of all crates, a module a subject. A crate with tests is proved twice, so they stand apart.
 #![tactic(auto)]
+//! Tests of the planner's crates, a module a subject.
 
 #[cfg(test)]
 mod certificate_files;
+#[cfg(test)]
+mod command_words;
+#[cfg(test)]
+mod least_offsets;
+#[cfg(test)]
+mod network;
+#[cfg(test)]
+mod timing;
+#[cfg(test)]
+mod valid_command;

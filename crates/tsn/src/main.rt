@@ -1,0 +1,64 @@
+//! The program: the commands over files and standard streams.
+#![tactic(auto)]
+
+mod files;
+
+use crate::files::{ReaderSource, WriterSink};
+use std::alloc::Global;
+use std::io::ErrorKind;
+use std::process::ExitCode;
+use std::rt::{Env, Files};
+use std::{env, fs, io};
+use tsn_cli::run::{MEMORY, NO_MEMORY_LINE, WORDS, finish};
+use tsn_cli::valid_run;
+use tsn_words::{ValidWords, Words, WordsFault, words_from};
+
+fn main(rt: HostRuntime) -> ExitCode {
+    let status = match run(&rt) {
+        Ok(status) => status,
+        Err(error) if error.kind() == ErrorKind::OutOfMemory => no_memory(&rt),
+        Err(_) => refuse(&rt, "error: the words aren't UTF-8\n"),
+    };
+    ExitCode::from(status)
+}
+
+/// Runs the command that the words ask for, and says the status.
+fn run<R: Env + Files + Input + Print + Eprint + AllocGlobal>(rt: &R) -> io::Result<u8> {
+    let alloc = rt.alloc();
+    let args: Vec<String> = env::args(rt)?.collect(alloc)?;
+    let mut words = Vec::with_capacity(alloc, args.len())?;
+    for arg in &args {
+        words.push(arg.as_str())?;
+    }
+    match words_from(alloc, words.as_slice()) {
+        Ok(Words::Valid(words)) => Ok(valid(rt, alloc, &words)),
+        Err(WordsFault::Refused(text)) => Ok(refuse(rt, text.as_str())),
+        Err(WordsFault::Memory) => Ok(no_memory(rt)),
+    }
+}
+
+/// Judges offsets; the network `-` is standard input.
+fn valid<R: Files + Input + Print>(rt: &R, alloc: Global, words: &ValidWords<'_>) -> u8 {
+    let mut sink = WriterSink::new(io::writer(rt));
+    if words.network == "-" {
+        let mut source = ReaderSource::new(Some(rt.reader()));
+        valid_run(alloc, &mut source, &words.offsets, &mut sink)
+    } else {
+        let mut source = ReaderSource::new(fs::open(rt, words.network).ok());
+        valid_run(alloc, &mut source, &words.offsets, &mut sink)
+    }
+}
+
+/// Tells on standard error why the words are refused.
+fn refuse<R: Eprint>(rt: &R, text: &str) -> u8 {
+    let _ = eprint!(rt; "{text}");
+    WORDS
+}
+
+fn no_memory<R: Print>(rt: &R) -> u8 {
+    finish(
+        &mut WriterSink::new(io::writer(rt)),
+        MEMORY,
+        NO_MEMORY_LINE,
+    )
+}

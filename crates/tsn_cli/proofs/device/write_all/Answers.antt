@@ -1,0 +1,10 @@
+use Rattle.std.proofs.Common.{ℕ, ◌∙◌, arith, length-drop}
+use Rattle.tsn_cli.proofs.KnownLemmas.{Appends_more}
+use Rattle.tsn_cli.proofs.device.write_all.Goals as goal
+
+pub pieces-preserved : goal.pieces-preserved
+pieces-preserved g c = record {
+  taken = Appends_more _ _ _ c.args.bytes.now c.pieces.written _ c.pieces.invariant.taken c.in_ok-written.ensures.bytes;
+  within = omega (arith, c.in_ok-written.ensures.within, length-drop {A = ℕ});
+  failed = c.in_ok-written.ensures.ok ∙ c.pieces.invariant.failed;
+}

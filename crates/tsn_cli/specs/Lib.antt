@@ -1,0 +1,3 @@
+pub mod Run
+pub mod Valid
+pub mod Outcome

@@ -1,0 +1,104 @@
+-- What a run of a command ends with, by what its sources gave and its sinks took.
+--     Reading, GivesFile, GivesTooMuch      a source over a run
+--     Writing, TakesAll, TakesBeginning     the sinks over a run
+--     Output, Command, Answers              what a command answers
+--     Ends, EndsEarly                       a run that was done, and one in which a write failed
+use Rattle.std.specs.Prelude.{◌≡◌, ◌≤◌, ◌<◌, ◌⊎◌, ℕ, List, [], ◌∷◌, ◌++◌, Bool, IsTrue, length, take, codes, Option, All}
+use Rattle.std.specs.Io.KnownBytes.{Appends, Keeps}
+
+-- the most bytes of a file
+abbrev pub max_file : ℕ
+max_file = 1099511627776
+
+-- a source over a run: the bytes that it had given before and has given after (None where it can't tell), and whether it is at its end after
+pub record Reading : Type 0 where
+  pub before : Option (List ℕ)
+  pub after : Option (List ℕ)
+  pub at_end : Bool
+
+-- a source that was read to its end, and gave this file
+pub record GivesFile (reading : Reading) (bytes : List ℕ) : Type 0 where
+  pub given : Appends reading.before reading.after bytes
+  pub ended : IsTrue reading.at_end
+  pub short : length bytes ≤ max_file
+
+-- a source that gave more than a file may have
+pub record GivesTooMuch (reading : Reading) : Type 0 where
+  pub bytes : List ℕ
+  pub given : Appends reading.before reading.after bytes
+  pub long : max_file < length bytes
+
+-- a source that gave nothing
+abbrev pub IsUnread : Reading → Type 0
+IsUnread reading = Keeps reading.before reading.after
+
+-- a sink over a run: the bytes that it had taken before and has taken after (None where it can't tell)
+pub record Writing : Type 0 where
+  pub before : Option (List ℕ)
+  pub after : Option (List ℕ)
+
+-- a sink that took nothing
+abbrev pub IsUnwritten : Writing → Type 0
+IsUnwritten writing = Keeps writing.before writing.after
+
+-- each sink took its text
+abbrev pub TakesAll : List Writing → List (List ℕ) → Type 0
+TakesAll [] [] = Unit {0}
+TakesAll (writing ∷ writings) (text ∷ texts) = Appends writing.before writing.after text × TakesAll writings texts
+TakesAll _ _ = ⊥
+
+-- some sinks took their texts, the next a beginning of its text, and the rest nothing
+abbrev pub TakesBeginning : List Writing → List (List ℕ) → Type 0
+TakesBeginning (writing ∷ writings) (text ∷ texts) =
+    ((n : ℕ) × Appends writing.before writing.after (take n text) × All IsUnwritten writings) ⊎ (Appends writing.before writing.after text × TakesBeginning writings texts)
+TakesBeginning _ _ = ⊥
+
+-- what a run ends with: its status, and the text for each sink; the last sink takes the run's line
+pub record Output : Type 0 where
+  pub status : ℕ
+  pub texts : List (List ℕ)
+
+-- the last text is this line, and the others are empty
+abbrev pub IsLineAlone : List ℕ → List (List ℕ) → Type 0
+IsLineAlone line [] = ⊥
+IsLineAlone line (text ∷ []) = text ≡ line
+IsLineAlone line (text ∷ texts) = (text ≡ []) × IsLineAlone line texts
+
+-- the output is this line with this status
+abbrev pub IsLine : ℕ → List ℕ → Output → Type 0
+IsLine status line output = (output.status ≡ status) × IsLineAlone line output.texts
+
+-- what a command answers to the files that it has read, in the order of its words; nothing, where it goes on to the next file
+abbrev pub Command : Type 1
+Command = List (List ℕ) → Output → Type 0
+
+-- the answer of a run that has read these files and has these sources left: to the files, or to the next source's length, or by reading on
+abbrev pub Answers : Command → List (List ℕ) → List Reading → Output → Type 0
+Answers command files [] output = command files output
+Answers command files (reading ∷ readings) output =
+    (command files output × IsUnread reading × All IsUnread readings)
+    ⊎ (((other : Output) → command files other → ⊥) × GivesTooMuch reading × All IsUnread readings × IsLine 3 (codes "too long\n") output)
+    ⊎ ((bytes : List ℕ) × GivesFile reading bytes × Answers command (files ++ bytes ∷ []) readings output)
+
+-- the output is the command's answer, or the line that says that memory was refused
+abbrev pub IsOutput : Command → List Reading → Output → Type 0
+IsOutput command readings output = Answers command [] readings output ⊎ IsLine 7 (codes "no memory\n") output
+
+-- the run ended with this status, and each sink took its text
+pub record Ends (command : Command) (readings : List Reading) (writings : List Writing) (status : ℕ) : Type 0 where
+  pub output : Output
+  pub answer : IsOutput command readings output
+  pub status_is : status ≡ output.status
+  pub written : TakesAll writings output.texts
+
+-- a write failed, and the sinks took a beginning of their texts
+pub record EndsEarly (command : Command) (readings : List Reading) (writings : List Writing) : Type 0 where
+  pub output : Output
+  pub answer : IsOutput command readings output
+  pub written : TakesBeginning writings output.texts
+
+abbrev pub writing_of : Option (List ℕ) → Option (List ℕ) → Writing
+writing_of before after = record { before = before; after = after }
+
+abbrev pub reading_of : Option (List ℕ) → Option (List ℕ) → Bool → Reading
+reading_of before after at_end = record { before = before; after = after; at_end = at_end }

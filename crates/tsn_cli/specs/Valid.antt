@@ -1,0 +1,35 @@
+-- What `valid` answers.
+use Rattle.std.specs.Prelude.{◌≡◌, ◌⊎◌, ℕ, List, [], ◌∷◌, ◌++◌, codes, decimal}
+use Rattle.tsn_model.specs.declared.Violation.{Violation}
+use Rattle.tsn_model.specs.declared.Violation.TheVariants.{WrongCount, PastCycle, Overlap}
+use Rattle.tsn_model.specs.Network.{Network}
+use Rattle.tsn_model.specs.Schedule.{IsValid, IsFirstViolation, flowspan}
+use Rattle.tsn_net.specs.declared.fault.NetFault.{NetFault}
+use Rattle.tsn_net.specs.Fault.{fault_text}
+use Rattle.tsn_net.specs.File.{States, HasFault}
+use Rattle.tsn_net.specs.Problem.{NamedNetwork}
+use Rattle.tsn_cli.specs.Run.{Output, Command, IsLine}
+
+-- the network file is refused
+abbrev pub RefusesNetwork : List ℕ → Output → Type 0
+RefusesNetwork file output = (fault : NetFault) × HasFault file fault × IsLine 3 (codes "refused " ++ fault_text fault ++ codes "\n") output
+
+-- why the offsets are no valid schedule
+abbrev pub violation_text : Violation → List ℕ
+violation_text WrongCount = codes "V1"
+violation_text (PastCycle stream) = codes "V2 stream " ++ decimal stream
+violation_text (Overlap triple) = codes "V3 " ++ decimal triple.left ++ codes " " ++ decimal triple.right ++ codes " " ++ decimal triple.link
+
+-- the offsets are a valid schedule
+abbrev pub Accepts : Network → List ℕ → Output → Type 0
+Accepts network offsets output = IsValid network offsets × IsLine 0 (codes "valid flowspan " ++ decimal (flowspan network offsets) ++ codes "\n") output
+
+-- they are none, and this is the first reason
+abbrev pub Rejects : Network → List ℕ → Output → Type 0
+Rejects network offsets output = (violation : Violation) × IsFirstViolation network offsets violation × IsLine 6 (codes "not valid " ++ violation_text violation ++ codes "\n") output
+
+-- the answer for a network file and these offsets
+abbrev pub ValidAnswers : List ℕ → Command
+ValidAnswers offsets (file ∷ []) output =
+    RefusesNetwork file output ⊎ ((problem : NamedNetwork) × States file problem × (Accepts problem.network offsets output ⊎ Rejects problem.network offsets output))
+ValidAnswers offsets _ output = ⊥

@@ -1,0 +1,10 @@
+//! What a command answers, before any of it is written.
+ghost use Rattle.std.specs.Prelude.{◌<◌};
+
+/// A status, and the text that goes with it.
+#[derive(Drop)]
+pub(crate) struct Answer {
+    pub(crate) status: u8,
+    pub(crate) text: String,
+    ghost not_device: { status < 8 },
+}

@@ -1,0 +1,156 @@
+//! The words of the command line.
+
+use std::alloc::Global;
+use std::process::Abort;
+use tsn_words::{Words, WordsFault, words_from};
+
+/// The words ask for these offsets to be judged.
+fn judges(rt: &impl Abort, alloc: Global, words: &[&str], network: &str, offsets: &[u64]) {
+    match words_from(alloc, words) {
+        Ok(Words::Valid(words)) => {
+            assert_eq!(rt; words.network, network);
+            assert!(rt; words.offsets.as_slice() == offsets);
+        }
+        Err(fault) => assert!(rt; false, "{fault}"),
+    }
+}
+
+/// The words are refused with a text that has this in it.
+fn refuses(rt: &impl Abort, alloc: Global, words: &[&str], part: &str) {
+    match words_from(alloc, words) {
+        Err(WordsFault::Refused(text)) => assert!(rt; text.as_str().contains(part), "{text}"),
+        Err(WordsFault::Memory) => assert!(rt; false, "no memory"),
+        Ok(_) => assert!(rt; false, "{part}"),
+    }
+}
+
+#[test]
+fn takes_offsets(rt: HostRuntime) {
+    let alloc = rt.alloc();
+    judges(
+        &rt,
+        alloc,
+        &["tsn", "valid", "-", "0", "672"],
+        "-",
+        &[0, 672],
+    );
+    judges(&rt, alloc, &["tsn", "valid", "net", "0"], "net", &[0]);
+    judges(
+        &rt,
+        alloc,
+        &["tsn", "valid", "net", "2000000000"],
+        "net",
+        &[2_000_000_000],
+    );
+    judges(
+        &rt,
+        alloc,
+        &["tsn", "valid", "net", "+5", "007"],
+        "net",
+        &[5, 7],
+    );
+    judges(
+        &rt,
+        alloc,
+        &["tsn", "valid", "net", "1", "--", "2"],
+        "net",
+        &[1, 2],
+    );
+    judges(
+        &rt,
+        alloc,
+        &["tsn", "valid", "--", "--net", "3"],
+        "--net",
+        &[3],
+    );
+}
+
+#[test]
+fn refuses_offsets(rt: HostRuntime) {
+    let alloc = rt.alloc();
+    for offset in [
+        "2000000001",
+        "18446744073709551616",
+        "1.0",
+        "0x1",
+        "1_000",
+        "",
+        " 1",
+        "one",
+    ] {
+        refuses(
+            &rt,
+            alloc,
+            &["tsn", "valid", "net", offset],
+            "invalid value",
+        );
+        refuses(
+            &rt,
+            alloc,
+            &["tsn", "valid", "net", "0", offset],
+            "invalid value",
+        );
+    }
+    refuses(
+        &rt,
+        alloc,
+        &["tsn", "valid", "net", "-1"],
+        "unexpected argument '-1'",
+    );
+    refuses(
+        &rt,
+        alloc,
+        &["tsn", "valid", "net", "--", "-1"],
+        "invalid value '-1'",
+    );
+}
+
+#[test]
+fn refuses_words(rt: HostRuntime) {
+    let alloc = rt.alloc();
+    refuses(&rt, alloc, &[], "requires a subcommand");
+    refuses(&rt, alloc, &["tsn"], "requires a subcommand");
+    refuses(&rt, alloc, &["tsn", "valid"], "<NET>");
+    refuses(&rt, alloc, &["tsn", "valid", "net"], "<OFFSET>...");
+    refuses(
+        &rt,
+        alloc,
+        &["tsn", "valid", "net", "0", "--steps", "1"],
+        "unexpected argument '--steps'",
+    );
+    for command in ["plan", "check", "gates", "replay", "Valid", "val"] {
+        refuses(
+            &rt,
+            alloc,
+            &["tsn", command, "net", "0"],
+            "unrecognized subcommand",
+        );
+    }
+}
+
+/// A request for help is refused too, with the help as the text.
+#[test]
+fn refuses_help(rt: HostRuntime) {
+    let alloc = rt.alloc();
+    for word in ["-h", "--help", "help"] {
+        refuses(&rt, alloc, &["tsn", word], "Usage: tsn <COMMAND>");
+    }
+    refuses(
+        &rt,
+        alloc,
+        &["tsn", "valid", "--help"],
+        "Usage: tsn valid <NET> <OFFSET>...",
+    );
+    refuses(
+        &rt,
+        alloc,
+        &["tsn", "help", "valid"],
+        "Usage: tsn valid <NET> <OFFSET>...",
+    );
+    refuses(
+        &rt,
+        alloc,
+        &["tsn", "valid", "net", "0", "-h"],
+        "Usage: tsn valid <NET> <OFFSET>...",
+    );
+}

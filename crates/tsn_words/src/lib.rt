@@ -1,0 +1,8 @@
+//! The words of the command line.
+#![tactic(auto)]
+
+mod command;
+pub mod words;
+
+pub use command::words_from;
+pub use words::{ValidWords, Words, WordsFault};

@@ -1,0 +1,46 @@
+//! What the words of the command line ask for.
+ghost use Rattle.std.specs.Prelude.{◌≡◌, ◌≤◌, All, vec_len};
+
+use std::alloc::AllocError;
+use thiserror::Error;
+
+/// The greatest offset, in nanoseconds.
+pub const MAX_OFFSET: u64 = 2_000_000_000;
+
+/// `valid NET OFFSET..`: judge some offsets.
+#[derive(Drop)]
+pub struct ValidWords<'a> {
+    /// The network file, or `-` for standard input.
+    pub network: &'a str,
+    /// At least one, each at most `MAX_OFFSET`, in nanoseconds.
+    pub offsets: Vec<u64>,
+    pub ghost some: { 1 ≤ vec_len offsets },
+    pub ghost small: { All (λ offset. offset ≤ 2000000000) offsets.items },
+}
+
+/// A command, with its words.
+#[derive(Drop)]
+pub enum Words<'a> {
+    Valid(ValidWords<'a>),
+}
+
+/// Why there is no command.
+#[derive(Debug, Drop, Error)]
+pub enum WordsFault {
+    /// The words are refused, with a text that says why. A request for help is refused too, with the help as its text.
+    #[error("{0}")]
+    Refused(String),
+    /// A growth was refused.
+    #[error("no memory")]
+    Memory,
+}
+
+impl From<AllocError> for WordsFault {
+    ghost use Rattle.tsn_words.specs.declared.words.WordsFault.TheVariants.{Memory};
+
+    ghost from_gives = { λ _ e. e ≡ Memory };
+
+    fn from(_refused: AllocError) -> WordsFault {
+        WordsFault::Memory
+    }
+}
