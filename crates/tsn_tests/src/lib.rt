@@ -1,9 +1,10 @@
 //! The tests of all crates, a module a subject. A crate with tests is proved twice, so they stand apart.
 #![tactic(auto)]
-//! Tests of the planner's crates, a module a subject.
 
 #[cfg(test)]
 mod certificate_files;
+#[cfg(test)]
+mod checking;
 #[cfg(test)]
 mod command_words;
 #[cfg(test)]

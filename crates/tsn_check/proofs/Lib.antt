@@ -1,0 +1,4 @@
+mod Places
+mod Verdicts
+mod Walks
+mod Chains

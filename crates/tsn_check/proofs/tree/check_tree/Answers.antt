@@ -1,0 +1,70 @@
+use Rattle.std.proofs.Common.{◌≡◌, ◌<◌, List, [], ◌∷◌, length, map, get_or, Some, refl, sym, ap, ◌∙◌, subst, arith, inl, inr}
+use Rattle.std.proofs.lemmas.List.{length-map}
+use Rattle.tsn_model.specs.declared.Decision.{Decision}
+use Rattle.tsn_model.specs.Certificate as tree
+use Rattle.tsn_cert.specs.Node.{tree_node}
+use Rattle.tsn_check.specs.Places.{IsNodeRight, next_places, pending}
+use Rattle.tsn_check.specs.Turns.{IsTurn, AreTurns, decisions, places_at}
+use Rattle.tsn_check.specs.Steps.{HasFault}
+use Rattle.tsn_check.proofs.Walks.{start_places, node_there, walk_more, all_filled, fault_there, unfinished_there}
+use Rattle.tsn_check.proofs.tree.check_tree.Goals as goal
+
+pub loop-number-init : goal.loop-number-init
+loop-number-init c = record {
+  turns = rw c.new-path.ensures.items (λ k d below. absurd (omega arith));
+  right = tt;
+  places = start_places ∙ ap (λ items. decisions items ∷ pending (decisions items)) (sym c.new-path.ensures.items);
+}
+
+pub returns-then-not-open-clause-err : goal.returns-then-not-open-clause-err
+returns-then-not-open-clause-err c =
+    let below = c.loop-number-test.true in
+    inr (
+      omega (arith, length-map c.args.nodes.now tree_node),
+      c.loop-number.invariant.right,
+      c.loop-number.invariant.places ∙ ap (λ is_open. places_at is_open (decisions c.loop-number.path.items)) c.if-not-open.true,
+    )
+
+pub judge-requires-clause-turns : goal.judge-requires-clause-turns
+judge-requires-clause-turns c = rw c.deref.ensures.value c.loop-number.invariant.turns
+
+pub returns-in-Err-clause-err : goal.returns-in-Err-clause-err
+returns-in-Err-clause-err c =
+    let path : List Decision = decisions c.loop-number.path.items in
+    let node : tree.Node = tree_node c.index-nodes-number.result in
+    let there = node_there c.args.nodes.now c.loop-number.number c.index-nodes-number.result c.loop-number-test.true ∙ ap (λ n. Some (tree_node n)) (sym c.index-nodes-number.is) in
+    let wrong : HasFault c.args.timing.now c.args.target path node c.in-Err.fault = rw c.deref.ensures.value at c.in-Err.ensures in
+    rw c.at.ensures (inr (fault_there c.args.timing.now c.args.target (map tree_node c.args.nodes.now) c.loop-number.number path node c.in-Err.fault
+        c.loop-number.invariant.right (c.loop-number.invariant.places ∙ ap (λ is_open. places_at is_open path) c.if-not-open.false) there wrong))
+
+pub go_on-requires-clause-turns : goal.go_on-requires-clause-turns
+go_on-requires-clause-turns c = c.loop-number.invariant.turns
+
+pub loop-number-preserved : goal.loop-number-preserved
+loop-number-preserved c =
+    let path : List Decision = decisions c.loop-number.path.items in
+    let node : tree.Node = tree_node c.index-nodes-number.result in
+    let same : node ≡ tree_node (get_or c.args.nodes.now c.loop-number.number c.index-nodes-number.result) = ap tree_node c.index-nodes-number.is in
+    let right : IsNodeRight c.args.timing.now c.args.target path node = rw c.deref.ensures.value at c.in_default.ensures in
+    let walked = walk_more c.args.timing.now c.args.target c.args.nodes.now c.loop-number.number c.index-nodes-number.result path c.loop-number-test.true
+    c.loop-number.invariant.right (c.loop-number.invariant.places ∙ ap (λ is_open. places_at is_open path) c.if-not-open.false)
+    (subst (IsNodeRight c.args.timing.now c.args.target path) same right) in
+    record {
+      turns = c.in_ok-open.ensures.turns;
+      right = walked.right;
+      places = walked.leaves ∙ ap (next_places (path ∷ pending path)) (sym same) ∙ c.in_ok-open.ensures.places;
+    }
+
+pub returns-then-open-clause-err : goal.returns-then-open-clause-err
+returns-then-open-clause-err c =
+    let past = c.loop-number-test.false in
+    let path : List Decision = decisions c.loop-number.path.items in
+    let found = unfinished_there c.args.timing.now c.args.target (map tree_node c.args.nodes.now) c.loop-number.number path (omega (arith, length-map c.args.nodes.now tree_node))
+    c.loop-number.invariant.right (c.loop-number.invariant.places ∙ ap (λ is_open. places_at is_open path) c.if-open.true) in
+    inr (omega (arith, length-map c.args.nodes.now tree_node), found.0, found.1)
+
+pub returns-clause-ok : goal.returns-clause-ok
+returns-clause-ok c =
+    let past = c.loop-number-test.false in
+    all_filled c.args.timing.now c.args.target (map tree_node c.args.nodes.now) c.loop-number.number (omega (arith, length-map c.args.nodes.now tree_node))
+    c.loop-number.invariant.right (c.loop-number.invariant.places ∙ ap (λ is_open. places_at is_open (decisions c.loop-number.path.items)) c.if-open.false)

@@ -1,0 +1,114 @@
+-- What a certificate of a plan shows, and the first reason why it shows nothing.
+--     Certifies                                        the plan is right, and the nodes spell an accepted tree
+--     IsFirstFault                                     the first fault of a plan and a certificate
+--     IsNoConflict, IsChainBroken, IsBoundTooLow       what is wrong with a node at the end of a path
+use Rattle.std.specs.Prelude.{◌≡◌, ◌≢◌, ◌⊎◌, ℕ, ◌<◌, List, [], ◌∷◌, length, take, slice_get, Option, Some, None}
+use Rattle.tsn_model.specs.declared.Decision.{Decision}
+use Rattle.tsn_model.specs.Network.{Network}
+use Rattle.tsn_model.specs.Schedule.{IsValid, flowspan, target_of, IsOptimal, IsConflict}
+use Rattle.tsn_model.specs.Arcs.{arcs_of, IsClosedChain}
+use Rattle.tsn_model.specs.Certificate.{Leaf, late, overrun, positive_cycle, load, overload, LeadsTo, AreEntries, Proves, Tree, Accepts, Node, split_node, leaf_node, Spells}
+use Rattle.tsn_cert.specs.declared.plan.Plan.{Plan}
+use Rattle.tsn_cert.specs.declared.plan.Plan.TheVariants as plan
+use Rattle.tsn_cert.specs.declared.cert.Cert.{Cert}
+use Rattle.tsn_check.specs.Places.{AreRight, places_after}
+use Rattle.tsn_check.specs.declared.verdict.Verdict.{Verdict}
+use Rattle.tsn_check.specs.declared.verdict.Verdict.TheVariants.{Optimal, NoSchedule}
+use Rattle.tsn_check.specs.declared.fault.CheckFault.{CheckFault}
+use Rattle.tsn_check.specs.declared.fault.CheckFault.TheVariants.{PlanInvalid, FlowspanWrong, TreeUnfinished, TreeTooLong, NotConflict, ChainBroken, BoundTooLow}
+
+-- ---- plans
+
+-- the offsets of the plan, if it is a schedule
+abbrev pub offsets_in : Plan → Option (List ℕ)
+offsets_in (plan.Schedule span offsets) = Some offsets
+offsets_in plan.None = None
+
+-- the plan is a valid schedule with its own flowspan, or that there is none
+abbrev pub IsPlanRight : Network → Plan → Type 0
+IsPlanRight network (plan.Schedule span offsets) = IsValid network offsets × (span ≡ flowspan network offsets)
+IsPlanRight network plan.None = Unit {0}
+
+-- the first fault of a schedule: its offsets aren't valid, or its flowspan isn't theirs
+abbrev pub IsScheduleFault : Network → ℕ → List ℕ → CheckFault → Type 0
+IsScheduleFault network span offsets PlanInvalid = IsValid network offsets → ⊥
+IsScheduleFault network span offsets FlowspanWrong = IsValid network offsets × (span ≢ flowspan network offsets)
+IsScheduleFault network span offsets _ = ⊥
+
+-- the first fault of a plan that is to be a schedule
+abbrev pub IsPlanFault : Network → Plan → CheckFault → Type 0
+IsPlanFault network (plan.Schedule span offsets) fault = IsScheduleFault network span offsets fault
+IsPlanFault network plan.None fault = fault ≡ PlanInvalid
+
+-- the first fault of a plan that has a certificate, and so may be that there is none
+abbrev pub IsClaimFault : Network → Plan → CheckFault → Type 0
+IsClaimFault network (plan.Schedule span offsets) fault = IsScheduleFault network span offsets fault
+IsClaimFault network plan.None fault = ⊥
+
+-- ---- certificates
+
+-- The plan is right, and the nodes spell a tree that is accepted for what no schedule may undercut.
+pub record Certifies (network : Network) (plan : Plan) (cert : Cert) : Type 0 where
+  pub plan_right : IsPlanRight network plan
+  pub target_right : cert.target ≡ target_of network (offsets_in plan)
+  pub tree : Tree
+  pub spelled : Spells cert.nodes tree
+  pub accepted : Accepts network cert.target [] tree
+
+-- what a certificate of the plan shows
+abbrev pub verdict_of : Plan → Verdict
+verdict_of (plan.Schedule span offsets) = Optimal
+verdict_of plan.None = NoSchedule
+
+-- the plan is a schedule whose flowspan no valid schedule undercuts
+abbrev pub IsOptimalPlan : Network → Plan → Type 0
+IsOptimalPlan network (plan.Schedule span offsets) = IsOptimal network offsets × (span ≡ flowspan network offsets)
+IsOptimalPlan network plan.None = ⊥
+
+-- ---- nodes
+
+-- a branch on something other than two streams and a link of both
+abbrev pub IsNoConflict : Network → Node → Type 0
+IsNoConflict network (split_node triple) = IsConflict network triple → ⊥
+IsNoConflict network (leaf_node leaf) = ⊥
+
+-- the leaf's chains are chains of the path, and end where they are to
+abbrev pub HasChains : Network → List Decision → Leaf → Type 0
+HasChains network path (late i chain) = LeadsTo network path chain i
+HasChains network path (overrun i chain) = LeadsTo network path chain i
+HasChains network path (positive_cycle chain) = IsClosedChain (arcs_of network path) chain
+HasChains network path (load link entries) = AreEntries network path link entries
+HasChains network path (overload link entries) = AreEntries network path link entries
+
+-- a leaf whose chains aren't right
+abbrev pub IsChainBroken : Network → List Decision → Node → Type 0
+IsChainBroken network path (split_node triple) = ⊥
+IsChainBroken network path (leaf_node leaf) = HasChains network path leaf → ⊥
+
+-- a leaf whose chains are right, and which doesn't prove the target
+abbrev pub IsBoundTooLow : Network → ℕ → List Decision → Node → Type 0
+IsBoundTooLow network target path (split_node triple) = ⊥
+IsBoundTooLow network target path (leaf_node leaf) = HasChains network path leaf × (Proves network path target leaf → ⊥)
+
+-- The nodes before node k are right, and it stands at the end of the path, the first place that is open there.
+pub record Stands (network : Network) (target : ℕ) (nodes : List Node) (k : ℕ) (path : List Decision) (node : Node) : Type 0 where
+  pub right_before : AreRight network target ([] ∷ []) (take k nodes)
+  pub waiting : List (List Decision)
+  pub first_place : places_after (take k nodes) ≡ path ∷ waiting
+  pub there : slice_get nodes k ≡ Some node
+
+-- The first fault of a list of nodes: they end and a place is open; a node stands after the tree's end; a node isn't right where it stands.
+abbrev pub IsTreeFault : Network → ℕ → List Node → CheckFault → Type 0
+IsTreeFault network target nodes (TreeUnfinished k) = (k ≡ length nodes) × AreRight network target ([] ∷ []) nodes × (places_after nodes ≢ [])
+IsTreeFault network target nodes (TreeTooLong k) = (k < length nodes) × AreRight network target ([] ∷ []) (take k nodes) × (places_after (take k nodes) ≡ [])
+IsTreeFault network target nodes (NotConflict k) = (path : List Decision) × (node : Node) × Stands network target nodes k path node × IsNoConflict network node
+IsTreeFault network target nodes (ChainBroken k) = (path : List Decision) × (node : Node) × Stands network target nodes k path node × IsChainBroken network path node
+IsTreeFault network target nodes (BoundTooLow k) = (path : List Decision) × (node : Node) × Stands network target nodes k path node × IsBoundTooLow network target path node
+IsTreeFault network target nodes _ = ⊥
+
+-- the first fault of a plan and its certificate: of the plan, then of the target, then of the nodes in order
+abbrev pub IsFirstFault : Network → Plan → Cert → CheckFault → Type 0
+IsFirstFault network plan cert fault =
+    IsClaimFault network plan fault
+    ⊎ (IsPlanRight network plan × (cert.target ≢ target_of network (offsets_in plan)) × (fault ≡ FlowspanWrong))
+    ⊎ (IsPlanRight network plan × (cert.target ≡ target_of network (offsets_in plan)) × IsTreeFault network cert.target cert.nodes fault)

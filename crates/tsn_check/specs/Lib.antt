@@ -1,0 +1,6 @@
+pub mod Places
+pub mod Faults
+pub mod Numbers
+pub mod Claims
+pub mod Turns
+pub mod Steps

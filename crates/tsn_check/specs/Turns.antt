@@ -1,0 +1,48 @@
+-- The path of a walk in the code: its decisions, each with its arc.
+--     IsTurn, decisions, arcs          a decision with its arc, and those of a path
+--     IsWalk                           a chain that was walked back from its end
+--     places_at                        the open places, told by the path
+use Rattle.std.specs.Prelude.{◌≡◌, ℕ, List, [], ◌∷◌, map, Bool, if◌then◌else◌, All, ℤ, pos, ◌+ℤ◌, ◌≤ℤ◌}
+use Rattle.tsn_model.specs.declared.Arc.{Arc}
+use Rattle.tsn_model.specs.declared.Decision.{Decision}
+use Rattle.tsn_model.specs.Network.{Network}
+use Rattle.tsn_model.specs.Schedule.{IsConflict}
+use Rattle.tsn_model.specs.Arcs.{arc_of, IsChainTo, start_of, chain_sum}
+use Rattle.tsn_check.specs.Places.{pending}
+use Rattle.tsn_check.specs.declared.path.Turn.{Turn}
+use Rattle.tsn_check.specs.declared.chain.Walk.{Walk}
+
+-- an arc's weight is far within what a sum of 128 of them may be
+pub record IsSmall (arc : Arc) : Type 0 where
+  pub low : pos 0 ≤ℤ (arc.weight +ℤ pos 100000000)
+  pub high : arc.weight ≤ℤ pos 100000000
+
+abbrev pub IsSmallTurn : Turn → Type 0
+IsSmallTurn turn = IsSmall turn.arc
+
+-- a decision of a conflict, with its arc
+pub record IsTurn (network : Network) (turn : Turn) : Type 0 where
+  pub conflict : IsConflict network turn.decision.triple
+  pub same_arc : turn.arc ≡ arc_of network turn.decision
+  pub small : IsSmall turn.arc
+
+abbrev pub AreTurns : Network → List Turn → Type 0
+AreTurns network turns = All (IsTurn network) turns
+
+abbrev pub decisions : List Turn → List Decision
+decisions turns = map (λ turn. turn.decision) turns
+
+abbrev pub arcs : List Turn → List Arc
+arcs turns = map (λ turn. turn.arc) turns
+
+-- a chain to a stream, where it begins, and its sum
+pub record IsWalk (network_arcs : List Arc) (chain : List ℕ) (i : ℕ) (walk : Walk) : Type 0 where
+  pub is_chain : IsChainTo network_arcs chain i
+  pub begins : walk.start ≡ start_of network_arcs chain i
+  pub adds : walk.sum ≡ chain_sum network_arcs chain
+  pub low : pos 0 ≤ℤ (walk.sum +ℤ pos 12800000000)
+  pub high : walk.sum ≤ℤ pos 12800000000
+
+-- the open places where the end of this path is one of them, or where none is
+abbrev pub places_at : Bool → List Decision → List (List Decision)
+places_at open' path = if open' then path ∷ pending path else []

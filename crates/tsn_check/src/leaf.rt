@@ -1,0 +1,78 @@
+//! Whether a leaf proves its target at the end of a path.
+ghost use Rattle.std.specs.Prelude.{ℕ, ◌≤◌};
+ghost use Rattle.tsn_model.specs.Certificate.{leaf_node, late, overrun, positive_cycle};
+ghost use Rattle.tsn_check.specs.Turns.{AreTurns, decisions};
+ghost use Rattle.tsn_check.specs.Steps.{Judges, FindsSum};
+
+use crate::chain::{closed_sum, walk_back};
+use crate::fault::NodeFault;
+use crate::path::Turn;
+use tsn_cert::Chain;
+use tsn_timing::Timing;
+
+/// The sum of a chain to a stream of the network, in nanoseconds.
+fn sum_to(timing: &Timing, path: &[Turn], stream: usize, chain: &Chain) -> Result<i64, NodeFault>
+    requires { AreTurns timing.now path.now }
+    ensures { FindsSum timing.now (decisions path.now) chain.now stream result }
+{
+    if stream >= timing.streams() {
+        return Err(NodeFault::ChainBroken);
+    }
+    let Some(walk) = walk_back(path, chain.depths(), stream) else {
+        return Err(NodeFault::ChainBroken);
+    };
+    Ok(walk.sum)
+}
+
+/// The stream arrives at the target or after it.
+pub fn judge_late(
+    timing: &Timing,
+    target: u64,
+    path: &[Turn],
+    stream: usize,
+    chain: &Chain,
+) -> Result<(), NodeFault>
+    requires turns { AreTurns timing.now path.now }
+    requires target { target ≤ 2_000_000_000 }
+    ensures { Judges timing.now target (decisions path.now) (leaf_node (late stream chain.now)) result }
+{
+    let sum = sum_to(timing, path, stream, chain)?;
+    if sum + timing.arrival(stream) as i64 >= target as i64 {
+        Ok(())
+    } else {
+        Err(NodeFault::BoundTooLow)
+    }
+}
+
+/// The stream ends behind the cycle.
+pub fn judge_overrun(
+    timing: &Timing,
+    path: &[Turn],
+    stream: usize,
+    chain: &Chain,
+) -> Result<(), NodeFault>
+    requires { AreTurns timing.now path.now }
+    ensures { (target : ℕ) → Judges timing.now target (decisions path.now) (leaf_node (overrun stream chain.now)) result }
+{
+    let sum = sum_to(timing, path, stream, chain)?;
+    if sum + timing.span(stream) as i64 > timing.cycle() as i64 {
+        Ok(())
+    } else {
+        Err(NodeFault::BoundTooLow)
+    }
+}
+
+/// The chain is closed, and its sum is above 0.
+pub fn judge_cycle(timing: &Timing, path: &[Turn], chain: &Chain) -> Result<(), NodeFault>
+    requires { AreTurns timing.now path.now }
+    ensures { (target : ℕ) → Judges timing.now target (decisions path.now) (leaf_node (positive_cycle chain.now)) result }
+{
+    let Some(sum) = closed_sum(path, chain.depths()) else {
+        return Err(NodeFault::ChainBroken);
+    };
+    if sum > 0 {
+        Ok(())
+    } else {
+        Err(NodeFault::BoundTooLow)
+    }
+}

@@ -1,0 +1,81 @@
+//! The nodes of a certificate, walked in their order.
+ghost use Rattle.std.specs.Prelude.{◌≡◌, ◌≤◌, ◌⊎◌, [], ◌∷◌, map, IfOk, IfErr, OnOk};
+ghost use Rattle.tsn_cert.specs.Node.{tree_node};
+ghost use Rattle.tsn_check.specs.Places.{Fills, next_places, pending};
+ghost use Rattle.tsn_check.specs.Faults.{IsTreeFault};
+ghost use Rattle.tsn_check.specs.Turns.{AreTurns, decisions, places_at};
+ghost use Rattle.tsn_check.specs.Steps.{Judges, IsBranchRight};
+
+use crate::arcs::is_conflict;
+use crate::fault::{CheckFault, NodeFault};
+use crate::leaf::{judge_cycle, judge_late, judge_overrun};
+use crate::path::{Turn, next_place, turn_to};
+use std::alloc::Global;
+use tsn_cert::Node;
+use tsn_model::Side;
+use tsn_timing::Timing;
+
+/// Whether the node is right at the end of the path.
+fn judge(timing: &Timing, target: u64, path: &[Turn], node: &Node) -> Result<(), NodeFault>
+    requires turns { AreTurns timing.now path.now }
+    requires target { target ≤ 2_000_000_000 }
+    ensures { Judges timing.now target (decisions path.now) (tree_node node.now) result }
+{
+    match node {
+        Node::Branch(triple) => {
+            if is_conflict(timing, *triple) {
+                Ok(())
+            } else {
+                Err(NodeFault::NotConflict)
+            }
+        }
+        Node::Late(stream, chain) => judge_late(timing, target, path, *stream, chain),
+        Node::Overrun(stream, chain) => judge_overrun(timing, path, *stream, chain),
+        Node::Cycle(chain) => judge_cycle(timing, path, chain),
+    }
+}
+
+/// Goes on from a node at the end of the path to the next open place: a branch's left side, or past a leaf. False where the
+/// tree is at its end.
+fn go_on(timing: &Timing, path: &mut Vec<Turn>, node: &Node) -> Result<bool, CheckFault>
+    requires turns { AreTurns timing.now path.old.items }
+    requires conflict { IsBranchRight timing.now (tree_node node.now) }
+    ensures turns { OnOk result (AreTurns timing.now path.new.items) }
+    ensures places { IfOk result (λ is_open.
+        next_places (decisions path.old.items ∷ pending (decisions path.old.items)) (tree_node node.now)
+        ≡ places_at is_open (decisions path.new.items)) }
+    ensures memory { IfErr result (λ fault. fault ≡ CheckFault.Memory) }
+{
+    match node {
+        Node::Branch(triple) => {
+            path.push(turn_to(timing, *triple, Side::Left))?;
+            Ok(true)
+        }
+        Node::Late(..) | Node::Overrun(..) | Node::Cycle(_) => Ok(next_place(timing, path)),
+    }
+}
+
+/// Whether the nodes spell an accepted tree, or else their first fault.
+pub fn check_tree(alloc: Global, timing: &Timing, target: u64, nodes: &[Node]) -> Result<(), CheckFault>
+    requires { target ≤ 2_000_000_000 }
+    ensures ok { OnOk result (Fills timing.now target ([] ∷ []) (map tree_node nodes.now)) }
+    ensures err { IfErr result (λ fault. (fault ≡ CheckFault.Memory)
+        ⊎ IsTreeFault timing.now target (map tree_node nodes.now) fault) }
+{
+    let mut path = Vec::new(alloc);
+    let mut open = true;
+    for (number, node) in nodes.iter().enumerate() {
+        if !open {
+            return Err(CheckFault::TreeTooLong(number));
+        }
+        if let Err(fault) = judge(timing, target, &path, node) {
+            return Err(fault.at(number));
+        }
+        open = go_on(timing, &mut path, node)?;
+    }
+    if open {
+        Err(CheckFault::TreeUnfinished(nodes.len()))
+    } else {
+        Ok(())
+    }
+}
