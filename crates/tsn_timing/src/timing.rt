@@ -54,6 +54,13 @@ impl Timing {
         Ok(Timing { network, tables })
     }
 
+    /// The same network as the plain program has it, which works out each number anew.
+    pub fn plain(&self) -> &PlainNetwork
+        ensures { result.now ≡ self.now }
+    {
+        &self.network
+    }
+
     /// The cycle, in nanoseconds. The network is within its limits.
     pub fn cycle(&self) -> u64
         ensures value { result ≡ self.now.cycle }

@@ -1,0 +1,130 @@
+-- A printed certificate is read again.
+use Rattle.std.proofs.Common.{◌≡◌, ◌≤◌, ◌<◌, ◌+◌, ℕ, List, [], ◌∷◌, ◌++◌, length, take, get_or, map, Bool, true, false, Option, Some, None, Ok, refl, sym, ap, ap₂, ◌∙◌, arith, lit≤, append-nil}
+use Rattle.std.proofs.lemmas.Bool.Decides.{nat_tests}
+use Rattle.std.specs.Prelude.{option_and_then, option_map, nat_le}
+use Rattle.std.proofs.lemmas.List.{take_more, map-append}
+use Rattle.std.proofs.Math.ListN.{take-append-drop, drop_of_length-le}
+use Rattle.serde_json.specs.Data.{Data, depth}
+use Rattle.serde_json.specs.Read.{max_depth}
+use Rattle.serde_json.specs.Written.{has_float}
+use Rattle.tsn_model.specs.Certificate.{Node, split_node, leaf_node, Leaf, late, overrun, positive_cycle, load, overload, Entry}
+use Rattle.tsn_cert.specs.Json.{when, value_of, each, elements, number_value, numbers, array_value}
+use Rattle.tsn_cert.specs.Fault.{shaped, answer}
+use Rattle.tsn_cert.specs.Cert.{chain_of, node_of, nodes_of, cert_of, cert_fits, cert_in, chain_value, entry_value, leaf_value, node_value, nodes_value, cert_value}
+use Rattle.tsn_cert.specs.declared.cert.Cert.{Cert}
+use Rattle.tsn_cert.proofs.JsonLemmas.{listed-items_of_list, numbers-array_value, no_float-items, items_depth-le}
+
+-- ---- lists that are read again
+
+each_parts : {A : Type 0} (o : Option A) (r : Option (List A)) (x : A) (xs : List A)
+    → option_and_then (λ y. option_and_then (λ ys. Some (y ∷ ys)) r) o ≡ Some (x ∷ xs) → (o ≡ Some x) × (r ≡ Some xs)
+each_parts None r x xs e = cc
+each_parts (Some y) None x xs e = cc
+each_parts (Some y) (Some ys) x xs e = (cc, cc)
+
+each_push : {A : Type 0} (f : Data → Option A) (g : A → Data) (xs : List A) (x : A)
+    → each f (map g xs) ≡ Some xs → f (g x) ≡ Some x → each f (map g (xs ++ x ∷ [])) ≡ Some (xs ++ x ∷ [])
+each_push f g [] x h e = rw e refl
+each_push f g (y ∷ xs) x h e =
+    let parts = each_parts (f (g y)) (each f (map g xs)) y xs h in
+    rw (parts.0, each_push f g xs x parts.1 e) refl
+
+-- what is seen of the elements so far, and of one more
+seen_more : {X A : Type 0} (seen : X → A) (xs : List X) (i : ℕ) (x : X)
+    → i < length xs → x ≡ get_or xs i x → map seen (take (i + 1) xs) ≡ map seen (take i xs) ++ seen x ∷ []
+seen_more seen xs i x within is =
+    ap (map seen) (take_more xs i x within ∙ ap (λ y. take i xs ++ y ∷ []) (sym is)) ∙ map-append seen (take i xs) (x ∷ [])
+
+-- one more element was printed, and is read again
+pub each_printed_more : {X A : Type 0} (seen : X → A) (f : Data → Option A) (g : A → Data) (xs : List X) (i : ℕ) (x : X)
+    → i < length xs → x ≡ get_or xs i x → f (g (seen x)) ≡ Some (seen x) → each f (map g (map seen (take i xs))) ≡ Some (map seen (take i xs))
+    → each f (map g (map seen (take (i + 1) xs))) ≡ Some (map seen (take (i + 1) xs))
+each_printed_more seen f g xs i x within is e h =
+    rw (seen_more seen xs i x within is) (each_push f g (map seen (take i xs)) (seen x) h e)
+
+-- one more element was printed
+pub printed_more : {X A V : Type 0} (view : V → Data) (seen : X → A) (g : A → Data) (old new : List V) (v : V) (xs : List X) (i : ℕ) (x : X)
+    → i < length xs → x ≡ get_or xs i x → new ≡ old ++ v ∷ [] → view v ≡ g (seen x) → map view old ≡ map g (map seen (take i xs))
+    → map view new ≡ map g (map seen (take (i + 1) xs))
+printed_more view seen g old new v xs i x within is pushed e h =
+    ap (map view) pushed ∙ map-append view old (v ∷ []) ∙ ap₂ (λ a b. a ++ b ∷ []) h e
+    ∙ sym (map-append g (map seen (take i xs)) (seen x ∷ [])) ∙ ap (map g) (sym (seen_more seen xs i x within is))
+
+-- all elements were printed
+pub printed_done : {X A : Type 0} (seen : X → A) (f : Data → Option A) (g : A → Data) (xs : List X) (i : ℕ)
+    → length xs ≤ i → each f (map g (map seen (take i xs))) ≡ Some (map seen (take i xs))
+    → option_and_then (λ ds. each f ds) (elements (array_value (map g (map seen xs)))) ≡ Some (map seen xs)
+printed_done seen f g xs i h e =
+    let whole : take i xs ≡ xs = sym (append-nil (take i xs)) ∙ ap (λ l. take i xs ++ l) (sym (drop_of_length-le xs h)) ∙ take-append-drop i xs in
+    ap (λ ds. each f ds) (listed-items_of_list (map g (map seen xs))) ∙ (rw whole at e)
+
+-- ---- parts
+
+pub chain_back : (c : List ℕ) → length c ≤ 128 → chain_of (chain_value c) ≡ Some c
+chain_back c short =
+    let within : nat_le (length c) 128 ≡ true = grind (arith, nat_tests) in
+    ap (λ o. option_and_then (λ ns. when (nat_le (length ns) 128) (Some ns)) o) (numbers-array_value c) ∙ ap (λ b. when b (Some c)) within
+
+reason_back : {A : Type 0} (f : ℕ × List ℕ → A) (stream : ℕ) (chain : List ℕ) → length chain ≤ 128
+    → option_map f (option_and_then (λ c. Some (stream, c)) (chain_of (chain_value chain))) ≡ Some (f (stream, chain))
+reason_back f stream chain short = ap (λ o. option_map f (option_and_then (λ c. Some (stream, c)) o)) (chain_back chain short)
+
+pub late_back : (stream : ℕ) (chain : List ℕ) → length chain ≤ 128 → node_of (node_value (leaf_node (late stream chain))) ≡ Some (leaf_node (late stream chain))
+late_back stream chain short = reason_back (λ r. leaf_node (late r.0 r.1)) stream chain short
+
+pub overrun_back : (stream : ℕ) (chain : List ℕ) → length chain ≤ 128 → node_of (node_value (leaf_node (overrun stream chain))) ≡ Some (leaf_node (overrun stream chain))
+overrun_back stream chain short = reason_back (λ r. leaf_node (overrun r.0 r.1)) stream chain short
+
+pub cycle_back : (chain : List ℕ) → length chain ≤ 128 → node_of (node_value (leaf_node (positive_cycle chain))) ≡ Some (leaf_node (positive_cycle chain))
+cycle_back chain short = ap (option_map (λ c. leaf_node (positive_cycle c))) (chain_back chain short)
+
+-- ---- no float, and shallow
+
+chain_no_float : (c : List ℕ) → has_float (chain_value c) ≡ false
+chain_no_float c = no_float-items number_value (λ n. refl) c
+
+entry_no_float : (e : Entry) → has_float (entry_value e) ≡ false
+entry_no_float e = rw (chain_no_float e.chain) refl
+
+leaf_no_float : (l : Leaf) → has_float (leaf_value l) ≡ false
+leaf_no_float (late stream chain) = rw (chain_no_float chain) refl
+leaf_no_float (overrun stream chain) = rw (chain_no_float chain) refl
+leaf_no_float (positive_cycle chain) = rw (chain_no_float chain) refl
+leaf_no_float (load link entries) = rw (no_float-items entry_value entry_no_float entries) refl
+leaf_no_float (overload link entries) = rw (no_float-items entry_value entry_no_float entries) refl
+
+node_no_float : (n : Node) → has_float (node_value n) ≡ false
+node_no_float (split_node t) = refl
+node_no_float (leaf_node l) = leaf_no_float l
+
+chain_depth : (c : List ℕ) → depth (chain_value c) ≤ 1
+chain_depth c = omega (arith, items_depth-le 0 number_value (λ n. omega arith) c)
+
+entry_depth : (e : Entry) → depth (entry_value e) ≤ 2
+entry_depth e = omega (arith, chain_depth e.chain)
+
+leaf_depth : (l : Leaf) → depth (leaf_value l) ≤ 4
+leaf_depth (late stream chain) = omega (arith, chain_depth chain)
+leaf_depth (overrun stream chain) = omega (arith, chain_depth chain)
+leaf_depth (positive_cycle chain) = omega (arith, chain_depth chain)
+leaf_depth (load link entries) = omega (arith, items_depth-le 2 entry_value entry_depth entries)
+leaf_depth (overload link entries) = omega (arith, items_depth-le 2 entry_value entry_depth entries)
+
+node_depth : (n : Node) → depth (node_value n) ≤ 4
+node_depth (split_node t) = lit≤ tt
+node_depth (leaf_node l) = leaf_depth l
+
+-- ---- the whole file
+
+pub has_float-cert_value : (c : Cert) → has_float (cert_value c) ≡ false
+has_float-cert_value c = rw (no_float-items node_value node_no_float c.nodes) refl
+
+pub depth-cert_value : (c : Cert) → depth (cert_value c) ≤ max_depth
+depth-cert_value c = omega (arith, items_depth-le 4 node_value node_depth c.nodes)
+
+cert_back : (c : Cert) → nodes_of (nodes_value c.nodes) ≡ Some c.nodes → cert_of (cert_value c) ≡ Some c
+cert_back c e = ap (λ o. option_and_then (λ ns. Some (record { target = c.target; nodes = ns })) o) e
+
+pub cert_in-printed : (s : List ℕ) (c : Cert) → value_of s ≡ Some (cert_value c) → nodes_of (nodes_value c.nodes) ≡ Some c.nodes → cert_fits c ≡ true → cert_in s ≡ Ok c
+cert_in-printed s c e back fits =
+    ap (answer cert_of cert_fits) e ∙ ap (shaped cert_fits) (cert_back c back) ∙ rw fits refl

@@ -1,0 +1,151 @@
+-- The certificate file: `{"format":1,"nodes":[..],"target":T}`, the nodes in preorder.
+use Rattle.std.specs.Prelude.{◌≡◌, ◌≤◌, ℕ, List, [], ◌∷◌, length, map, Bool, true, if◌then◌else◌, ◌&&◌, ◌==◌, nat_le, codes, Option, Some, None, option_map, Result}
+use Rattle.std.specs.List.{list_all}
+use Rattle.std.specs.Str.{bytes_eq}
+use Rattle.serde_json.specs.Data.{Data, string, object, no_members, member}
+use Rattle.serde_json.specs.Find.{get, as_str}
+use Rattle.tsn_model.specs.declared.Triple.{Triple}
+use Rattle.tsn_model.specs.Certificate.{Node, split_node, leaf_node, Leaf, late, overrun, positive_cycle, load, overload, Entry}
+use Rattle.tsn_cert.specs.Json.{◌>>=◌, when, value_of, file_text, whole_number, numbers, elements, each, is_object_of, all_within, number_value, array_value}
+use Rattle.tsn_cert.specs.Fault.{answer}
+use Rattle.tsn_cert.specs.Plan.{max_time}
+use Rattle.tsn_cert.specs.declared.fault.FileFault.{FileFault}
+use Rattle.tsn_cert.specs.declared.cert.Cert.{Cert}
+
+-- ---- the grammar
+
+abbrev pub max_chain : ℕ
+max_chain = 128
+
+-- an array of at most 128 depths
+abbrev pub chain_of : Data → Option (List ℕ)
+chain_of d = do
+  depths ← numbers d
+  when (nat_le (length depths) max_chain) (Some depths)
+
+-- a stream and a chain
+abbrev pub reason_parts : List Data → Option (ℕ × List ℕ)
+reason_parts (stream ∷ chain ∷ []) = do
+  i ← whole_number stream
+  depths ← chain_of chain
+  Some (i, depths)
+reason_parts _ = None
+
+-- two streams and a link
+abbrev pub triple_parts : List Data → Option Triple
+triple_parts (left ∷ right ∷ link ∷ []) = do
+  i ← whole_number left
+  j ← whole_number right
+  l ← whole_number link
+  Some (record { left = i; right = j; link = l })
+triple_parts _ = None
+
+-- a chain alone
+abbrev pub cycle_parts : List Data → Option (List ℕ)
+cycle_parts (chain ∷ []) = chain_of chain
+cycle_parts _ = None
+
+-- what stands behind the word of a node
+abbrev pub node_parts : List ℕ → List Data → Option Node
+node_parts word ds =
+    if bytes_eq word (codes "branch") then option_map split_node (triple_parts ds)
+    else (if bytes_eq word (codes "late") then option_map (λ r. leaf_node (late r.0 r.1)) (reason_parts ds)
+    else (if bytes_eq word (codes "overrun") then option_map (λ r. leaf_node (overrun r.0 r.1)) (reason_parts ds)
+    else (if bytes_eq word (codes "cycle") then option_map (λ chain. leaf_node (positive_cycle chain)) (cycle_parts ds)
+    else None)))
+
+-- a word, and what stands behind it
+abbrev pub node_list : List Data → Option Node
+node_list [] = None
+node_list (word ∷ ds) = do
+  w ← as_str word
+  node_parts w ds
+
+abbrev pub node_of : Data → Option Node
+node_of d = do
+  ds ← elements d
+  node_list ds
+
+abbrev pub nodes_of : Data → Option (List Node)
+nodes_of d = do
+  ds ← elements d
+  each node_of ds
+
+abbrev pub cert_of_values : Data → Data → Data → Option Cert
+cert_of_values format nodes target = do
+  f ← whole_number format
+  ns ← nodes_of nodes
+  t ← whole_number target
+  when (f == 1) (Some (record { target = t; nodes = ns }))
+
+-- an object with the three keys and no other
+abbrev pub cert_of : Data → Option Cert
+cert_of d = when (is_object_of 3 d) (do
+  format ← get (codes "format") d
+  nodes ← get (codes "nodes") d
+  target ← get (codes "target") d
+  cert_of_values format nodes target)
+
+-- ---- the limits
+
+-- the greatest number of a node
+abbrev pub max_number : ℕ
+max_number = 4294967295
+
+abbrev pub triple_fits : Triple → Bool
+triple_fits t = nat_le t.left max_number && nat_le t.right max_number && nat_le t.link max_number
+
+abbrev pub entry_fits : Entry → Bool
+entry_fits e = nat_le e.stream max_number && all_within max_number e.chain
+
+abbrev pub leaf_fits : Leaf → Bool
+leaf_fits (late stream chain) = nat_le stream max_number && all_within max_number chain
+leaf_fits (overrun stream chain) = nat_le stream max_number && all_within max_number chain
+leaf_fits (positive_cycle chain) = all_within max_number chain
+leaf_fits (load link entries) = nat_le link max_number && list_all entry_fits entries
+leaf_fits (overload link entries) = nat_le link max_number && list_all entry_fits entries
+
+-- no number of the node is above the limit
+abbrev pub node_fits : Node → Bool
+node_fits (split_node triple) = triple_fits triple
+node_fits (leaf_node leaf) = leaf_fits leaf
+
+-- no number of the file is above its limit
+abbrev pub cert_fits : Cert → Bool
+cert_fits c = nat_le c.target max_time && list_all node_fits c.nodes
+
+-- what a certificate file says, or how it is refused
+abbrev pub cert_in : List ℕ → Result Cert FileFault
+cert_in bytes = answer cert_of cert_fits (value_of bytes)
+
+-- ---- the printed form
+
+abbrev pub chain_value : List ℕ → Data
+chain_value depths = array_value (map number_value depths)
+
+abbrev pub entry_value : Entry → Data
+entry_value e = array_value (number_value e.stream ∷ chain_value e.chain ∷ [])
+
+abbrev pub entries_value : List Entry → Data
+entries_value entries = array_value (map entry_value entries)
+
+abbrev pub leaf_value : Leaf → Data
+leaf_value (late stream chain) = array_value (string (codes "late") ∷ number_value stream ∷ chain_value chain ∷ [])
+leaf_value (overrun stream chain) = array_value (string (codes "overrun") ∷ number_value stream ∷ chain_value chain ∷ [])
+leaf_value (positive_cycle chain) = array_value (string (codes "cycle") ∷ chain_value chain ∷ [])
+leaf_value (load link entries) = array_value (string (codes "load") ∷ number_value link ∷ entries_value entries ∷ [])
+leaf_value (overload link entries) = array_value (string (codes "overload") ∷ number_value link ∷ entries_value entries ∷ [])
+
+abbrev pub node_value : Node → Data
+node_value (split_node t) = array_value (string (codes "branch") ∷ number_value t.left ∷ number_value t.right ∷ number_value t.link ∷ [])
+node_value (leaf_node leaf) = leaf_value leaf
+
+abbrev pub nodes_value : List Node → Data
+nodes_value nodes = array_value (map node_value nodes)
+
+abbrev pub cert_value : Cert → Data
+cert_value c = object (member (codes "format") (number_value 1) (member (codes "nodes") (nodes_value c.nodes) (member (codes "target") (number_value c.target) no_members)))
+
+-- the text of a certificate file
+abbrev pub cert_text : Cert → List ℕ
+cert_text c = file_text (cert_value c)

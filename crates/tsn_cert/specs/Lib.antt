@@ -1,0 +1,5 @@
+pub mod Json
+pub mod Fault
+pub mod Plan
+pub mod Node
+pub mod Cert

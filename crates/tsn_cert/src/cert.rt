@@ -1,0 +1,331 @@
+ghost use Rattle.std.specs.Prelude.{◌≡◌, ◌≤◌, length, IfOk};
+ghost use Rattle.std.specs.Prelude.{map, codes, [], ◌∷◌, string_bytes, OnOk, Some, Ok, IsTrue};
+ghost use Rattle.std.specs.List.{list_all};
+ghost use Rattle.serde_json.specs.Data.{object, member, no_members, string};
+ghost use Rattle.serde_json.specs.View.{view};
+ghost use Rattle.tsn_model.specs.Certificate.{split_node};
+ghost use Rattle.tsn_cert.specs.Fault.{Gives, Reads};
+ghost use Rattle.tsn_cert.specs.Json.{number_value, array_value, all_within};
+ghost use Rattle.tsn_cert.specs.Node.{tree_node};
+ghost use Rattle.tsn_cert.specs.Cert.{chain_of, reason_parts, triple_parts, cycle_parts, node_parts, node_of, nodes_of, cert_of_values, cert_of, cert_in, node_fits, max_number, cert_fits, chain_value, node_value, nodes_value, cert_text};
+
+use crate::chain::{Chain, MAX_CHAIN};
+use crate::plan::MAX_TIME;
+use crate::{FileFault, document};
+use serde_json::{Value, json};
+use std::alloc::{AllocError, Global};
+use std::marker::Model;
+use tsn_model::{NoMemory, Triple};
+
+/// The greatest number of a node in a file.
+pub const MAX_NUMBER: usize = 4_294_967_295;
+
+/// A node of a certificate: a branch, or a leaf that shows why its path needs no look.
+#[derive(Debug, Drop)]
+pub enum Node {
+    /// A branch on which of two streams goes first on a link.
+    Branch(Triple),
+    /// The stream arrives too late: the chain's sum and its arrival are at least the target.
+    Late(usize, Chain),
+    /// The stream ends behind the cycle: the chain's sum and its span are above the cycle.
+    Overrun(usize, Chain),
+    /// The decisions contradict one another: the chain is closed, and its sum is above 0.
+    Cycle(Chain),
+}
+
+/// The nodes of a certificate in preorder, the Left child of a branch first.
+#[derive(Debug, Drop)]
+pub struct Nodes {
+    list: Vec<Node>,
+}
+
+impl Model for Nodes {
+    ghost use Rattle.std.specs.Prelude.{List, map};
+    ghost use Rattle.tsn_model.specs.Certificate.{Node};
+    ghost use Rattle.tsn_cert.specs.Node.{tree_node};
+
+    ghost Value = { List Node };
+
+    ghost view = { λ nodes. map tree_node nodes.list.items };
+}
+
+impl Nodes {
+    /// The nodes of a list.
+    pub fn of(list: Vec<Node>) -> Nodes
+        ensures { result ≡ map tree_node list.items }
+    {
+        Nodes { list }
+    }
+
+    /// The nodes, in order.
+    pub fn list(&self) -> &[Node]
+        ensures { map tree_node result.now ≡ self.now }
+    {
+        self.list.as_slice()
+    }
+
+    /// Gives the list back.
+    pub fn into_list(self) -> Vec<Node>
+        ensures { map tree_node result.items ≡ self }
+    {
+        let Nodes { list } = self;
+        list
+    }
+}
+
+/// A certificate: a tree of decisions whose leaves show that no schedule has a flowspan below the target, in nanoseconds.
+#[derive(Debug, Drop)]
+pub struct Cert {
+    pub target: u64,
+    pub nodes: Nodes,
+}
+
+// ---- reading
+
+/// The chain that the value is.
+fn chain_from(alloc: Global, value: &Value) -> Result<Chain, FileFault>
+    ensures { Reads (λ chain. chain) result (chain_of (view value.now)) }
+{
+    let depths = document::indices_from(alloc, value)?;
+    if depths.len() > MAX_CHAIN {
+        return Err(FileFault::WrongShape);
+    }
+    Ok(Chain::new(depths))
+}
+
+/// A stream and a chain.
+fn reason_from_parts(alloc: Global, parts: &[Value]) -> Result<(usize, Chain), FileFault>
+    ensures { Reads (λ reason. reason) result (reason_parts (map view parts.now)) }
+{
+    let [stream, chain] = parts else {
+        return Err(FileFault::WrongShape);
+    };
+    Ok((document::index_from(stream)?, chain_from(alloc, chain)?))
+}
+
+/// Two streams and a link.
+fn triple_from_parts(parts: &[Value]) -> Result<Triple, FileFault>
+    ensures { Reads (λ triple. triple) result (triple_parts (map view parts.now)) }
+{
+    let [left, right, link] = parts else {
+        return Err(FileFault::WrongShape);
+    };
+    Ok(Triple {
+        left: document::index_from(left)?,
+        right: document::index_from(right)?,
+        link: document::index_from(link)?,
+    })
+}
+
+/// A chain alone.
+fn cycle_from_parts(alloc: Global, parts: &[Value]) -> Result<Chain, FileFault>
+    ensures { Reads (λ chain. chain) result (cycle_parts (map view parts.now)) }
+{
+    let [chain] = parts else {
+        return Err(FileFault::WrongShape);
+    };
+    chain_from(alloc, chain)
+}
+
+/// The node of this word.
+fn node_from_parts(alloc: Global, word: &str, parts: &[Value]) -> Result<Node, FileFault>
+    ensures { Reads tree_node result (node_parts word.now (map view parts.now)) }
+{
+    if word == "branch" {
+        Ok(Node::Branch(triple_from_parts(parts)?))
+    } else if word == "late" {
+        let (stream, chain) = reason_from_parts(alloc, parts)?;
+        Ok(Node::Late(stream, chain))
+    } else if word == "overrun" {
+        let (stream, chain) = reason_from_parts(alloc, parts)?;
+        Ok(Node::Overrun(stream, chain))
+    } else if word == "cycle" {
+        Ok(Node::Cycle(cycle_from_parts(alloc, parts)?))
+    } else {
+        Err(FileFault::WrongShape)
+    }
+}
+
+/// The node that the value is.
+fn node_from(alloc: Global, value: &Value) -> Result<Node, FileFault>
+    ensures { Reads tree_node result (node_of (view value.now)) }
+{
+    let [word, parts @ ..] = document::elements_from(value)? else {
+        return Err(FileFault::WrongShape);
+    };
+    let word = word.as_str().ok_or(FileFault::WrongShape)?;
+    node_from_parts(alloc, word, parts)
+}
+
+/// The nodes that the value is.
+fn nodes_from(alloc: Global, value: &Value) -> Result<Nodes, FileFault>
+    ensures { Reads (λ nodes. nodes) result (nodes_of (view value.now)) }
+{
+    let items = document::elements_from(value)?;
+    let mut found = Vec::with_capacity(alloc, items.len())?;
+    for item in items {
+        found.push(node_from(alloc, item)?)?;
+    }
+    Ok(Nodes::of(found))
+}
+
+// ---- the limits
+
+fn chain_fits(chain: &Chain) -> bool
+    ensures { result ≡ all_within max_number chain.now }
+{
+    chain.depths().iter().all(|depth| *depth <= MAX_NUMBER)
+}
+
+fn node_fits(node: &Node) -> bool
+    ensures { result ≡ node_fits (tree_node node.now) }
+{
+    match node {
+        Node::Branch(triple) => {
+            triple.left <= MAX_NUMBER && triple.right <= MAX_NUMBER && triple.link <= MAX_NUMBER
+        }
+        Node::Late(stream, chain) | Node::Overrun(stream, chain) => {
+            *stream <= MAX_NUMBER && chain_fits(chain)
+        }
+        Node::Cycle(chain) => chain_fits(chain),
+    }
+}
+
+fn nodes_fit(nodes: &[Node]) -> bool
+    ensures { result ≡ list_all (λ node. node_fits (tree_node node)) nodes.now }
+{
+    nodes.iter().all(|node| node_fits(node))
+}
+
+/// Whether each number is within its limit.
+fn fits(cert: &Cert) -> bool
+    ensures { result ≡ cert_fits cert.now }
+{
+    cert.target <= MAX_TIME && nodes_fit(cert.nodes.list())
+}
+
+// ---- a whole file
+
+/// Reads a certificate file.
+pub fn cert_from_json(alloc: Global, bytes: &[u8]) -> Result<Cert, FileFault>
+    ensures { Gives (λ cert. cert) result (cert_in bytes.now) }
+{
+    let value = document::value_from(alloc, bytes)?;
+    let cert = cert_from(alloc, &value)?;
+    if fits(&cert) {
+        Ok(cert)
+    } else {
+        Err(FileFault::NumberTooLarge)
+    }
+}
+
+/// The certificate that the value is.
+fn cert_from(alloc: Global, value: &Value) -> Result<Cert, FileFault>
+    ensures { Reads (λ cert. cert) result (cert_of (view value.now)) }
+{
+    if !document::is_object_of(value, 3) {
+        return Err(FileFault::WrongShape);
+    }
+    let format = value.get("format").ok_or(FileFault::WrongShape)?;
+    let nodes = value.get("nodes").ok_or(FileFault::WrongShape)?;
+    let target = value.get("target").ok_or(FileFault::WrongShape)?;
+    cert_from_values(alloc, format, nodes, target)
+}
+
+fn cert_from_values(
+    alloc: Global,
+    format: &Value,
+    nodes: &Value,
+    target: &Value,
+) -> Result<Cert, FileFault>
+    ensures { Reads (λ cert. cert) result
+        (cert_of_values (view format.now) (view nodes.now) (view target.now)) }
+{
+    let format = document::whole_number_from(format)?;
+    let nodes = nodes_from(alloc, nodes)?;
+    let target = document::whole_number_from(target)?;
+    if format != 1 {
+        return Err(FileFault::WrongShape);
+    }
+    Ok(Cert { target, nodes })
+}
+
+// ---- printing
+
+/// The text of a certificate file.
+pub fn cert_to_json(alloc: Global, cert: &Cert) -> Result<String, NoMemory>
+    ensures text { IfOk result (λ s. string_bytes s ≡ cert_text cert.now) }
+    // What is printed is read again.
+    ensures reads_back { IfOk result (λ s. IsTrue (cert_fits cert.now)
+        → cert_in (string_bytes s) ≡ Ok cert.now) }
+{
+    let nodes = nodes_value(alloc, cert.nodes.list())?;
+    let value = cert_value(alloc, cert.target, nodes)?;
+    Ok(document::file_text(alloc, &value)?)
+}
+
+fn cert_value(alloc: Global, target: u64, nodes: Value) -> Result<Value, AllocError>
+    ensures { IfOk result (λ v. view v ≡ object (member (codes "format") (number_value 1)
+        (member (codes "nodes") (view nodes)
+        (member (codes "target") (number_value target) no_members)))) }
+{
+    json!(in alloc; {"format": 1u64, "nodes": nodes, "target": target})
+}
+
+fn nodes_value(alloc: Global, nodes: &[Node]) -> Result<Value, AllocError>
+    ensures value { IfOk result (λ v. view v ≡ nodes_value (map tree_node nodes.now)) }
+    ensures reads_back { OnOk result
+        (nodes_of (nodes_value (map tree_node nodes.now)) ≡ Some (map tree_node nodes.now)) }
+{
+    let mut items = Vec::with_capacity(alloc, nodes.len())?;
+    for node in nodes {
+        items.push(node_value(alloc, node)?)?;
+    }
+    Ok(Value::Array(items))
+}
+
+#[tactic(auto, using(crate::proofs::CertLemmas::late_back, crate::proofs::CertLemmas::overrun_back, crate::proofs::CertLemmas::cycle_back))]
+fn node_value(alloc: Global, node: &Node) -> Result<Value, AllocError>
+    ensures value { IfOk result (λ v. view v ≡ node_value (tree_node node.now)) }
+    ensures reads_back { OnOk result
+        (node_of (node_value (tree_node node.now)) ≡ Some (tree_node node.now)) }
+{
+    match node {
+        Node::Branch(triple) => branch_value(alloc, triple),
+        Node::Late(stream, chain) => {
+            reason_value(alloc, "late", *stream, chain_value(alloc, chain)?)
+        }
+        Node::Overrun(stream, chain) => {
+            reason_value(alloc, "overrun", *stream, chain_value(alloc, chain)?)
+        }
+        Node::Cycle(chain) => cycle_value(alloc, chain_value(alloc, chain)?),
+    }
+}
+
+/// A leaf of a stream and a chain.
+fn reason_value(alloc: Global, word: &str, stream: usize, chain: Value) -> Result<Value, AllocError>
+    ensures { IfOk result (λ v. view v
+        ≡ array_value (string word.now ∷ number_value stream ∷ view chain ∷ [])) }
+{
+    json!(in alloc; [word, stream, chain])
+}
+
+fn cycle_value(alloc: Global, chain: Value) -> Result<Value, AllocError>
+    ensures { IfOk result (λ v. view v
+        ≡ array_value (string (codes "cycle") ∷ view chain ∷ [])) }
+{
+    json!(in alloc; ["cycle", chain])
+}
+
+fn branch_value(alloc: Global, triple: &Triple) -> Result<Value, AllocError>
+    ensures { IfOk result (λ v. view v ≡ node_value (split_node triple.now)) }
+{
+    json!(in alloc; ["branch", triple.left, triple.right, triple.link])
+}
+
+fn chain_value(alloc: Global, chain: &Chain) -> Result<Value, AllocError>
+    ensures value { IfOk result (λ v. view v ≡ chain_value chain.now) }
+    ensures short { length chain.now ≤ MAX_CHAIN }
+{
+    document::array_of_indices(alloc, chain.depths())
+}

@@ -1,0 +1,52 @@
+-- Which fault a document has, in words: the least condition that holds anywhere, at the first place where it holds.
+use Rattle.std.specs.Prelude.{◌≡◌, ◌<◌, ◌⊎◌, ◌↔◌, ℕ, true, false, Some, None, length}
+use Rattle.tsn_net.specs.declared.fault.Place.{Place}
+use Rattle.tsn_net.specs.declared.fault.Place.TheVariants.{Text, Top, Node, Link, Stream}
+use Rattle.tsn_net.specs.declared.fault.Code.{Code}
+use Rattle.tsn_net.specs.declared.fault.NetFault.{NetFault}
+use Rattle.tsn_net.specs.Document.{Document}
+use Rattle.tsn_net.specs.Conditions.{holds, fault_of}
+use Rattle.tsn_net.specs.Fault.{code_number}
+
+-- the place is one of the document: the top table, or a node, a cable or a stream that is there
+abbrev pub IsIn : Document → Place → Type 0
+IsIn d Text = ⊥
+IsIn d Top = Unit {0}
+IsIn d (Node n) = n < length d.nodes
+IsIn d (Link k) = k < length d.links
+IsIn d (Stream i) = i < length d.streams
+
+-- the kinds of places in order
+abbrev pub kind_order : Place → ℕ
+kind_order Text = 0
+kind_order Top = 1
+kind_order (Node n) = 2
+kind_order (Link k) = 3
+kind_order (Stream i) = 4
+
+-- the number of a place among those of its kind
+abbrev pub place_number : Place → ℕ
+place_number Text = 0
+place_number Top = 0
+place_number (Node n) = n
+place_number (Link k) = k
+place_number (Stream i) = i
+
+-- the top table stands before the nodes, these before the cables, these before the streams, each in file order
+abbrev pub IsBefore : Place → Place → Type 0
+IsBefore p q = (kind_order p < kind_order q) ⊎ ((kind_order p ≡ kind_order q) × (place_number p < place_number q))
+
+-- the condition of the fault's code holds at its place and at no place before it, and that of no lesser code holds anywhere
+pub record IsFirstFault (d : Document) (fault : NetFault) : Type 0 where
+  pub there : IsIn d fault.place
+  pub holding : holds fault.code d fault.place ≡ true
+  pub not_before : (place : Place) → IsIn d place → IsBefore place fault.place → holds fault.code d place ≡ false
+  pub none_less : (code : Code) → code_number code < code_number fault.code → (place : Place) → IsIn d place → holds code d place ≡ false
+
+-- a document has a fault exactly where it is the first
+abbrev pub FaultsAreFirst : Type 0
+FaultsAreFirst = (d : Document) (fault : NetFault) → (fault_of d ≡ Some fault) ↔ IsFirstFault d fault
+
+-- a document has no fault exactly where no condition holds at any place
+abbrev pub FaultlessIsClear : Type 0
+FaultlessIsClear = (d : Document) → (fault_of d ≡ None) ↔ ((code : Code) (place : Place) → IsIn d place → holds code d place ≡ false)

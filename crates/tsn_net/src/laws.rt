@@ -1,0 +1,14 @@
+//! The laws of the definitions. Each function does nothing: its contract is the law.
+
+ghost use Rattle.tsn_net.specs.Laws.{FaultsAreFirst, FaultlessIsClear};
+
+/// The fault of a document is the one whose condition holds at its place, and neither at a place before it nor, for a
+/// lesser code, anywhere.
+pub fn faults_are_first()
+    ensures { FaultsAreFirst }
+{}
+
+/// A document has no fault exactly where no condition holds at any place.
+pub fn faultless_is_clear()
+    ensures { FaultlessIsClear }
+{}
