@@ -16,6 +16,9 @@ pub record Reading : Type 0 where
   pub after : Option (List ℕ)
   pub at_end : Bool
 
+abbrev pub reading_of : Option (List ℕ) → Option (List ℕ) → Bool → Reading
+reading_of before after at_end = record { before = before; after = after; at_end = at_end }
+
 -- a source that was read to its end, and gave this file
 pub record GivesFile (reading : Reading) (bytes : List ℕ) : Type 0 where
   pub given : Appends reading.before reading.after bytes
@@ -36,6 +39,9 @@ IsUnread reading = Keeps reading.before reading.after
 pub record Writing : Type 0 where
   pub before : Option (List ℕ)
   pub after : Option (List ℕ)
+
+abbrev pub writing_of : Option (List ℕ) → Option (List ℕ) → Writing
+writing_of before after = record { before = before; after = after }
 
 -- a sink that took nothing
 abbrev pub IsUnwritten : Writing → Type 0
@@ -72,7 +78,8 @@ IsLine status line output = (output.status ≡ status) × IsLineAlone line outpu
 abbrev pub Command : Type 1
 Command = List (List ℕ) → Output → Type 0
 
--- the answer of a run that has read these files and has these sources left: to the files, or to the next source's length, or by reading on
+-- the answer of a run that has read these files and has these sources left. It is what the command answers to the files, and the rest stays unread;
+-- or, where that is nothing, the next source gave too much, and the rest stays unread; or the run read the next source's file and went on
 abbrev pub Answers : Command → List (List ℕ) → List Reading → Output → Type 0
 Answers command files [] output = command files output
 Answers command files (reading ∷ readings) output =
@@ -96,9 +103,3 @@ pub record EndsEarly (command : Command) (readings : List Reading) (writings : L
   pub output : Output
   pub answer : IsOutput command readings output
   pub written : TakesBeginning writings output.texts
-
-abbrev pub writing_of : Option (List ℕ) → Option (List ℕ) → Writing
-writing_of before after = record { before = before; after = after }
-
-abbrev pub reading_of : Option (List ℕ) → Option (List ℕ) → Bool → Reading
-reading_of before after at_end = record { before = before; after = after; at_end = at_end }

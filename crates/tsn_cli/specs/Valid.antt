@@ -1,5 +1,5 @@
 -- What `valid` answers.
-use Rattle.std.specs.Prelude.{◌≡◌, ◌⊎◌, ℕ, List, [], ◌∷◌, ◌++◌, codes, decimal}
+use Rattle.std.specs.Prelude.{◌⊎◌, ℕ, List, [], ◌∷◌, ◌++◌, codes, decimal}
 use Rattle.tsn_model.specs.declared.Violation.{Violation}
 use Rattle.tsn_model.specs.declared.Violation.TheVariants.{WrongCount, PastCycle, Overlap}
 use Rattle.tsn_model.specs.Network.{Network}

@@ -16,8 +16,8 @@ pub const WORDS: u8 = 2;
 /// An input is refused.
 pub const REFUSED: u8 = 3;
 
-/// A check refused what it was given.
-pub const NOT_VALID: u8 = 6;
+/// What was to be checked is rejected.
+pub const REJECTED: u8 = 6;
 
 /// A growth was refused.
 pub const MEMORY: u8 = 7;

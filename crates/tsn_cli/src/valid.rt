@@ -8,7 +8,7 @@ ghost use Rattle.tsn_cli.specs.Valid.{ValidAnswers, Accepts, Rejects};
 
 use crate::answer::Answer;
 use crate::device::{ReadFault, Sink, Source, read_all};
-use crate::run::{DEVICE, DONE, MAX_FILE, NOT_VALID, REFUSED, respond};
+use crate::run::{DEVICE, DONE, MAX_FILE, REFUSED, REJECTED, respond};
 use std::alloc::Global;
 use std::fmt;
 use tsn_model::{NoMemory, Triple, Violation};
@@ -99,7 +99,7 @@ fn judgement(alloc: Global, timing: &Timing, offsets: &[u64]) -> Result<Answer, 
         }
         Validity::Refused(violation) => {
             let reason = Reason(violation);
-            (NOT_VALID, format!(in alloc; "not valid {reason}\n")?)
+            (REJECTED, format!(in alloc; "not valid {reason}\n")?)
         }
     };
     Ok(Answer { status, text })

@@ -1,5 +1,9 @@
 //! The words as `clap` reads them.
-ghost use Rattle.std.specs.Prelude.{◌≡◌, ◌≤◌, All, IfOk, length, vec_len};
+ghost use Rattle.std.specs.Prelude.{◌≡◌, ◌≤◌, All, IfOk, codes, false, map};
+ghost use Rattle.clap.specs.Words.{app_of, found_of, rows_of, rule_of, subcommand_rows_of};
+ghost use Rattle.clap.specs.declared.builder.command.Command.TheViews.{out-Command as fields_of};
+ghost use Rattle.tsn_words.specs.Grammar.{AsksFor, IsAsked, IsNumber, IsValidOf, number_of};
+ghost use Rattle.tsn_words.specs.Grammar as grammar;
 
 use crate::words::{MAX_OFFSET, ValidWords, Words, WordsFault};
 use clap::error::ErrorKind;
@@ -7,35 +11,54 @@ use clap::{Arg, ArgAction, ArgMatches, Command, Error, value_parser};
 use std::alloc::{AllocError, Global};
 
 /// The command that the words ask for; the first word is the program's name.
-pub fn words_from<'a>(alloc: Global, words: &'a [&'a str]) -> Result<Words<'a>, WordsFault> {
-    match command(alloc)?.try_get_matches_from(words) {
+pub fn words_from<'a>(alloc: Global, words: &'a [&'a str]) -> Result<Words<'a>, WordsFault>
+    ensures { IfOk result (AsksFor (map (λ word. word.now) words.entry.now)) }
+{
+    match program(alloc)?.try_get_matches_from(words) {
         Ok(matches) => command_of(alloc, &matches),
         Err(error) => Err(fault_of(alloc, &error)),
     }
 }
 
-fn command<'a>(alloc: Global) -> Result<Command<'a>, AllocError> {
+fn program<'a>(alloc: Global) -> Result<Command<'a>, AllocError>
+    ensures { IfOk result (λ c. app_of c ≡ grammar.tsn) }
+{
     Command::new(alloc, "tsn")
         .about("Plans no-wait schedules for time-triggered Ethernet networks")
         .subcommand_required(true)
         .subcommand(valid_command(alloc)?)
 }
 
-fn valid_command<'a>(alloc: Global) -> Result<Command<'a>, AllocError> {
-    let network = Arg::new(alloc, "NET")
+fn valid_command<'a>(alloc: Global) -> Result<Command<'a>, AllocError>
+    ensures app { IfOk result (λ c. app_of c ≡ grammar.valid) }
+    ensures local { IfOk result (λ c. (fields_of c).has_globals ≡ false) }
+{
+    Command::new(alloc, "valid")
+        .about("Judges a list of offsets")
+        .arg(network_argument(alloc))?
+        .arg(offsets_argument(alloc))
+}
+
+fn network_argument<'a>(alloc: Global) -> Arg<'a>
+    ensures rule { rule_of result ≡ grammar.file (codes "NET") }
+    ensures local { result.global ≡ false }
+{
+    Arg::new(alloc, "NET")
         .required(true)
         .action(ArgAction::Set)
-        .help("The network file, or - for standard input");
-    let offsets = Arg::new(alloc, "OFFSET")
+        .help("The network file, or - for standard input")
+}
+
+fn offsets_argument<'a>(alloc: Global) -> Arg<'a>
+    ensures rule { rule_of result ≡ grammar.offsets }
+    ensures local { result.global ≡ false }
+{
+    Arg::new(alloc, "OFFSET")
         .required(true)
         .action(ArgAction::Append)
         .num_args(1..)
         .value_parser(value_parser!(u64).range(0..=2_000_000_000))
-        .help("The offset of each stream in nanoseconds, in the file's order");
-    Command::new(alloc, "valid")
-        .about("Judges a list of offsets")
-        .arg(network)?
-        .arg(offsets)
+        .help("The offset of each stream in nanoseconds, in the file's order")
 }
 
 /// Why `clap` refuses the words.
@@ -49,14 +72,18 @@ fn fault_of(alloc: Global, error: &Error) -> WordsFault {
     }
 }
 
-fn command_of<'a>(alloc: Global, matches: &ArgMatches<'a>) -> Result<Words<'a>, WordsFault> {
+fn command_of<'a>(alloc: Global, matches: &ArgMatches<'a>) -> Result<Words<'a>, WordsFault>
+    ensures { IfOk result (IsAsked (subcommand_rows_of matches.now)) }
+{
     match matches.subcommand() {
         Some(("valid", words)) => Ok(Words::Valid(valid_words(alloc, words)?)),
         _ => Err(no_command(alloc)),
     }
 }
 
-fn valid_words<'a>(alloc: Global, words: &ArgMatches<'a>) -> Result<ValidWords<'a>, WordsFault> {
+fn valid_words<'a>(alloc: Global, words: &ArgMatches<'a>) -> Result<ValidWords<'a>, WordsFault>
+    ensures { IfOk result (IsValidOf (rows_of (found_of words.now))) }
+{
     let (Some(network), Some(texts)) = (words.get_str("NET"), words.get_strs("OFFSET")) else {
         return Err(no_command(alloc));
     };
@@ -67,18 +94,30 @@ fn valid_words<'a>(alloc: Global, words: &ArgMatches<'a>) -> Result<ValidWords<'
     Ok(ValidWords { network, offsets })
 }
 
-fn offsets_of(alloc: Global, texts: &[&str]) -> Result<Vec<u64>, WordsFault>
+fn offsets_of(alloc: Global, words: &[&str]) -> Result<Vec<u64>, WordsFault>
     ensures small { IfOk result (λ offsets. All (λ offset. offset ≤ MAX_OFFSET) offsets.items) }
-    ensures each { IfOk result (λ offsets. vec_len offsets ≡ length texts.now) }
+    ensures numbers { IfOk result (λ _. All IsNumber (map (λ word. word.now) words.now)) }
+    ensures values { IfOk result (λ offsets. offsets.items ≡ map number_of (map (λ word. word.now) words.now)) }
 {
     let mut offsets = Vec::new(alloc);
-    for text in texts {
-        match text.parse::<u64>() {
-            Ok(offset) if offset <= MAX_OFFSET => offsets.push(offset).map_err(AllocError::from)?,
-            _ => return Err(no_command(alloc)),
+    for word in words {
+        let offset = offset_of(alloc, word)?;
+        if offsets.push(offset).is_err() {
+            return Err(WordsFault::Memory);
         }
     }
     Ok(offsets)
+}
+
+fn offset_of(alloc: Global, word: &str) -> Result<u64, WordsFault>
+    ensures small { IfOk result (λ offset. offset ≤ MAX_OFFSET) }
+    ensures number { IfOk result (λ _. IsNumber word.now) }
+    ensures value { IfOk result (λ offset. offset ≡ number_of word.now) }
+{
+    match word.parse::<u64>() {
+        Ok(offset) if offset <= MAX_OFFSET => Ok(offset),
+        _ => Err(no_command(alloc)),
+    }
 }
 
 /// What `clap` takes and no command is.

@@ -1,8 +1,10 @@
-use Rattle.std.proofs.Common.{◌≤◌, ◌≡◌, All, vec_len}
+use Rattle.std.proofs.Common.{◌≤◌, ◌≡◌, All, map, take}
+use Rattle.tsn_words.specs.Grammar.{IsNumber, number_of}
 use Rattle.tsn_words.proofs.command.offsets_of.Given as goal
 
-abbrev pub invariant-loop-text : goal.invariant-loop-text
-invariant-loop-text l = record {
+abbrev pub invariant-loop-word : goal.invariant-loop-word
+invariant-loop-word l = record {
   small : All (λ offset. offset ≤ 2000000000) l.offsets.items;
-  count : vec_len l.offsets ≡ l.text-index;
+  numbers : All IsNumber (take l.word-index (map (λ word. word.now) l.words));
+  values : l.offsets.items ≡ map number_of (take l.word-index (map (λ word. word.now) l.words));
 }

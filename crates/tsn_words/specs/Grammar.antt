@@ -1,0 +1,56 @@
+-- What the words of the command line ask for, by the grammar that `clap` reads them with.
+--     tsn, valid         the commands
+--     IsNumber, number_of, offsets_in      numbers
+--     AsksFor            the words ask for a command
+use Rattle.std.specs.Prelude.{◌≡◌, ℕ, List, map, codes, Option, Some, true, All}
+use Rattle.std.specs.Str.Parse.{IsNumeral, digits_value, without_leading_plus}
+use Rattle.clap.specs.Words.{App, Row, Rule, Text, all_of, first_of, new_app, new_rule, subcommand_of, with_rule, with_subcommand}
+use Rattle.clap.specs.declared.builder.ArgAction.TheVariants.{Set, Append}
+use Rattle.clap.specs.declared.builder.value_parser.ValueParser.TheVariants.{Unsigned}
+use Rattle.tsn_words.specs.declared.words.Words.{Words}
+use Rattle.tsn_words.specs.declared.words.Words.TheVariants.{Valid}
+use Rattle.tsn_words.specs.declared.words.ValidWords.{ValidWords}
+
+-- a file: one word
+abbrev pub file : Text → Rule
+file id = record (new_rule id) { required = true; action = Some Set }
+
+-- the offsets: one word or more, each a number up to the greatest offset
+abbrev pub offsets : Rule
+offsets = record (new_rule (codes "OFFSET")) {
+  required = true;
+  action = Some Append;
+  range = Some (record { start_inclusive = 1; end_inclusive = 18446744073709551615 });
+  parser = Some (Unsigned 0 2000000000);
+}
+
+-- valid NET OFFSET..
+abbrev pub valid : App
+valid = with_rule (with_rule (new_app (codes "valid")) (file (codes "NET"))) offsets
+
+-- the program: a command is required
+abbrev pub tsn : App
+tsn = with_subcommand (record { top = record (new_app (codes "tsn")).top { subcommand_required = true }; subs = (new_app (codes "tsn")).subs }) valid.top
+
+-- a word that is a number: digits, where a plus may stand first
+abbrev pub IsNumber : Text → Type 0
+IsNumber word = IsNumeral 10 (without_leading_plus word)
+
+abbrev pub number_of : Text → ℕ
+number_of word = digits_value 10 (without_leading_plus word)
+
+-- the numbers that the words of an argument are
+abbrev pub AreNumbers : Option (List Text) → List ℕ → Type 0
+AreNumbers argument numbers = (words : List Text) × (argument ≡ Some words) × All IsNumber words × (numbers ≡ map number_of words)
+
+-- the file and the numbers of `valid`
+abbrev pub IsValidOf : List Row → ValidWords → Type 0
+IsValidOf rows asked = (first_of (codes "NET") rows ≡ Some asked.network.now) × AreNumbers (all_of (codes "OFFSET") rows) asked.offsets.items
+
+-- what is asked for by a command's name and the values of its arguments
+abbrev pub IsAsked : Option (Text × List Row) → Words → Type 0
+IsAsked found (Valid asked) = (rows : List Row) × (found ≡ Some (codes "valid", rows)) × IsValidOf rows asked
+
+-- the words ask for this
+abbrev pub AsksFor : List Text → Words → Type 0
+AsksFor words asked = IsAsked (subcommand_of tsn words) asked
