@@ -33,6 +33,7 @@ fn run<R: Env + Files + Input + Print + Eprint + AllocGlobal>(rt: &R) -> io::Res
     match words_from(alloc, words.as_slice()) {
         Ok(Words::Valid(words)) => Ok(valid(rt, alloc, &words)),
         Err(WordsFault::Refused(text)) => Ok(refuse(rt, text.as_str())),
+        Err(WordsFault::Unknown) => Ok(refuse(rt, "error: no command has these words\n")),
         Err(WordsFault::Memory) => Ok(no_memory(rt)),
     }
 }

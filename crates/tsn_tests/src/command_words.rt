@@ -19,7 +19,7 @@ fn judges(rt: &impl Abort, alloc: Global, words: &[&str], network: &str, offsets
 fn refuses(rt: &impl Abort, alloc: Global, words: &[&str], part: &str) {
     match words_from(alloc, words) {
         Err(WordsFault::Refused(text)) => assert!(rt; text.as_str().contains(part), "{text}"),
-        Err(WordsFault::Memory) => assert!(rt; false, "no memory"),
+        Err(fault) => assert!(rt; false, "{fault}"),
         Ok(_) => assert!(rt; false, "{part}"),
     }
 }

@@ -1,7 +1,7 @@
 -- What the words of the command line ask for, by the grammar that `clap` reads them with.
---     tsn, valid         the commands
+--     tsn, valid                           the commands
 --     IsNumber, number_of, offsets_in      numbers
---     AsksFor            the words ask for a command
+--     AsksFor, IsRefused                   what the words ask for, and that they are refused
 use Rattle.std.specs.Prelude.{◌≡◌, ℕ, List, map, codes, Option, Some, true, All}
 use Rattle.std.specs.Str.Parse.{IsNumeral, digits_value, without_leading_plus}
 use Rattle.clap.specs.Words.{App, Row, Rule, Text, all_of, first_of, new_app, new_rule, subcommand_of, with_rule, with_subcommand}
@@ -10,6 +10,8 @@ use Rattle.clap.specs.declared.builder.value_parser.ValueParser.TheVariants.{Uns
 use Rattle.tsn_words.specs.declared.words.Words.{Words}
 use Rattle.tsn_words.specs.declared.words.Words.TheVariants.{Valid}
 use Rattle.tsn_words.specs.declared.words.ValidWords.{ValidWords}
+use Rattle.tsn_words.specs.declared.words.WordsFault.{WordsFault}
+use Rattle.tsn_words.specs.declared.words.WordsFault.TheVariants.{Refused}
 
 -- a file: one word
 abbrev pub file : Text → Rule
@@ -54,3 +56,8 @@ IsAsked found (Valid asked) = (rows : List Row) × (found ≡ Some (codes "valid
 -- the words ask for this
 abbrev pub AsksFor : List Text → Words → Type 0
 AsksFor words asked = IsAsked (subcommand_of tsn words) asked
+
+-- the words are refused as words
+abbrev pub IsRefused : WordsFault → Type 0
+IsRefused (Refused text) = Unit {0}
+IsRefused _ = ⊥

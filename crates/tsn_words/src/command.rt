@@ -1,8 +1,8 @@
 //! The words as `clap` reads them.
-ghost use Rattle.std.specs.Prelude.{◌≡◌, ◌≤◌, All, IfOk, codes, false, map};
-ghost use Rattle.clap.specs.Words.{app_of, found_of, rows_of, rule_of, subcommand_rows_of};
+ghost use Rattle.std.specs.Prelude.{◌≡◌, ◌≢◌, ◌≤◌, All, IfErr, IfOk, codes, false, map, true};
+ghost use Rattle.clap.specs.Words.{app_of, found_of, kind_of, rows_of, rule_of, subcommand_rows_of, takes};
 ghost use Rattle.clap.specs.declared.builder.command.Command.TheViews.{out-Command as fields_of};
-ghost use Rattle.tsn_words.specs.Grammar.{AsksFor, IsAsked, IsNumber, IsValidOf, number_of};
+ghost use Rattle.tsn_words.specs.Grammar.{AsksFor, IsAsked, IsNumber, IsRefused, IsValidOf, number_of};
 ghost use Rattle.tsn_words.specs.Grammar as grammar;
 
 use crate::words::{MAX_OFFSET, ValidWords, Words, WordsFault};
@@ -12,7 +12,9 @@ use std::alloc::{AllocError, Global};
 
 /// The command that the words ask for; the first word is the program's name.
 pub fn words_from<'a>(alloc: Global, words: &'a [&'a str]) -> Result<Words<'a>, WordsFault>
-    ensures { IfOk result (AsksFor (map (λ word. word.now) words.entry.now)) }
+    ensures asked { IfOk result (AsksFor (map (λ word. word.now) words.entry.now)) }
+    ensures refused { IfErr result (λ fault. IsRefused fault
+        → takes grammar.tsn (map (λ word. word.now) words.entry.now) ≢ true) }
 {
     match program(alloc)?.try_get_matches_from(words) {
         Ok(matches) => command_of(alloc, &matches),
@@ -62,7 +64,9 @@ fn offsets_argument<'a>(alloc: Global) -> Arg<'a>
 }
 
 /// Why `clap` refuses the words.
-fn fault_of(alloc: Global, error: &Error) -> WordsFault {
+fn fault_of(alloc: Global, error: &Error) -> WordsFault
+    ensures { IsRefused result → kind_of error.now ≢ ErrorKind.OutOfMemory }
+{
     if error.kind() == ErrorKind::OutOfMemory {
         return WordsFault::Memory;
     }
@@ -73,23 +77,25 @@ fn fault_of(alloc: Global, error: &Error) -> WordsFault {
 }
 
 fn command_of<'a>(alloc: Global, matches: &ArgMatches<'a>) -> Result<Words<'a>, WordsFault>
-    ensures { IfOk result (IsAsked (subcommand_rows_of matches.now)) }
+    ensures asked { IfOk result (IsAsked (subcommand_rows_of matches.now)) }
+    ensures not_refused { IfErr result (λ fault. IsRefused fault → ⊥) }
 {
     match matches.subcommand() {
         Some(("valid", words)) => Ok(Words::Valid(valid_words(alloc, words)?)),
-        _ => Err(no_command(alloc)),
+        _ => Err(WordsFault::Unknown),
     }
 }
 
 fn valid_words<'a>(alloc: Global, words: &ArgMatches<'a>) -> Result<ValidWords<'a>, WordsFault>
-    ensures { IfOk result (IsValidOf (rows_of (found_of words.now))) }
+    ensures read { IfOk result (IsValidOf (rows_of (found_of words.now))) }
+    ensures not_refused { IfErr result (λ fault. IsRefused fault → ⊥) }
 {
     let (Some(network), Some(texts)) = (words.get_str("NET"), words.get_strs("OFFSET")) else {
-        return Err(no_command(alloc));
+        return Err(WordsFault::Unknown);
     };
     let offsets = offsets_of(alloc, texts)?;
     if offsets.is_empty() {
-        return Err(no_command(alloc));
+        return Err(WordsFault::Unknown);
     }
     Ok(ValidWords { network, offsets })
 }
@@ -98,10 +104,11 @@ fn offsets_of(alloc: Global, words: &[&str]) -> Result<Vec<u64>, WordsFault>
     ensures small { IfOk result (λ offsets. All (λ offset. offset ≤ MAX_OFFSET) offsets.items) }
     ensures numbers { IfOk result (λ _. All IsNumber (map (λ word. word.now) words.now)) }
     ensures values { IfOk result (λ offsets. offsets.items ≡ map number_of (map (λ word. word.now) words.now)) }
+    ensures not_refused { IfErr result (λ fault. IsRefused fault → ⊥) }
 {
     let mut offsets = Vec::new(alloc);
     for word in words {
-        let offset = offset_of(alloc, word)?;
+        let offset = offset_of(word)?;
         if offsets.push(offset).is_err() {
             return Err(WordsFault::Memory);
         }
@@ -109,21 +116,14 @@ fn offsets_of(alloc: Global, words: &[&str]) -> Result<Vec<u64>, WordsFault>
     Ok(offsets)
 }
 
-fn offset_of(alloc: Global, word: &str) -> Result<u64, WordsFault>
+fn offset_of(word: &str) -> Result<u64, WordsFault>
     ensures small { IfOk result (λ offset. offset ≤ MAX_OFFSET) }
     ensures number { IfOk result (λ _. IsNumber word.now) }
     ensures value { IfOk result (λ offset. offset ≡ number_of word.now) }
+    ensures not_refused { IfErr result (λ fault. IsRefused fault → ⊥) }
 {
     match word.parse::<u64>() {
         Ok(offset) if offset <= MAX_OFFSET => Ok(offset),
-        _ => Err(no_command(alloc)),
-    }
-}
-
-/// What `clap` takes and no command is.
-fn no_command(alloc: Global) -> WordsFault {
-    match String::from_str(alloc, "error: no command has these words\n") {
-        Ok(text) => WordsFault::Refused(text),
-        Err(_) => WordsFault::Memory,
+        _ => Err(WordsFault::Unknown),
     }
 }

@@ -30,6 +30,9 @@ pub enum WordsFault {
     /// The words are refused, with a text that says why. A request for help is refused too, with the help as its text.
     #[error("{0}")]
     Refused(String),
+    /// The grammar takes the words, and no command was made of them. No words are known for which this is so.
+    #[error("error: no command has these words")]
+    Unknown,
     /// A growth was refused.
     #[error("no memory")]
     Memory,
