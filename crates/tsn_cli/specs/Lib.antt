@@ -1,3 +1,4 @@
 pub mod Run
 pub mod Valid
+pub mod Check
 pub mod Outcome

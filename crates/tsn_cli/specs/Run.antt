@@ -1,7 +1,7 @@
 -- What a run of a command ends with, by what its sources gave and its sinks took.
 --     Reading, GivesFile, GivesTooMuch      a source over a run
 --     Writing, TakesAll, TakesBeginning     the sinks over a run
---     Output, Command, Answers              what a command answers
+--     Output, Command, Answers, BreaksOff   what a command answers, and how far it goes where a read fails
 --     Ends, EndsEarly                       a run that was done, and one in which a write failed
 use Rattle.std.specs.Prelude.{◌≡◌, ◌≤◌, ◌<◌, ◌⊎◌, ℕ, List, [], ◌∷◌, ◌++◌, Bool, IsTrue, length, take, codes, Option, All}
 use Rattle.std.specs.Io.KnownBytes.{Appends, Keeps}
@@ -78,14 +78,26 @@ IsLine status line output = (output.status ≡ status) × IsLineAlone line outpu
 abbrev pub Command : Type 1
 Command = List (List ℕ) → Output → Type 0
 
+-- to these files the command answers nothing yet
+abbrev pub GoesOn : Command → List (List ℕ) → Type 0
+GoesOn command files = (output : Output) → command files output → ⊥
+
 -- the answer of a run that has read these files and has these sources left. It is what the command answers to the files, and the rest stays unread;
 -- or, where that is nothing, the next source gave too much, and the rest stays unread; or the run read the next source's file and went on
 abbrev pub Answers : Command → List (List ℕ) → List Reading → Output → Type 0
 Answers command files [] output = command files output
 Answers command files (reading ∷ readings) output =
     (command files output × IsUnread reading × All IsUnread readings)
-    ⊎ (((other : Output) → command files other → ⊥) × GivesTooMuch reading × All IsUnread readings × IsLine 3 (codes "too long\n") output)
+    ⊎ (GoesOn command files × GivesTooMuch reading × All IsUnread readings × IsLine 3 (codes "too long\n") output)
     ⊎ ((bytes : List ℕ) × GivesFile reading bytes × Answers command (files ++ bytes ∷ []) readings output)
+
+-- how far a run has gone in which a read failed, and which has read these files and has these sources left. The read is of the next source:
+-- to the files the command answers nothing, and the rest stays unread; or the run read the next source's file and went on
+abbrev pub BreaksOff : Command → List (List ℕ) → List Reading → Type 0
+BreaksOff command files [] = ⊥
+BreaksOff command files (reading ∷ readings) =
+    (GoesOn command files × All IsUnread readings)
+    ⊎ ((bytes : List ℕ) × GivesFile reading bytes × BreaksOff command (files ++ bytes ∷ []) readings)
 
 -- the output is the command's answer, or the line that says that memory was refused
 abbrev pub IsOutput : Command → List Reading → Output → Type 0

@@ -4,6 +4,7 @@ ghost use Rattle.std.specs.Io.KnownBytes.{Appends, Keeps};
 
 use std::alloc::{AllocError, Global};
 use thiserror::Error;
+use tsn_model::NoMemory;
 
 /// A device failed: a read or a write moved no byte.
 #[derive(Clone, Copy, Debug, PartialEq, Eq, Error)]
@@ -92,6 +93,16 @@ impl From<AllocError> for ReadFault {
     ghost from_gives = { λ _ e. e ≡ Memory };
 
     fn from(_refused: AllocError) -> ReadFault {
+        ReadFault::Memory
+    }
+}
+
+impl From<NoMemory> for ReadFault {
+    ghost use Rattle.tsn_cli.specs.declared.device.ReadFault.TheVariants.{Memory};
+
+    ghost from_gives = { λ _ e. e ≡ Memory };
+
+    fn from(_refused: NoMemory) -> ReadFault {
         ReadFault::Memory
     }
 }

@@ -2,9 +2,11 @@
 #![tactic(auto)]
 
 mod answer;
+mod check;
 pub mod device;
 pub mod memory;
 pub mod run;
 mod valid;
 
+pub use check::check_run;
 pub use valid::valid_run;

@@ -72,7 +72,7 @@ fn answer_to(alloc: Global, file: &[u8], offsets: &[u64]) -> Result<Answer, NoMe
 }
 
 /// What is said of a network file with this fault.
-fn refusal(alloc: Global, fault: NetFault) -> Result<Answer, NoMemory>
+pub(crate) fn refusal(alloc: Global, fault: NetFault) -> Result<Answer, NoMemory>
     ensures line { IfOk result (λ a. IsLine REFUSED (codes "refused " ++ fault_text fault ++ codes "\n")
         (output_of (Ok a))) }
     ensures memory { fault.code ≡ Code.Memory → IsErr result }

@@ -1,0 +1,76 @@
+-- What `check` answers.
+--     RefusesPlan, RefusesCert      a file is refused
+--     ShowsClaim, ShowsNothing      what the certificate shows
+--     CheckAnswers                  the answer to the files read so far
+use Rattle.std.specs.Prelude.{◌≡◌, ◌⊎◌, ℕ, List, [], ◌∷◌, ◌++◌, codes, decimal, Option, Some, None, Ok, Err}
+use Rattle.tsn_model.specs.Network.{Network}
+use Rattle.tsn_net.specs.File.{States}
+use Rattle.tsn_net.specs.Problem.{NamedNetwork}
+use Rattle.tsn_cert.specs.declared.plan.Plan.{Plan}
+use Rattle.tsn_cert.specs.declared.plan.Plan.TheVariants as plan
+use Rattle.tsn_cert.specs.declared.cert.Cert.{Cert}
+use Rattle.tsn_cert.specs.declared.fault.FileFault.{FileFault}
+use Rattle.tsn_cert.specs.Fault as file
+use Rattle.tsn_cert.specs.Plan.{plan_in}
+use Rattle.tsn_cert.specs.Cert.{cert_in}
+use Rattle.tsn_check.specs.declared.fault.CheckFault.{CheckFault}
+use Rattle.tsn_check.specs.Faults.{Certifies, IsFirstFault}
+use Rattle.tsn_check.specs.Numbers.{number_of, node_of}
+use Rattle.tsn_cli.specs.Run.{Output, Command, IsLine}
+use Rattle.tsn_cli.specs.Valid.{RefusesNetwork}
+
+-- how a plan or a certificate file is refused
+abbrev pub refusal_line : List ℕ → FileFault → List ℕ
+refusal_line kind fault = codes "refused " ++ kind ++ codes " C" ++ decimal (file.number_of fault) ++ codes "\n"
+
+-- the plan file is refused
+abbrev pub RefusesPlan : List ℕ → Output → Type 0
+RefusesPlan file output = (fault : FileFault) × (plan_in file ≡ Err fault) × IsLine 3 (refusal_line (codes "plan") fault) output
+
+-- the certificate file is refused
+abbrev pub RefusesCert : List ℕ → Output → Type 0
+RefusesCert file output = (fault : FileFault) × (cert_in file ≡ Err fault) × IsLine 3 (refusal_line (codes "cert") fault) output
+
+-- what is said where the certificate shows what the plan says
+abbrev pub accepted_line : Plan → List ℕ
+accepted_line (plan.Schedule flowspan offsets) = codes "accepted optimal " ++ decimal flowspan ++ codes "\n"
+accepted_line plan.None = codes "accepted no schedule\n"
+
+-- the node at which a fault lies, if it lies at one
+abbrev pub node_text : Option ℕ → List ℕ
+node_text None = []
+node_text (Some node) = codes " node " ++ decimal node
+
+-- a fault, told by its number and its node
+abbrev pub cause_text : CheckFault → List ℕ
+cause_text fault = codes "K" ++ decimal (number_of fault) ++ node_text (node_of fault)
+
+-- what is said of a fault
+abbrev pub rejected_line : CheckFault → List ℕ
+rejected_line fault = codes "certificate refused " ++ cause_text fault ++ codes "\n"
+
+-- the certificate shows what the plan says
+abbrev pub ShowsClaim : Network → Plan → Cert → Output → Type 0
+ShowsClaim network plan cert output = Certifies network plan cert × IsLine 0 (accepted_line plan) output
+
+-- it doesn't, and this is the first fault
+abbrev pub ShowsNothing : Network → Plan → Cert → Output → Type 0
+ShowsNothing network plan cert output = (fault : CheckFault) × IsFirstFault network plan cert fault × IsLine 6 (rejected_line fault) output
+
+-- the answer to a certificate file for this plan
+abbrev pub JudgesCert : Network → Plan → List ℕ → Output → Type 0
+JudgesCert network plan file output =
+    RefusesCert file output ⊎ ((cert : Cert) × (cert_in file ≡ Ok cert) × (ShowsClaim network plan cert output ⊎ ShowsNothing network plan cert output))
+
+-- the file states a network
+abbrev pub StatesNetwork : List ℕ → Type 0
+StatesNetwork file = (problem : NamedNetwork) × States file problem
+
+-- the answer to the files read so far: each is judged once those before it were taken
+abbrev pub CheckAnswers : Command
+CheckAnswers [] output = ⊥
+CheckAnswers (network ∷ []) output = RefusesNetwork network output
+CheckAnswers (network ∷ plan ∷ []) output = StatesNetwork network × RefusesPlan plan output
+CheckAnswers (network ∷ plan ∷ cert ∷ []) output =
+    (problem : NamedNetwork) × States network problem × ((stated : Plan) × (plan_in plan ≡ Ok stated) × JudgesCert problem.network stated cert output)
+CheckAnswers _ output = ⊥

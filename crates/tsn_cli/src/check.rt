@@ -1,0 +1,254 @@
+//! `check`: judges a plan and its certificate.
+ghost use Rattle.std.specs.Prelude.{◌≡◌, ◌≢◌, ◌<◌, ◌+◌, ◌-◌, ◌^◌, ◌⊎◌, ℕ, List, [], ◌∷◌, codes, IfOk, IsErr, Some};
+ghost use Rattle.std.specs.Io.KnownBytes.{Keeps};
+ghost use Rattle.tsn_net.specs.File.{States};
+ghost use Rattle.tsn_cert.specs.Plan.{plan_in};
+ghost use Rattle.tsn_check.specs.Faults.{IsFirstFault};
+ghost use Rattle.tsn_cli.specs.Run.{BreaksOff, Ends, EndsEarly, IsLine, reading_of, writing_of};
+ghost use Rattle.tsn_cli.specs.Outcome.{ComesTo, output_of};
+ghost use Rattle.tsn_cli.specs.Check.{CheckAnswers, JudgesCert, ShowsClaim, ShowsNothing, accepted_line, refusal_line, rejected_line};
+
+use crate::answer::Answer;
+use crate::device::{ReadFault, Sink, Source, read_all};
+use crate::run::{DEVICE, DONE, MAX_FILE, REFUSED, REJECTED, respond};
+use crate::valid::refusal;
+use std::alloc::Global;
+use std::fmt;
+use tsn_cert::{Cert, FileFault, Plan, cert_from_json, plan_from_json};
+use tsn_check::{CheckFault, check};
+use tsn_model::NoMemory;
+use tsn_net::{Problem, read_problem};
+
+/// Reads a network file, a plan file and a certificate file, each judged before the next is read, and writes a line on
+/// the first that is refused, or on what the certificate shows. The answer is the status.
+pub fn check_run<N: Source, P: Source, C: Source, W: Sink>(
+    alloc: Global,
+    network: &mut N,
+    plan: &mut P,
+    cert: &mut C,
+    sink: &mut W,
+) -> u8
+    requires network_reads { N.failed network.old < 2 ^ 64 - 1 }
+    requires plan_reads { P.failed plan.old < 2 ^ 64 - 1 }
+    requires cert_reads { C.failed cert.old < 2 ^ 64 - 1 }
+    requires writes { W.failed sink.old < 2 ^ 64 - 1 }
+
+    ensures ended { result ≢ DEVICE → Ends CheckAnswers
+        (reading_of (N.given network.old) (N.given network.new) (N.is_at_end network.new)
+        ∷ reading_of (P.given plan.old) (P.given plan.new) (P.is_at_end plan.new)
+        ∷ reading_of (C.given cert.old) (C.given cert.new) (C.is_at_end cert.new) ∷ [])
+        (writing_of (W.taken sink.old) (W.taken sink.new) ∷ []) result }
+    ensures no_failure { result ≢ DEVICE → (N.failed network.new ≡ N.failed network.old)
+        × (P.failed plan.new ≡ P.failed plan.old) × (C.failed cert.new ≡ C.failed cert.old)
+        × (W.failed sink.new ≡ W.failed sink.old) }
+
+    ensures failure { result ≡ DEVICE → N.failed network.new + P.failed plan.new + C.failed cert.new
+        + W.failed sink.new
+        ≡ N.failed network.old + P.failed plan.old + C.failed cert.old + W.failed sink.old + 1 }
+    ensures read_failed { N.failed network.new + P.failed plan.new + C.failed cert.new
+        ≢ N.failed network.old + P.failed plan.old + C.failed cert.old
+        → Keeps (W.taken sink.old) (W.taken sink.new) × BreaksOff CheckAnswers []
+        (reading_of (N.given network.old) (N.given network.new) (N.is_at_end network.new)
+        ∷ reading_of (P.given plan.old) (P.given plan.new) (P.is_at_end plan.new)
+        ∷ reading_of (C.given cert.old) (C.given cert.new) (C.is_at_end cert.new) ∷ []) }
+    ensures write_failed { W.failed sink.new ≢ W.failed sink.old → EndsEarly CheckAnswers
+        (reading_of (N.given network.old) (N.given network.new) (N.is_at_end network.new)
+        ∷ reading_of (P.given plan.old) (P.given plan.new) (P.is_at_end plan.new)
+        ∷ reading_of (C.given cert.old) (C.given cert.new) (C.is_at_end cert.new) ∷ [])
+        (writing_of (W.taken sink.old) (W.taken sink.new) ∷ []) }
+{
+    respond(sink, answer_of(alloc, network, plan, cert))
+}
+
+/// What the run answers.
+fn answer_of<N: Source, P: Source, C: Source>(
+    alloc: Global,
+    network: &mut N,
+    plan: &mut P,
+    cert: &mut C,
+) -> Result<Answer, ReadFault>
+    requires network_reads { N.failed network.old < 2 ^ 64 - 1 }
+    requires plan_reads { P.failed plan.old < 2 ^ 64 - 1 }
+    requires cert_reads { C.failed cert.old < 2 ^ 64 - 1 }
+    ensures comes { ComesTo CheckAnswers []
+        (reading_of (N.given network.old) (N.given network.new) (N.is_at_end network.new)
+        ∷ reading_of (P.given plan.old) (P.given plan.new) (P.is_at_end plan.new)
+        ∷ reading_of (C.given cert.old) (C.given cert.new) (C.is_at_end cert.new) ∷ []) result }
+    ensures broken { result ≡ Err ReadFault.Broken
+        → N.failed network.new + P.failed plan.new + C.failed cert.new
+        ≡ N.failed network.old + P.failed plan.old + C.failed cert.old + 1 }
+    ensures kept { (result ≡ Err ReadFault.Broken → ⊥) → (N.failed network.new ≡ N.failed network.old)
+        × (P.failed plan.new ≡ P.failed plan.old) × (C.failed cert.new ≡ C.failed cert.old) }
+{
+    let file = read_all(alloc, network, MAX_FILE)?;
+    answer_to_network(alloc, &file, plan, cert)
+}
+
+/// What the run answers to a network file, and to what it reads after that.
+fn answer_to_network<P: Source, C: Source>(
+    alloc: Global,
+    file: &[u8],
+    plan: &mut P,
+    cert: &mut C,
+) -> Result<Answer, ReadFault>
+    requires plan_reads { P.failed plan.old < 2 ^ 64 - 1 }
+    requires cert_reads { C.failed cert.old < 2 ^ 64 - 1 }
+    ensures comes { ComesTo CheckAnswers (file.now ∷ [])
+        (reading_of (P.given plan.old) (P.given plan.new) (P.is_at_end plan.new)
+        ∷ reading_of (C.given cert.old) (C.given cert.new) (C.is_at_end cert.new) ∷ []) result }
+    ensures broken { result ≡ Err ReadFault.Broken → P.failed plan.new + C.failed cert.new
+        ≡ P.failed plan.old + C.failed cert.old + 1 }
+    ensures kept { (result ≡ Err ReadFault.Broken → ⊥) → (P.failed plan.new ≡ P.failed plan.old)
+        × (C.failed cert.new ≡ C.failed cert.old) }
+{
+    match read_problem(alloc, file) {
+        Ok(problem) => answer_on(alloc, &problem, plan, cert),
+        Err(fault) => Ok(refusal(alloc, fault)?),
+    }
+}
+
+/// What the run answers on a network, once its file is read.
+fn answer_on<P: Source, C: Source>(
+    alloc: Global,
+    problem: &Problem,
+    plan: &mut P,
+    cert: &mut C,
+) -> Result<Answer, ReadFault>
+    requires plan_reads { P.failed plan.old < 2 ^ 64 - 1 }
+    requires cert_reads { C.failed cert.old < 2 ^ 64 - 1 }
+    ensures comes { (network : List ℕ) → States network problem.now → ComesTo CheckAnswers (network ∷ [])
+        (reading_of (P.given plan.old) (P.given plan.new) (P.is_at_end plan.new)
+        ∷ reading_of (C.given cert.old) (C.given cert.new) (C.is_at_end cert.new) ∷ []) result }
+    ensures broken { result ≡ Err ReadFault.Broken → P.failed plan.new + C.failed cert.new
+        ≡ P.failed plan.old + C.failed cert.old + 1 }
+    ensures kept { (result ≡ Err ReadFault.Broken → ⊥) → (P.failed plan.new ≡ P.failed plan.old)
+        × (C.failed cert.new ≡ C.failed cert.old) }
+{
+    let file = read_all(alloc, plan, MAX_FILE)?;
+    answer_to_plan(alloc, problem, &file, cert)
+}
+
+/// What the run answers to a plan file, and to what it reads after that.
+fn answer_to_plan<C: Source>(
+    alloc: Global,
+    problem: &Problem,
+    file: &[u8],
+    cert: &mut C,
+) -> Result<Answer, ReadFault>
+    requires cert_reads { C.failed cert.old < 2 ^ 64 - 1 }
+    ensures comes { (network : List ℕ) → States network problem.now
+        → ComesTo CheckAnswers (network ∷ file.now ∷ [])
+        (reading_of (C.given cert.old) (C.given cert.new) (C.is_at_end cert.new) ∷ []) result }
+    ensures broken { result ≡ Err ReadFault.Broken → C.failed cert.new ≡ C.failed cert.old + 1 }
+    ensures kept { (result ≡ Err ReadFault.Broken → ⊥) → C.failed cert.new ≡ C.failed cert.old }
+{
+    match plan_from_json(alloc, file) {
+        Ok(plan) => answer_on_plan(alloc, problem, &plan, cert),
+        Err(fault) => Ok(file_refusal(alloc, "plan", fault)?),
+    }
+}
+
+/// What the run answers on a network and a plan, once their files are read.
+fn answer_on_plan<C: Source>(
+    alloc: Global,
+    problem: &Problem,
+    plan: &Plan,
+    cert: &mut C,
+) -> Result<Answer, ReadFault>
+    requires cert_reads { C.failed cert.old < 2 ^ 64 - 1 }
+    ensures comes { (network plan_file : List ℕ) → States network problem.now
+        → plan_in plan_file ≡ Ok plan.now → ComesTo CheckAnswers (network ∷ plan_file ∷ [])
+        (reading_of (C.given cert.old) (C.given cert.new) (C.is_at_end cert.new) ∷ []) result }
+    ensures broken { result ≡ Err ReadFault.Broken → C.failed cert.new ≡ C.failed cert.old + 1 }
+    ensures kept { (result ≡ Err ReadFault.Broken → ⊥) → C.failed cert.new ≡ C.failed cert.old }
+{
+    let file = read_all(alloc, cert, MAX_FILE)?;
+    Ok(answer_to_cert(alloc, problem, plan, &file)?)
+}
+
+/// What the run answers to a certificate file.
+fn answer_to_cert(
+    alloc: Global,
+    problem: &Problem,
+    plan: &Plan,
+    file: &[u8],
+) -> Result<Answer, NoMemory>
+    ensures { IfOk result (λ a. JudgesCert problem.now.network plan.now file.now (output_of (Ok a))) }
+{
+    match cert_from_json(alloc, file) {
+        Ok(cert) => judgement(alloc, problem, plan, &cert),
+        Err(fault) => file_refusal(alloc, "cert", fault),
+    }
+}
+
+/// What is said of a plan and its certificate.
+fn judgement(alloc: Global, problem: &Problem, plan: &Plan, cert: &Cert) -> Result<Answer, NoMemory>
+    ensures { IfOk result (λ a. ShowsClaim problem.now.network plan.now cert.now (output_of (Ok a))
+        ⊎ ShowsNothing problem.now.network plan.now cert.now (output_of (Ok a))) }
+{
+    match check(alloc, problem, plan, cert) {
+        Ok(_) => acceptance(alloc, plan),
+        Err(fault) => rejection(alloc, fault),
+    }
+}
+
+/// What is said of a plan whose certificate is accepted.
+fn acceptance(alloc: Global, plan: &Plan) -> Result<Answer, NoMemory>
+    ensures { IfOk result (λ a. IsLine DONE (accepted_line plan.now) (output_of (Ok a))) }
+{
+    let text = match plan {
+        Plan::Schedule { flowspan, .. } => format!(in alloc; "accepted optimal {flowspan}\n")?,
+        Plan::None => format!(in alloc; "accepted no schedule\n")?,
+    };
+    Ok(Answer { status: DONE, text })
+}
+
+/// What is said of a plan and a certificate with this fault.
+fn rejection(alloc: Global, fault: CheckFault) -> Result<Answer, NoMemory>
+    ensures line { IfOk result (λ a. IsLine REJECTED (rejected_line fault) (output_of (Ok a))) }
+    ensures memory { fault ≡ CheckFault.Memory → IsErr result }
+{
+    if fault == CheckFault::Memory {
+        return Err(NoMemory);
+    }
+    let cause = Cause(fault);
+    let text = format!(in alloc; "certificate refused {cause}\n")?;
+    Ok(Answer {
+        status: REJECTED,
+        text,
+    })
+}
+
+/// What is said of a file of this kind with this fault.
+fn file_refusal(alloc: Global, kind: &str, fault: FileFault) -> Result<Answer, NoMemory>
+    ensures line { IfOk result (λ a. IsLine REFUSED (refusal_line kind.now fault) (output_of (Ok a))) }
+    ensures memory { fault ≡ FileFault.Memory → IsErr result }
+{
+    if fault == FileFault::Memory {
+        return Err(NoMemory);
+    }
+    let number = fault.number();
+    let text = format!(in alloc; "refused {kind} C{number}\n")?;
+    Ok(Answer {
+        status: REFUSED,
+        text,
+    })
+}
+
+/// A fault of a plan or its certificate, printed with its number, and its node if it has one: `K1`, `K3 node 2`.
+#[derive(Clone, Copy)]
+struct Cause(CheckFault);
+
+impl fmt::Display for Cause {
+    ghost use Rattle.tsn_cli.specs.Check.{cause_text};
+
+    ghost output = { λ cause. Some (cause_text cause.0) };
+
+    fn fmt<W: fmt::Write>(&self, f: &mut fmt::Formatter<W>) -> fmt::Result {
+        let number = self.0.number();
+        match self.0.node() {
+            Some(node) => write!(f, "K{number} node {node}"),
+            None => write!(f, "K{number}"),
+        }
+    }
+}
