@@ -10,8 +10,8 @@ use std::process::ExitCode;
 use std::rt::{Env, Files};
 use std::{env, fs, io};
 use tsn_cli::run::{MEMORY, NO_MEMORY_LINE, WORDS, finish};
-use tsn_cli::valid_run;
-use tsn_words::{ValidWords, Words, WordsFault, words_from};
+use tsn_cli::{check_run, valid_run};
+use tsn_words::{CheckWords, ValidWords, Words, WordsFault, words_from};
 
 fn main(rt: HostRuntime) -> ExitCode {
     let status = match run(&rt) {
@@ -32,6 +32,7 @@ fn run<R: Env + Files + Input + Print + Eprint + AllocGlobal>(rt: &R) -> io::Res
     }
     match words_from(alloc, words.as_slice()) {
         Ok(Words::Valid(words)) => Ok(valid(rt, alloc, &words)),
+        Ok(Words::Check(words)) => Ok(check(rt, alloc, words)),
         Err(WordsFault::Refused(text)) => Ok(refuse(rt, text.as_str())),
         Err(WordsFault::Unknown) => Ok(refuse(rt, "error: no command has these words\n")),
         Err(WordsFault::Memory) => Ok(no_memory(rt)),
@@ -47,6 +48,20 @@ fn valid<R: Files + Input + Print>(rt: &R, alloc: Global, words: &ValidWords<'_>
     } else {
         let mut source = ReaderSource::new(fs::open(rt, words.network).ok());
         valid_run(alloc, &mut source, &words.offsets, &mut sink)
+    }
+}
+
+/// Checks a certificate; the network `-` is standard input.
+fn check<R: Files + Input + Print>(rt: &R, alloc: Global, words: CheckWords<'_>) -> u8 {
+    let mut plan = ReaderSource::new(fs::open(rt, words.plan).ok());
+    let mut cert = ReaderSource::new(fs::open(rt, words.cert).ok());
+    let mut sink = WriterSink::new(io::writer(rt));
+    if words.network == "-" {
+        let mut network = ReaderSource::new(Some(rt.reader()));
+        check_run(alloc, &mut network, &mut plan, &mut cert, &mut sink)
+    } else {
+        let mut network = ReaderSource::new(fs::open(rt, words.network).ok());
+        check_run(alloc, &mut network, &mut plan, &mut cert, &mut sink)
     }
 }
 

@@ -11,6 +11,20 @@ fn judges(rt: &impl Abort, alloc: Global, words: &[&str], network: &str, offsets
             assert_eq!(rt; words.network, network);
             assert!(rt; words.offsets.as_slice() == offsets);
         }
+        Ok(Words::Check(_)) => assert!(rt; false, "{network}"),
+        Err(fault) => assert!(rt; false, "{fault}"),
+    }
+}
+
+/// The words ask for this plan and certificate to be checked.
+fn checks(rt: &impl Abort, alloc: Global, words: &[&str], network: &str, plan: &str, cert: &str) {
+    match words_from(alloc, words) {
+        Ok(Words::Check(words)) => {
+            assert_eq!(rt; words.network, network);
+            assert_eq!(rt; words.plan, plan);
+            assert_eq!(rt; words.cert, cert);
+        }
+        Ok(Words::Valid(_)) => assert!(rt; false, "{network}"),
         Err(fault) => assert!(rt; false, "{fault}"),
     }
 }
@@ -106,6 +120,20 @@ fn refuses_offsets(rt: HostRuntime) {
 }
 
 #[test]
+fn takes_files(rt: HostRuntime) {
+    let alloc = rt.alloc();
+    let words = ["tsn", "check", "net", "plan", "cert"];
+    checks(&rt, alloc, &words, "net", "plan", "cert");
+    let dashes = ["tsn", "check", "-", "-", "--", "--cert"];
+    checks(&rt, alloc, &dashes, "-", "-", "--cert");
+    refuses(&rt, alloc, &words[..2], "<NET>");
+    refuses(&rt, alloc, &words[..3], "<PLAN>");
+    refuses(&rt, alloc, &words[..4], "<CERT>");
+    let five = ["tsn", "check", "net", "plan", "cert", "more"];
+    refuses(&rt, alloc, &five, "unexpected argument 'more'");
+}
+
+#[test]
 fn refuses_words(rt: HostRuntime) {
     let alloc = rt.alloc();
     refuses(&rt, alloc, &[], "requires a subcommand");
@@ -118,7 +146,7 @@ fn refuses_words(rt: HostRuntime) {
         &["tsn", "valid", "net", "0", "--steps", "1"],
         "unexpected argument '--steps'",
     );
-    for command in ["plan", "check", "gates", "replay", "Valid", "val"] {
+    for command in ["plan", "gates", "replay", "Valid", "val"] {
         refuses(
             &rt,
             alloc,

@@ -4,6 +4,8 @@
 #[cfg(test)]
 mod certificate_files;
 #[cfg(test)]
+mod check_command;
+#[cfg(test)]
 mod checking;
 #[cfg(test)]
 mod command_words;

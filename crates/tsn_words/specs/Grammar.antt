@@ -1,5 +1,5 @@
 -- What the words of the command line ask for, by the grammar that `clap` reads them with.
---     tsn, valid                           the commands
+--     tsn, valid, check                    the commands
 --     IsNumber, number_of, offsets_in      numbers
 --     AsksFor, IsRefused                   what the words ask for, and that they are refused
 use Rattle.std.specs.Prelude.{◌≡◌, ℕ, List, map, codes, Option, Some, true, All}
@@ -8,8 +8,9 @@ use Rattle.clap.specs.Words.{App, Row, Rule, Text, all_of, first_of, new_app, ne
 use Rattle.clap.specs.declared.builder.ArgAction.TheVariants.{Set, Append}
 use Rattle.clap.specs.declared.builder.value_parser.ValueParser.TheVariants.{Unsigned}
 use Rattle.tsn_words.specs.declared.words.Words.{Words}
-use Rattle.tsn_words.specs.declared.words.Words.TheVariants.{Valid}
+use Rattle.tsn_words.specs.declared.words.Words.TheVariants.{Valid, Check}
 use Rattle.tsn_words.specs.declared.words.ValidWords.{ValidWords}
+use Rattle.tsn_words.specs.declared.words.CheckWords.{CheckWords}
 use Rattle.tsn_words.specs.declared.words.WordsFault.{WordsFault}
 use Rattle.tsn_words.specs.declared.words.WordsFault.TheVariants.{Refused}
 
@@ -30,9 +31,16 @@ offsets = record (new_rule (codes "OFFSET")) {
 abbrev pub valid : App
 valid = with_rule (with_rule (new_app (codes "valid")) (file (codes "NET"))) offsets
 
+-- check NET PLAN CERT
+abbrev pub check : App
+check = with_rule (with_rule (with_rule (new_app (codes "check")) (file (codes "NET"))) (file (codes "PLAN"))) (file (codes "CERT"))
+
 -- the program: a command is required
+abbrev pub alone : App
+alone = record { top = record (new_app (codes "tsn")).top { subcommand_required = true }; subs = (new_app (codes "tsn")).subs }
+
 abbrev pub tsn : App
-tsn = with_subcommand (record { top = record (new_app (codes "tsn")).top { subcommand_required = true }; subs = (new_app (codes "tsn")).subs }) valid.top
+tsn = with_subcommand (with_subcommand alone valid.top) check.top
 
 -- a word that is a number: digits, where a plus may stand first
 abbrev pub IsNumber : Text → Type 0
@@ -49,9 +57,15 @@ AreNumbers argument numbers = (words : List Text) × (argument ≡ Some words) �
 abbrev pub IsValidOf : List Row → ValidWords → Type 0
 IsValidOf rows asked = (first_of (codes "NET") rows ≡ Some asked.network.now) × AreNumbers (all_of (codes "OFFSET") rows) asked.offsets.items
 
+-- the files of `check`
+abbrev pub IsCheckOf : List Row → CheckWords → Type 0
+IsCheckOf rows asked =
+    (first_of (codes "NET") rows ≡ Some asked.network.now) × (first_of (codes "PLAN") rows ≡ Some asked.plan.now) × (first_of (codes "CERT") rows ≡ Some asked.cert.now)
+
 -- what is asked for by a command's name and the values of its arguments
 abbrev pub IsAsked : Option (Text × List Row) → Words → Type 0
 IsAsked found (Valid asked) = (rows : List Row) × (found ≡ Some (codes "valid", rows)) × IsValidOf rows asked
+IsAsked found (Check asked) = (rows : List Row) × (found ≡ Some (codes "check", rows)) × IsCheckOf rows asked
 
 -- the words ask for this
 abbrev pub AsksFor : List Text → Words → Type 0

@@ -2,10 +2,10 @@
 ghost use Rattle.std.specs.Prelude.{◌≡◌, ◌≢◌, ◌≤◌, All, IfErr, IfOk, codes, false, map, true};
 ghost use Rattle.clap.specs.Words.{app_of, found_of, kind_of, rows_of, rule_of, subcommand_rows_of, takes};
 ghost use Rattle.clap.specs.declared.builder.command.Command.TheViews.{out-Command as fields_of};
-ghost use Rattle.tsn_words.specs.Grammar.{AsksFor, IsAsked, IsNumber, IsRefused, IsValidOf, number_of};
+ghost use Rattle.tsn_words.specs.Grammar.{AsksFor, IsAsked, IsCheckOf, IsNumber, IsRefused, IsValidOf, number_of};
 ghost use Rattle.tsn_words.specs.Grammar as grammar;
 
-use crate::words::{MAX_OFFSET, ValidWords, Words, WordsFault};
+use crate::words::{CheckWords, MAX_OFFSET, ValidWords, Words, WordsFault};
 use clap::error::ErrorKind;
 use clap::{Arg, ArgAction, ArgMatches, Command, Error, value_parser};
 use std::alloc::{AllocError, Global};
@@ -28,7 +28,8 @@ fn program<'a>(alloc: Global) -> Result<Command<'a>, AllocError>
     Command::new(alloc, "tsn")
         .about("Plans no-wait schedules for time-triggered Ethernet networks")
         .subcommand_required(true)
-        .subcommand(valid_command(alloc)?)
+        .subcommand(valid_command(alloc)?)?
+        .subcommand(check_command(alloc)?)
 }
 
 fn valid_command<'a>(alloc: Global) -> Result<Command<'a>, AllocError>
@@ -41,6 +42,17 @@ fn valid_command<'a>(alloc: Global) -> Result<Command<'a>, AllocError>
         .arg(offsets_argument(alloc))
 }
 
+fn check_command<'a>(alloc: Global) -> Result<Command<'a>, AllocError>
+    ensures app { IfOk result (λ c. app_of c ≡ grammar.check) }
+    ensures local { IfOk result (λ c. (fields_of c).has_globals ≡ false) }
+{
+    Command::new(alloc, "check")
+        .about("Checks that a certificate shows its plan to be optimal")
+        .arg(network_argument(alloc))?
+        .arg(plan_argument(alloc))?
+        .arg(cert_argument(alloc))
+}
+
 fn network_argument<'a>(alloc: Global) -> Arg<'a>
     ensures rule { rule_of result ≡ grammar.file (codes "NET") }
     ensures local { result.global ≡ false }
@@ -49,6 +61,26 @@ fn network_argument<'a>(alloc: Global) -> Arg<'a>
         .required(true)
         .action(ArgAction::Set)
         .help("The network file, or - for standard input")
+}
+
+fn plan_argument<'a>(alloc: Global) -> Arg<'a>
+    ensures rule { rule_of result ≡ grammar.file (codes "PLAN") }
+    ensures local { result.global ≡ false }
+{
+    Arg::new(alloc, "PLAN")
+        .required(true)
+        .action(ArgAction::Set)
+        .help("The plan file")
+}
+
+fn cert_argument<'a>(alloc: Global) -> Arg<'a>
+    ensures rule { rule_of result ≡ grammar.file (codes "CERT") }
+    ensures local { result.global ≡ false }
+{
+    Arg::new(alloc, "CERT")
+        .required(true)
+        .action(ArgAction::Set)
+        .help("The certificate file")
 }
 
 fn offsets_argument<'a>(alloc: Global) -> Arg<'a>
@@ -82,6 +114,7 @@ fn command_of<'a>(alloc: Global, matches: &ArgMatches<'a>) -> Result<Words<'a>, 
 {
     match matches.subcommand() {
         Some(("valid", words)) => Ok(Words::Valid(valid_words(alloc, words)?)),
+        Some(("check", words)) => Ok(Words::Check(check_words(words)?)),
         _ => Err(WordsFault::Unknown),
     }
 }
@@ -98,6 +131,24 @@ fn valid_words<'a>(alloc: Global, words: &ArgMatches<'a>) -> Result<ValidWords<'
         return Err(WordsFault::Unknown);
     }
     Ok(ValidWords { network, offsets })
+}
+
+fn check_words<'a>(words: &ArgMatches<'a>) -> Result<CheckWords<'a>, WordsFault>
+    ensures read { IfOk result (IsCheckOf (rows_of (found_of words.now))) }
+    ensures not_refused { IfErr result (λ fault. IsRefused fault → ⊥) }
+{
+    let (Some(network), Some(plan), Some(cert)) = (
+        words.get_str("NET"),
+        words.get_str("PLAN"),
+        words.get_str("CERT"),
+    ) else {
+        return Err(WordsFault::Unknown);
+    };
+    Ok(CheckWords {
+        network,
+        plan,
+        cert,
+    })
 }
 
 fn offsets_of(alloc: Global, words: &[&str]) -> Result<Vec<u64>, WordsFault>

@@ -18,10 +18,22 @@ pub struct ValidWords<'a> {
     pub ghost small: { All (λ offset. offset ≤ 2000000000) offsets.items },
 }
 
+/// `check NET PLAN CERT`: check a certificate.
+#[derive(Clone, Copy)]
+pub struct CheckWords<'a> {
+    /// The network file, or `-` for standard input.
+    pub network: &'a str,
+    /// The plan file.
+    pub plan: &'a str,
+    /// The certificate file.
+    pub cert: &'a str,
+}
+
 /// A command, with its words.
 #[derive(Drop)]
 pub enum Words<'a> {
     Valid(ValidWords<'a>),
+    Check(CheckWords<'a>),
 }
 
 /// Why there is no command.
