@@ -57,9 +57,5 @@ fn refuse<R: Eprint>(rt: &R, text: &str) -> u8 {
 }
 
 fn no_memory<R: Print>(rt: &R) -> u8 {
-    finish(
-        &mut WriterSink::new(io::writer(rt)),
-        MEMORY,
-        NO_MEMORY_LINE,
-    )
+    finish(&mut WriterSink::new(io::writer(rt)), MEMORY, NO_MEMORY_LINE)
 }
