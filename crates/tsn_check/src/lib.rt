@@ -5,6 +5,7 @@ mod arcs;
 mod chain;
 pub mod verdict;
 pub mod fault;
+pub mod laws;
 mod leaf;
 mod path;
 pub mod plan;
