@@ -3,14 +3,14 @@
 
 mod arcs;
 mod chain;
-pub mod verdict;
 pub mod fault;
 pub mod laws;
 mod leaf;
 mod path;
 pub mod plan;
 mod tree;
+pub mod verdict;
 
-pub use verdict::{Verdict, check};
 pub use fault::CheckFault;
 pub use plan::check_plan;
+pub use verdict::{Verdict, check};

@@ -56,7 +56,12 @@ fn go_on(timing: &Timing, path: &mut Vec<Turn>, node: &Node) -> Result<bool, Che
 }
 
 /// Whether the nodes spell an accepted tree, or else their first fault.
-pub fn check_tree(alloc: Global, timing: &Timing, target: u64, nodes: &[Node]) -> Result<(), CheckFault>
+pub fn check_tree(
+    alloc: Global,
+    timing: &Timing,
+    target: u64,
+    nodes: &[Node],
+) -> Result<(), CheckFault>
     requires { target ≤ 2_000_000_000 }
     ensures ok { OnOk result (Fills timing.now target ([] ∷ []) (map tree_node nodes.now)) }
     ensures err { IfErr result (λ fault. (fault ≡ CheckFault.Memory)

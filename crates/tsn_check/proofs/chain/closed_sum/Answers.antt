@@ -23,4 +23,3 @@ returns-else-walk-end c closed =
     let end = (slice_index_or c.args.path.now last blank).arc.to in
     let joined = ap (λ arc. arc.to) (sym (arc_at-arcs c.args.path.now last blank c.if-last-path.false)) in
     c.if-walk-end.false (c.in_ok-walk.ensures.begins ∙ (closed_parts (arcs c.args.path.now) c.args.depths.now end last refl joined closed).1)
-

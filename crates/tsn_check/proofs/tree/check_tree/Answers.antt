@@ -35,7 +35,7 @@ returns-in-Err-clause-err c =
     let there = node_there c.args.nodes.now c.loop-number.number c.index-nodes-number.result c.loop-number-test.true ∙ ap (λ n. Some (tree_node n)) (sym c.index-nodes-number.is) in
     let wrong : HasFault c.args.timing.now c.args.target path node c.in-Err.fault = rw c.deref.ensures.value at c.in-Err.ensures in
     rw c.at.ensures (inr (fault_there c.args.timing.now c.args.target (map tree_node c.args.nodes.now) c.loop-number.number path node c.in-Err.fault
-        c.loop-number.invariant.right (c.loop-number.invariant.places ∙ ap (λ is_open. places_at is_open path) c.if-not-open.false) there wrong))
+    c.loop-number.invariant.right (c.loop-number.invariant.places ∙ ap (λ is_open. places_at is_open path) c.if-not-open.false) there wrong))
 
 pub go_on-requires-clause-turns : goal.go_on-requires-clause-turns
 go_on-requires-clause-turns c = c.loop-number.invariant.turns

@@ -10,7 +10,7 @@ returns-in_err-check_tree-clause-complete c certifies =
       | inl memory ↦ memory
       | inr fault ↦ absurd (first_fault_refutes c.args.problem.now.network c.args.plan.now c.args.cert.now c.in_err-check_tree.field-0.0
           (tree_fault_first c.args.problem.now.network c.in_ok-timing.timing c.args.plan.now c.args.cert.now c.in_ok-verdict.verdict c.in_ok-verdict.target _ c.in_err-check_tree.field-0.0
-              c.in_ok-timing.ensures c.in_ok-verdict.ensures.claim c.if-cert-target.false c.list.ensures fault) certifies)
+          c.in_ok-timing.ensures c.in_ok-verdict.ensures.claim c.if-cert-target.false c.list.ensures fault) certifies)
     ])
 
 pub returns-clause-accepted : goal.returns-clause-accepted
