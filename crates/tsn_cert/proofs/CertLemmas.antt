@@ -1,5 +1,5 @@
 -- A printed certificate is read again.
-use Rattle.std.proofs.Common.{◌≡◌, ◌≤◌, ◌<◌, ◌+◌, ℕ, List, [], ◌∷◌, ◌++◌, length, take, get_or, map, Bool, true, false, Option, Some, None, Ok, refl, sym, ap, ap₂, ◌∙◌, arith, lit≤, append-nil}
+use Rattle.std.proofs.Common.{◌≡◌, ◌≤◌, ◌<◌, ◌+◌, ℕ, List, [], ◌∷◌, ◌++◌, length, take, get_or, map, true, false, Option, Some, None, Ok, refl, sym, ap, ap₂, ◌∙◌, arith, lit≤, append-nil}
 use Rattle.std.proofs.lemmas.Bool.Decides.{nat_tests}
 use Rattle.std.specs.Prelude.{option_and_then, option_map, nat_le}
 use Rattle.std.proofs.lemmas.List.{take_more, map-append}
@@ -8,7 +8,7 @@ use Rattle.serde_json.specs.Data.{Data, depth}
 use Rattle.serde_json.specs.Read.{max_depth}
 use Rattle.serde_json.specs.Written.{has_float}
 use Rattle.tsn_model.specs.Certificate.{Node, split_node, leaf_node, Leaf, late, overrun, positive_cycle, load, overload, Entry}
-use Rattle.tsn_cert.specs.Json.{when, value_of, each, elements, number_value, numbers, array_value}
+use Rattle.tsn_cert.specs.Json.{when, value_of, each, elements, number_value, array_value}
 use Rattle.tsn_cert.specs.Fault.{shaped, answer}
 use Rattle.tsn_cert.specs.Cert.{chain_of, node_of, nodes_of, cert_of, cert_fits, cert_in, chain_value, entry_value, leaf_value, node_value, nodes_value, cert_value}
 use Rattle.tsn_cert.specs.declared.cert.Cert.{Cert}

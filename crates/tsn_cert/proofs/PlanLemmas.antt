@@ -1,5 +1,5 @@
 -- A printed plan is read again.
-use Rattle.std.proofs.Common.{◌≡◌, ◌≤◌, ℕ, List, Bool, true, false, Option, Some, Ok, refl, ap, ◌∙◌, arith, lit≤}
+use Rattle.std.proofs.Common.{◌≡◌, ◌≤◌, ℕ, List, true, false, Some, Ok, refl, ap, ◌∙◌, arith, lit≤}
 use Rattle.std.specs.Prelude.{option_and_then}
 use Rattle.serde_json.specs.Data.{depth}
 use Rattle.serde_json.specs.Read.{max_depth}

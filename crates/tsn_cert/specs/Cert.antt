@@ -1,5 +1,5 @@
 -- The certificate file: `{"format":1,"nodes":[..],"target":T}`, the nodes in preorder.
-use Rattle.std.specs.Prelude.{◌≡◌, ◌≤◌, ℕ, List, [], ◌∷◌, length, map, Bool, true, if◌then◌else◌, ◌&&◌, ◌==◌, nat_le, codes, Option, Some, None, option_map, Result}
+use Rattle.std.specs.Prelude.{ℕ, List, [], ◌∷◌, length, map, Bool, if◌then◌else◌, ◌&&◌, ◌==◌, nat_le, codes, Option, Some, None, option_map, Result}
 use Rattle.std.specs.List.{list_all}
 use Rattle.std.specs.Str.{bytes_eq}
 use Rattle.serde_json.specs.Data.{Data, string, object, no_members, member}

@@ -1,5 +1,5 @@
 -- The plan file: `{"flowspan":F,"offsets":[o0,o1,..]}`, or null at both keys where there is no schedule.
-use Rattle.std.specs.Prelude.{◌≡◌, ◌≤◌, ℕ, List, map, Bool, true, if◌then◌else◌, ◌&&◌, ◌==◌, nat_le, codes, Option, Some, Result, is_some}
+use Rattle.std.specs.Prelude.{ℕ, List, map, Bool, true, if◌then◌else◌, ◌&&◌, nat_le, codes, Option, Some, Result}
 use Rattle.serde_json.specs.Data.{Data, null, object, no_members, member}
 use Rattle.serde_json.specs.Find.{get}
 use Rattle.tsn_cert.specs.Json.{◌>>=◌, when, value_of, file_text, whole_number, numbers, is_object_of, is_null, all_within, number_value, array_value}

@@ -2,3 +2,4 @@ mod Places
 mod Verdicts
 mod Walks
 mod Chains
+mod Firsts

@@ -4,7 +4,6 @@ use Rattle.std.specs.Prelude.{slice_get}
 use Rattle.std.specs.List.{flat_map}
 use Rattle.std.proofs.lemmas.List.{append-nil, take-append-drop, length-drop}
 use Rattle.tsn_model.specs.declared.Triple.{Triple}
-use Rattle.tsn_model.specs.declared.Side.{Side}
 use Rattle.tsn_model.specs.declared.Side.TheVariants.{Left, Right}
 use Rattle.tsn_model.specs.declared.Decision.{Decision}
 use Rattle.tsn_model.specs.Network.{Network}
@@ -171,7 +170,7 @@ stands_right network target nodes k path node stands fills =
     subst (Fills network target (path ∷ stands.waiting)) (at_take nodes k node stands.there) (subst (λ ps. Fills network target ps (drop k nodes)) stands.first_place parts.1) in
     here.0
 
-no_conflict_wrong : (network : Network) (target : ℕ) (path : List Decision) (node : Node) → IsNoConflict network node → IsNodeRight network target path node → ⊥
+pub no_conflict_wrong : (network : Network) (target : ℕ) (path : List Decision) (node : Node) → IsNoConflict network node → IsNodeRight network target path node → ⊥
 no_conflict_wrong network target path (split_node triple) fault right = fault right
 no_conflict_wrong network target path (leaf_node proof) fault right = absurd fault
 
@@ -182,11 +181,11 @@ has_chains network target path (positive_cycle chain) proves = proves.0
 has_chains network target path (load link entries) proves = proves.0
 has_chains network target path (overload link entries) proves = proves.0
 
-chain_broken_wrong : (network : Network) (target : ℕ) (path : List Decision) (node : Node) → IsChainBroken network path node → IsNodeRight network target path node → ⊥
+pub chain_broken_wrong : (network : Network) (target : ℕ) (path : List Decision) (node : Node) → IsChainBroken network path node → IsNodeRight network target path node → ⊥
 chain_broken_wrong network target path (split_node triple) fault right = absurd fault
 chain_broken_wrong network target path (leaf_node proof) fault right = fault (has_chains network target path proof right)
 
-bound_too_low_wrong : (network : Network) (target : ℕ) (path : List Decision) (node : Node) → IsBoundTooLow network target path node → IsNodeRight network target path node → ⊥
+pub bound_too_low_wrong : (network : Network) (target : ℕ) (path : List Decision) (node : Node) → IsBoundTooLow network target path node → IsNodeRight network target path node → ⊥
 bound_too_low_wrong network target path (split_node triple) fault right = absurd fault
 bound_too_low_wrong network target path (leaf_node proof) fault right = fault.1 right
 

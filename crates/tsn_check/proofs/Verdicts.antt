@@ -1,8 +1,8 @@
 -- What an accepted certificate shows, and what a first fault refutes.
-use Rattle.std.proofs.Common.{◌≡◌, ◌≤◌, ℕ, List, [], ◌∷◌, ◌⊎◌, All, get_or, inl, inr, sym, ap, ◌∙◌, subst, arith}
+use Rattle.std.proofs.Common.{◌≡◌, ◌≤◌, ℕ, List, [], ◌∷◌, All, get_or, inl, inr, sym, ap, ◌∙◌, subst, arith}
 use Rattle.std.proofs.lemmas.List.{get_or_default}
 use Rattle.tsn_model.specs.Network.{Network, IsWellFormed}
-use Rattle.tsn_model.specs.Schedule.{IsValid, IsOptimal, HasNoSchedule, target_of, flowspan}
+use Rattle.tsn_model.specs.Schedule.{IsValid, HasNoSchedule, target_of}
 use Rattle.tsn_model.specs.Certificate.{Accepts}
 use Rattle.tsn_model.proofs.Soundness.{accepted_optimal, accepted_none}
 use Rattle.tsn_cert.specs.declared.plan.Plan.{Plan}
@@ -49,7 +49,7 @@ schedule_fault_refutes network span offsets (ChainBroken k) fault right = fault
 schedule_fault_refutes network span offsets (BoundTooLow k) fault right = fault
 schedule_fault_refutes network span offsets Memory fault right = fault
 
-claim_fault_refutes : (network : Network) (plan : Plan) (fault : CheckFault) → IsClaimFault network plan fault → IsPlanRight network plan → ⊥
+pub claim_fault_refutes : (network : Network) (plan : Plan) (fault : CheckFault) → IsClaimFault network plan fault → IsPlanRight network plan → ⊥
 claim_fault_refutes network (plan.Schedule span offsets) fault is right = schedule_fault_refutes network span offsets fault is right
 claim_fault_refutes network plan.None fault is right = is
 

@@ -4,3 +4,4 @@ pub mod Numbers
 pub mod Claims
 pub mod Turns
 pub mod Steps
+pub mod Laws

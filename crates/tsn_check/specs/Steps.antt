@@ -1,6 +1,5 @@
 -- What a node is found to be at the end of a path, and where the walk goes on from it.
-use Rattle.std.specs.Prelude.{◌≡◌, ℕ, List, [], ◌∷◌, Bool, ℤ, pos, ◌+ℤ◌, ◌≤ℤ◌, Result, Ok, Err}
-use Rattle.tsn_model.specs.declared.Triple.{Triple}
+use Rattle.std.specs.Prelude.{◌≡◌, ℕ, List, ℤ, pos, ◌+ℤ◌, ◌≤ℤ◌, Result, Ok, Err}
 use Rattle.tsn_model.specs.declared.Decision.{Decision}
 use Rattle.tsn_model.specs.Network.{Network}
 use Rattle.tsn_model.specs.Schedule.{IsConflict}

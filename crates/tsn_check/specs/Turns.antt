@@ -2,7 +2,7 @@
 --     IsTurn, decisions, arcs          a decision with its arc, and those of a path
 --     IsWalk                           a chain that was walked back from its end
 --     places_at                        the open places, told by the path
-use Rattle.std.specs.Prelude.{◌≡◌, ℕ, List, [], ◌∷◌, map, Bool, if◌then◌else◌, All, ℤ, pos, ◌+ℤ◌, ◌≤ℤ◌}
+use Rattle.std.specs.Prelude.{◌≡◌, ℕ, List, [], ◌∷◌, map, Bool, if◌then◌else◌, All, pos, ◌+ℤ◌, ◌≤ℤ◌}
 use Rattle.tsn_model.specs.declared.Arc.{Arc}
 use Rattle.tsn_model.specs.declared.Decision.{Decision}
 use Rattle.tsn_model.specs.Network.{Network}

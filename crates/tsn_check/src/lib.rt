@@ -4,6 +4,7 @@
 mod arcs;
 mod chain;
 pub mod fault;
+pub mod laws;
 mod leaf;
 mod path;
 pub mod plan;

@@ -1,4 +1,4 @@
-use Rattle.std.proofs.Common.{ap, ◌∙◌, Some, string_bytes}
+use Rattle.std.proofs.Common.{ap, ◌∙◌, Some}
 use Rattle.serde_json.specs.Written.{has_float}
 use Rattle.tsn_cert.specs.Json.{file_text}
 use Rattle.tsn_cert.proofs.PlanLemmas.{has_float-plan_value, depth-plan_value, plan_in-printed}

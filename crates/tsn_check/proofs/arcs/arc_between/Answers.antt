@@ -1,4 +1,4 @@
-use Rattle.std.proofs.Common.{◌≡◌, Some, pos, ◌+◌, ◌-ℤ◌, ◌+ℤ◌, to_z, of_z, w64, sym, ap, ◌∙◌, arith}
+use Rattle.std.proofs.Common.{◌≡◌, Some, pos, ◌+◌, ◌-ℤ◌, to_z, of_z, w64, sym, ap, ◌∙◌, arith}
 use Rattle.std.proofs.lemmas.Int.{ints}
 use Rattle.tsn_model.specs.Timing.{occupancy, start_on, hop_on}
 use Rattle.tsn_model.specs.Arcs.{arc_between}

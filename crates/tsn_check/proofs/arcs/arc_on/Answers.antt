@@ -1,4 +1,3 @@
-use Rattle.std.proofs.Common.{◌≡◌, ap, sym, ◌∙◌}
 use Rattle.tsn_model.specs.Arcs.{arc_on}
 use Rattle.tsn_check.proofs.arcs.arc_on.Goals as goal
 

@@ -2,7 +2,7 @@ use Rattle.std.proofs.Common.{◌-◌, length, slice_index_or, pos, refl, sym, a
 use Rattle.tsn_model.specs.declared.Side.TheVariants.{Left}
 use Rattle.tsn_check.specs.declared.path.Turn.{Turn}
 use Rattle.tsn_check.specs.Turns.{arcs}
-use Rattle.tsn_check.proofs.Chains.{arc_at-arcs, closed_parts, closed_from}
+use Rattle.tsn_check.proofs.Chains.{arc_at-arcs, closed_parts}
 use Rattle.tsn_check.proofs.chain.closed_sum.Goals as goal
 
 blank : Turn

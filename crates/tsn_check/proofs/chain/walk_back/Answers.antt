@@ -1,9 +1,9 @@
-use Rattle.std.proofs.Common.{◌≡◌, ◌<◌, ◌-◌, ◌+◌, length, slice_index_or, pos, ◌+ℤ◌, to_z, of_z, w64, refl, sym, ap, ◌∙◌, subst, arith}
+use Rattle.std.proofs.Common.{◌≡◌, ◌<◌, ◌-◌, ◌+◌, length, slice_index_or, pos, to_z, w64, refl, sym, ap, ◌∙◌, subst, arith}
 use Rattle.std.proofs.lemmas.Int.{ints}
 use Rattle.tsn_model.specs.declared.Side.TheVariants.{Left}
 use Rattle.tsn_model.specs.Arcs.{arc_at}
 use Rattle.tsn_check.specs.declared.path.Turn.{Turn}
-use Rattle.tsn_check.specs.Turns.{arcs, IsSmall}
+use Rattle.tsn_check.specs.Turns.{arcs}
 use Rattle.tsn_check.proofs.Chains.{WalkedTo, none_walked, walk_one, walk_joins, all_walked, arc_at-arcs, length-arcs}
 use Rattle.tsn_check.proofs.chain.walk_back.Goals as goal
 

@@ -1,4 +1,4 @@
-use Rattle.std.proofs.Common.{◌≤◌, ◌-◌, ◌*◌, length, pos, ◌+ℤ◌, ◌≤ℤ◌}
+use Rattle.std.proofs.Common.{◌-◌, ◌*◌, length, pos, ◌+ℤ◌, ◌≤ℤ◌}
 use Rattle.tsn_check.specs.Turns.{arcs}
 use Rattle.tsn_check.proofs.Chains.{WalkedTo}
 use Rattle.tsn_check.proofs.chain.walk_back.Given as goal

@@ -1,5 +1,4 @@
-use Rattle.std.proofs.Common.{rules, arith}
-use Rattle.std.proofs.lemmas.Int.{ints}
+use Rattle.std.proofs.Common.{rules}
 use Rattle.tsn_model.specs.Certificate.{late_bound}
 use Rattle.tsn_check.proofs.leaf.judge_late.Goals as goal
 

@@ -1,10 +1,10 @@
-use Rattle.std.proofs.Common.{◌≡◌, ◌<◌, List, [], ◌∷◌, length, map, get_or, Some, refl, sym, ap, ◌∙◌, subst, arith, inl, inr}
+use Rattle.std.proofs.Common.{◌≡◌, List, ◌∷◌, map, get_or, Some, sym, ap, ◌∙◌, subst, arith, inr}
 use Rattle.std.proofs.lemmas.List.{length-map}
 use Rattle.tsn_model.specs.declared.Decision.{Decision}
 use Rattle.tsn_model.specs.Certificate as tree
 use Rattle.tsn_cert.specs.Node.{tree_node}
 use Rattle.tsn_check.specs.Places.{IsNodeRight, next_places, pending}
-use Rattle.tsn_check.specs.Turns.{IsTurn, AreTurns, decisions, places_at}
+use Rattle.tsn_check.specs.Turns.{decisions, places_at}
 use Rattle.tsn_check.specs.Steps.{HasFault}
 use Rattle.tsn_check.proofs.Walks.{start_places, node_there, walk_more, all_filled, fault_there, unfinished_there}
 use Rattle.tsn_check.proofs.tree.check_tree.Goals as goal

@@ -1,7 +1,5 @@
-use Rattle.std.proofs.Common.{◌≡◌, [], ◌∷◌, Ok, refl, sym, ap, ◌∙◌, inl, inr}
+use Rattle.std.proofs.Common.{inl, inr}
 use Rattle.std.proofs.lemmas.Result.{err_from_is_err_and}
-use Rattle.tsn_check.specs.Faults.{Certifies}
-use Rattle.tsn_check.specs.declared.verdict.Verdict.TheVariants.{Optimal, NoSchedule}
 use Rattle.tsn_check.proofs.Verdicts.{checked, shown_optimal, shown_none, tree_fault_first, first_fault_refutes}
 use Rattle.tsn_check.proofs.verdict.check.Goals as goal
 
