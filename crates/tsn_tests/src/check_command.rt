@@ -98,7 +98,8 @@ fn holds(rt: &impl Abort, alloc: Global, network: &str, table: &str) -> Result<(
     Ok(())
 }
 
-const JUDGED: &str = r#"accepted optimal 2924~{"flowspan":2924,"offsets":[0,672]}~{"format":1,"nodes":[["branch",0,1,4],["late",1,[0]],["late",0,[0]]],"target":2924}
+const JUDGED: &str =
+    r#"accepted optimal 2924~{"flowspan":2924,"offsets":[0,672]}~{"format":1,"nodes":[["branch",0,1,4],["late",1,[0]],["late",0,[0]]],"target":2924}
 certificate refused K3 node 2~{"flowspan":2924,"offsets":[0,672]}~{"format":1,"nodes":[["branch",0,1,4],["late",1,[0]]],"target":2924}
 certificate refused K4 node 3~{"flowspan":2924,"offsets":[0,672]}~{"format":1,"nodes":[["branch",0,1,4],["late",1,[0]],["late",0,[0]],["late",0,[0]]],"target":2924}
 certificate refused K5 node 0~{"flowspan":2924,"offsets":[0,672]}~{"format":1,"nodes":[["branch",0,1,2],["late",1,[0]],["late",0,[0]]],"target":2924}
@@ -110,7 +111,8 @@ certificate refused K2~{"flowspan":2924,"offsets":[0,672]}~{"format":1,"nodes":[
 certificate refused K1~{"flowspan":2924,"offsets":[0]}~{"format":1,"nodes":[["branch",0,1,4],["late",1,[0]],["late",0,[0]]],"target":2924}
 certificate refused K2~{"flowspan":null,"offsets":null}~{"format":1,"nodes":[["branch",0,1,4],["late",1,[0]],["late",0,[0]]],"target":2924}"#;
 
-const FILES: &str = r#"refused plan C1~{"flowspan":2924,"offsets":[0,672]~{"format":1,"nodes":[["late",0,
+const FILES: &str =
+    r#"refused plan C1~{"flowspan":2924,"offsets":[0,672]~{"format":1,"nodes":[["late",0,
 refused plan C2~{"flowspan":2924,"offsets":null}~
 refused plan C3~{"flowspan":2924,"offsets":[0,2000000001]}~{}
 refused cert C1~{"flowspan":2924,"offsets":[0,672]}~{"format":1,"nodes":[["late",0,
@@ -131,7 +133,8 @@ fn judges_certificates(rt: HostRuntime) -> Result<(), Fail> {
 fn takes_a_network_without_schedule(rt: HostRuntime) -> Result<(), Fail> {
     let alloc = rt.alloc();
     let network = format!(in alloc; "cycle = 2969{TWO}")?;
-    let table = r#"accepted no schedule~{"flowspan":null,"offsets":null}~{"format":1,"nodes":[["branch",0,1,4],["overrun",1,[0]],["overrun",0,[0]]],"target":2970}"#;
+    let table =
+        r#"accepted no schedule~{"flowspan":null,"offsets":null}~{"format":1,"nodes":[["branch",0,1,4],["overrun",1,[0]],["overrun",0,[0]]],"target":2970}"#;
     holds(&rt, alloc, network.as_str(), table)
 }
 
@@ -139,7 +142,8 @@ fn takes_a_network_without_schedule(rt: HostRuntime) -> Result<(), Fail> {
 fn refuses_closed_chains_of_no_sum(rt: HostRuntime) -> Result<(), Fail> {
     let alloc = rt.alloc();
     let network = format!(in alloc; "cycle = 1000000{LOOP}")?;
-    let table = r#"certificate refused K7 node 3~{"flowspan":3648,"offsets":[0,672]}~{"format":1,"nodes":[["branch",0,1,4],["branch",0,1,12],["late",0,[]],["cycle",[0,1]],["late",0,[]]],"target":3648}
+    let table =
+        r#"certificate refused K7 node 3~{"flowspan":3648,"offsets":[0,672]}~{"format":1,"nodes":[["branch",0,1,4],["branch",0,1,12],["late",0,[]],["cycle",[0,1]],["late",0,[]]],"target":3648}
 accepted optimal 3648~{"flowspan":3648,"offsets":[0,672]}~{"format":1,"nodes":[["branch",0,1,4],["branch",0,1,12],["late",0,[]],["late",0,[]],["late",0,[]]],"target":3648}"#;
     holds(&rt, alloc, network.as_str(), table)
 }
@@ -149,7 +153,9 @@ accepted optimal 3648~{"flowspan":3648,"offsets":[0,672]}~{"format":1,"nodes":[[
 fn reads_no_further_than_a_refusal(rt: HostRuntime) -> Result<(), Fail> {
     let alloc = rt.alloc();
     let (before, _) = TWO.split_once("{a = 'S'").ok_or("no third cable")?;
-    let (_, after) = TWO.split_once("prop = 50},\n]").ok_or("no end of the cables")?;
+    let (_, after) = TWO
+        .split_once("prop = 50},\n]")
+        .ok_or("no end of the cables")?;
     let bad = "{a = 'S', b = 'C', mbps = 2500, prop = 50}]";
     let network = format!(in alloc; "cycle = 1000000{before}{bad}{after}")?;
     let mut network = MemorySource::new(network.as_str().as_bytes(), 100, NEVER);
