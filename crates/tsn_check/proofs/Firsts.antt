@@ -9,11 +9,11 @@ use Rattle.tsn_model.specs.Certificate.{Node, split_node, leaf_node}
 use Rattle.tsn_cert.specs.declared.plan.Plan.{Plan}
 use Rattle.tsn_cert.specs.declared.plan.Plan.TheVariants as plan
 use Rattle.tsn_cert.specs.declared.cert.Cert.{Cert}
-use Rattle.tsn_check.specs.Places.{IsNodeRight, next_places, places_from, places_after, AreRight}
+use Rattle.tsn_model.specs.Places.{IsNodeRight, next_places, places_from, places_after, AreRight}
 use Rattle.tsn_check.specs.Faults.{IsNoConflict, IsChainBroken, IsBoundTooLow, Stands, IsTreeFault, IsScheduleFault, IsClaimFault, IsFirstFault}
 use Rattle.tsn_check.specs.declared.fault.CheckFault.{CheckFault}
 use Rattle.tsn_check.specs.declared.fault.CheckFault.TheVariants.{PlanInvalid, FlowspanWrong, TreeUnfinished, TreeTooLong, NotConflict, ChainBroken, BoundTooLow, Memory}
-use Rattle.tsn_check.proofs.Places.{no_conflict_wrong, chain_broken_wrong, bound_too_low_wrong}
+use Rattle.tsn_check.proofs.Refusals.{no_conflict_wrong, chain_broken_wrong, bound_too_low_wrong}
 use Rattle.tsn_check.proofs.Verdicts.{claim_fault_refutes}
 
 there_below : (nodes : List Node) (k : ℕ) (node : Node) → slice_get nodes k ≡ Some node → k < length nodes

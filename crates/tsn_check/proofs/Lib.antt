@@ -1,4 +1,4 @@
-mod Places
+mod Refusals
 mod Verdicts
 mod Walks
 mod Chains

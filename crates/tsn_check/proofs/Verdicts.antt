@@ -9,14 +9,15 @@ use Rattle.tsn_cert.specs.declared.plan.Plan.{Plan}
 use Rattle.tsn_cert.specs.declared.plan.Plan.TheVariants as plan
 use Rattle.tsn_cert.specs.declared.cert.Cert.{Cert}
 use Rattle.tsn_model.specs.Certificate as tree
-use Rattle.tsn_check.specs.Places.{Fills}
+use Rattle.tsn_model.specs.Places.{Fills}
 use Rattle.tsn_check.specs.Claims.{IsClaim}
 use Rattle.tsn_check.specs.declared.verdict.Verdict.{Verdict}
 use Rattle.tsn_check.specs.Faults.{Certifies, IsPlanRight, IsOptimalPlan, IsClaimFault, IsScheduleFault, IsFirstFault, IsTreeFault, offsets_in, verdict_of}
 use Rattle.tsn_check.specs.declared.verdict.Verdict.TheVariants.{Optimal, NoSchedule}
 use Rattle.tsn_check.specs.declared.fault.CheckFault.{CheckFault}
 use Rattle.tsn_check.specs.declared.fault.CheckFault.TheVariants.{PlanInvalid, FlowspanWrong, TreeUnfinished, TreeTooLong, NotConflict, ChainBroken, BoundTooLow, Memory}
-use Rattle.tsn_check.proofs.Places.{filled_tree, tree_filled, tree_fault_refutes}
+use Rattle.tsn_model.proofs.Places.{filled_tree, tree_filled}
+use Rattle.tsn_check.proofs.Refusals.{tree_fault_refutes}
 
 -- nodes that fill the root's place for the plan's target
 pub certified : (network : Network) (plan : Plan) (cert : Cert) → IsPlanRight network plan → cert.target ≡ target_of network (offsets_in plan)

@@ -10,14 +10,14 @@ use Rattle.tsn_model.specs.Certificate as tree
 use Rattle.tsn_model.specs.Certificate.{Leaf, split_node, leaf_node, decided}
 use Rattle.tsn_cert.specs.declared.cert.Node.{Node}
 use Rattle.tsn_cert.specs.Node.{tree_node}
-use Rattle.tsn_check.specs.Places.{IsNodeRight, opened_by, next_places, Fills, places_from, places_after, AreRight, pending}
+use Rattle.tsn_model.specs.Places.{IsNodeRight, opened_by, next_places, Fills, places_from, places_after, AreRight, pending}
 use Rattle.tsn_check.specs.Turns.{places_at}
 use Rattle.tsn_check.specs.Faults.{IsTreeFault}
 use Rattle.tsn_check.specs.Numbers.{fault_at}
 use Rattle.tsn_check.specs.Steps.{HasFault}
 use Rattle.tsn_check.specs.declared.fault.NodeFault.{NodeFault}
 use Rattle.tsn_check.specs.declared.fault.NodeFault.TheVariants.{NotConflict, ChainBroken, BoundTooLow}
-use Rattle.tsn_check.proofs.Places.{right-snoc, places_after-snoc, places_after-fills, fills_from_right, pending-nil, pending-left}
+use Rattle.tsn_model.proofs.Places.{right-snoc, places_after-snoc, places_after-fills, fills_from_right, pending-nil, pending-left}
 
 pub start_places : places_after [] ≡ [] ∷ pending []
 unfolding places_after places_from

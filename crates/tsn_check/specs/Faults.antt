@@ -11,7 +11,7 @@ use Rattle.tsn_model.specs.Certificate.{Leaf, late, overrun, positive_cycle, loa
 use Rattle.tsn_cert.specs.declared.plan.Plan.{Plan}
 use Rattle.tsn_cert.specs.declared.plan.Plan.TheVariants as plan
 use Rattle.tsn_cert.specs.declared.cert.Cert.{Cert}
-use Rattle.tsn_check.specs.Places.{AreRight, places_after}
+use Rattle.tsn_model.specs.Places.{AreRight, places_after}
 use Rattle.tsn_check.specs.declared.verdict.Verdict.{Verdict}
 use Rattle.tsn_check.specs.declared.verdict.Verdict.TheVariants.{Optimal, NoSchedule}
 use Rattle.tsn_check.specs.declared.fault.CheckFault.{CheckFault}

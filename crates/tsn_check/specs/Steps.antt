@@ -4,7 +4,7 @@ use Rattle.tsn_model.specs.declared.Decision.{Decision}
 use Rattle.tsn_model.specs.Network.{Network}
 use Rattle.tsn_model.specs.Schedule.{IsConflict}
 use Rattle.tsn_model.specs.Certificate.{LeadsTo, sum_on, Node, split_node, leaf_node}
-use Rattle.tsn_check.specs.Places.{IsNodeRight}
+use Rattle.tsn_model.specs.Places.{IsNodeRight}
 use Rattle.tsn_check.specs.Faults.{IsNoConflict, IsChainBroken, IsBoundTooLow}
 use Rattle.tsn_check.specs.declared.fault.NodeFault.{NodeFault}
 use Rattle.tsn_check.specs.declared.fault.NodeFault.TheVariants.{NotConflict, ChainBroken, BoundTooLow}

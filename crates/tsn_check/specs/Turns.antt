@@ -8,7 +8,7 @@ use Rattle.tsn_model.specs.declared.Decision.{Decision}
 use Rattle.tsn_model.specs.Network.{Network}
 use Rattle.tsn_model.specs.Schedule.{IsConflict}
 use Rattle.tsn_model.specs.Arcs.{arc_of, IsChainTo, start_of, chain_sum}
-use Rattle.tsn_check.specs.Places.{pending}
+use Rattle.tsn_model.specs.Places.{pending}
 use Rattle.tsn_check.specs.declared.path.Turn.{Turn}
 use Rattle.tsn_check.specs.declared.chain.Walk.{Walk}
 

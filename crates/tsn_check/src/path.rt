@@ -4,7 +4,7 @@ ghost use Rattle.std.specs.Prelude.{◌≡◌, ◌∷◌, ◌++◌, [], MatchBoo
 ghost use Rattle.tsn_model.specs.Schedule.{IsConflict};
 ghost use Rattle.tsn_model.specs.declared.Side.TheVariants.{Left};
 ghost use Rattle.tsn_model.specs.Certificate.{decided};
-ghost use Rattle.tsn_check.specs.Places.{pending};
+ghost use Rattle.tsn_model.specs.Places.{pending};
 ghost use Rattle.tsn_check.specs.Turns.{IsTurn, AreTurns, decisions};
 
 use crate::arcs::arc_on;

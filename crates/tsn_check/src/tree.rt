@@ -1,7 +1,7 @@
 //! The nodes of a certificate, walked in their order.
 ghost use Rattle.std.specs.Prelude.{◌≡◌, ◌≤◌, ◌⊎◌, [], ◌∷◌, map, IfOk, IfErr, OnOk};
 ghost use Rattle.tsn_cert.specs.Node.{tree_node};
-ghost use Rattle.tsn_check.specs.Places.{Fills, next_places, pending};
+ghost use Rattle.tsn_model.specs.Places.{Fills, next_places, pending};
 ghost use Rattle.tsn_check.specs.Faults.{IsTreeFault};
 ghost use Rattle.tsn_check.specs.Turns.{AreTurns, decisions, places_at};
 ghost use Rattle.tsn_check.specs.Steps.{Judges, IsBranchRight};

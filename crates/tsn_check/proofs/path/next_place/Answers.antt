@@ -9,9 +9,9 @@ use Rattle.tsn_model.specs.declared.Side.TheVariants.{Left, Right}
 use Rattle.tsn_model.specs.declared.Decision.{Decision}
 use Rattle.tsn_model.specs.Certificate.{decided}
 use Rattle.tsn_check.specs.declared.path.Turn.{Turn}
-use Rattle.tsn_check.specs.Places.{pending}
+use Rattle.tsn_model.specs.Places.{pending}
 use Rattle.tsn_check.specs.Turns.{IsTurn, decisions}
-use Rattle.tsn_check.proofs.Places.{pending-nil, pending-left, pending-right}
+use Rattle.tsn_model.proofs.Places.{pending-nil, pending-left, pending-right}
 use Rattle.tsn_check.proofs.path.next_place.Goals as goal
 
 -- ---- a path of decisions, by its last one

@@ -1,5 +1,5 @@
 use Rattle.std.proofs.Common.{◌≡◌, vec_len}
-use Rattle.tsn_check.specs.Places.{pending}
+use Rattle.tsn_model.specs.Places.{pending}
 use Rattle.tsn_check.specs.Turns.{AreTurns, decisions}
 use Rattle.tsn_check.proofs.path.next_place.Given as goal
 

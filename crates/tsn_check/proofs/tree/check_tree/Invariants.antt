@@ -1,6 +1,6 @@
 use Rattle.std.proofs.Common.{◌≡◌, [], ◌∷◌, map, take}
 use Rattle.tsn_cert.specs.Node.{tree_node}
-use Rattle.tsn_check.specs.Places.{AreRight, places_after}
+use Rattle.tsn_model.specs.Places.{AreRight, places_after}
 use Rattle.tsn_check.specs.Turns.{AreTurns, decisions, places_at}
 use Rattle.tsn_check.proofs.tree.check_tree.Given as goal
 

@@ -3,7 +3,7 @@ use Rattle.std.proofs.lemmas.List.{map-append}
 use Rattle.tsn_model.specs.declared.Side.TheVariants.{Left}
 use Rattle.tsn_model.specs.Certificate.{decided, late, overrun, positive_cycle}
 use Rattle.tsn_check.specs.declared.path.Turn.{Turn}
-use Rattle.tsn_check.specs.Places.{pending}
+use Rattle.tsn_model.specs.Places.{pending}
 use Rattle.tsn_check.specs.Turns.{decisions}
 use Rattle.tsn_check.proofs.Walks.{after_branch, after_leaf}
 use Rattle.tsn_check.proofs.tree.go_on.Goals as goal

@@ -1,7 +1,7 @@
 use Rattle.std.proofs.Common.{[], ◌∷◌}
-use Rattle.tsn_check.specs.Places.{places_after}
-use Rattle.tsn_check.proofs.Places.{filled_tree, tree_filled, fills_from_right, right_from_fills}
-use Rattle.tsn_check.proofs.laws.right_nodes_spell.Goals as goal
+use Rattle.tsn_model.specs.Places.{places_after}
+use Rattle.tsn_model.proofs.Places.{filled_tree, tree_filled, fills_from_right, right_from_fills}
+use Rattle.tsn_model.proofs.laws.right_nodes_spell.Goals as goal
 
 pub returns : goal.returns
 unfolding places_after

@@ -1,0 +1,16 @@
+pub mod Lists
+pub mod Paths
+pub mod Histories
+pub mod Covering
+pub mod Counting
+pub mod Numbers
+pub mod Steps
+pub mod Growths
+pub mod Preorders
+pub mod Finished
+pub mod Kept
+pub mod Runs
+pub mod OpenOrder
+pub mod Following
+pub mod Gathering
+pub mod Small
