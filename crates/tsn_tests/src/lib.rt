@@ -2,6 +2,8 @@
 #![tactic(auto)]
 
 #[cfg(test)]
+mod branch;
+#[cfg(test)]
 mod certificate_files;
 #[cfg(test)]
 mod check_command;
