@@ -2,6 +2,8 @@
 #![tactic(auto)]
 
 #[cfg(test)]
+mod branch;
+#[cfg(test)]
 mod checking;
 #[cfg(test)]
 mod least_offsets;

@@ -45,7 +45,7 @@ pub fn timing_of(alloc: Global, text: &str) -> Result<Timing, Fail> {
     Ok(Timing::of(alloc, &problem)?)
 }
 
-const ONE: &str = "stream = [{name = 'one', octets = 64, route = ['A', 'S', 'C']}]
+pub const ONE: &str = "stream = [{name = 'one', octets = 64, route = ['A', 'S', 'C']}]
 ";
 
 pub const TWO: &str = "stream = [
