@@ -1,0 +1,5 @@
+pub mod Path
+pub mod Leaf
+pub mod Outcome
+pub mod Look
+pub mod Unreleased

@@ -1,0 +1,105 @@
+-- What a look at a node says.
+--     AreLeast, HasNoOffsets                what the decisions of a path ask of the offsets
+--     IsFirstOverrun, AllFit, IsFirstLast   when the streams are done by these
+--     IsLook                                the first case that holds, and what it holds
+--     HasProof, SplitsUndecided, PrunesFrom what is right of an outcome whatever was settled before
+use Rattle.std.specs.Prelude.{◌≡◌, ℕ, ◌+◌, ◌≤◌, ◌<◌, List, length, pos}
+use Rattle.tsn_model.specs.declared.Decision.{Decision}
+use Rattle.tsn_model.specs.Network.{Network, stream_count}
+use Rattle.tsn_model.specs.Timing.{arrival, span}
+use Rattle.tsn_model.specs.Schedule.{IsValid, flowspan, offset_of, IsConflict, FitsCycle, IsFirstOverlap}
+use Rattle.tsn_model.specs.Arcs.{arcs_of, HoldsAll}
+use Rattle.tsn_model.specs.Certificate.{Leaf, late, overrun, positive_cycle, load, overload, LeadsTo, sum_on, Proves}
+use Rattle.tsn_model.specs.Search.{Outcome, split, solved, pruned, refuted, Refutes}
+use Rattle.tsn_branch.specs.Path.{IsUndecided}
+
+-- ---- offsets on a path
+
+-- no offsets hold the path's arcs
+abbrev pub HasNoOffsets : Network → List Decision → Type 0
+HasNoOffsets network path = (offsets : List ℕ) → HoldsAll offsets (arcs_of network path) → ⊥
+
+-- the least offsets, one a stream, that hold the path's arcs: each is at most that of every other such list
+pub record AreLeast (network : Network) (path : List Decision) (offsets : List ℕ) : Type 0 where
+  pub count : length offsets ≡ stream_count network
+  pub held : HoldsAll offsets (arcs_of network path)
+  pub least : (other : List ℕ) → length other ≡ stream_count network → HoldsAll other (arcs_of network path)
+      → (i : ℕ) → i < stream_count network → offset_of offsets i ≤ offset_of other i
+
+-- the chain leads to stream i, and its sum is the stream's offset
+pub record IsShownBy (network : Network) (path : List Decision) (offsets : List ℕ) (i : ℕ) (chain : List ℕ) : Type 0 where
+  pub leads : LeadsTo network path chain i
+  pub sum : sum_on network path chain ≡ pos (offset_of offsets i)
+
+-- ---- when streams are done
+
+-- the first stream that, put at its offset, isn't done within the cycle
+pub record IsFirstOverrun (network : Network) (offsets : List ℕ) (i : ℕ) : Type 0 where
+  pub counted : i < stream_count network
+  pub past : network.cycle < offset_of offsets i + span network i
+  pub fit_before : (j : ℕ) → j < i → FitsCycle network offsets j
+
+-- each stream, put at its offset, is done within the cycle
+abbrev pub AllFit : Network → List ℕ → Type 0
+AllFit network offsets = (i : ℕ) → i < stream_count network → FitsCycle network offsets i
+
+-- the first stream that arrives at the flowspan
+pub record IsFirstLast (network : Network) (offsets : List ℕ) (i : ℕ) : Type 0 where
+  pub counted : i < stream_count network
+  pub arrives : offset_of offsets i + arrival network i ≡ flowspan network offsets
+  pub sooner_before : (j : ℕ) → j < i → offset_of offsets j + arrival network j < flowspan network offsets
+
+-- ---- the cases
+
+-- a cycle shows that no offsets hold the path's arcs; or by the least ones a stream overruns the cycle, as its chain shows
+abbrev pub IsRefutation : Network → List Decision → Leaf → Type 0
+IsRefutation network path (late i chain) = ⊥
+IsRefutation network path (overrun i chain) = (offsets : List ℕ) × AreLeast network path offsets × IsFirstOverrun network offsets i × IsShownBy network path offsets i chain
+IsRefutation network path (positive_cycle chain) = HasNoOffsets network path × Refutes network path (positive_cycle chain)
+IsRefutation network path (load link entries) = ⊥
+IsRefutation network path (overload link entries) = ⊥
+
+-- the leaf shows the flowspan of the offsets, by the first stream that arrives then
+abbrev pub ShowsFlowspan : Network → List Decision → List ℕ → Leaf → Type 0
+ShowsFlowspan network path offsets (late i chain) = IsFirstLast network offsets i × IsShownBy network path offsets i chain
+ShowsFlowspan network path offsets (overrun i chain) = ⊥
+ShowsFlowspan network path offsets (positive_cycle chain) = ⊥
+ShowsFlowspan network path offsets (load link entries) = ⊥
+ShowsFlowspan network path offsets (overload link entries) = ⊥
+
+-- refuted; or by the least offsets all streams fit the cycle, and then pruned where their flowspan is at least the target;
+-- else split on the first overlap; and solved where there is none
+abbrev pub IsLook : Network → List Decision → ℕ → Outcome → Type 0
+IsLook network path target (refuted leaf) = IsRefutation network path leaf
+IsLook network path target (pruned bound leaf) =
+    (offsets : List ℕ) × AreLeast network path offsets × AllFit network offsets
+    × (bound ≡ flowspan network offsets) × (target ≤ bound) × ShowsFlowspan network path offsets leaf
+IsLook network path target (split triple) =
+    (offsets : List ℕ) × AreLeast network path offsets × AllFit network offsets
+    × (flowspan network offsets < target) × IsFirstOverlap network offsets triple
+IsLook network path target (solved offsets bound leaf) =
+    AreLeast network path offsets × IsValid network offsets
+    × (bound ≡ flowspan network offsets) × (bound < target) × ShowsFlowspan network path offsets leaf
+
+-- ---- what is right of an outcome
+
+-- a leaf is right for its own bound, and a solved one has a valid schedule of that flowspan
+abbrev pub HasProof : Network → List Decision → Outcome → Type 0
+HasProof network path (split triple) = Unit {0}
+HasProof network path (solved offsets bound leaf) = IsValid network offsets × (flowspan network offsets ≡ bound) × Proves network path bound leaf
+HasProof network path (pruned bound leaf) = Proves network path bound leaf
+HasProof network path (refuted leaf) = Refutes network path leaf
+
+-- a split is on a conflict that the path doesn't decide
+abbrev pub SplitsUndecided : Network → List Decision → Outcome → Type 0
+SplitsUndecided network path (split triple) = IsConflict network triple × IsUndecided path triple
+SplitsUndecided network path (solved offsets bound leaf) = Unit {0}
+SplitsUndecided network path (pruned bound leaf) = Unit {0}
+SplitsUndecided network path (refuted leaf) = Unit {0}
+
+-- a pruned bound is at least the target
+abbrev pub PrunesFrom : ℕ → Outcome → Type 0
+PrunesFrom target (split triple) = Unit {0}
+PrunesFrom target (solved offsets bound leaf) = Unit {0}
+PrunesFrom target (pruned bound leaf) = target ≤ bound
+PrunesFrom target (refuted leaf) = Unit {0}

@@ -1,0 +1,16 @@
+-- Paths of decisions.
+use Rattle.std.specs.Prelude.{◌≢◌, List, All, AllPairs, Contains}
+use Rattle.tsn_model.specs.declared.Triple.{Triple}
+use Rattle.tsn_model.specs.declared.Decision.{Decision}
+
+-- no triple is decided twice
+abbrev pub DecidesOnce : List Decision → Type 0
+DecidesOnce path = AllPairs (λ a b. a.triple ≢ b.triple) path
+
+-- the path decides something else than the triple
+abbrev pub IsUndecided : List Decision → Triple → Type 0
+IsUndecided path triple = All (λ decision. decision.triple ≢ triple) path
+
+-- each triple that the path decides is one of these
+abbrev pub Fits : List Triple → List Decision → Type 0
+Fits triples path = All (λ decision. Contains triples decision.triple) path

@@ -1,0 +1,54 @@
+//! A look at one node of the search: what the decisions on its path leave open, or why nothing is left.
+#![tactic(auto)]
+
+ghost use Rattle.std.specs.Prelude.{IfOk};
+ghost use Rattle.tsn_conflict.specs.Kept.{AreConflictsOf};
+ghost use Rattle.tsn_branch.specs.Outcome.{outcome_of};
+ghost use Rattle.tsn_branch.specs.Path.{Fits};
+ghost use Rattle.tsn_branch.specs.Look.{IsLook, HasProof, SplitsUndecided, PrunesFrom};
+
+mod arcs;
+mod instants;
+mod judge;
+pub mod node;
+pub mod outcome;
+
+use crate::arcs::arcs_of;
+use crate::judge::judge;
+use crate::outcome::Look;
+pub use arcs::fits;
+pub use node::Node;
+pub use outcome::Leaf;
+use std::alloc::Global;
+use tsn_conflict::sharing::Conflicts;
+use tsn_diff::Net;
+pub use tsn_model::{Decision, NoMemory, Side, Triple};
+use tsn_timing::Timing;
+
+/// Looks at a node: the first of these cases that holds.
+///
+/// 1. No offsets hold the arcs of its path: refuted by a cycle of them.
+/// 2. By the least offsets that do, some stream isn't done within the cycle: refuted by the first such stream.
+/// 3. By these the flowspan is at least the target: pruned with that bound, by the first stream that arrives then.
+/// 4. By these no two streams overlap on a link: solved, with that flowspan.
+/// 5. Else the node is to be split on the first triple whose streams overlap.
+///
+/// The target is in nanoseconds. The error says that there was no memory.
+pub fn look(
+    alloc: Global,
+    timing: &Timing,
+    conflicts: &Conflicts,
+    node: &Node,
+    target: u64,
+) -> Result<Look, NoMemory>
+    requires conflicts { AreConflictsOf timing.now conflicts.now }
+    requires fits { Fits conflicts.now.triples node.now }
+    ensures first_case { IfOk result (λ look. IsLook timing.now node.now target (outcome_of look)) }
+    ensures proof { IfOk result (λ look. HasProof timing.now node.now (outcome_of look)) }
+    ensures undecided { IfOk result (λ look. SplitsUndecided timing.now node.now (outcome_of look)) }
+    ensures met { IfOk result (λ look. PrunesFrom target (outcome_of look)) }
+{
+    let arcs = arcs_of(alloc, conflicts, node.path())?;
+    let outcome = Net::new(timing.streams()).least(alloc, &arcs)?;
+    judge(alloc, timing, conflicts, &outcome, target)
+}

@@ -1,0 +1,75 @@
+//! A node of the search, known by its path.
+ghost use Rattle.std.specs.Prelude.{◌≡◌, [], ◌∷◌, ◌++◌, IfOk};
+ghost use Rattle.tsn_model.specs.Certificate.{decided};
+ghost use Rattle.tsn_branch.specs.Path.{DecidesOnce, IsUndecided};
+
+use std::alloc::{AllocError, Global};
+use std::marker::Model;
+use tsn_model::{Decision, NoMemory, Side, Triple};
+
+/// A path of decisions from the root, on which no triple is decided twice.
+#[derive(Debug, Drop)]
+pub struct Node {
+    path: Vec<Decision>,
+}
+
+impl Model for Node {
+    ghost use Rattle.std.specs.Prelude.{List};
+    ghost use Rattle.tsn_model.specs.declared.Decision.{Decision};
+    ghost use Rattle.tsn_branch.specs.Path.{DecidesOnce};
+
+    ghost Value = { List Decision };
+
+    ghost view = { λ node. node.path.items };
+
+    ghost invariant = { λ node. DecidesOnce node.path.items };
+}
+
+impl Node {
+    /// The root, on whose path nothing is decided. It takes no memory; the nodes below it take theirs from `alloc`.
+    pub fn root(alloc: Global) -> Node
+        ensures { result ≡ [] }
+    {
+        Node {
+            path: Vec::new(alloc),
+        }
+    }
+
+    /// The node one decision below, on the side where this stream of the triple goes first. The error says that there
+    /// was no memory.
+    pub fn child(&self, triple: Triple, side: Side) -> Result<Node, NoMemory>
+        requires { IsUndecided self.now triple }
+        ensures { IfOk result (λ child. child ≡ decided self.now triple side) }
+    {
+        Ok(Node {
+            path: longer(&self.path, Decision { triple, side })?,
+        })
+    }
+
+    /// The same node once more. The error says that there was no memory.
+    pub fn copy(&self) -> Result<Node, NoMemory>
+        ensures { IfOk result (λ node. node ≡ self.now) }
+    {
+        Ok(Node {
+            path: Vec::from_slice(*self.path.allocator(), &self.path)?,
+        })
+    }
+
+    /// The decisions, from the root on. No triple is decided twice.
+    pub fn path(&self) -> &[Decision]
+        ensures value { result.now ≡ self.now }
+        ensures once { DecidesOnce self.now }
+    {
+        &self.path
+    }
+}
+
+/// The path with one more decision.
+fn longer(path: &Vec<Decision>, decision: Decision) -> Result<Vec<Decision>, AllocError>
+    ensures { IfOk result (λ all. all.items ≡ path.now.items ++ decision ∷ []) }
+{
+    let mut all = Vec::with_capacity(*path.allocator(), path.len() + 1)?;
+    all.extend_from_slice(path)?;
+    all.push(decision)?;
+    Ok(all)
+}

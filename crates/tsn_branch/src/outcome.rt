@@ -1,0 +1,54 @@
+//! What a look at a node finds.
+use tsn_cert::Chain;
+use tsn_model::Triple;
+use tsn_timing::Valid;
+
+/// Why no valid schedule on a path has a lesser flowspan, or why there is none. A chain names decisions of the path by
+/// their depths. A look doesn't try the load of a link yet: leaves that rest on it will stand here.
+#[derive(Debug, Drop)]
+pub enum Leaf {
+    /// The stream arrives too late: the chain's sum and its arrival are at least the bound.
+    Late(usize, Chain),
+    /// The stream ends behind the cycle: the chain's sum and its span are above the cycle.
+    Overrun(usize, Chain),
+    /// The decisions contradict one another: the chain is closed, and its sum is above 0.
+    Cycle(Chain),
+}
+
+/// What a look at a node finds.
+#[derive(Drop)]
+pub enum Look {
+    /// A conflict to decide.
+    Split(Triple),
+    /// A valid schedule, its flowspan in nanoseconds, and the leaf that shows it least on the path.
+    Solved {
+        valid: Valid,
+        bound: u64,
+        leaf: Leaf,
+    },
+    /// What no flowspan on the path is below, in nanoseconds, and the leaf that shows it.
+    Pruned {
+        bound: u64,
+        leaf: Leaf,
+    },
+    /// A leaf that shows that no valid schedule is on the path.
+    Refuted(Leaf),
+}
+
+/// A leaf as a node of a certificate.
+impl From<Leaf> for tsn_cert::Node {
+    ghost use Rattle.std.specs.Prelude.{◌≡◌};
+    ghost use Rattle.tsn_model.specs.Certificate.{leaf_node};
+    ghost use Rattle.tsn_cert.specs.Node.{tree_node};
+    ghost use Rattle.tsn_branch.specs.Leaf.{leaf_of};
+
+    ghost from_gives = { λ leaf node. tree_node node ≡ leaf_node (leaf_of leaf) };
+
+    fn from(leaf: Leaf) -> tsn_cert::Node {
+        match leaf {
+            Leaf::Late(stream, chain) => tsn_cert::Node::Late(stream, chain),
+            Leaf::Overrun(stream, chain) => tsn_cert::Node::Overrun(stream, chain),
+            Leaf::Cycle(chain) => tsn_cert::Node::Cycle(chain),
+        }
+    }
+}
