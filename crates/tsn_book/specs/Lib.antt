@@ -1,0 +1,4 @@
+pub mod Numbers
+pub mod Event
+pub mod Arena
+pub mod Book
