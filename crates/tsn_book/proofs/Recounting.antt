@@ -258,8 +258,8 @@ step_there network history legal path reached k decision found below so_far =
 
 -- ---- settlements by their paths
 
--- numbers written back whole
-pub written_back : (numbers was : List ℕ) (len : ℕ) → len ≡ length was → length numbers ≡ length was → take len (numbers ++ drop (length numbers) was) ≡ numbers
+-- elements written back whole
+pub written_back : {X : Type 0} (numbers was : List X) (len : ℕ) → len ≡ length was → length numbers ≡ length was → take len (numbers ++ drop (length numbers) was) ≡ numbers
 written_back numbers was len is as_many =
     let none : drop (length numbers) was ≡ [] = drop_all (length numbers) was (omega (arith, as_many)) in
     ap (λ rest. take len (numbers ++ rest)) none ∙ ap (take len) (append-nil numbers) ∙ take_all len numbers (omega (arith, is, as_many))

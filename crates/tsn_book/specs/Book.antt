@@ -1,9 +1,9 @@
 -- What a book knows, and why it refuses an event.
-use Rattle.std.specs.Prelude.{◌≡◌, ℕ, ◌<◌, ◌≤◌, ◌+◌, ◌-◌, ◌^◌, min, fold, List, length, All, Contains, Option, Some, None, nat_lt, if◌then◌else◌}
+use Rattle.std.specs.Prelude.{◌≡◌, ℕ, ◌<◌, ◌≤◌, ◌+◌, ◌-◌, ◌^◌, min, fold, List, [], length, All, Contains, Option, Some, None, nat_lt, if◌then◌else◌}
 use Rattle.std.specs.List.{slice_index_or}
 use Rattle.tsn_model.specs.declared.Decision.{Decision}
 use Rattle.tsn_model.specs.Network.{Network, IsWellFormed}
-use Rattle.tsn_model.specs.Certificate.{Leaf}
+use Rattle.tsn_model.specs.Certificate.{Leaf, Tree, Accepts, Node, Spells}
 use Rattle.tsn_model.specs.Arcs.{conflicts_of}
 use Rattle.tsn_model.specs.Search.{Outcome, split, solved, pruned, refuted, Event, Settlement, open_paths, best_bound, kept_of, solved_bound, pruned_bound, tally_of, IsAllowed, IsLegal}
 use Rattle.tsn_search_laws.specs.Replies.{not_open, limit_met, not_conflict, already_decided, not_met, IsFirstRefusal}
@@ -38,6 +38,12 @@ IsFault network limit history event NotConflict = IsFirstRefusal network limit h
 IsFault network limit history event AlreadyDecided = IsFirstRefusal network limit history event already_decided
 IsFault network limit history event (NotMet number) = IsFirstRefusal network limit history event (not_met number)
 IsFault network limit history event Memory = (length history < limit) × IsAllowed network history event
+
+-- the nodes spell a tree that is accepted for the target
+pub record SpellsAccepted (network : Network) (target : ℕ) (nodes : List Node) : Type 0 where
+  pub tree : Tree
+  pub spelled : Spells nodes tree
+  pub accepted : Accepts network target [] tree
 
 -- ---- what a book keeps beside its places
 

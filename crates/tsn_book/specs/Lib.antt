@@ -2,3 +2,4 @@ pub mod Numbers
 pub mod Event
 pub mod Arena
 pub mod Book
+pub mod Spelling

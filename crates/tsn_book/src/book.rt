@@ -5,15 +5,18 @@ ghost use Rattle.tsn_model.specs.Search.{open_paths, best_bound, kept_of, tally_
 ghost use Rattle.tsn_branch.specs.Outcome.{outcome_of};
 ghost use Rattle.tsn_branch.specs.Look.{HasProof};
 ghost use Rattle.tsn_book.specs.Event.{event_of};
-ghost use Rattle.tsn_book.specs.Book.{Progress, IsLawful, IsFault, kept_after, tally_after};
+ghost use Rattle.tsn_search_laws.specs.Laws.{IsBelowBounds};
+ghost use Rattle.tsn_book.specs.Book.{Progress, IsLawful, IsFault, SpellsAccepted, kept_after, tally_after};
 
 use crate::arena::Tree;
 use crate::event::Event;
 use crate::fault::BookFault;
+use crate::spelling::nodes_of;
 use std::alloc::{AllocError, Global};
 use std::marker::Model;
 use tsn_branch::outcome::Look;
 use tsn_branch::{NoMemory, Node};
+use tsn_cert::{Cert, Nodes};
 use tsn_model::plain::PlainNetwork;
 use tsn_timing::{Timing, Valid};
 
@@ -171,6 +174,20 @@ impl Book {
             Look::Pruned { .. } => None,
             Look::Refuted(_) => None,
         }
+    }
+
+    /// The certificate of a finished search, for a target in nanoseconds: one node for each event. The error says that there
+    /// was no memory.
+    pub fn into_cert(self, target: u64) -> Result<Cert, NoMemory>
+        requires finished { open_paths self.history ≡ [] }
+        requires target { IsBelowBounds target self.history }
+        ensures target { IfOk result (λ cert. cert.target ≡ target) }
+        ensures accepted { IfOk result (λ cert. SpellsAccepted self.network target cert.nodes) }
+        ensures counted { IfOk result (λ cert. length cert.nodes ≡ length self.history) }
+    {
+        let Book { tree, .. } = self;
+        let nodes = Nodes::of(nodes_of(tree)?);
+        Ok(Cert { target, nodes })
     }
 }
 

@@ -5,6 +5,7 @@ mod arena;
 pub mod book;
 pub mod event;
 pub mod fault;
+mod spelling;
 
 pub use book::{Book, Tally};
 pub use event::Event;
