@@ -1,5 +1,5 @@
 //! A node of the search, known by its path.
-ghost use Rattle.std.specs.Prelude.{◌≡◌, [], ◌∷◌, ◌++◌, IfOk};
+ghost use Rattle.std.specs.Prelude.{◌≡◌, [], ◌∷◌, ◌++◌, IfOk, OnOk, OnErr};
 ghost use Rattle.tsn_model.specs.Certificate.{decided};
 ghost use Rattle.tsn_branch.specs.Path.{DecidesOnce, IsUndecided};
 
@@ -44,6 +44,20 @@ impl Node {
         Ok(Node {
             path: longer(&self.path, Decision { triple, side })?,
         })
+    }
+
+    /// Goes one decision down, to the side where this stream of the triple goes first. The error says that there was no
+    /// memory; the node is then as it was.
+    #[tactic(auto, unfolding(tsn_model::specs::Certificate::decided))]
+    pub fn push(&mut self, triple: Triple, side: Side) -> Result<(), NoMemory>
+        requires { IsUndecided self.old triple }
+        ensures ok { OnOk result (self.new ≡ decided self.old triple side) }
+        ensures err { OnErr result (self.new ≡ self.old) }
+    {
+        match self.path.push(Decision { triple, side }) {
+            Ok(()) => Ok(()),
+            Err(_) => Err(NoMemory),
+        }
     }
 
     /// The same node once more. The error says that there was no memory.

@@ -1,0 +1,308 @@
+-- What a book keeps beside its places, after one more settlement.
+use Rattle.std.proofs.Common.{◌≡◌, ◌≢◌, ℕ, zero, suc, ◌+◌, ◌≤◌, ◌<◌, min, List, [], ◌∷◌, ◌++◌, length, get_or, set, fold, filter, All, Bool, not, refl, sym, ap, ◌∙◌, subst, arith, inl, inr, Option, Some, None}
+use Rattle.std.specs.Prelude.{replicate, ◌==◌, MatchOption}
+use Rattle.std.specs.List.{slice_index_or, flat_map}
+use Rattle.std.proofs.lemmas.Bool.{cases_lt, cases_eq, cond-true, cond-false, lt-ltb, le-ltb}
+use Rattle.std.proofs.lemmas.List.{length-append, length-set, length-map, get_or-set_same, get_or-set_other, get_or-replicate, length-replicate}
+use Rattle.std.proofs.Math.ListN.{get_or-map}
+use Rattle.std.proofs.lemmas.List.Sums.{fold-append}
+use Rattle.std.proofs.lemmas.List.Filters.{length-filter_both}
+use Rattle.std.proofs.lemmas.List.Elements.{All-append, All-cons, All-nil}
+use Rattle.std.proofs.lemmas.Option.{get_or_from_slice_get}
+use Rattle.tsn_model.specs.declared.Decision.{Decision}
+use Rattle.tsn_model.specs.Network.{Network, IsWellFormed}
+use Rattle.tsn_model.specs.Arcs.{conflicts_of}
+use Rattle.tsn_model.specs.Schedule.{IsValid, flowspan, target_of}
+use Rattle.tsn_search_laws.proofs.Kept.{kept_valid, kept_target}
+use Rattle.tsn_model.proofs.Conflicts.{conflict_listed}
+use Rattle.tsn_search_laws.proofs.Counting.{length-legal, length-legal_open}
+use Rattle.tsn_model.specs.Certificate.{Leaf}
+use Rattle.tsn_model.specs.Search.{Outcome, split, solved, pruned, refuted, Settlement, children_of, made_paths, open_paths, is_settled, solved_bound, pruned_bound, solved_bounds, pruned_bounds, settled_by, least_or_none, best_bound, kept_of, tally_of, IsAllowed, IsLegal}
+use Rattle.tsn_search_laws.proofs.Lists.{flat_map-snoc, length-Without}
+use Rattle.tsn_search_laws.proofs.Histories.{legal_snoc, open_paths-snoc, open_but, open_but-Without}
+use Rattle.tsn_search_laws.proofs.Following.{settled_by-this, settled_by-another, kept_lower_after, kept_same_after}
+use Rattle.tsn_book.specs.declared.arena.Origin.{Origin}
+use Rattle.tsn_book.specs.declared.arena.Standing.{Standing}
+use Rattle.tsn_book.specs.declared.arena.Standing.TheVariants.{Open}
+use Rattle.tsn_book.specs.declared.arena.Settled.{Settled}
+use Rattle.tsn_branch.specs.Outcome.{outcome_of}
+use Rattle.tsn_book.specs.Arena.{paths_of, settlement_of, history_of, IsEvent, IsTree, IsBelow, CountsAt, at_place}
+use Rattle.tsn_book.specs.Book.{child_count, kept_after, tally_after, IsKept, IsSummary, IsBook, IsLawful}
+use Rattle.tsn_book.proofs.Growing.{event_stays, event_new}
+use Rattle.tsn_book.proofs.Places.{length-paths_of}
+use Rattle.tsn_book.proofs.Asking.{length-history_of}
+
+-- ---- an empty book
+
+pub empty_summary : (network : Network) (cycle tellers : ℕ) → cycle ≡ network.cycle → IsSummary network [] 1 (cycle + 1) None (replicate tellers (0, cycle + 1, cycle + 1))
+unfolding open_paths made_paths is_settled best_bound least_or_none solved_bounds kept_of tally_of settled_by pruned_bounds
+empty_summary network cycle tellers same =
+    record {
+      counted = refl;
+      lowest = ap (λ n. n + 1) same;
+      kept = refl;
+      tallied = λ k below.
+          let first : ℕ × ℕ × ℕ = (0, cycle + 1, cycle + 1) in
+          let few : k < tellers = omega (arith, below, length-replicate tellers first) in
+          get_or-replicate tellers k (0, cycle + 1, cycle + 1) (0, 0, 0) few ∙ ap (λ n. (0, n + 1, n + 1)) same;
+      tellers = All-nil (λ (s : Settlement). s.teller < length (replicate tellers (0, cycle + 1, cycle + 1)));
+    }
+
+-- ---- the numbers after one more settlement
+
+pub children_counted : (path : List Decision) (outcome : Outcome) → length (children_of path outcome) ≡ child_count outcome
+unfolding children_of
+children_counted path (split triple) = refl
+children_counted path (solved offsets bound leaf) = refl
+children_counted path (pruned bound leaf) = refl
+children_counted path (refuted leaf) = refl
+
+-- the open path is replaced by its children
+pub open_counted : (network : Network) (history : List Settlement) (settlement : Settlement) → IsLegal network history → IsAllowed network history settlement.event
+    → length (open_paths (history ++ settlement ∷ [])) + 1 ≡ length (open_paths history) + child_count settlement.event.outcome
+open_counted network history settlement legal allowed =
+    let path = settlement.event.path in
+    let children = children_of path settlement.event.outcome in
+    let now = ap length (open_paths-snoc network history settlement legal allowed) ∙ length-append (open_but history path) children in
+    let one_less = length-Without path (open_paths history) (open_but history path) (open_but-Without network history path legal allowed.is_open) in
+    omega (arith, now, one_less, children_counted path settlement.event.outcome)
+
+-- the least of the numbers, with those of one more settlement
+pub solved_after : (network : Network) (history : List Settlement) (settlement : Settlement) → least_or_none network (solved_bounds (history ++ settlement ∷ [])) ≡ fold min (least_or_none network (solved_bounds history)) (solved_bound settlement.event.outcome)
+unfolding least_or_none solved_bounds
+solved_after network history settlement =
+    ap (fold min (network.cycle + 1)) (flat_map-snoc (λ (s : Settlement). solved_bound s.event.outcome) history settlement)
+    ∙ fold-append min (network.cycle + 1) (flat_map (λ (s : Settlement). solved_bound s.event.outcome) history) (solved_bound settlement.event.outcome)
+
+pub pruned_after : (network : Network) (history : List Settlement) (settlement : Settlement) → least_or_none network (pruned_bounds (history ++ settlement ∷ [])) ≡ fold min (least_or_none network (pruned_bounds history)) (pruned_bound settlement.event.outcome)
+unfolding least_or_none pruned_bounds
+pruned_after network history settlement =
+    ap (fold min (network.cycle + 1)) (flat_map-snoc (λ (s : Settlement). pruned_bound s.event.outcome) history settlement)
+    ∙ fold-append min (network.cycle + 1) (flat_map (λ (s : Settlement). pruned_bound s.event.outcome) history) (pruned_bound settlement.event.outcome)
+
+pub best_after : (network : Network) (history : List Settlement) (settlement : Settlement) → best_bound network (history ++ settlement ∷ []) ≡ fold min (best_bound network history) (solved_bound settlement.event.outcome)
+unfolding best_bound
+best_after network history settlement = solved_after network history settlement
+
+-- the settling teller's tally takes the event
+pub tally_of_this : (network : Network) (history : List Settlement) (settlement : Settlement) → tally_of network settlement.teller (history ++ settlement ∷ []) ≡ tally_after (tally_of network settlement.teller history) settlement.event.outcome
+unfolding tally_of
+tally_of_this network history settlement =
+    let k = settlement.teller in
+    let mine = settled_by k history in
+    ap (λ (h : List Settlement). (length h, least_or_none network (pruned_bounds h), least_or_none network (solved_bounds h))) (settled_by-this k history settlement refl)
+    ∙ ap (λ n. (n, least_or_none network (pruned_bounds (mine ++ settlement ∷ [])), least_or_none network (solved_bounds (mine ++ settlement ∷ [])))) (length-append mine (settlement ∷ []))
+    ∙ ap (λ p. (length mine + 1, p, least_or_none network (solved_bounds (mine ++ settlement ∷ [])))) (pruned_after network mine settlement)
+    ∙ ap (λ s. (length mine + 1, fold min (least_or_none network (pruned_bounds mine)) (pruned_bound settlement.event.outcome), s)) (solved_after network mine settlement)
+
+-- and no other teller's does
+pub tally_of_other : (network : Network) (k : ℕ) (history : List Settlement) (settlement : Settlement) → settlement.teller ≢ k → tally_of network k (history ++ settlement ∷ []) ≡ tally_of network k history
+unfolding tally_of
+tally_of_other network k history settlement other =
+    ap (λ (h : List Settlement). (length h, least_or_none network (pruned_bounds h), least_or_none network (solved_bounds h))) (settled_by-another k history settlement other)
+
+-- ---- what is kept
+
+pub kept_stays : (network : Network) (history : List Settlement) (settlement : Settlement) (kept : Option ℕ) → kept_of network (history ++ settlement ∷ []) ≡ kept_of network history → IsKept network history kept → IsKept network (history ++ settlement ∷ []) kept
+kept_stays network history settlement None same is = same ∙ is
+kept_stays network history settlement (Some number) same is =
+    (is.0, is.1, is.2, is.3, event_stays history settlement number is.0 (solved is.1 is.2 is.3) is.4, same ∙ is.5)
+
+pub kept_grows : (network : Network) (history : List Settlement) (teller : ℕ) (path : List Decision) (outcome : Outcome) (kept : Option ℕ) (best number : ℕ) → best ≡ best_bound network history → number ≡ length history
+    → let settlement : Settlement = record { teller = teller; event = record { path = path; outcome = outcome } } in
+    IsLegal network (history ++ settlement ∷ []) → IsKept network history kept → IsKept network (history ++ settlement ∷ []) (kept_after kept best number outcome)
+unfolding solved_bound
+kept_grows network history teller path (split triple) kept best number lowest next legal is =
+    let settlement : Settlement = record { teller = teller; event = record { path = path; outcome = split triple } } in
+    kept_stays network history settlement kept (kept_same_after network history settlement legal (All-nil (λ bound. best_bound network history ≤ bound))).1 is
+kept_grows network history teller path (pruned bound leaf) kept best number lowest next legal is =
+    let settlement : Settlement = record { teller = teller; event = record { path = path; outcome = pruned bound leaf } } in
+    kept_stays network history settlement kept (kept_same_after network history settlement legal (All-nil (λ bound. best_bound network history ≤ bound))).1 is
+kept_grows network history teller path (refuted leaf) kept best number lowest next legal is =
+    let settlement : Settlement = record { teller = teller; event = record { path = path; outcome = refuted leaf } } in
+    kept_stays network history settlement kept (kept_same_after network history settlement legal (All-nil (λ bound. best_bound network history ≤ bound))).1 is
+kept_grows network history teller path (solved offsets bound leaf) kept best number lowest next legal is =
+    let settlement : Settlement = record { teller = teller; event = record { path = path; outcome = solved offsets bound leaf } } in
+    elim (cases_lt bound best) [
+      | inl less ↦
+          let lower : bound < best_bound network history = omega (arith, less, lowest) in
+          subst (IsKept network (history ++ settlement ∷ [])) (sym (cond-true _ (Some number) kept (lt-ltb bound best less)))
+          (path, offsets, bound, leaf, event_new history teller path (solved offsets bound leaf) number next, (kept_lower_after network history settlement legal offsets bound leaf refl lower).1)
+      | inr more ↦
+          let high : best_bound network history ≤ bound = omega (arith, more, lowest) in
+          subst (IsKept network (history ++ settlement ∷ [])) (sym (cond-false _ (Some number) kept (le-ltb bound best more)))
+          (kept_stays network history settlement kept
+          (kept_same_after network history settlement legal (All-cons (λ b. best_bound network history ≤ b) bound [] high (All-nil (λ b. best_bound network history ≤ b)))).1 is)
+    ]
+
+-- ---- all of it
+
+pub summary_grows : (network : Network) (history : List Settlement) (teller : ℕ) (path : List Decision) (outcome : Outcome) → IsLegal network history
+    → (open_count best : ℕ) (kept : Option ℕ) (tallies : List (ℕ × ℕ × ℕ)) → IsSummary network history open_count best kept tallies
+    → let settlement : Settlement = record { teller = teller; event = record { path = path; outcome = outcome } } in
+    IsAllowed network history settlement.event → teller < length tallies
+    → (new_count new_best : ℕ) (new_kept : Option ℕ) (new_tally : ℕ × ℕ × ℕ) (number : ℕ) → number ≡ length history → new_count + 1 ≡ open_count + child_count outcome
+    → new_best ≡ fold min best (solved_bound outcome) → new_kept ≡ kept_after kept best number outcome → new_tally ≡ tally_after (slice_index_or tallies teller (0, 0, 0)) outcome
+    → IsSummary network (history ++ settlement ∷ []) new_count new_best new_kept (set tallies teller new_tally)
+summary_grows network history teller path outcome legal open_count best kept tallies before allowed is_teller new_count new_best new_kept new_tally number next opened lowered keeping tallying =
+    let settlement : Settlement = record { teller = teller; event = record { path = path; outcome = outcome } } in
+    let after : IsLegal network (history ++ settlement ∷ []) = legal_snoc network history settlement legal allowed in
+    record {
+      counted = omega (arith, opened, before.counted, open_counted network history settlement legal allowed);
+      lowest = lowered ∙ ap (λ b. fold min b (solved_bound outcome)) before.lowest ∙ sym (best_after network history settlement);
+      kept = subst (IsKept network (history ++ settlement ∷ [])) (sym keeping) (kept_grows network history teller path outcome kept best number before.lowest next after before.kept);
+      tallied = λ k below.
+          elim (cases_eq teller k) [
+            | inl same ↦
+                subst (λ t. slice_index_or (set tallies teller new_tally) t (0, 0, 0) ≡ tally_of network t (history ++ settlement ∷ [])) same
+                (get_or-set_same tallies teller new_tally (0, 0, 0) is_teller ∙ tallying ∙ ap (λ t. tally_after t outcome) (before.tallied teller is_teller) ∙ sym (tally_of_this network history settlement))
+            | inr turned ↦
+                let other : k ≢ teller = λ same. turned (sym same) in
+                let old : k < length tallies = omega (arith, below, length-set tallies teller new_tally) in
+                get_or-set_other tallies teller k new_tally (0, 0, 0) other ∙ before.tallied k old ∙ sym (tally_of_other network k history settlement turned)
+          ];
+      tellers =
+          let same = sym (length-set tallies teller new_tally) in
+          subst (λ n. All (λ (s : Settlement). s.teller < n) (history ++ settlement ∷ [])) same
+          (All-append (λ (s : Settlement). s.teller < length tallies) history (settlement ∷ []) before.tellers
+          (All-cons (λ (s : Settlement). s.teller < length tallies) settlement [] is_teller (All-nil (λ (s : Settlement). s.teller < length tallies))));
+    }
+
+-- the outcome of a numbered event, as it is stored
+pub stored_outcome : (origins : List Origin) (events : List Settled) (number : ℕ) (path : List Decision) (outcome : Outcome) → IsEvent (history_of origins events) number path outcome → (read : Settled) → read ≡ get_or events number read
+    → (number < length events) × (outcome_of read.look ≡ outcome)
+unfolding history_of settlement_of
+stored_outcome origins events number path outcome is read there =
+    let it : Settlement = record { teller = is.there.0; event = record { path = path; outcome = outcome } } in
+    let below : number < length events = omega (arith, is.within, length-map events (settlement_of (paths_of origins))) in
+    let stored : Settled = get_or events number read in
+    let at : get_or (history_of origins events) number (settlement_of (paths_of origins) read) ≡ it = get_or_from_slice_get (history_of origins events) number it (settlement_of (paths_of origins) read) is.there.1 in
+    let same : settlement_of (paths_of origins) stored ≡ it = sym (get_or-map (settlement_of (paths_of origins)) events number read) ∙ at in
+    (below, ap (λ (e : Settled). outcome_of e.look) there ∙ ap (λ (s : Settlement). s.event.outcome) same)
+
+-- the kept event is stored, solved, with the offsets that are kept
+pub kept_is_stored : (network : Network) (origins : List Origin) (events : List Settled) (number : ℕ) → IsKept network (history_of origins events) (Some number)
+    → (number < length events) × ((read : Settled) → read ≡ get_or events number read → (offsets : List ℕ) × (bound : ℕ) × (leaf : Leaf) × (outcome_of read.look ≡ solved offsets bound leaf) × (kept_of network (history_of origins events) ≡ Some offsets))
+kept_is_stored network origins events number is =
+    let below : number < length events = omega (arith, is.4.within, length-history_of origins events) in (
+      below,
+      λ read there.
+          (is.1, is.2, is.3, (stored_outcome origins events number is.0 (solved is.1 is.2 is.3) is.4 read there).1, is.5),
+    )
+
+-- two solved outcomes that are equal have the same offsets, and no other outcome is a solved one
+abbrev pub HasOffsets : List ℕ → Outcome → Type 0
+HasOffsets offsets (split triple) = ⊥
+HasOffsets offsets (solved others bound leaf) = offsets ≡ others
+HasOffsets offsets (pruned bound leaf) = ⊥
+HasOffsets offsets (refuted leaf) = ⊥
+
+pub stored_offsets : (offsets : List ℕ) (bound : ℕ) (leaf : Leaf) (outcome : Outcome) → outcome ≡ solved offsets bound leaf → HasOffsets offsets outcome
+stored_offsets offsets bound leaf outcome same = subst (HasOffsets offsets) (sym same) refl
+
+-- no more pass a test than there are
+length-filter-le : {X : Type 0} (p : X → Bool) (xs : List X) → length (filter p xs) ≤ length xs
+length-filter-le p xs = omega (arith, length-filter_both p (λ x. not (p x)) (λ x. refl) xs)
+
+-- there are no more open paths than places
+pub open_few : (network : Network) (origins : List Origin) (standings : List Standing) (events : List Settled) → IsTree network origins standings events → length (open_paths (history_of origins events)) ≤ length origins
+unfolding open_paths
+open_few network origins standings events tree =
+    let history = history_of origins events in
+    let fewer = length-filter-le (λ path. not (is_settled history path)) (made_paths history) in
+    omega (arith, fewer, ap length tree.made, length-paths_of origins)
+
+-- a tally counts no more events than there are
+pub tally_few : (network : Network) (history : List Settlement) (k : ℕ) (tally : ℕ × ℕ × ℕ) → tally ≡ tally_of network k history → tally.0 ≤ length history
+unfolding tally_of settled_by
+tally_few network history k tally same =
+    let fewer = length-filter-le (λ (s : Settlement). s.teller == k) history in
+    omega (arith, fewer, ap (λ (t : ℕ × ℕ × ℕ). t.0) same)
+
+-- ---- the whole of a book
+
+-- a book with nothing settled
+pub start_book : (network : Network) (origins : List Origin) (standings : List Standing) (events : List Settled) (limit cycle tellers : ℕ) → IsTree network origins standings events → standings ≡ Open ∷ []
+    → history_of origins events ≡ [] → events ≡ [] → cycle ≡ network.cycle → IsWellFormed network
+    → IsBook network origins standings events (1 ∷ []) limit (cycle + 1) None (replicate tellers (0, cycle + 1, cycle + 1))
+start_book network origins standings events limit cycle tellers tree root nothing none same formed =
+    record {
+      tree = tree;
+      below = subst (λ ss. IsBelow ss (1 ∷ [])) (sym root) (record { counted = refl; each = λ place within. root_counts place within });
+      within_limit = omega (arith, ap length none);
+      summary = subst (λ h. IsSummary network h 1 (cycle + 1) None (replicate tellers (0, cycle + 1, cycle + 1))) (sym nothing) (empty_summary network cycle tellers same);
+      formed = formed;
+    }
+  where
+    root_counts : (place : ℕ) → place < 1 → CountsAt (1 ∷ []) place (slice_index_or (Open ∷ []) place Open)
+    root_counts zero within = refl
+    root_counts (suc place) within = absurd (omega (arith, within))
+
+-- what a book keeps to
+pub lawful : (network : Network) (origins : List Origin) (standings : List Standing) (events : List Settled) (counts : List ℕ) (limit best : ℕ) (kept : Option ℕ) (tallies : List (ℕ × ℕ × ℕ))
+    → IsBook network origins standings events counts limit best kept tallies
+    → IsLawful (record { network = network; tellers = length tallies; limit = limit; history = history_of origins events })
+lawful network origins standings events counts limit best kept tallies book =
+    let history = history_of origins events in
+    record {
+      legal = book.tree.legal;
+      within_limit = omega (arith, book.within_limit, length-history_of origins events);
+      by_tellers = book.summary.tellers;
+      short = length-legal network (conflicts_of network) (conflict_listed network book.formed) history book.tree.legal;
+      shorter = length-legal_open network (conflicts_of network) (conflict_listed network book.formed) history book.tree.legal;
+    }
+
+-- after one more settlement
+pub book_grows : (network : Network) (origins : List Origin) (standings : List Standing) (events : List Settled) (counts : List ℕ) (limit best : ℕ) (kept : Option ℕ) (tallies : List (ℕ × ℕ × ℕ))
+    → IsBook network origins standings events counts limit best kept tallies
+    → (teller : ℕ) (path : List Decision) (outcome : Outcome) → teller < length tallies → length (history_of origins events) < limit → IsAllowed network (history_of origins events) (record { path = path; outcome = outcome })
+    → (network' : Network) (origins' : List Origin) (standings' : List Standing) (events' : List Settled) (counts' : List ℕ) → network' ≡ network → IsTree network' origins' standings' events' → IsBelow standings' counts'
+    → history_of origins' events' ≡ history_of origins events ++ record { teller = teller; event = record { path = path; outcome = outcome } } ∷ []
+    → at_place counts' 0 + 1 ≡ at_place counts 0 + child_count outcome
+    → (new_best : ℕ) (new_kept : Option ℕ) (new_tally : ℕ × ℕ × ℕ) (number : ℕ) → number ≡ length events
+    → new_best ≡ fold min best (solved_bound outcome) → new_kept ≡ kept_after kept best number outcome → new_tally ≡ tally_after (slice_index_or tallies teller (0, 0, 0)) outcome
+    → IsBook network' origins' standings' events' counts' limit new_best new_kept (set tallies teller new_tally)
+book_grows network origins standings events counts limit best kept tallies before teller path outcome is_teller below allowed network' origins' standings' events' counts' same_network tree' below' longer counted new_best new_kept new_tally number next lowered keeping tallying =
+    let history = history_of origins events in
+    let settlement : Settlement = record { teller = teller; event = record { path = path; outcome = outcome } } in
+    let as_many = length-history_of origins events in
+    let sum : length (history_of origins' events') ≡ length history + 1 = ap length longer ∙ length-append history (settlement ∷ []) in
+    let after = summary_grows network history teller path outcome before.tree.legal (at_place counts 0) best kept tallies before.summary allowed is_teller (at_place counts' 0) new_best new_kept new_tally number (next ∙ sym as_many) counted lowered keeping tallying in
+    record {
+      tree = tree';
+      below = below';
+      within_limit = omega (arith, sum, below, length-history_of origins' events');
+      summary = subst (λ n. IsSummary n (history_of origins' events') (at_place counts' 0) new_best new_kept (set tallies teller new_tally)) (sym same_network)
+          (subst (λ h. IsSummary network h (at_place counts' 0) new_best new_kept (set tallies teller new_tally)) (sym longer) after);
+      formed = subst IsWellFormed (sym same_network) before.formed;
+    }
+
+-- few enough open places
+pub root_few : (network : Network) (origins : List Origin) (standings : List Standing) (events : List Settled) (counts : List ℕ) (limit best : ℕ) (kept : Option ℕ) (tallies : List (ℕ × ℕ × ℕ))
+    → IsBook network origins standings events counts limit best kept tallies → at_place counts 0 ≤ length origins
+root_few network origins standings events counts limit best kept tallies book =
+    omega (arith, open_few network origins standings events book.tree, book.summary.counted)
+
+-- what is kept is valid, with the least flowspan that was solved
+pub kept_best : (network : Network) (history : List Settlement) → IsLegal network history → (offsets : List ℕ) → kept_of network history ≡ Some offsets
+    → IsValid network offsets × (flowspan network offsets ≡ best_bound network history)
+kept_best network history legal offsets is =
+    subst (λ kept. MatchOption kept (solved_bounds history ≡ []) (λ os. IsValid network os × (flowspan network os ≡ best_bound network history))) is (kept_valid network history legal)
+
+-- where nothing is kept nothing was solved
+pub none_best : (network : Network) (history : List Settlement) → IsLegal network history → kept_of network history ≡ None → best_bound network history ≡ network.cycle + 1
+unfolding target_of
+none_best network history legal none = sym (kept_target network history legal) ∙ ap (target_of network) none
+
+-- the offsets of the event that a book keeps, as they are read
+pub book_keeps : (network : Network) (origins : List Origin) (standings : List Standing) (events : List Settled) (counts : List ℕ) (limit best : ℕ) (kept : Option ℕ) (tallies : List (ℕ × ℕ × ℕ))
+    → IsBook network origins standings events counts limit best kept tallies → (number : ℕ) → kept ≡ Some number → (read : Settled) → read ≡ get_or events number read
+    → (offsets : List ℕ) × HasOffsets offsets (outcome_of read.look) × (kept_of network (history_of origins events) ≡ Some offsets)
+book_keeps network origins standings events counts limit best kept tallies book number is read there =
+    let stored = (kept_is_stored network origins events number (subst (IsKept network (history_of origins events)) is book.summary.kept)).1 read there in
+    (stored.0, stored_offsets stored.0 stored.1 stored.2 (outcome_of read.look) stored.3, stored.4)
+
+pub keeps_within : (network : Network) (origins : List Origin) (standings : List Standing) (events : List Settled) (counts : List ℕ) (limit best : ℕ) (kept : Option ℕ) (tallies : List (ℕ × ℕ × ℕ))
+    → IsBook network origins standings events counts limit best kept tallies → (number : ℕ) → kept ≡ Some number → number < length events
+keeps_within network origins standings events counts limit best kept tallies book number is =
+    (kept_is_stored network origins events number (subst (IsKept network (history_of origins events)) is book.summary.kept)).0

@@ -1,0 +1,261 @@
+-- The walk to the first open place, by the numbers of open places below.
+use Rattle.std.proofs.Common.{◌≡◌, ◌≢◌, ℕ, ◌+◌, ◌<◌, List, [], ◌∷◌, ◌++◌, length, get_or, All, AllPairs, Contains, refl, sym, ap, ◌∙◌, subst, arith, append_assoc, ◌⊎◌, inl, inr}
+use Rattle.std.specs.List.{slice_index_or}
+use Rattle.std.proofs.lemmas.List.{append-nil, length-append, get_or_default, get_or_append_left, get_or-append-add}
+use Rattle.std.proofs.lemmas.List.Elements.{Contains-get_or}
+use Rattle.tsn_model.specs.declared.Triple.{Triple}
+use Rattle.tsn_model.specs.declared.Side.{Side}
+use Rattle.tsn_model.specs.declared.Side.TheVariants.{Left, Right}
+use Rattle.tsn_model.specs.declared.Decision.{Decision}
+use Rattle.tsn_model.specs.Network.{Network}
+use Rattle.tsn_model.specs.Certificate.{decided}
+use Rattle.tsn_model.specs.Search.{Outcome, split, solved, pruned, refuted, Settlement, made_paths, open_paths, PathBefore, IsFirstOpen, IsLegal}
+use Rattle.tsn_search_laws.proofs.Lists.{Contains-here}
+use Rattle.tsn_search_laws.proofs.Histories.{open_is_made}
+use Rattle.tsn_search_laws.proofs.Counting.{made_decides}
+use Rattle.tsn_book.specs.declared.arena.Origin.{Origin}
+use Rattle.tsn_book.specs.declared.arena.Standing.{Standing}
+use Rattle.tsn_book.specs.declared.arena.Standing.TheVariants.{Open, Split, Leaf}
+use Rattle.tsn_book.specs.declared.arena.Settled.{Settled}
+use Rattle.tsn_book.specs.Arena.{path_at, paths_of, history_of, IsEvent, IsPlaced, IsTree, IsOpenPlace, CountsAt, IsBelow, IsAhead, at_place}
+use Rattle.tsn_book.proofs.Places.{length-paths_of, event_among, same_settlement, split_of_made, nothing_below, left_child, right_child, made_beginning, settled_not_open, decided_by, root_place}
+use Rattle.tsn_book.proofs.Asking.{open_at}
+
+-- a split that has a child below it is on the child's triple
+pub same_triple : (network : Network) (history : List Settlement) → IsLegal network history → (path : List Decision) (triple : Triple) (event : ℕ) → IsEvent history event path (split triple)
+    → (decision : Decision) → Contains (made_paths history) (path ++ decision ∷ []) → triple ≡ decision.triple
+same_triple network history legal path triple event is decision found =
+    let from = split_of_made history path decision.triple decision.side (subst (Contains (made_paths history)) (sym (decided_by path decision)) found) in
+    let settlement : Settlement = record { teller = is.there.0; event = record { path = path; outcome = split triple } } in
+    let same = same_settlement network history legal settlement from.0 (event_among history settlement event is.within is.there.1) from.1 (sym from.2) in
+    ap triple_of (ap (λ (s : Settlement). s.event.outcome) same ∙ from.3)
+  where
+    triple_of : Outcome → Triple
+    triple_of (split t) = t
+    triple_of (solved offsets bound leaf) = triple
+    triple_of (pruned bound leaf) = triple
+    triple_of (refuted leaf) = triple
+
+-- a step below an open path's beginning was made
+pub step_made : (network : Network) (history : List Settlement) → IsLegal network history → (path rest : List Decision) (decision : Decision) → Contains (open_paths history) (path ++ decision ∷ rest) → Contains (made_paths history) (path ++ decision ∷ [])
+step_made network history legal path rest decision found =
+    made_beginning network history legal (path ++ decision ∷ []) rest
+    (subst (Contains (made_paths history)) (sym (append_assoc path (decision ∷ []) rest)) (open_is_made history (path ++ decision ∷ rest) found))
+
+-- a place with a count of 0 isn't open itself
+pub not_open_itself : (network : Network) (origins : List Origin) (standings : List Standing) (events : List Settled) → IsTree network origins standings events → (below : List ℕ) (place : ℕ) (standing : Standing)
+    → IsPlaced (paths_of origins) (history_of origins events) place standing → CountsAt below place standing → at_place below place ≡ 0 → Contains (open_paths (history_of origins events)) (path_at (paths_of origins) place) → ⊥
+not_open_itself network origins standings events tree below place Open placed count none found = absurd (omega (arith, count, none))
+not_open_itself network origins standings events tree below place (Split triple children event) placed count none found =
+    settled_not_open (history_of origins events) (path_at (paths_of origins) place) (split triple) event placed.0 found
+not_open_itself network origins standings events tree below place (Leaf event) placed count none found =
+    settled_not_open (history_of origins events) (path_at (paths_of origins) place) placed.0 event placed.1 found
+
+-- the place at the next step of an open path below a split
+pub record NextPlace (origins : List Origin) (below : List ℕ) (place children : ℕ) (rest : List Decision) (history : List Settlement) : Type 0 where
+  pub next : ℕ
+  pub within : next < length origins
+  pub one_of : (next ≡ children) ⊎ (next ≡ children + 1)
+  pub there : Contains (open_paths history) (path_at (paths_of origins) next ++ rest)
+
+pub next_place : (network : Network) (origins : List Origin) (standings : List Standing) (events : List Settled) → IsTree network origins standings events → (below : List ℕ) (place : ℕ) (triple : Triple) (children event : ℕ)
+    → IsPlaced (paths_of origins) (history_of origins events) place (Split triple children event) → (decision : Decision) (rest : List Decision)
+    → Contains (open_paths (history_of origins events)) (path_at (paths_of origins) place ++ decision ∷ rest) → (side : Side) → decision.side ≡ side → NextPlace origins below place children rest (history_of origins events)
+next_place network origins standings events tree below place triple children event placed decision rest found Left side =
+    let history = history_of origins events in
+    let path = path_at (paths_of origins) place in
+    let same = same_triple network history tree.legal path triple event placed.0 decision (step_made network history tree.legal path rest decision found) in
+    let child = left_child network origins standings events tree place triple children event placed decision same side in
+    record {
+      next = children;
+      within = child.0;
+      one_of = inl refl;
+      there = subst (λ p. Contains (open_paths history) (p ++ rest)) (sym child.1) (subst (Contains (open_paths history)) (sym (append_assoc path (decision ∷ []) rest)) found);
+    }
+next_place network origins standings events tree below place triple children event placed decision rest found Right side =
+    let history = history_of origins events in
+    let path = path_at (paths_of origins) place in
+    let same = same_triple network history tree.legal path triple event placed.0 decision (step_made network history tree.legal path rest decision found) in
+    let child = right_child network origins standings events tree place triple children event placed decision same side in
+    record {
+      next = children + 1;
+      within = child.0;
+      one_of = inr refl;
+      there = subst (λ p. Contains (open_paths history) (p ++ rest)) (sym child.1) (subst (Contains (open_paths history)) (sym (append_assoc path (decision ∷ []) rest)) found);
+    }
+
+-- an open path goes on below a split alone
+pub step_below : (network : Network) (origins : List Origin) (standings : List Standing) (events : List Settled) → IsTree network origins standings events → (below : List ℕ) (place : ℕ) (standing : Standing)
+    → IsPlaced (paths_of origins) (history_of origins events) place standing → CountsAt below place standing → at_place below place ≡ 0 → (decision : Decision) (rest : List Decision)
+    → Contains (open_paths (history_of origins events)) (path_at (paths_of origins) place ++ decision ∷ rest)
+    → ((next : ℕ) → next < length origins → at_place below next ≡ 0 → Contains (open_paths (history_of origins events)) (path_at (paths_of origins) next ++ rest) → ⊥) → ⊥
+step_below network origins standings events tree below place Open placed count none decision rest found further = absurd (omega (arith, count, none))
+step_below network origins standings events tree below place (Leaf event) placed count none decision rest found further =
+    nothing_below network origins standings events tree place decision (Leaf event) placed tt (step_made network (history_of origins events) tree.legal (path_at (paths_of origins) place) rest decision found)
+step_below network origins standings events tree below place (Split triple children event) placed count none decision rest found further =
+    let to = next_place network origins standings events tree below place triple children event placed decision rest found decision.side refl in
+    let left : at_place below children ≡ 0 = omega (arith, count, none) in
+    let right : at_place below (children + 1) ≡ 0 = omega (arith, count, none) in
+    elim to.one_of [
+      | inl is ↦ further to.next to.within (ap (at_place below) is ∙ left) to.there
+      | inr is ↦ further to.next to.within (ap (at_place below) is ∙ right) to.there
+    ]
+
+-- nothing is open where the count is 0
+pub none_open : (network : Network) (origins : List Origin) (standings : List Standing) (events : List Settled) → IsTree network origins standings events → (below : List ℕ) → IsBelow standings below
+    → (rest : List Decision) (place : ℕ) → place < length origins → at_place below place ≡ 0 → Contains (open_paths (history_of origins events)) (path_at (paths_of origins) place ++ rest) → ⊥
+none_open network origins standings events tree below counts [] place within none found =
+    let inside : place < length standings = omega (arith, within, tree.counted) in
+    not_open_itself network origins standings events tree below place (slice_index_or standings place Open) (tree.placed place within) (counts.each place inside) none
+    (subst (Contains (open_paths (history_of origins events))) (append-nil (path_at (paths_of origins) place)) found)
+none_open network origins standings events tree below counts (decision ∷ rest) place within none found =
+    let inside : place < length standings = omega (arith, within, tree.counted) in
+    step_below network origins standings events tree below place (slice_index_or standings place Open) (tree.placed place within) (counts.each place inside) none decision rest found
+    (none_open network origins standings events tree below counts rest)
+
+-- ---- what comes after the walk's path
+
+pub right_is_not_left : Right ≡ Left → ⊥
+right_is_not_left same = subst is_right same tt
+  where
+    is_right : Side → Type 0
+    is_right Left = ⊥
+    is_right Right = Unit {0}
+
+-- at the root all is ahead
+pub root_ahead : (history : List Settlement) → IsAhead history []
+root_ahead history other found = inl (other, refl)
+
+-- a path that comes after another comes after what goes on from that
+pub before_longer : (path other : List Decision) (decision : Decision) → PathBefore path other → PathBefore (path ++ decision ∷ []) other
+before_longer path other decision before = (
+  before.0,
+  before.1,
+  before.2 ++ decision ∷ [],
+  before.3,
+  ap (λ p. p ++ decision ∷ []) before.4 ∙ append_assoc (decided before.0 before.1 Left) before.2 (decision ∷ []),
+  before.5,
+)
+
+-- an open path that goes on below a split, seen from the child that the walk takes
+pub turn : (network : Network) (origins : List Origin) (standings : List Standing) (events : List Settled) → IsTree network origins standings events → (below : List ℕ) → IsBelow standings below
+    → (place : ℕ) (triple : Triple) (children event : ℕ) → IsPlaced (paths_of origins) (history_of origins events) place (Split triple children event) → (decision : Decision) (rest other : List Decision)
+    → other ≡ path_at (paths_of origins) place ++ decision ∷ rest → Contains (open_paths (history_of origins events)) (path_at (paths_of origins) place ++ decision ∷ rest)
+    → (side its : Side) → decision.side ≡ its → (side ≡ Left) ⊎ (at_place below children ≡ 0)
+    → ((more : List Decision) × (other ≡ (path_at (paths_of origins) place ++ record { triple = triple; side = side } ∷ []) ++ more)) ⊎ PathBefore (path_at (paths_of origins) place ++ record { triple = triple; side = side } ∷ []) other
+unfolding decided
+turn network origins standings events tree below counts place triple children event placed decision rest other is found side its same_side why =
+    let history = history_of origins events in
+    let path = path_at (paths_of origins) place in
+    let same = same_triple network history tree.legal path triple event placed.0 decision (step_made network history tree.legal path rest decision found) in
+    let parted : other ≡ (path ++ record { triple = triple; side = its } ∷ []) ++ rest =
+    is ∙ sym (append_assoc path (decision ∷ []) rest)
+    ∙ ap (λ t. (path ++ record { triple = t; side = decision.side } ∷ []) ++ rest) (sym same)
+    ∙ ap (λ s. (path ++ record { triple = triple; side = s } ∷ []) ++ rest) same_side in
+    by_sides side its same_side why parted
+  where
+    by_sides : (side its : Side) → decision.side ≡ its → (side ≡ Left) ⊎ (at_place below children ≡ 0)
+        → other ≡ (path_at (paths_of origins) place ++ record { triple = triple; side = its } ∷ []) ++ rest
+        → ((more : List Decision) × (other ≡ (path_at (paths_of origins) place ++ record { triple = triple; side = side } ∷ []) ++ more)) ⊎ PathBefore (path_at (paths_of origins) place ++ record { triple = triple; side = side } ∷ []) other
+    by_sides Left Left same_side why parts = inl (rest, parts)
+    by_sides Right Right same_side why parts = inl (rest, parts)
+    by_sides Left Right same_side why parts =
+        inr (path_at (paths_of origins) place, triple, [], rest, sym (append-nil (path_at (paths_of origins) place ++ record { triple = triple; side = Left } ∷ [])), parts)
+    by_sides Right Left same_side why parts =
+        elim why [
+          | inl left ↦ absurd (right_is_not_left left)
+          | inr none ↦
+              let history = history_of origins events in
+              let to = left_child network origins standings events tree place triple children event placed (record { triple = triple; side = Left }) refl refl in
+              absurd (none_open network origins standings events tree below counts rest children to.0 none
+              (subst (λ p. Contains (open_paths history) (p ++ rest)) (sym to.1) (subst (Contains (open_paths history)) (sym is ∙ parts) found)))
+        ]
+
+-- a step of the walk: to the left child, or to the right one where nothing is open below the left one
+pub step_ahead : (network : Network) (origins : List Origin) (standings : List Standing) (events : List Settled) → IsTree network origins standings events → (below : List ℕ) → IsBelow standings below
+    → (place : ℕ) (triple : Triple) (children event : ℕ) → IsPlaced (paths_of origins) (history_of origins events) place (Split triple children event) → (side : Side)
+    → (side ≡ Left) ⊎ (at_place below children ≡ 0)
+    → IsAhead (history_of origins events) (path_at (paths_of origins) place) → IsAhead (history_of origins events) (path_at (paths_of origins) place ++ record { triple = triple; side = side } ∷ [])
+step_ahead network origins standings events tree below counts place triple children event placed side why ahead other found =
+    let history = history_of origins events in
+    let path = path_at (paths_of origins) place in
+    let step : Decision = record { triple = triple; side = side } in
+    elim (ahead other found) [
+      | inr before ↦ inr (before_longer path other step before)
+      | inl begins ↦ from_rest begins.0 begins.1 (subst (Contains (open_paths history)) begins.1 found)
+    ]
+  where
+    from_rest : (rest : List Decision) → other ≡ path_at (paths_of origins) place ++ rest → Contains (open_paths (history_of origins events)) (path_at (paths_of origins) place ++ rest)
+        → ((more : List Decision) × (other ≡ (path_at (paths_of origins) place ++ record { triple = triple; side = side } ∷ []) ++ more)) ⊎ PathBefore (path_at (paths_of origins) place ++ record { triple = triple; side = side } ∷ []) other
+    from_rest [] is at =
+        absurd (settled_not_open (history_of origins events) (path_at (paths_of origins) place) (split triple) event placed.0
+        (subst (Contains (open_paths (history_of origins events))) (append-nil (path_at (paths_of origins) place)) at))
+    from_rest (decision ∷ rest) is at = turn network origins standings events tree below counts place triple children event placed decision rest other is at side decision.side refl why
+
+-- an open place that is ahead of all others is the first
+pub open_is_first : (network : Network) (origins : List Origin) (standings : List Standing) (events : List Settled) → IsTree network origins standings events → (place : ℕ) → IsOpenPlace standings place
+    → IsAhead (history_of origins events) (path_at (paths_of origins) place) → IsFirstOpen (history_of origins events) (path_at (paths_of origins) place)
+open_is_first network origins standings events tree place at ahead =
+    let history = history_of origins events in
+    let path = path_at (paths_of origins) place in
+    let below : place < length origins = omega (arith, at.within, tree.counted) in
+    let placed : IsPlaced (paths_of origins) history place Open = subst (IsPlaced (paths_of origins) history place) at.is_open (tree.placed place below) in
+    record {
+      is_open = open_at network origins standings events tree place path at refl;
+      before_others = λ other found different.
+          elim (ahead other found) [
+            | inr before ↦ before
+            | inl begins ↦ longer begins.0 begins.1 found different placed
+          ];
+    }
+  where
+    longer : {other : List Decision} (rest : List Decision) → other ≡ path_at (paths_of origins) place ++ rest → Contains (open_paths (history_of origins events)) other → other ≢ path_at (paths_of origins) place
+        → IsPlaced (paths_of origins) (history_of origins events) place Open → PathBefore (path_at (paths_of origins) place) other
+    longer [] is found different placed = absurd (different (is ∙ append-nil (path_at (paths_of origins) place)))
+    longer (decision ∷ rest) is found different placed =
+        absurd (nothing_below network origins standings events tree place decision Open placed tt
+        (step_made network (history_of origins events) tree.legal (path_at (paths_of origins) place) rest decision (subst (Contains (open_paths (history_of origins events))) is found)))
+
+-- where the root's count is 0 nothing is open
+pub nothing_open : (network : Network) (origins : List Origin) (standings : List Standing) (events : List Settled) → IsTree network origins standings events → (below : List ℕ) → IsBelow standings below
+    → at_place below 0 ≡ 0 → open_paths (history_of origins events) ≡ []
+nothing_open network origins standings events tree below counts none =
+    let root = root_place network origins standings events tree in
+    empty_from (open_paths (history_of origins events)) (λ path found.
+    none_open network origins standings events tree below counts path 0 root.0 none
+    (subst (λ p. Contains (open_paths (history_of origins events)) (p ++ path)) (sym root.1) found))
+  where
+    empty_from : (paths : List (List Decision)) → ((path : List Decision) → Contains paths path → ⊥) → paths ≡ []
+    empty_from [] no_path = refl
+    empty_from (path ∷ paths) no_path = absurd (no_path path (Contains-here path paths))
+
+-- what is counted below a place, by its standing as it is read
+pub counts_as : (network : Network) (origins : List Origin) (standings : List Standing) (events : List Settled) → IsTree network origins standings events → (below : List ℕ) → IsBelow standings below
+    → (place : ℕ) → place < length origins → (standing is : Standing) → standing ≡ get_or standings place standing → standing ≡ is → CountsAt below place is
+counts_as network origins standings events tree below counts place within standing is read same =
+    let inside : place < length standings = omega (arith, within, tree.counted) in
+    subst (CountsAt below place) (get_or_default standings place Open standing inside ∙ sym read ∙ same) (counts.each place inside)
+
+-- a place's path was made
+pub place_made : (network : Network) (origins : List Origin) (standings : List Standing) (events : List Settled) → IsTree network origins standings events → (place : ℕ) → place < length origins
+    → Contains (made_paths (history_of origins events)) (path_at (paths_of origins) place)
+unfolding path_at
+place_made network origins standings events tree place below =
+    let inside : place < length (paths_of origins) = omega (arith, below, length-paths_of origins) in
+    subst (λ made. Contains made (get_or (paths_of origins) place [])) tree.made (Contains-get_or (paths_of origins) place [] inside)
+
+-- what is decided last wasn't decided before
+undecided_before : (path : List Decision) (decision : Decision) → AllPairs (λ (a b : Decision). a.triple ≢ b.triple) (path ++ decision ∷ []) → All (λ (other : Decision). other.triple ≢ decision.triple) path
+undecided_before path decision different k d below same =
+    let last : get_or (path ++ decision ∷ []) (length path + 0) d ≡ decision = get_or-append-add path (decision ∷ []) 0 d in
+    let longer : length path + 0 < length (path ++ decision ∷ []) = omega (arith, length-append path (decision ∷ [])) in
+    let earlier : k < length path + 0 = omega (arith, below) in
+    different k (length path + 0) d earlier longer
+    (ap (λ (other : Decision). other.triple) (get_or_append_left path (decision ∷ []) d k below) ∙ same ∙ sym (ap (λ (other : Decision). other.triple) last))
+
+-- a child's decision isn't on its parent's path
+pub child_undecided : (network : Network) (origins : List Origin) (standings : List Standing) (events : List Settled) → IsTree network origins standings events → (child : ℕ) → child < length origins
+    → (path : List Decision) (decision : Decision) → path_at (paths_of origins) child ≡ path ++ decision ∷ [] → All (λ (other : Decision). other.triple ≢ decision.triple) path
+child_undecided network origins standings events tree child within path decision is =
+    let made = subst (Contains (made_paths (history_of origins events))) is (place_made network origins standings events tree child within) in
+    undecided_before path decision (made_decides network (history_of origins events) tree.legal (path ++ decision ∷ []) made).different

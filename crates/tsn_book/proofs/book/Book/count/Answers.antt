@@ -1,0 +1,17 @@
+use Rattle.std.proofs.Common.{length, arith, sym, ap, subst}
+use Rattle.tsn_book.specs.Book.{Progress, IsLawful}
+use Rattle.tsn_book.proofs.Asking.{length-history_of}
+use Rattle.tsn_book.proofs.Bookkeeping.{lawful}
+use Rattle.tsn_book.proofs.book.Book.count.Goals as goal
+
+pub returns-clause-count : goal.returns-clause-count
+returns-clause-count c =
+    let tree = c.self.inside.tree in
+    omega (arith, c.len.ensures, length-history_of tree.origins.items tree.events.items, ap (λ (p : Progress). length p.history) c.self.view_is, tree.events.ok)
+
+pub returns-clause-lawful : goal.returns-clause-lawful
+returns-clause-lawful c =
+    let inside = c.self.inside in
+    let tree = inside.tree in
+    subst IsLawful c.self.view_is
+    (lawful tree.network tree.origins.items tree.standings.items tree.events.items inside.below.items inside.limit inside.best inside.kept inside.tallies.items c.self.invariant)

@@ -1,0 +1,15 @@
+use Rattle.std.proofs.Common.{◌≡◌, ◌+◌, ◌∷◌, [], length, arith, sym, ap, ◌∙◌, subst, None}
+use Rattle.std.specs.Prelude.{replicate}
+use Rattle.tsn_model.specs.Network.{IsWellFormed}
+use Rattle.tsn_book.specs.Book.{IsBook}
+use Rattle.tsn_book.proofs.Bookkeeping.{start_book}
+use Rattle.tsn_book.proofs.book.Book.of.Goals as goal
+
+pub invariant_of-result : goal.invariant_of-result
+invariant_of-result c =
+    let tree = c.in_ok-new.field-0 in
+    let known = c.in_ok-new.ensures in
+    let cycle : c.cycle-past_cycle.result ≡ tree.network.cycle = c.cycle-past_cycle.ensures.value ∙ ap (λ n. n.cycle) (sym known.network) in
+    rw c.in_ok-vec.ensures.items (rw c.in_ok-tallies_of.ensures
+    (start_book tree.network tree.origins.items tree.standings.items tree.events.items c.args.limit c.cycle-past_cycle.result c.args.tellers known.tree known.standings known.history known.events cycle
+    (subst IsWellFormed (sym known.network) c.cycle-past_cycle.ensures.well_formed)))

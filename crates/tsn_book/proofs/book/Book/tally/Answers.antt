@@ -1,0 +1,11 @@
+use Rattle.std.proofs.Common.{sym, subst}
+use Rattle.tsn_book.specs.Book.{IsLawful}
+use Rattle.tsn_book.proofs.Bookkeeping.{lawful}
+use Rattle.tsn_book.proofs.book.Book.tally.Goals as goal
+
+pub returns-clause-lawful : goal.returns-clause-lawful
+returns-clause-lawful c =
+    let inside = c.self.inside in
+    let tree = inside.tree in
+    subst IsLawful c.self.view_is
+    (lawful tree.network tree.origins.items tree.standings.items tree.events.items inside.below.items inside.limit inside.best inside.kept inside.tallies.items c.self.invariant)

@@ -1,0 +1,146 @@
+-- The places of a search's tree: their paths, what was settled, and what is known of each place.
+--     paths_of, path_at        the places' paths
+--     history_of               what was settled, with the paths
+--     IsPlaced, IsTree         what is known of a place, and of all of them
+--     IsStop                   where a walk along a path ends
+use Rattle.std.specs.Prelude.{Bool, true, ◌≢◌, ◌≡◌, ℕ, ◌<◌, ◌≤◌, ◌+◌, ◌⊎◌, List, [], ◌∷◌, ◌++◌, map, fold, length, All, Contains, Some, None, position, false, slice_get, vec_len, vec_capacity}
+use Rattle.std.specs.List.{slice_index_or}
+use Rattle.tsn_model.specs.declared.Triple.{Triple}
+use Rattle.tsn_model.specs.declared.Side.TheVariants.{Left, Right}
+use Rattle.tsn_model.specs.declared.Decision.{Decision}
+use Rattle.tsn_model.specs.Network.{Network}
+use Rattle.tsn_model.specs.Certificate.{decided}
+use Rattle.tsn_model.specs.Search as search
+use Rattle.tsn_model.specs.Search.{Settlement, path_eq, made_paths, open_paths, is_settled, ends_of, PathBefore, IsLegal}
+use Rattle.tsn_branch.specs.Outcome.{outcome_of}
+use Rattle.tsn_book.specs.declared.arena.Origin.{Origin}
+use Rattle.tsn_book.specs.declared.arena.Origin.TheVariants.{Root, Child}
+use Rattle.tsn_book.specs.declared.arena.Standing.{Standing}
+use Rattle.tsn_book.specs.declared.arena.Standing.TheVariants.{Open, Split, Leaf}
+use Rattle.tsn_book.specs.declared.arena.Settled.{Settled}
+use Rattle.tsn_book.specs.declared.arena.Stop.{Stop}
+use Rattle.tsn_book.specs.declared.arena.Stop.TheVariants.{Open as AtOpen, Settled as AtSettled, Outside}
+use Rattle.tsn_book.specs.declared.arena.Tree.{Tree}
+
+-- ---- paths
+
+unfoldable pub path_at : List (List Decision) → ℕ → List Decision
+path_at paths place = slice_index_or paths place []
+
+-- the path of a place, after the paths of the places before it
+unfoldable pub path_from : List (List Decision) → Origin → List Decision
+path_from paths Root = []
+path_from paths (Child parent decision) = path_at paths parent ++ decision ∷ []
+
+unfoldable pub with_path : List (List Decision) → Origin → List (List Decision)
+with_path paths origin = paths ++ path_from paths origin ∷ []
+
+-- the places' paths
+unfoldable pub paths_of : List Origin → List (List Decision)
+paths_of origins = fold with_path [] origins
+
+-- ---- what was settled
+
+unfoldable pub settlement_of : List (List Decision) → Settled → Settlement
+settlement_of paths settled = record { teller = settled.teller; event = record { path = path_at paths settled.place; outcome = outcome_of settled.look } }
+
+unfoldable pub history_of : List Origin → List Settled → List Settlement
+history_of origins events = map (settlement_of (paths_of origins)) events
+
+-- the event of that number settled the path so
+pub record IsEvent (history : List Settlement) (event : ℕ) (path : List Decision) (outcome : search.Outcome) : Type 0 where
+  pub within : event < length history
+  pub there : (teller : ℕ) × (slice_get history event ≡ Some (record { teller = teller; event = record { path = path; outcome = outcome } }))
+
+-- what is known of a place
+abbrev pub IsPlaced : List (List Decision) → List Settlement → ℕ → Standing → Type 0
+IsPlaced paths history place Open = is_settled history (path_at paths place) ≡ false
+IsPlaced paths history place (Split triple children event) =
+    IsEvent history event (path_at paths place) (search.split triple) × (children + 1 < length paths)
+    × (path_at paths children ≡ decided (path_at paths place) triple Left) × (path_at paths (children + 1) ≡ decided (path_at paths place) triple Right)
+    × (place < children)
+IsPlaced paths history place (Leaf event) =
+    (outcome : search.Outcome) × IsEvent history event (path_at paths place) outcome × (ends_of (path_at paths place) outcome ≡ path_at paths place ∷ [])
+
+-- the settlements are a legal history, the places are the paths that it made, and each stands as it says
+pub record IsTree (network : Network) (origins : List Origin) (standings : List Standing) (events : List Settled) : Type 0 where
+  pub legal : IsLegal network (history_of origins events)
+  pub made : paths_of origins ≡ made_paths (history_of origins events)
+  pub counted : length standings ≡ length origins
+  pub placed : (place : ℕ) → place < length origins → IsPlaced (paths_of origins) (history_of origins events) place (slice_index_or standings place Open)
+  pub within : All (λ settled. settled.place < length origins) events
+
+-- the outcome ends its path
+abbrev pub IsLeafOutcome : search.Outcome → Type 0
+IsLeafOutcome (search.split triple) = ⊥
+IsLeafOutcome (search.solved offsets bound leaf) = Unit {0}
+IsLeafOutcome (search.pruned bound leaf) = Unit {0}
+IsLeafOutcome (search.refuted leaf) = Unit {0}
+
+-- the place exists and is open
+pub record IsOpenPlace (standings : List Standing) (place : ℕ) : Type 0 where
+  pub within : place < length standings
+  pub is_open : slice_index_or standings place Open ≡ Open
+
+-- where a walk along the path ends; outside an open place the path isn't open, and the number is that of the settlement which settled it, if one did
+abbrev pub IsStop : List Origin → List Standing → List Settled → List Decision → Stop → Type 0
+IsStop origins standings events path (AtOpen place) = IsOpenPlace standings place × (path_at (paths_of origins) place ≡ path)
+IsStop origins standings events path (AtSettled event) =
+    (Contains (open_paths (history_of origins events)) path → ⊥) × (position (λ settlement. path_eq settlement.event.path path) (history_of origins events) ≡ Some event)
+IsStop origins standings events path Outside =
+    (Contains (open_paths (history_of origins events)) path → ⊥) × (position (λ settlement. path_eq settlement.event.path path) (history_of origins events) ≡ None)
+
+-- there is room for a split
+pub record HasRoom (tree : Tree) : Type 0 where
+  pub origins : vec_len tree.origins + 2 ≤ vec_capacity tree.origins
+  pub standings : vec_len tree.standings + 2 ≤ vec_capacity tree.standings
+  pub events : vec_len tree.events + 1 ≤ vec_capacity tree.events
+
+-- ---- what is open below a place
+
+abbrev pub at_place : List ℕ → ℕ → ℕ
+at_place numbers place = slice_index_or numbers place 0
+
+-- how many open places there are at a place and below it: as many as below its children
+abbrev pub CountsAt : List ℕ → ℕ → Standing → Type 0
+CountsAt below place Open = at_place below place ≡ 1
+CountsAt below place (Split triple children event) = at_place below place ≡ at_place below children + at_place below (children + 1)
+CountsAt below place (Leaf event) = at_place below place ≡ 0
+
+pub record IsBelow (standings : List Standing) (below : List ℕ) : Type 0 where
+  pub counted : length below ≡ length standings
+  pub each : (place : ℕ) → place < length standings → CountsAt below place (slice_index_or standings place Open)
+
+-- the open paths that don't begin with the path come after it
+abbrev pub IsAhead : List Settlement → List Decision → Type 0
+IsAhead history path = (other : List Decision) → Contains (open_paths history) other → ((rest : List Decision) × (other ≡ path ++ rest)) ⊎ PathBefore path other
+
+-- the child is one of the two that the place was split into
+pub record IsChildOf (standings : List Standing) (place child : ℕ) : Type 0 where
+  pub triple : Triple
+  pub children : ℕ
+  pub event : ℕ
+  pub stands : slice_index_or standings place Open ≡ Split triple children event
+  pub which : (child ≡ children) ⊎ (child ≡ children + 1)
+
+-- 1 where it is so, and 1 where it isn't
+abbrev pub one_more : Bool → ℕ
+one_more true = 1
+one_more false = 0
+
+abbrev pub one_fewer : Bool → ℕ
+one_fewer true = 0
+one_fewer false = 1
+
+-- the count of the place has `more` added and `fewer` taken, and its children's haven't yet
+abbrev pub CountsOff : ℕ → ℕ → List ℕ → ℕ → Standing → Type 0
+CountsOff more fewer below place Open = at_place below place + fewer ≡ 1 + more
+CountsOff more fewer below place (Split triple children event) = at_place below place + fewer ≡ at_place below children + at_place below (children + 1) + more
+CountsOff more fewer below place (Leaf event) = at_place below place + fewer ≡ more
+
+-- the counts while a walk stands at the place
+pub record IsRecounted (standings : List Standing) (more fewer : ℕ) (old below : List ℕ) (place : ℕ) : Type 0 where
+  pub counted : length below ≡ length standings
+  pub others : (other : ℕ) → other < length standings → other ≢ place → CountsAt below other (slice_index_or standings other Open)
+  pub here : CountsOff more fewer below place (slice_index_or standings place Open)
+  pub later : (other : ℕ) → place < other → at_place below other ≡ at_place old other

@@ -1,0 +1,5 @@
+pub mod Numbers
+pub mod Event
+pub mod Arena
+pub mod Book
+pub mod Spelling

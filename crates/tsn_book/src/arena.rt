@@ -1,0 +1,392 @@
+//! The tree of a search, in an arena. A place is known by its number, and the root has number 0.
+ghost use Rattle.std.specs.Prelude.{◌≡◌, ◌<◌, ◌≤◌, ◌+◌, ◌++◌, ◌∷◌, [], ◌↔◌, IsTrue, length, IfOk, MatchResult, OnOk, MatchOption, Any, Contains, vec_len, vec_capacity};
+ghost use Rattle.tsn_model.specs.Schedule.{IsConflict};
+ghost use Rattle.tsn_model.specs.Search.{split, made_paths, open_paths, best_bound, IsRight, IsAllowed, IsFirstOpen};
+ghost use Rattle.tsn_branch.specs.Outcome.{outcome_of};
+ghost use Rattle.tsn_branch.specs.Look.{HasProof};
+ghost use Rattle.tsn_book.specs.Event.{event_of};
+ghost use Rattle.tsn_book.specs.Book.{IsFault, child_count};
+ghost use Rattle.tsn_book.specs.Arena.{IsTree, IsStop, paths_of, path_at, history_of, IsOpenPlace, IsLeafOutcome, HasRoom, IsBelow, IsAhead, IsChildOf, IsRecounted, one_more, one_fewer, at_place};
+
+use crate::event::Event;
+use crate::fault::BookFault;
+use std::alloc::{AllocError, Global};
+use tsn_branch::outcome::Look;
+use tsn_branch::{Decision, NoMemory, Node, Side, Triple};
+use tsn_model::plain::PlainNetwork;
+
+/// How a place was made: a child has its parent's number, and the decision that leads to it.
+#[derive(Clone, Copy)]
+pub enum Origin {
+    Root,
+    Child(usize, Decision),
+}
+
+/// What is known of a place. The Left child of a split has the number `children`, and the Right child the next one.
+#[derive(Clone, Copy)]
+pub enum Standing {
+    Open,
+    Split {
+        triple: Triple,
+        children: usize,
+        event: usize,
+    },
+    Leaf(usize),
+}
+
+/// What was settled at a place, and by which teller.
+#[derive(Drop)]
+pub struct Settled {
+    pub teller: usize,
+    pub place: usize,
+    pub look: Look,
+}
+
+/// Where a walk along a path ends: at an open place, at one that an event settled, or outside the tree.
+#[derive(Clone, Copy)]
+pub enum Stop {
+    Open(usize),
+    Settled(usize),
+    Outside,
+}
+
+/// The places and what was settled, oldest first. Origins and standings have one entry a place; origins never change.
+#[derive(Drop)]
+pub struct Tree {
+    pub network: PlainNetwork,
+    pub origins: Vec<Origin>,
+    pub standings: Vec<Standing>,
+    pub events: Vec<Settled>,
+}
+
+impl Tree {
+    /// The place at the end of a path.
+    fn find(&self, path: &[Decision]) -> Stop
+        requires { IsTree self.now.network self.now.origins.items self.now.standings.items self.now.events.items }
+        ensures { IsStop self.now.origins.items self.now.standings.items self.now.events.items path.now result }
+    {
+        let mut place = 0;
+        for decision in path {
+            let Some(child) = self.child(place, *decision) else {
+                return Stop::Outside;
+            };
+            place = child;
+        }
+        match self.standings[place] {
+            Standing::Open => Stop::Open(place),
+            Standing::Split { event, .. } => Stop::Settled(event),
+            Standing::Leaf(event) => Stop::Settled(event),
+        }
+    }
+
+    // The place one decision below another.
+    fn child(&self, place: usize, decision: Decision) -> Option<usize>
+        requires tree { IsTree self.now.network self.now.origins.items self.now.standings.items self.now.events.items }
+        requires place { place < length self.now.origins.items }
+        ensures { let paths = paths_of self.now.origins.items in MatchOption result
+            (Contains (made_paths (history_of self.now.origins.items self.now.events.items)) (path_at paths place ++ decision ∷ []) → ⊥)
+            (λ child. (child < length self.now.origins.items) × (path_at paths child ≡ path_at paths place ++ decision ∷ []) × IsChildOf self.now.standings.items place child) }
+    {
+        let standing = self.standings[place];
+        match standing {
+            Standing::Open => None,
+            Standing::Leaf(_) => None,
+            Standing::Split {
+                triple,
+                children,
+                ..
+            } => {
+                if !same_triple(triple, decision.triple) {
+                    return None;
+                }
+                match decision.side {
+                    Side::Left => Some(children),
+                    Side::Right => Some(children + 1),
+                }
+            }
+        }
+    }
+
+    /// The open node that is first in preorder; `below` counts the open places at and below each place.
+    pub fn first_open(&self, alloc: Global, below: &[usize]) -> Result<Option<Node>, NoMemory>
+        requires tree { IsTree self.now.network self.now.origins.items self.now.standings.items self.now.events.items }
+        requires below { IsBelow self.now.standings.items below.now }
+        ensures { let history = history_of self.now.origins.items self.now.events.items in
+            IfOk result (λ first. MatchOption first (open_paths history ≡ []) (IsFirstOpen history)) }
+    {
+        if below[0] == 0 {
+            return Ok(None);
+        }
+        let mut node = Node::root(alloc);
+        let mut place = 0;
+        while let Some((child, decision)) = self.first_child(below, place) {
+            node.push(decision.triple, decision.side)?;
+            place = child;
+        }
+        Ok(Some(node))
+    }
+
+    // The first child of a place below which there are open places, or none where the place is open itself.
+    fn first_child(&self, below: &[usize], place: usize) -> Option<(usize, Decision)>
+        requires tree { IsTree self.now.network self.now.origins.items self.now.standings.items self.now.events.items }
+        requires below { IsBelow self.now.standings.items below.now }
+        requires place { place < length self.now.origins.items }
+        requires some { 0 < at_place below.now place }
+        ensures { let paths = paths_of self.now.origins.items in let history = history_of self.now.origins.items self.now.events.items in
+            MatchOption result (IsOpenPlace self.now.standings.items place)
+            (λ next. (place < next.0) × (next.0 < length self.now.origins.items) × (path_at paths next.0 ≡ path_at paths place ++ next.1 ∷ [])
+            × (0 < at_place below.now next.0) × (IsAhead history (path_at paths place) → IsAhead history (path_at paths next.0))) }
+    {
+        let standing = self.standings[place];
+        match standing {
+            Standing::Open => None,
+            Standing::Leaf(_) => None,
+            Standing::Split {
+                triple,
+                children,
+                ..
+            } => {
+                let (child, side) = if below[children] > 0 {
+                    (children, Side::Left)
+                } else {
+                    (children + 1, Side::Right)
+                };
+                Some((child, Decision { triple, side }))
+            }
+        }
+    }
+
+    /// Counts one more open place, or one fewer, at each place of an open path; answers the place at its end.
+    fn recount(&self, below: &mut [usize], path: &[Decision], more: bool) -> usize
+        requires tree { IsTree self.now.network self.now.origins.items self.now.standings.items self.now.events.items }
+        requires below { IsBelow self.now.standings.items below.old }
+        requires open { Contains (open_paths (history_of self.now.origins.items self.now.events.items)) path.now }
+        requires few { at_place below.old 0 < 9_223_372_036_854_775_808 }
+        ensures place { result < length self.now.origins.items }
+        ensures path { path_at (paths_of self.now.origins.items) result ≡ path.now }
+        ensures counts { IsRecounted self.now.standings.items (one_more more) (one_fewer more) below.old below.new result }
+        ensures root { at_place below.new 0 + one_fewer more ≡ at_place below.old 0 + one_more more }
+    {
+        let mut place = 0;
+        below[0] = changed(below[0], more);
+        for decision in path {
+            let Some(child) = self.child(place, *decision) else {
+                unreachable!();
+            };
+            below[child] = changed(below[child], more);
+            place = child;
+        }
+        place
+    }
+
+    /// Makes room for one more split.
+    pub fn reserve(&mut self, below: &mut Vec<usize>) -> Result<(), AllocError>
+        ensures network { self.new.network ≡ self.old.network }
+        ensures origins { self.new.origins.items ≡ self.old.origins.items }
+        ensures standings { self.new.standings.items ≡ self.old.standings.items }
+        ensures events { self.new.events.items ≡ self.old.events.items }
+        ensures below { below.new.items ≡ below.old.items }
+        ensures room { OnOk result (HasRoom self.new) }
+        ensures room_below { OnOk result (vec_len below.new + 2 ≤ vec_capacity below.new) }
+    {
+        self.origins.try_reserve(2)?;
+        self.standings.try_reserve(2)?;
+        self.events.try_reserve(1)?;
+        below.try_reserve(2)
+    }
+
+    /// Settles an open path as a split.
+    fn split(&mut self, below: &mut Vec<usize>, path: &[Decision], teller: usize, triple: Triple)
+        requires tree { IsTree self.old.network self.old.origins.items self.old.standings.items self.old.events.items }
+        requires below { IsBelow self.old.standings.items below.old.items }
+        requires room { HasRoom self.old }
+        requires room_below { vec_len below.old + 2 ≤ vec_capacity below.old }
+        requires open { Contains (open_paths (history_of self.old.origins.items self.old.events.items)) path.now }
+        requires few { at_place below.old.items 0 < 9_223_372_036_854_775_808 }
+        requires right { IsRight self.old.network (history_of self.old.origins.items self.old.events.items) path.now (split triple) }
+        ensures tree { IsTree self.new.network self.new.origins.items self.new.standings.items self.new.events.items }
+        ensures network { self.new.network ≡ self.old.network }
+        ensures history { history_of self.new.origins.items self.new.events.items
+            ≡ history_of self.old.origins.items self.old.events.items
+            ++ record { teller = teller; event = record { path = path.now; outcome = split triple } } ∷ [] }
+        ensures below { IsBelow self.new.standings.items below.new.items }
+        ensures opened { at_place below.new.items 0 ≡ at_place below.old.items 0 + 1 }
+    {
+        let place = self.recount(below, path, true);
+        let children = self.origins.len();
+        let event = self.events.len();
+        self.standings[place] = Standing::Split {
+            triple,
+            children,
+            event,
+        };
+        let left = Decision {
+            triple,
+            side: Side::Left,
+        };
+        let right = Decision {
+            triple,
+            side: Side::Right,
+        };
+        self.origins.push_reserved(Origin::Child(place, left));
+        self.origins.push_reserved(Origin::Child(place, right));
+        self.standings.push_reserved(Standing::Open);
+        self.standings.push_reserved(Standing::Open);
+        below.push_reserved(1);
+        below.push_reserved(1);
+        self.events.push_reserved(Settled {
+            teller,
+            place,
+            look: Look::Split(triple),
+        });
+    }
+
+    /// Settles an open path as a leaf.
+    fn close(&mut self, below: &mut Vec<usize>, path: &[Decision], teller: usize, look: Look)
+        requires tree { IsTree self.old.network self.old.origins.items self.old.standings.items self.old.events.items }
+        requires below { IsBelow self.old.standings.items below.old.items }
+        requires room { HasRoom self.old }
+        requires room_below { vec_len below.old + 2 ≤ vec_capacity below.old }
+        requires open { Contains (open_paths (history_of self.old.origins.items self.old.events.items)) path.now }
+        requires few { at_place below.old.items 0 < 9_223_372_036_854_775_808 }
+        requires right { IsRight self.old.network (history_of self.old.origins.items self.old.events.items) path.now (outcome_of look) }
+        requires leaf { IsLeafOutcome (outcome_of look) }
+        ensures tree { IsTree self.new.network self.new.origins.items self.new.standings.items self.new.events.items }
+        ensures network { self.new.network ≡ self.old.network }
+        ensures history { history_of self.new.origins.items self.new.events.items
+            ≡ history_of self.old.origins.items self.old.events.items
+            ++ record { teller = teller; event = record { path = path.now; outcome = outcome_of look } } ∷ [] }
+        ensures below { IsBelow self.new.standings.items below.new.items }
+        ensures closed { at_place below.new.items 0 + 1 ≡ at_place below.old.items 0 }
+    {
+        let place = self.recount(below, path, false);
+        self.standings[place] = Standing::Leaf(self.events.len());
+        self.events.push_reserved(Settled {
+            teller,
+            place,
+            look,
+        });
+    }
+
+    /// Settles an open path.
+    pub fn settle(&mut self, below: &mut Vec<usize>, path: &[Decision], teller: usize, look: Look)
+        requires tree { IsTree self.old.network self.old.origins.items self.old.standings.items self.old.events.items }
+        requires below { IsBelow self.old.standings.items below.old.items }
+        requires room { HasRoom self.old }
+        requires room_below { vec_len below.old + 2 ≤ vec_capacity below.old }
+        requires open { Contains (open_paths (history_of self.old.origins.items self.old.events.items)) path.now }
+        requires few { at_place below.old.items 0 < 9_223_372_036_854_775_808 }
+        requires right { IsRight self.old.network (history_of self.old.origins.items self.old.events.items) path.now (outcome_of look) }
+        ensures tree { IsTree self.new.network self.new.origins.items self.new.standings.items self.new.events.items }
+        ensures network { self.new.network ≡ self.old.network }
+        ensures history { history_of self.new.origins.items self.new.events.items
+            ≡ history_of self.old.origins.items self.old.events.items
+            ++ record { teller = teller; event = record { path = path.now; outcome = outcome_of look } } ∷ [] }
+        ensures below { IsBelow self.new.standings.items below.new.items }
+        ensures counted { at_place below.new.items 0 + 1 ≡ at_place below.old.items 0 + child_count (outcome_of look) }
+    {
+        match look {
+            Look::Split(triple) => self.split(below, path, teller, triple),
+            Look::Solved { valid, bound, leaf } => {
+                self.close(below, path, teller, Look::Solved { valid, bound, leaf })
+            }
+            Look::Pruned { bound, leaf } => {
+                self.close(below, path, teller, Look::Pruned { bound, leaf })
+            }
+            Look::Refuted(leaf) => self.close(below, path, teller, Look::Refuted(leaf)),
+        }
+    }
+
+    /// Whether an event may be settled, where at most `limit` may be and `best` is the least flowspan solved; if not, the
+    /// first reason.
+    pub fn judge(&self, limit: usize, best: u64, event: &Event) -> Result<(), BookFault>
+        requires tree { IsTree self.now.network self.now.origins.items self.now.standings.items self.now.events.items }
+        requires limit { length self.now.events.items ≤ limit }
+        requires best { best ≡ best_bound self.now.network (history_of self.now.origins.items self.now.events.items) }
+        requires proof { HasProof self.now.network event.now.node (outcome_of event.now.look) }
+        ensures { let history = history_of self.now.origins.items self.now.events.items in MatchResult result
+            (λ _. (length history < limit) × IsAllowed self.now.network history (event_of event.now))
+            (λ fault. IsFault self.now.network limit history (event_of event.now) fault) }
+    {
+        match self.find(event.node.path()) {
+            Stop::Open(_) => {}
+            Stop::Settled(number) => return Err(BookFault::NotOpen(Some(number))),
+            Stop::Outside => return Err(BookFault::NotOpen(None)),
+        }
+        if self.events.len() >= limit {
+            return Err(BookFault::Limit(self.events.len()));
+        }
+        match &event.look {
+            Look::Split(triple) => {
+                if !is_conflict(&self.network, *triple) {
+                    return Err(BookFault::NotConflict);
+                }
+                if decides(event.node.path(), *triple) {
+                    return Err(BookFault::AlreadyDecided);
+                }
+            }
+            Look::Pruned { bound, .. } => {
+                if *bound < best {
+                    return Err(BookFault::NotMet(best));
+                }
+            }
+            Look::Solved { .. } => {}
+            Look::Refuted(_) => {}
+        }
+        Ok(())
+    }
+
+    /// A tree whose root is open.
+    pub fn new(alloc: Global, network: PlainNetwork) -> Result<Tree, AllocError>
+        ensures tree { IfOk result (λ tree. IsTree tree.network tree.origins.items tree.standings.items tree.events.items) }
+        ensures network { IfOk result (λ tree. tree.network ≡ network) }
+        ensures history { IfOk result (λ tree. history_of tree.origins.items tree.events.items ≡ []) }
+        ensures events { IfOk result (λ tree. tree.events.items ≡ []) }
+        ensures standings { IfOk result (λ tree. tree.standings.items ≡ Standing.Open ∷ []) }
+    {
+        Ok(Tree {
+            network,
+            origins: vec![in alloc; Origin::Root]?,
+            standings: vec![in alloc; Standing::Open]?,
+            events: Vec::new(alloc),
+        })
+    }
+}
+
+/// Whether two different streams, the lower number first, both use the triple's link.
+fn is_conflict(network: &PlainNetwork, triple: Triple) -> bool
+    ensures { IsTrue result ↔ IsConflict network.now triple }
+{
+    if triple.left >= triple.right {
+        return false;
+    }
+    if triple.right >= network.streams() {
+        return false;
+    }
+    if network.hop_on(triple.left, triple.link).is_none() {
+        return false;
+    }
+    network.hop_on(triple.right, triple.link).is_some()
+}
+
+/// Whether the path decides the triple.
+fn decides(path: &[Decision], triple: Triple) -> bool
+    ensures { IsTrue result ↔ Any (λ decision. decision.triple ≡ triple) path.now }
+{
+    path.iter()
+        .any(|decision| same_triple(decision.triple, triple))
+}
+
+fn same_triple(a: Triple, b: Triple) -> bool
+    ensures { IsTrue result ↔ (a ≡ b) }
+{
+    a == b
+}
+
+fn changed(count: usize, more: bool) -> usize
+    requires some { 1 ≤ count }
+    requires few { count < 9_223_372_036_854_775_808 }
+    ensures { result + one_fewer more ≡ count + one_more more }
+{
+    if more { count + 1 } else { count - 1 }
+}

@@ -1,0 +1,240 @@
+//! The book of a search, as its callers see it: what was settled so far.
+ghost use Rattle.std.specs.Prelude.{◌≡◌, ◌<◌, ◌≤◌, ◌+◌, ◌++◌, ◌∷◌, [], length, fold, min, replicate, IfOk, IfErr, OnErr, OnOk, MatchOption, Some, None};
+ghost use Rattle.tsn_model.specs.Schedule.{IsValid, flowspan};
+ghost use Rattle.tsn_model.specs.Search.{open_paths, best_bound, kept_of, tally_of, solved_bound, IsFirstOpen};
+ghost use Rattle.tsn_branch.specs.Outcome.{outcome_of};
+ghost use Rattle.tsn_branch.specs.Look.{HasProof};
+ghost use Rattle.tsn_book.specs.Event.{event_of};
+ghost use Rattle.tsn_search_laws.specs.Laws.{IsBelowBounds};
+ghost use Rattle.tsn_book.specs.Book.{Progress, IsLawful, IsFault, SpellsAccepted, kept_after, tally_after};
+
+use crate::arena::Tree;
+use crate::event::Event;
+use crate::fault::BookFault;
+use crate::spelling::nodes_of;
+use std::alloc::{AllocError, Global};
+use std::marker::Model;
+use tsn_branch::outcome::Look;
+use tsn_branch::{NoMemory, Node};
+use tsn_cert::{Cert, Nodes};
+use tsn_model::plain::PlainNetwork;
+use tsn_timing::{Timing, Valid};
+
+/// How many events a teller settled, the least bound that it pruned by, and the least flowspan that it solved, each in
+/// nanoseconds, and one more than the cycle where there is none below that.
+pub type Tally = (u64, u64, u64);
+
+/// What was settled of a search, by tellers with numbers from 0, at most as many events as its limit says.
+#[derive(Drop)]
+pub struct Book {
+    tree: Tree,
+    // How many open places there are at and below each place of the tree.
+    below: Vec<usize>,
+    limit: usize,
+    // The least flowspan solved, and the number of the first event that solved it.
+    best: u64,
+    kept: Option<usize>,
+    tallies: Vec<Tally>,
+}
+
+impl Model for Book {
+    ghost use Rattle.std.specs.Prelude.{length};
+    ghost use Rattle.tsn_book.specs.Book.{Progress, IsBook};
+    ghost use Rattle.tsn_book.specs.Arena.{history_of};
+
+    ghost Value = { Progress };
+
+    ghost view = { λ b. record {
+      network = b.tree.network;
+      tellers = length b.tallies.items;
+      limit = b.limit;
+      history = history_of b.tree.origins.items b.tree.events.items;
+    } };
+
+    ghost invariant = { λ b. IsBook b.tree.network b.tree.origins.items b.tree.standings.items b.tree.events.items b.below.items
+        b.limit b.best b.kept b.tallies.items };
+}
+
+impl Book {
+    /// A book of the problem's search, with nothing settled and the root open. The error says that there was no memory.
+    pub fn new(
+        alloc: Global,
+        timing: &Timing,
+        tellers: usize,
+        limit: usize,
+    ) -> Result<Book, NoMemory>
+        ensures { IfOk result (λ book. book ≡ record { network = timing.now; tellers = tellers; limit = limit; history = [] }) }
+    {
+        let network = timing.plain().copy(alloc)?;
+        Ok(Book::of(alloc, network, tellers, limit)?)
+    }
+
+    // A book with nothing settled, for that network.
+    fn of(
+        alloc: Global,
+        network: PlainNetwork,
+        tellers: usize,
+        limit: usize,
+    ) -> Result<Book, AllocError>
+        ensures { IfOk result (λ book. book ≡ record { network = network; tellers = tellers; limit = limit; history = [] }) }
+    {
+        let past_cycle = network.cycle() + 1;
+        Ok(Book {
+            tree: Tree::new(alloc, network)?,
+            below: vec![in alloc; 1]?,
+            limit,
+            best: past_cycle,
+            kept: None,
+            tallies: tallies_of(alloc, tellers, past_cycle)?,
+        })
+    }
+
+    /// Settles an event, where it may be; else the first reason why not, with the event. A refusal changes nothing.
+    ///
+    /// A leaf's proof has to be right for its own bound, and a solved leaf's bound is the flowspan of its schedule: a look
+    /// at the node gives such.
+    pub fn settle(&mut self, teller: usize, event: Event) -> Result<(), (BookFault, Event)>
+        requires teller { teller < self.old.tellers }
+        requires proof { HasProof self.old.network event.node (outcome_of event.look) }
+        ensures ok { OnOk result (self.new ≡ record self.old { history = self.old.history ++ record { teller = teller; event = event_of event } ∷ [] }) }
+        ensures lawful { OnOk result (IsLawful self.new) }
+        ensures refused { OnErr result (self.new ≡ self.old) }
+        ensures fault { IfErr result (λ refusal. IsFault self.old.network self.old.limit self.old.history (event_of event) refusal.0) }
+        ensures returned { IfErr result (λ refusal. refusal.1 ≡ event) }
+    {
+        if let Err(fault) = self.tree.judge(self.limit, self.best, &event) {
+            return Err((fault, event));
+        }
+        if self.tree.reserve(&mut self.below).is_err() {
+            return Err((BookFault::Memory, event));
+        }
+        let Event { node, look } = event;
+        let number = self.tree.events.len();
+        self.kept = kept_after(self.kept, self.best, number, &look);
+        self.best = best_after(self.best, &look);
+        self.tallies[teller] = tally_after(self.tallies[teller], &look);
+        self.tree.settle(&mut self.below, node.path(), teller, look);
+        Ok(())
+    }
+
+    /// How many events were settled.
+    pub fn count(&self) -> usize
+        ensures count { result ≡ length self.now.history }
+        ensures lawful { IsLawful self.now }
+    {
+        self.tree.events.len()
+    }
+
+    /// How many nodes are open.
+    pub fn open_count(&self) -> usize
+        ensures count { result ≡ length (open_paths self.now.history) }
+        ensures lawful { IsLawful self.now }
+    {
+        self.below[0]
+    }
+
+    /// The open node that is first in preorder, a node's Left child before its Right one. The error says that there was no
+    /// memory.
+    pub fn first_open(&self, alloc: Global) -> Result<Option<Node>, NoMemory>
+        ensures first { IfOk result (λ first. MatchOption first (open_paths self.now.history ≡ []) (IsFirstOpen self.now.history)) }
+        ensures lawful { IsLawful self.now }
+    {
+        self.tree.first_open(alloc, &self.below)
+    }
+
+    /// What a teller settled.
+    pub fn tally(&self, teller: usize) -> Tally
+        requires { teller < self.now.tellers }
+        ensures tally { result ≡ tally_of self.now.network teller self.now.history }
+        ensures lawful { IsLawful self.now }
+    {
+        self.tallies[teller]
+    }
+
+    /// The least flowspan solved, in nanoseconds, or one more than the cycle where none is.
+    pub fn best(&self) -> u64
+        ensures best { result ≡ best_bound self.now.network self.now.history }
+        ensures lawful { IsLawful self.now }
+    {
+        self.best
+    }
+
+    /// The schedule of the first solved leaf of least flowspan.
+    pub fn kept(&self) -> Option<&Valid>
+        ensures kept { MatchOption result (kept_of self.now.network self.now.history ≡ None)
+            (λ valid. kept_of self.now.network self.now.history ≡ Some valid.now) }
+        ensures best { MatchOption result (best_bound self.now.network self.now.history ≡ self.now.network.cycle + 1)
+            (λ valid. IsValid self.now.network valid.now × (flowspan self.now.network valid.now ≡ best_bound self.now.network self.now.history)) }
+        ensures lawful { IsLawful self.now }
+    {
+        let number = self.kept?;
+        match &self.tree.events[number].look {
+            Look::Solved { valid, .. } => Some(valid),
+            Look::Split(_) => None,
+            Look::Pruned { .. } => None,
+            Look::Refuted(_) => None,
+        }
+    }
+
+    /// The certificate of a finished search, for a target in nanoseconds: one node for each event. The error says that there
+    /// was no memory.
+    pub fn into_cert(self, target: u64) -> Result<Cert, NoMemory>
+        requires finished { open_paths self.history ≡ [] }
+        requires target { IsBelowBounds target self.history }
+        ensures target { IfOk result (λ cert. cert.target ≡ target) }
+        ensures accepted { IfOk result (λ cert. SpellsAccepted self.network target cert.nodes) }
+        ensures counted { IfOk result (λ cert. length cert.nodes ≡ length self.history) }
+    {
+        let Book { tree, .. } = self;
+        let nodes = Nodes::of(nodes_of(tree)?);
+        Ok(Cert { target, nodes })
+    }
+}
+
+/// The tallies of tellers that have settled nothing.
+fn tallies_of(alloc: Global, tellers: usize, past_cycle: u64) -> Result<Vec<Tally>, AllocError>
+    ensures { IfOk result (λ tallies. tallies.items ≡ replicate tellers (0, past_cycle, past_cycle)) }
+{
+    let mut tallies = Vec::with_capacity(alloc, tellers)?;
+    for _ in 0..tellers {
+        tallies.push((0, past_cycle, past_cycle))?;
+    }
+    Ok(tallies)
+}
+
+#[tactic(auto, unfolding(tsn_model::specs::Search::solved_bound, tsn_model::specs::Search::pruned_bound))]
+fn best_after(best: u64, look: &Look) -> u64
+    ensures { result ≡ fold min best (solved_bound (outcome_of look.now)) }
+{
+    match look {
+        Look::Solved { bound, .. } => best.min(*bound),
+        Look::Split(_) => best,
+        Look::Pruned { .. } => best,
+        Look::Refuted(_) => best,
+    }
+}
+
+fn kept_after(kept: Option<usize>, best: u64, number: usize, look: &Look) -> Option<usize>
+    ensures { result ≡ kept_after kept best number (outcome_of look.now) }
+{
+    match look {
+        Look::Solved { bound, .. } => { if *bound < best { Some(number) } else { kept } }
+        Look::Split(_) => kept,
+        Look::Pruned { .. } => kept,
+        Look::Refuted(_) => kept,
+    }
+}
+
+#[tactic(auto, unfolding(tsn_model::specs::Search::solved_bound, tsn_model::specs::Search::pruned_bound))]
+fn tally_after(tally: Tally, look: &Look) -> Tally
+    requires { tally.0 < 18446744073709551615 }
+    ensures { result ≡ tally_after tally (outcome_of look.now) }
+{
+    let (events, pruned, solved) = tally;
+    match look {
+        Look::Solved { bound, .. } => (events + 1, pruned, solved.min(*bound)),
+        Look::Pruned { bound, .. } => (events + 1, pruned.min(*bound), solved),
+        Look::Split(_) => (events + 1, pruned, solved),
+        Look::Refuted(_) => (events + 1, pruned, solved),
+    }
+}

@@ -1,0 +1,12 @@
+//! The book of a search: what was settled and by whom, what is still open, and the certificate of it all.
+#![tactic(auto)]
+
+mod arena;
+pub mod book;
+pub mod event;
+pub mod fault;
+mod spelling;
+
+pub use book::{Book, Tally};
+pub use event::Event;
+pub use fault::BookFault;
