@@ -1,0 +1,5 @@
+pub mod Entries
+pub mod Windows
+pub mod GateLists
+pub mod Fault
+pub mod Table
