@@ -10,6 +10,8 @@ mod checking;
 #[cfg(test)]
 mod command_words;
 #[cfg(test)]
+mod gates;
+#[cfg(test)]
 mod least_offsets;
 #[cfg(test)]
 mod network;
