@@ -5,3 +5,4 @@ pub mod Wanted
 pub mod Playing
 pub mod Links
 pub mod Tables
+pub mod Unique

@@ -3,3 +3,4 @@ pub mod Windows
 pub mod GateLists
 pub mod Fault
 pub mod Table
+pub mod Laws
