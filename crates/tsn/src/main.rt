@@ -10,8 +10,8 @@ use std::process::ExitCode;
 use std::rt::{Env, Files};
 use std::{env, fs, io};
 use tsn_cli::run::{MEMORY, NO_MEMORY_LINE, WORDS, finish};
-use tsn_cli::{check_run, valid_run};
-use tsn_words::{CheckWords, ValidWords, Words, WordsFault, words_from};
+use tsn_cli::{check_run, gates_run, valid_run};
+use tsn_words::{CheckWords, GatesWords, ValidWords, Words, WordsFault, words_from};
 
 fn main(rt: HostRuntime) -> ExitCode {
     let status = match run(&rt) {
@@ -33,6 +33,7 @@ fn run<R: Env + Files + Input + Print + Eprint + AllocGlobal>(rt: &R) -> io::Res
     match words_from(alloc, words.as_slice()) {
         Ok(Words::Valid(words)) => Ok(valid(rt, alloc, &words)),
         Ok(Words::Check(words)) => Ok(check(rt, alloc, words)),
+        Ok(Words::Gates(words)) => Ok(gates(rt, alloc, words)),
         Err(WordsFault::Refused(text)) => Ok(refuse(rt, text.as_str())),
         Err(WordsFault::Unknown) => Ok(refuse(rt, "error: no command has these words\n")),
         Err(WordsFault::Memory) => Ok(no_memory(rt)),
@@ -62,6 +63,19 @@ fn check<R: Files + Input + Print>(rt: &R, alloc: Global, words: CheckWords<'_>)
     } else {
         let mut network = ReaderSource::new(fs::open(rt, words.network).ok());
         check_run(alloc, &mut network, &mut plan, &mut cert, &mut sink)
+    }
+}
+
+/// Prints gate lists; the network `-` is standard input.
+fn gates<R: Files + Input + Print>(rt: &R, alloc: Global, words: GatesWords<'_>) -> u8 {
+    let mut plan = ReaderSource::new(fs::open(rt, words.plan).ok());
+    let mut sink = WriterSink::new(io::writer(rt));
+    if words.network == "-" {
+        let mut network = ReaderSource::new(Some(rt.reader()));
+        gates_run(alloc, &mut network, &mut plan, &mut sink)
+    } else {
+        let mut network = ReaderSource::new(fs::open(rt, words.network).ok());
+        gates_run(alloc, &mut network, &mut plan, &mut sink)
     }
 }
 

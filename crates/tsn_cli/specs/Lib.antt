@@ -1,4 +1,5 @@
 pub mod Run
 pub mod Valid
 pub mod Check
+pub mod Gates
 pub mod Outcome

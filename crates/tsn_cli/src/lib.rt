@@ -4,9 +4,11 @@
 mod answer;
 mod check;
 pub mod device;
+mod gates;
 pub mod memory;
 pub mod run;
 mod valid;
 
 pub use check::check_run;
+pub use gates::gates_run;
 pub use valid::valid_run;

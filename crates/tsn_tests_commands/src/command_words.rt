@@ -11,7 +11,7 @@ fn judges(rt: &impl Abort, alloc: Global, words: &[&str], network: &str, offsets
             assert_eq!(rt; words.network, network);
             assert!(rt; words.offsets.as_slice() == offsets);
         }
-        Ok(Words::Check(_)) => assert!(rt; false, "{network}"),
+        Ok(_) => assert!(rt; false, "{network}"),
         Err(fault) => assert!(rt; false, "{fault}"),
     }
 }
@@ -24,7 +24,19 @@ fn checks(rt: &impl Abort, alloc: Global, words: &[&str], network: &str, plan: &
             assert_eq!(rt; words.plan, plan);
             assert_eq!(rt; words.cert, cert);
         }
-        Ok(Words::Valid(_)) => assert!(rt; false, "{network}"),
+        Ok(_) => assert!(rt; false, "{network}"),
+        Err(fault) => assert!(rt; false, "{fault}"),
+    }
+}
+
+/// The words ask for the gate control lists of this plan.
+fn lists(rt: &impl Abort, alloc: Global, words: &[&str], network: &str, plan: &str) {
+    match words_from(alloc, words) {
+        Ok(Words::Gates(words)) => {
+            assert_eq!(rt; words.network, network);
+            assert_eq!(rt; words.plan, plan);
+        }
+        Ok(_) => assert!(rt; false, "{network}"),
         Err(fault) => assert!(rt; false, "{fault}"),
     }
 }
@@ -134,6 +146,19 @@ fn takes_files(rt: HostRuntime) {
 }
 
 #[test]
+fn takes_plans(rt: HostRuntime) {
+    let alloc = rt.alloc();
+    let words = ["tsn", "gates", "net", "plan"];
+    lists(&rt, alloc, &words, "net", "plan");
+    let dashes = ["tsn", "gates", "-", "--", "--plan"];
+    lists(&rt, alloc, &dashes, "-", "--plan");
+    refuses(&rt, alloc, &words[..2], "<NET>");
+    refuses(&rt, alloc, &words[..3], "<PLAN>");
+    let three = ["tsn", "gates", "net", "plan", "cert"];
+    refuses(&rt, alloc, &three, "unexpected argument 'cert'");
+}
+
+#[test]
 fn refuses_words(rt: HostRuntime) {
     let alloc = rt.alloc();
     refuses(&rt, alloc, &[], "requires a subcommand");
@@ -146,7 +171,7 @@ fn refuses_words(rt: HostRuntime) {
         &["tsn", "valid", "net", "0", "--steps", "1"],
         "unexpected argument '--steps'",
     );
-    for command in ["plan", "gates", "replay", "Valid", "val"] {
+    for command in ["plan", "replay", "Valid", "val"] {
         refuses(
             &rt,
             alloc,

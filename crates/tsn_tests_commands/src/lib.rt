@@ -6,4 +6,6 @@ mod check_command;
 #[cfg(test)]
 mod command_words;
 #[cfg(test)]
+mod gates;
+#[cfg(test)]
 mod valid_command;

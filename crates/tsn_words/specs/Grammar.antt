@@ -1,5 +1,5 @@
 -- What the words of the command line ask for, by the grammar that `clap` reads them with.
---     tsn, valid, check                    the commands
+--     tsn, valid, check, gates             the commands
 --     IsNumber, number_of, offsets_in      numbers
 --     AsksFor, IsRefused                   what the words ask for, and that they are refused
 use Rattle.std.specs.Prelude.{◌≡◌, ℕ, List, map, codes, Option, Some, true, All}
@@ -8,9 +8,10 @@ use Rattle.clap.specs.Words.{App, Row, Rule, Text, all_of, first_of, new_app, ne
 use Rattle.clap.specs.declared.builder.ArgAction.TheVariants.{Set, Append}
 use Rattle.clap.specs.declared.builder.value_parser.ValueParser.TheVariants.{Unsigned}
 use Rattle.tsn_words.specs.declared.words.Words.{Words}
-use Rattle.tsn_words.specs.declared.words.Words.TheVariants.{Valid, Check}
+use Rattle.tsn_words.specs.declared.words.Words.TheVariants.{Valid, Check, Gates}
 use Rattle.tsn_words.specs.declared.words.ValidWords.{ValidWords}
 use Rattle.tsn_words.specs.declared.words.CheckWords.{CheckWords}
+use Rattle.tsn_words.specs.declared.words.GatesWords.{GatesWords}
 use Rattle.tsn_words.specs.declared.words.WordsFault.{WordsFault}
 use Rattle.tsn_words.specs.declared.words.WordsFault.TheVariants.{Refused}
 
@@ -35,12 +36,16 @@ valid = with_rule (with_rule (new_app (codes "valid")) (file (codes "NET"))) off
 abbrev pub check : App
 check = with_rule (with_rule (with_rule (new_app (codes "check")) (file (codes "NET"))) (file (codes "PLAN"))) (file (codes "CERT"))
 
+-- gates NET PLAN
+abbrev pub gates : App
+gates = with_rule (with_rule (new_app (codes "gates")) (file (codes "NET"))) (file (codes "PLAN"))
+
 -- the program: a command is required
 abbrev pub alone : App
 alone = record { top = record (new_app (codes "tsn")).top { subcommand_required = true }; subs = (new_app (codes "tsn")).subs }
 
 abbrev pub tsn : App
-tsn = with_subcommand (with_subcommand alone valid.top) check.top
+tsn = with_subcommand (with_subcommand (with_subcommand alone valid.top) check.top) gates.top
 
 -- a word that is a number: digits, where a plus may stand first
 abbrev pub IsNumber : Text → Type 0
@@ -62,10 +67,15 @@ abbrev pub IsCheckOf : List Row → CheckWords → Type 0
 IsCheckOf rows asked =
     (first_of (codes "NET") rows ≡ Some asked.network.now) × (first_of (codes "PLAN") rows ≡ Some asked.plan.now) × (first_of (codes "CERT") rows ≡ Some asked.cert.now)
 
+-- the files of `gates`
+abbrev pub IsGatesOf : List Row → GatesWords → Type 0
+IsGatesOf rows asked = (first_of (codes "NET") rows ≡ Some asked.network.now) × (first_of (codes "PLAN") rows ≡ Some asked.plan.now)
+
 -- what is asked for by a command's name and the values of its arguments
 abbrev pub IsAsked : Option (Text × List Row) → Words → Type 0
 IsAsked found (Valid asked) = (rows : List Row) × (found ≡ Some (codes "valid", rows)) × IsValidOf rows asked
 IsAsked found (Check asked) = (rows : List Row) × (found ≡ Some (codes "check", rows)) × IsCheckOf rows asked
+IsAsked found (Gates asked) = (rows : List Row) × (found ≡ Some (codes "gates", rows)) × IsGatesOf rows asked
 
 -- the words ask for this
 abbrev pub AsksFor : List Text → Words → Type 0

@@ -2,10 +2,10 @@
 ghost use Rattle.std.specs.Prelude.{◌≡◌, ◌≢◌, ◌≤◌, All, IfErr, IfOk, codes, false, map, true};
 ghost use Rattle.clap.specs.Words.{app_of, found_of, kind_of, rows_of, rule_of, subcommand_rows_of, takes};
 ghost use Rattle.clap.specs.declared.builder.command.Command.TheViews.{out-Command as fields_of};
-ghost use Rattle.tsn_words.specs.Grammar.{AsksFor, IsAsked, IsCheckOf, IsNumber, IsRefused, IsValidOf, number_of};
+ghost use Rattle.tsn_words.specs.Grammar.{AsksFor, IsAsked, IsCheckOf, IsGatesOf, IsNumber, IsRefused, IsValidOf, number_of};
 ghost use Rattle.tsn_words.specs.Grammar as grammar;
 
-use crate::words::{CheckWords, MAX_OFFSET, ValidWords, Words, WordsFault};
+use crate::words::{CheckWords, GatesWords, MAX_OFFSET, ValidWords, Words, WordsFault};
 use clap::error::ErrorKind;
 use clap::{Arg, ArgAction, ArgMatches, Command, Error, value_parser};
 use std::alloc::{AllocError, Global};
@@ -29,7 +29,8 @@ fn program<'a>(alloc: Global) -> Result<Command<'a>, AllocError>
         .about("Plans no-wait schedules for time-triggered Ethernet networks")
         .subcommand_required(true)
         .subcommand(valid_command(alloc)?)?
-        .subcommand(check_command(alloc)?)
+        .subcommand(check_command(alloc)?)?
+        .subcommand(gates_command(alloc)?)
 }
 
 fn valid_command<'a>(alloc: Global) -> Result<Command<'a>, AllocError>
@@ -51,6 +52,16 @@ fn check_command<'a>(alloc: Global) -> Result<Command<'a>, AllocError>
         .arg(network_argument(alloc))?
         .arg(plan_argument(alloc))?
         .arg(cert_argument(alloc))
+}
+
+fn gates_command<'a>(alloc: Global) -> Result<Command<'a>, AllocError>
+    ensures app { IfOk result (λ c. app_of c ≡ grammar.gates) }
+    ensures local { IfOk result (λ c. (fields_of c).has_globals ≡ false) }
+{
+    Command::new(alloc, "gates")
+        .about("Prints the gate control lists of a plan")
+        .arg(network_argument(alloc))?
+        .arg(plan_argument(alloc))
 }
 
 fn network_argument<'a>(alloc: Global) -> Arg<'a>
@@ -115,6 +126,7 @@ fn command_of<'a>(alloc: Global, matches: &ArgMatches<'a>) -> Result<Words<'a>, 
     match matches.subcommand() {
         Some(("valid", words)) => Ok(Words::Valid(valid_words(alloc, words)?)),
         Some(("check", words)) => Ok(Words::Check(check_words(words)?)),
+        Some(("gates", words)) => Ok(Words::Gates(gates_words(words)?)),
         _ => Err(WordsFault::Unknown),
     }
 }
@@ -149,6 +161,16 @@ fn check_words<'a>(words: &ArgMatches<'a>) -> Result<CheckWords<'a>, WordsFault>
         plan,
         cert,
     })
+}
+
+fn gates_words<'a>(words: &ArgMatches<'a>) -> Result<GatesWords<'a>, WordsFault>
+    ensures read { IfOk result (IsGatesOf (rows_of (found_of words.now))) }
+    ensures not_refused { IfErr result (λ fault. IsRefused fault → ⊥) }
+{
+    let (Some(network), Some(plan)) = (words.get_str("NET"), words.get_str("PLAN")) else {
+        return Err(WordsFault::Unknown);
+    };
+    Ok(GatesWords { network, plan })
 }
 
 fn offsets_of(alloc: Global, words: &[&str]) -> Result<Vec<u64>, WordsFault>

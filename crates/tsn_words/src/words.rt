@@ -29,11 +29,21 @@ pub struct CheckWords<'a> {
     pub cert: &'a str,
 }
 
+/// `gates NET PLAN`: print the gate control lists of a plan.
+#[derive(Clone, Copy)]
+pub struct GatesWords<'a> {
+    /// The network file, or `-` for standard input.
+    pub network: &'a str,
+    /// The plan file.
+    pub plan: &'a str,
+}
+
 /// A command, with its words.
 #[derive(Drop)]
 pub enum Words<'a> {
     Valid(ValidWords<'a>),
     Check(CheckWords<'a>),
+    Gates(GatesWords<'a>),
 }
 
 /// Why there is no command.
