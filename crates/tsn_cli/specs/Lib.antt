@@ -3,3 +3,5 @@ pub mod Valid
 pub mod Check
 pub mod Gates
 pub mod Outcome
+pub mod Told
+pub mod Plan
