@@ -5,7 +5,7 @@ ghost use Rattle.tsn_gate.specs.Fault.{number_of};
 use std::alloc::AllocError;
 use thiserror::Error;
 
-/// Why entries make no gate control list: the first cause that holds. Want of memory may come in place of no cause.
+/// Why entries make no gate control list: the first cause that holds, in this order.
 #[derive(Clone, Copy, Debug, PartialEq, Eq, Error)]
 pub enum GateFault {
     /// There is no entry, or one lasts 0 ns.
