@@ -3,15 +3,17 @@
 
 mod files;
 
-use crate::files::{ReaderSource, WriterSink};
+use crate::files::{FileSink, ReaderSource, WriterSink};
 use std::alloc::Global;
 use std::io::ErrorKind;
 use std::process::ExitCode;
 use std::rt::{Env, Files};
+use std::sync::Wait;
+use std::thread::Threads;
 use std::{env, fs, io};
 use tsn_cli::run::{MEMORY, NO_MEMORY_LINE, WORDS, finish};
-use tsn_cli::{check_run, gates_run, valid_run};
-use tsn_words::{CheckWords, GatesWords, ValidWords, Words, WordsFault, words_from};
+use tsn_cli::{check_run, gates_run, plan_run, valid_run};
+use tsn_words::{CheckWords, GatesWords, PlanWords, ValidWords, Words, WordsFault, words_from};
 
 fn main(rt: HostRuntime) -> ExitCode {
     let status = match run(&rt) {
@@ -23,7 +25,9 @@ fn main(rt: HostRuntime) -> ExitCode {
 }
 
 /// Runs the command that the words ask for, and says the status.
-fn run<R: Env + Files + Input + Print + Eprint + AllocGlobal>(rt: &R) -> io::Result<u8> {
+fn run<R: Env + Files + Input + Print + Eprint + AllocGlobal + Threads + Wait + Sync>(
+    rt: &R,
+) -> io::Result<u8> {
     let alloc = rt.alloc();
     let args: Vec<String> = env::args(rt)?.collect(alloc)?;
     let mut words = Vec::with_capacity(alloc, args.len())?;
@@ -32,6 +36,7 @@ fn run<R: Env + Files + Input + Print + Eprint + AllocGlobal>(rt: &R) -> io::Res
     }
     match words_from(alloc, words.as_slice()) {
         Ok(Words::Valid(words)) => Ok(valid(rt, alloc, &words)),
+        Ok(Words::Plan(words)) => Ok(plan(rt, alloc, words)),
         Ok(Words::Check(words)) => Ok(check(rt, alloc, words)),
         Ok(Words::Gates(words)) => Ok(gates(rt, alloc, words)),
         Err(WordsFault::Refused(text)) => Ok(refuse(rt, text.as_str())),
@@ -49,6 +54,43 @@ fn valid<R: Files + Input + Print>(rt: &R, alloc: Global, words: &ValidWords<'_>
     } else {
         let mut source = ReaderSource::new(fs::open(rt, words.network).ok());
         valid_run(alloc, &mut source, &words.offsets, &mut sink)
+    }
+}
+
+/// Plans a network; the network `-` is standard input.
+fn plan<R: Files + Input + Print + Threads + Wait + Sync>(
+    rt: &R,
+    alloc: Global,
+    words: PlanWords<'_>,
+) -> u8 {
+    let (workers, steps) = (words.workers, words.steps);
+    let mut plan = FileSink::new(rt, words.plan);
+    let mut cert = FileSink::new(rt, words.cert);
+    let mut sink = WriterSink::new(io::writer(rt));
+    if words.network == "-" {
+        let mut network = ReaderSource::new(Some(rt.reader()));
+        plan_run(
+            rt,
+            alloc,
+            &mut network,
+            workers,
+            steps,
+            &mut plan,
+            &mut cert,
+            &mut sink,
+        )
+    } else {
+        let mut network = ReaderSource::new(fs::open(rt, words.network).ok());
+        plan_run(
+            rt,
+            alloc,
+            &mut network,
+            workers,
+            steps,
+            &mut plan,
+            &mut cert,
+            &mut sink,
+        )
     }
 }
 
