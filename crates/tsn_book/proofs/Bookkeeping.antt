@@ -13,7 +13,9 @@ use Rattle.tsn_model.specs.declared.Decision.{Decision}
 use Rattle.tsn_model.specs.Network.{Network, IsWellFormed}
 use Rattle.tsn_model.specs.Arcs.{conflicts_of}
 use Rattle.tsn_model.specs.Schedule.{IsValid, flowspan, target_of}
+use Rattle.tsn_search_laws.specs.Laws.{IsBelowBounds}
 use Rattle.tsn_search_laws.proofs.Kept.{kept_valid, kept_target}
+use Rattle.tsn_search_laws.proofs.Finished.{best_is_below}
 use Rattle.tsn_model.proofs.Conflicts.{conflict_listed}
 use Rattle.tsn_search_laws.proofs.Counting.{length-legal, length-legal_open}
 use Rattle.tsn_model.specs.Certificate.{Leaf}
@@ -306,3 +308,7 @@ pub keeps_within : (network : Network) (origins : List Origin) (standings : List
     → IsBook network origins standings events counts limit best kept tallies → (number : ℕ) → kept ≡ Some number → number < length events
 keeps_within network origins standings events counts limit best kept tallies book number is =
     (kept_is_stored network origins events number (subst (IsKept network (history_of origins events)) is book.summary.kept)).0
+
+-- the least solved flowspan is a target
+pub best_target : (network : Network) (history : List Settlement) → IsLegal network history → IsBelowBounds (best_bound network history) history
+best_target network history legal = let below = best_is_below network history legal in (below.solved, below.pruned)

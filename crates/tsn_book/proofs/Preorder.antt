@@ -1,18 +1,17 @@
 -- The walk that spells a finished tree.
-use Rattle.std.proofs.Common.{◌≡◌, ◌≢◌, ℕ, ◌+◌, ◌≤◌, ◌<◌, List, [], ◌∷◌, ◌++◌, map, length, get_or, All, AllPairs, Contains, true, refl, sym, ap, ◌∙◌, subst, arith, append_assoc, Some}
-use Rattle.std.specs.Prelude.{IsPermutation, slice_get}
+use Rattle.std.proofs.Common.{◌≡◌, ◌≢◌, ℕ, ◌+◌, ◌<◌, List, [], ◌∷◌, ◌++◌, map, length, AllPairs, Contains, true, refl, sym, ap, ◌∙◌, subst, arith, append_assoc, Some}
+use Rattle.std.specs.Prelude.{slice_get}
 use Rattle.std.specs.List.{slice_index_or}
 use Rattle.std.proofs.lemmas.Bool.{both_ways}
-use Rattle.std.proofs.lemmas.List.{append-nil, length-append, length-map, map-append, get_or-append-add, nil_from_length, get_or_default}
-use Rattle.std.proofs.lemmas.List.Elements.{All-nil, All-contains}
+use Rattle.std.proofs.lemmas.List.{append-nil, length-append, length-map, map-append, nil_from_length, get_or_default}
+use Rattle.std.proofs.lemmas.List.Elements.{All-contains}
 use Rattle.std.proofs.lemmas.List.Sorted.{IsPermutation-sym, All-permutation, Contains-permutation, length_permutation}
-use Rattle.std.proofs.lemmas.Option.{get_or_from_slice_get}
 use Rattle.tsn_model.specs.declared.Triple.{Triple}
 use Rattle.tsn_model.specs.declared.Side.TheVariants.{Left, Right}
 use Rattle.tsn_model.specs.declared.Decision.{Decision}
 use Rattle.tsn_model.specs.Network.{Network}
-use Rattle.tsn_model.specs.Certificate.{Node, split_node, preorder, decided}
-use Rattle.tsn_model.specs.Search.{Outcome, split, solved, pruned, refuted, Settlement, children_of, ends_of, open_paths, is_settled, IsLegal}
+use Rattle.tsn_model.specs.Certificate.{Node, split_node, decided}
+use Rattle.tsn_model.specs.Search.{Outcome, split, solved, pruned, refuted, Settlement, children_of, open_paths, is_settled, IsLegal}
 use Rattle.tsn_search_laws.specs.Order.{node_of}
 use Rattle.tsn_search_laws.specs.Laws.{IsBelowBounds}
 use Rattle.tsn_search_laws.proofs.Lists.{Contains-here, Contains-there, Contains-left, Contains-right, AllPairs-head, AllPairs-tail}
@@ -27,7 +26,7 @@ use Rattle.tsn_book.specs.declared.arena.Origin.{Origin}
 use Rattle.tsn_book.specs.declared.arena.Standing.{Standing}
 use Rattle.tsn_book.specs.declared.arena.Standing.TheVariants.{Open, Split, Leaf}
 use Rattle.tsn_book.specs.declared.arena.Settled.{Settled}
-use Rattle.tsn_book.specs.Arena.{path_at, paths_of, settlement_of, history_of, IsEvent, IsPlaced, IsTree}
+use Rattle.tsn_book.specs.Arena.{path_at, paths_of, history_of, IsEvent, IsPlaced, IsTree}
 use Rattle.tsn_book.specs.Book.{SpellsAccepted}
 use Rattle.tsn_book.specs.Spelling.{rest_of, IsGrown, Waits, settled_node, IsWalk}
 use Rattle.tsn_book.proofs.Places.{length-paths_of, event_among, same_settlement, root_place, leaf_is_no_split}

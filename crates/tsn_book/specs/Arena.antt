@@ -70,6 +70,17 @@ pub record IsTree (network : Network) (origins : List Origin) (standings : List 
   pub placed : (place : ℕ) → place < length origins → IsPlaced (paths_of origins) (history_of origins events) place (slice_index_or standings place Open)
   pub within : All (λ settled. settled.place < length origins) events
 
+-- the same of an arena
+abbrev pub IsArena : Tree → Type 0
+IsArena tree = IsTree tree.network tree.origins.items tree.standings.items tree.events.items
+
+-- what was settled in an arena, and the path of a place
+abbrev pub settled_in : Tree → List Settlement
+settled_in tree = history_of tree.origins.items tree.events.items
+
+abbrev pub path_in : Tree → ℕ → List Decision
+path_in tree place = path_at (paths_of tree.origins.items) place
+
 -- the outcome ends its path
 abbrev pub IsLeafOutcome : search.Outcome → Type 0
 IsLeafOutcome (search.split triple) = ⊥

@@ -6,7 +6,7 @@ ghost use Rattle.tsn_branch.specs.Outcome.{outcome_of};
 ghost use Rattle.tsn_branch.specs.Look.{HasProof};
 ghost use Rattle.tsn_book.specs.Event.{event_of};
 ghost use Rattle.tsn_book.specs.Book.{IsFault, child_count};
-ghost use Rattle.tsn_book.specs.Arena.{IsTree, IsStop, paths_of, path_at, history_of, IsOpenPlace, IsLeafOutcome, HasRoom, IsBelow, IsAhead, IsChildOf, IsRecounted, one_more, one_fewer, at_place};
+ghost use Rattle.tsn_book.specs.Arena.{IsArena, IsStop, settled_in, path_in, IsOpenPlace, IsLeafOutcome, HasRoom, IsBelow, IsAhead, IsChildOf, IsRecounted, one_more, one_fewer, at_place};
 
 use crate::event::Event;
 use crate::fault::BookFault;
@@ -62,7 +62,7 @@ pub struct Tree {
 impl Tree {
     /// The place at the end of a path.
     fn find(&self, path: &[Decision]) -> Stop
-        requires { IsTree self.now.network self.now.origins.items self.now.standings.items self.now.events.items }
+        requires { IsArena self.now }
         ensures { IsStop self.now.origins.items self.now.standings.items self.now.events.items path.now result }
     {
         let mut place = 0;
@@ -81,11 +81,11 @@ impl Tree {
 
     // The place one decision below another.
     fn child(&self, place: usize, decision: Decision) -> Option<usize>
-        requires tree { IsTree self.now.network self.now.origins.items self.now.standings.items self.now.events.items }
+        requires tree { IsArena self.now }
         requires place { place < length self.now.origins.items }
-        ensures { let paths = paths_of self.now.origins.items in MatchOption result
-            (Contains (made_paths (history_of self.now.origins.items self.now.events.items)) (path_at paths place ++ decision ∷ []) → ⊥)
-            (λ child. (child < length self.now.origins.items) × (path_at paths child ≡ path_at paths place ++ decision ∷ []) × IsChildOf self.now.standings.items place child) }
+        ensures { MatchOption result
+            (Contains (made_paths (settled_in self.now)) (path_in self.now place ++ decision ∷ []) → ⊥)
+            (λ child. (child < length self.now.origins.items) × (path_in self.now child ≡ path_in self.now place ++ decision ∷ []) × IsChildOf self.now.standings.items place child) }
     {
         let standing = self.standings[place];
         match standing {
@@ -109,9 +109,9 @@ impl Tree {
 
     /// The open node that is first in preorder; `below` counts the open places at and below each place.
     pub fn first_open(&self, alloc: Global, below: &[usize]) -> Result<Option<Node>, NoMemory>
-        requires tree { IsTree self.now.network self.now.origins.items self.now.standings.items self.now.events.items }
+        requires tree { IsArena self.now }
         requires below { IsBelow self.now.standings.items below.now }
-        ensures { let history = history_of self.now.origins.items self.now.events.items in
+        ensures { let history = settled_in self.now in
             IfOk result (λ first. MatchOption first (open_paths history ≡ []) (IsFirstOpen history)) }
     {
         if below[0] == 0 {
@@ -128,14 +128,14 @@ impl Tree {
 
     // The first child of a place below which there are open places, or none where the place is open itself.
     fn first_child(&self, below: &[usize], place: usize) -> Option<(usize, Decision)>
-        requires tree { IsTree self.now.network self.now.origins.items self.now.standings.items self.now.events.items }
+        requires tree { IsArena self.now }
         requires below { IsBelow self.now.standings.items below.now }
         requires place { place < length self.now.origins.items }
         requires some { 0 < at_place below.now place }
-        ensures { let paths = paths_of self.now.origins.items in let history = history_of self.now.origins.items self.now.events.items in
+        ensures { let history = settled_in self.now in
             MatchOption result (IsOpenPlace self.now.standings.items place)
-            (λ next. (place < next.0) × (next.0 < length self.now.origins.items) × (path_at paths next.0 ≡ path_at paths place ++ next.1 ∷ [])
-            × (0 < at_place below.now next.0) × (IsAhead history (path_at paths place) → IsAhead history (path_at paths next.0))) }
+            (λ next. (place < next.0) × (next.0 < length self.now.origins.items) × (path_in self.now next.0 ≡ path_in self.now place ++ next.1 ∷ [])
+            × (0 < at_place below.now next.0) × (IsAhead history (path_in self.now place) → IsAhead history (path_in self.now next.0))) }
     {
         let standing = self.standings[place];
         match standing {
@@ -158,12 +158,12 @@ impl Tree {
 
     /// Counts one more open place, or one fewer, at each place of an open path; answers the place at its end.
     fn recount(&self, below: &mut [usize], path: &[Decision], more: bool) -> usize
-        requires tree { IsTree self.now.network self.now.origins.items self.now.standings.items self.now.events.items }
+        requires tree { IsArena self.now }
         requires below { IsBelow self.now.standings.items below.old }
-        requires open { Contains (open_paths (history_of self.now.origins.items self.now.events.items)) path.now }
+        requires open { Contains (open_paths (settled_in self.now)) path.now }
         requires few { at_place below.old 0 < 9_223_372_036_854_775_808 }
         ensures place { result < length self.now.origins.items }
-        ensures path { path_at (paths_of self.now.origins.items) result ≡ path.now }
+        ensures path { path_in self.now result ≡ path.now }
         ensures counts { IsRecounted self.now.standings.items (one_more more) (one_fewer more) below.old below.new result }
         ensures root { at_place below.new 0 + one_fewer more ≡ at_place below.old 0 + one_more more }
     {
@@ -197,17 +197,17 @@ impl Tree {
 
     /// Settles an open path as a split.
     fn split(&mut self, below: &mut Vec<usize>, path: &[Decision], teller: usize, triple: Triple)
-        requires tree { IsTree self.old.network self.old.origins.items self.old.standings.items self.old.events.items }
+        requires tree { IsArena self.old }
         requires below { IsBelow self.old.standings.items below.old.items }
         requires room { HasRoom self.old }
         requires room_below { vec_len below.old + 2 ≤ vec_capacity below.old }
-        requires open { Contains (open_paths (history_of self.old.origins.items self.old.events.items)) path.now }
+        requires open { Contains (open_paths (settled_in self.old)) path.now }
         requires few { at_place below.old.items 0 < 9_223_372_036_854_775_808 }
-        requires right { IsRight self.old.network (history_of self.old.origins.items self.old.events.items) path.now (split triple) }
-        ensures tree { IsTree self.new.network self.new.origins.items self.new.standings.items self.new.events.items }
+        requires right { IsRight self.old.network (settled_in self.old) path.now (split triple) }
+        ensures tree { IsArena self.new }
         ensures network { self.new.network ≡ self.old.network }
-        ensures history { history_of self.new.origins.items self.new.events.items
-            ≡ history_of self.old.origins.items self.old.events.items
+        ensures history { settled_in self.new
+            ≡ settled_in self.old
             ++ record { teller = teller; event = record { path = path.now; outcome = split triple } } ∷ [] }
         ensures below { IsBelow self.new.standings.items below.new.items }
         ensures opened { at_place below.new.items 0 ≡ at_place below.old.items 0 + 1 }
@@ -243,18 +243,18 @@ impl Tree {
 
     /// Settles an open path as a leaf.
     fn close(&mut self, below: &mut Vec<usize>, path: &[Decision], teller: usize, look: Look)
-        requires tree { IsTree self.old.network self.old.origins.items self.old.standings.items self.old.events.items }
+        requires tree { IsArena self.old }
         requires below { IsBelow self.old.standings.items below.old.items }
         requires room { HasRoom self.old }
         requires room_below { vec_len below.old + 2 ≤ vec_capacity below.old }
-        requires open { Contains (open_paths (history_of self.old.origins.items self.old.events.items)) path.now }
+        requires open { Contains (open_paths (settled_in self.old)) path.now }
         requires few { at_place below.old.items 0 < 9_223_372_036_854_775_808 }
-        requires right { IsRight self.old.network (history_of self.old.origins.items self.old.events.items) path.now (outcome_of look) }
+        requires right { IsRight self.old.network (settled_in self.old) path.now (outcome_of look) }
         requires leaf { IsLeafOutcome (outcome_of look) }
-        ensures tree { IsTree self.new.network self.new.origins.items self.new.standings.items self.new.events.items }
+        ensures tree { IsArena self.new }
         ensures network { self.new.network ≡ self.old.network }
-        ensures history { history_of self.new.origins.items self.new.events.items
-            ≡ history_of self.old.origins.items self.old.events.items
+        ensures history { settled_in self.new
+            ≡ settled_in self.old
             ++ record { teller = teller; event = record { path = path.now; outcome = outcome_of look } } ∷ [] }
         ensures below { IsBelow self.new.standings.items below.new.items }
         ensures closed { at_place below.new.items 0 + 1 ≡ at_place below.old.items 0 }
@@ -270,17 +270,17 @@ impl Tree {
 
     /// Settles an open path.
     pub fn settle(&mut self, below: &mut Vec<usize>, path: &[Decision], teller: usize, look: Look)
-        requires tree { IsTree self.old.network self.old.origins.items self.old.standings.items self.old.events.items }
+        requires tree { IsArena self.old }
         requires below { IsBelow self.old.standings.items below.old.items }
         requires room { HasRoom self.old }
         requires room_below { vec_len below.old + 2 ≤ vec_capacity below.old }
-        requires open { Contains (open_paths (history_of self.old.origins.items self.old.events.items)) path.now }
+        requires open { Contains (open_paths (settled_in self.old)) path.now }
         requires few { at_place below.old.items 0 < 9_223_372_036_854_775_808 }
-        requires right { IsRight self.old.network (history_of self.old.origins.items self.old.events.items) path.now (outcome_of look) }
-        ensures tree { IsTree self.new.network self.new.origins.items self.new.standings.items self.new.events.items }
+        requires right { IsRight self.old.network (settled_in self.old) path.now (outcome_of look) }
+        ensures tree { IsArena self.new }
         ensures network { self.new.network ≡ self.old.network }
-        ensures history { history_of self.new.origins.items self.new.events.items
-            ≡ history_of self.old.origins.items self.old.events.items
+        ensures history { settled_in self.new
+            ≡ settled_in self.old
             ++ record { teller = teller; event = record { path = path.now; outcome = outcome_of look } } ∷ [] }
         ensures below { IsBelow self.new.standings.items below.new.items }
         ensures counted { at_place below.new.items 0 + 1 ≡ at_place below.old.items 0 + child_count (outcome_of look) }
@@ -300,11 +300,11 @@ impl Tree {
     /// Whether an event may be settled, where at most `limit` may be and `best` is the least flowspan solved; if not, the
     /// first reason.
     pub fn judge(&self, limit: usize, best: u64, event: &Event) -> Result<(), BookFault>
-        requires tree { IsTree self.now.network self.now.origins.items self.now.standings.items self.now.events.items }
+        requires tree { IsArena self.now }
         requires limit { length self.now.events.items ≤ limit }
-        requires best { best ≡ best_bound self.now.network (history_of self.now.origins.items self.now.events.items) }
+        requires best { best ≡ best_bound self.now.network (settled_in self.now) }
         requires proof { HasProof self.now.network event.now.node (outcome_of event.now.look) }
-        ensures { let history = history_of self.now.origins.items self.now.events.items in MatchResult result
+        ensures { let history = settled_in self.now in MatchResult result
             (λ _. (length history < limit) × IsAllowed self.now.network history (event_of event.now))
             (λ fault. IsFault self.now.network limit history (event_of event.now) fault) }
     {
@@ -338,9 +338,9 @@ impl Tree {
 
     /// A tree whose root is open.
     pub fn new(alloc: Global, network: PlainNetwork) -> Result<Tree, AllocError>
-        ensures tree { IfOk result (λ tree. IsTree tree.network tree.origins.items tree.standings.items tree.events.items) }
+        ensures tree { IfOk result (λ tree. IsArena tree) }
         ensures network { IfOk result (λ tree. tree.network ≡ network) }
-        ensures history { IfOk result (λ tree. history_of tree.origins.items tree.events.items ≡ []) }
+        ensures history { IfOk result (λ tree. settled_in tree ≡ []) }
         ensures events { IfOk result (λ tree. tree.events.items ≡ []) }
         ensures standings { IfOk result (λ tree. tree.standings.items ≡ Standing.Open ∷ []) }
     {

@@ -151,9 +151,10 @@ impl Book {
         self.tallies[teller]
     }
 
-    /// The least flowspan solved, in nanoseconds, or one more than the cycle where none is.
+    /// The least flowspan solved, in nanoseconds, or one more than the cycle where none is: a target for the certificate.
     pub fn best(&self) -> u64
         ensures best { result ≡ best_bound self.now.network self.now.history }
+        ensures target { IsBelowBounds result self.now.history }
         ensures lawful { IsLawful self.now }
     {
         self.best

@@ -5,7 +5,7 @@ ghost use Rattle.tsn_model.specs.Search.{open_paths};
 ghost use Rattle.tsn_search_laws.specs.Order.{node_of};
 ghost use Rattle.tsn_search_laws.specs.Laws.{IsBelowBounds};
 ghost use Rattle.tsn_branch.specs.Outcome.{outcome_of};
-ghost use Rattle.tsn_book.specs.Arena.{IsTree, history_of};
+ghost use Rattle.tsn_book.specs.Arena.{IsArena, settled_in};
 ghost use Rattle.tsn_book.specs.Book.{SpellsAccepted};
 ghost use Rattle.tsn_book.specs.declared.arena.Settled.{Settled};
 
@@ -19,11 +19,11 @@ use tsn_model::Triple;
 /// The nodes of a tree in which nothing is open: a split's node stands before those of its Left child, and these before
 /// those of its Right child.
 pub fn nodes_of(tree: Tree) -> Result<Vec<Node>, AllocError>
-    requires tree { IsTree tree.network tree.origins.items tree.standings.items tree.events.items }
-    requires finished { open_paths (history_of tree.origins.items tree.events.items) ≡ [] }
-    ensures accepted { IfOk result (λ nodes. (target : ℕ) → IsBelowBounds target (history_of tree.origins.items tree.events.items)
+    requires tree { IsArena tree }
+    requires finished { open_paths (settled_in tree) ≡ [] }
+    ensures accepted { IfOk result (λ nodes. (target : ℕ) → IsBelowBounds target (settled_in tree)
         → SpellsAccepted tree.network target (map tree_node nodes.items)) }
-    ensures counted { IfOk result (λ nodes. length nodes.items ≡ length (history_of tree.origins.items tree.events.items)) }
+    ensures counted { IfOk result (λ nodes. length nodes.items ≡ length (settled_in tree)) }
 {
     let Tree {
         standings,

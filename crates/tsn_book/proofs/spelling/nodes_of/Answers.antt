@@ -1,12 +1,10 @@
-use Rattle.std.proofs.Common.{◌≡◌, ◌<◌, ◌+◌, ◌++◌, ◌∷◌, [], map, length, refl, sym, ap, ◌∙◌, subst, arith}
+use Rattle.std.proofs.Common.{◌≡◌, ◌++◌, ◌∷◌, [], map, length, sym, ap, ◌∙◌, subst, arith}
 use Rattle.std.proofs.lemmas.List.{map-append, length-append, length-map, nil_from_length}
 use Rattle.std.specs.List.{slice_index_or}
 use Rattle.tsn_search_laws.specs.Order.{node_of}
 use Rattle.tsn_branch.specs.Outcome.{outcome_of}
 use Rattle.tsn_cert.specs.Node.{tree_node}
-use Rattle.tsn_model.specs.Certificate.{split_node}
 use Rattle.tsn_cert.specs.declared.cert.Node.TheVariants.{Branch}
-use Rattle.tsn_book.specs.declared.arena.Standing.TheVariants.{Split, Leaf}
 use Rattle.tsn_book.specs.Arena.{paths_of, history_of}
 use Rattle.tsn_book.specs.Spelling.{IsWalk}
 use Rattle.tsn_book.proofs.Places.{placed_as, length-paths_of}

@@ -1,6 +1,8 @@
 use Rattle.std.proofs.Common.{sym, subst}
-use Rattle.tsn_book.specs.Book.{IsLawful}
-use Rattle.tsn_book.proofs.Bookkeeping.{lawful}
+use Rattle.tsn_search_laws.specs.Laws.{IsBelowBounds}
+use Rattle.tsn_book.specs.Arena.{history_of}
+use Rattle.tsn_book.specs.Book.{Progress, IsLawful}
+use Rattle.tsn_book.proofs.Bookkeeping.{lawful, best_target}
 use Rattle.tsn_book.proofs.book.Book.best.Goals as goal
 
 pub returns-clause-lawful : goal.returns-clause-lawful
@@ -9,3 +11,11 @@ returns-clause-lawful c =
     let tree = inside.tree in
     subst IsLawful c.self.view_is
     (lawful tree.network tree.origins.items tree.standings.items tree.events.items inside.below.items inside.limit inside.best inside.kept inside.tallies.items c.self.invariant)
+
+pub returns-clause-target : goal.returns-clause-target
+returns-clause-target c =
+    let inside = c.self.inside in
+    let tree = inside.tree in
+    let history = history_of tree.origins.items tree.events.items in
+    subst (λ (p : Progress). IsBelowBounds inside.best p.history) c.self.view_is
+    (subst (λ best. IsBelowBounds best history) (sym c.self.invariant.summary.lowest) (best_target tree.network history c.self.invariant.tree.legal))

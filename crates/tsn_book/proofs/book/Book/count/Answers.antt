@@ -1,4 +1,4 @@
-use Rattle.std.proofs.Common.{length, arith, sym, ap, subst}
+use Rattle.std.proofs.Common.{length, arith, ap, subst}
 use Rattle.tsn_book.specs.Book.{Progress, IsLawful}
 use Rattle.tsn_book.proofs.Asking.{length-history_of}
 use Rattle.tsn_book.proofs.Bookkeeping.{lawful}

@@ -1,7 +1,5 @@
-use Rattle.std.proofs.Common.{◌≡◌, ◌+◌, ◌∷◌, [], length, arith, sym, ap, ◌∙◌, subst, None}
-use Rattle.std.specs.Prelude.{replicate}
+use Rattle.std.proofs.Common.{◌≡◌, sym, ap, ◌∙◌, subst}
 use Rattle.tsn_model.specs.Network.{IsWellFormed}
-use Rattle.tsn_book.specs.Book.{IsBook}
 use Rattle.tsn_book.proofs.Bookkeeping.{start_book}
 use Rattle.tsn_book.proofs.book.Book.of.Goals as goal
 

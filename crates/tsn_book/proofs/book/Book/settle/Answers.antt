@@ -1,11 +1,11 @@
-use Rattle.std.proofs.Common.{◌≡◌, ◌<◌, ◌+◌, ◌++◌, ◌∷◌, [], length, set, arith, sym, ap, ◌∙◌, subst}
+use Rattle.std.proofs.Common.{◌≡◌, ◌<◌, ◌+◌, ◌++◌, ◌∷◌, [], length, set, arith, ap, ◌∙◌}
 use Rattle.std.specs.List.{slice_index_or}
 use Rattle.std.proofs.lemmas.List.{get_or_default}
 use Rattle.tsn_model.specs.Search.{IsAllowed}
 use Rattle.tsn_branch.specs.Outcome.{outcome_of}
 use Rattle.tsn_book.specs.Event.{event_of}
 use Rattle.tsn_book.specs.Arena.{history_of, at_place}
-use Rattle.tsn_book.specs.Book.{Progress, IsLawful, IsBook, child_count, tally_after}
+use Rattle.tsn_book.specs.Book.{Progress, child_count, tally_after}
 use Rattle.tsn_book.proofs.Asking.{length-history_of}
 use Rattle.tsn_book.proofs.Bookkeeping.{lawful, book_grows, root_few, tally_few}
 use Rattle.tsn_book.proofs.book.Book.settle.Goals as goal

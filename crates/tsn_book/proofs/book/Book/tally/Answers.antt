@@ -1,4 +1,4 @@
-use Rattle.std.proofs.Common.{sym, subst}
+use Rattle.std.proofs.Common.{subst}
 use Rattle.tsn_book.specs.Book.{IsLawful}
 use Rattle.tsn_book.proofs.Bookkeeping.{lawful}
 use Rattle.tsn_book.proofs.book.Book.tally.Goals as goal
