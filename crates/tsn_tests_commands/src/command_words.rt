@@ -16,6 +16,28 @@ fn judges(rt: &impl Abort, alloc: Global, words: &[&str], network: &str, offsets
     }
 }
 
+/// The words ask for a plan, of at most so many settlements, to be written to these files.
+fn plans(
+    rt: &impl Abort,
+    alloc: Global,
+    words: &[&str],
+    steps: usize,
+    plan: Option<&str>,
+    cert: Option<&str>,
+) {
+    match words_from(alloc, words) {
+        Ok(Words::Plan(words)) => {
+            assert_eq!(rt; words.network, "net");
+            assert_eq!(rt; words.workers, 1);
+            assert_eq!(rt; words.steps, steps);
+            assert_eq!(rt; words.plan, plan);
+            assert_eq!(rt; words.cert, cert);
+        }
+        Ok(_) => assert!(rt; false, "{steps}"),
+        Err(fault) => assert!(rt; false, "{fault}"),
+    }
+}
+
 /// The words ask for this plan and certificate to be checked.
 fn checks(rt: &impl Abort, alloc: Global, words: &[&str], network: &str, plan: &str, cert: &str) {
     match words_from(alloc, words) {
@@ -159,6 +181,56 @@ fn takes_plans(rt: HostRuntime) {
 }
 
 #[test]
+fn takes_limits(rt: HostRuntime) {
+    let alloc = rt.alloc();
+    plans(&rt, alloc, &["tsn", "plan", "net"], 1_000_000, None, None);
+    let words = [
+        "tsn",
+        "plan",
+        "--cert=c",
+        "--steps",
+        "+5",
+        "net",
+        "--plan",
+        "p",
+        "--workers",
+        "1",
+    ];
+    plans(&rt, alloc, &words, 5, Some("p"), Some("c"));
+    let most = ["tsn", "plan", "net", "--steps=1000000000"];
+    plans(&rt, alloc, &most, 1_000_000_000, None, None);
+    for words in [
+        "--workers=2",
+        "--workers=0",
+        "--steps=0",
+        "--steps=1000000001",
+        "--steps=1_000",
+        "--steps=-1",
+    ] {
+        refuses(&rt, alloc, &["tsn", "plan", "net", words], "invalid value");
+    }
+    refuses(&rt, alloc, &["tsn", "plan"], "<NET>");
+    refuses(
+        &rt,
+        alloc,
+        &["tsn", "plan", "net", "more"],
+        "unexpected argument 'more'",
+    );
+    refuses(
+        &rt,
+        alloc,
+        &["tsn", "plan", "net", "--plan=p", "--plan=q"],
+        "multiple times",
+    );
+    refuses(
+        &rt,
+        alloc,
+        &["tsn", "check", "net", "--steps", "1"],
+        "unexpected argument '--steps'",
+    );
+}
+
+#[test]
 fn refuses_words(rt: HostRuntime) {
     let alloc = rt.alloc();
     refuses(&rt, alloc, &[], "requires a subcommand");
@@ -171,7 +243,7 @@ fn refuses_words(rt: HostRuntime) {
         &["tsn", "valid", "net", "0", "--steps", "1"],
         "unexpected argument '--steps'",
     );
-    for command in ["plan", "replay", "Valid", "val"] {
+    for command in ["replay", "Valid", "val"] {
         refuses(
             &rt,
             alloc,

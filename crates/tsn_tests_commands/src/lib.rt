@@ -8,4 +8,6 @@ mod command_words;
 #[cfg(test)]
 mod gates;
 #[cfg(test)]
+mod plan_command;
+#[cfg(test)]
 mod valid_command;
