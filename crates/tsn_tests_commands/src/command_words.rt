@@ -16,22 +16,15 @@ fn judges(rt: &impl Abort, alloc: Global, words: &[&str], network: &str, offsets
     }
 }
 
-/// The words ask for a plan, of at most so many settlements, to be written to these files.
-fn plans(
-    rt: &impl Abort,
-    alloc: Global,
-    words: &[&str],
-    steps: usize,
-    plan: Option<&str>,
-    cert: Option<&str>,
-) {
+/// The words ask for a plan, of at most so many settlements, to be written to these files, or to none.
+fn plans(rt: &impl Abort, alloc: Global, words: &[&str], steps: usize, plan: &str, cert: &str) {
     match words_from(alloc, words) {
         Ok(Words::Plan(words)) => {
             assert_eq!(rt; words.network, "net");
             assert_eq!(rt; words.workers, 1);
             assert_eq!(rt; words.steps, steps);
-            assert_eq!(rt; words.plan, plan);
-            assert_eq!(rt; words.cert, cert);
+            assert_eq!(rt; words.plan.unwrap_or("none"), plan);
+            assert_eq!(rt; words.cert.unwrap_or("none"), cert);
         }
         Ok(_) => assert!(rt; false, "{steps}"),
         Err(fault) => assert!(rt; false, "{fault}"),
@@ -183,7 +176,14 @@ fn takes_plans(rt: HostRuntime) {
 #[test]
 fn takes_limits(rt: HostRuntime) {
     let alloc = rt.alloc();
-    plans(&rt, alloc, &["tsn", "plan", "net"], 1_000_000, None, None);
+    plans(
+        &rt,
+        alloc,
+        &["tsn", "plan", "net"],
+        1_000_000,
+        "none",
+        "none",
+    );
     let words = [
         "tsn",
         "plan",
@@ -196,9 +196,9 @@ fn takes_limits(rt: HostRuntime) {
         "--workers",
         "1",
     ];
-    plans(&rt, alloc, &words, 5, Some("p"), Some("c"));
+    plans(&rt, alloc, &words, 5, "p", "c");
     let most = ["tsn", "plan", "net", "--steps=1000000000"];
-    plans(&rt, alloc, &most, 1_000_000_000, None, None);
+    plans(&rt, alloc, &most, 1_000_000_000, "none", "none");
     for words in [
         "--workers=2",
         "--workers=0",
