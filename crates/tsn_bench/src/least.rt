@@ -11,7 +11,11 @@ use tsn_model::Arc;
 const OCCUPANCY: i64 = 672;
 
 /// Asks for the least offsets of so many streams, 2 to 128, so many times.
-pub fn measure<R: Clock + Print + Eprint + AllocGlobal>(rt: &R, streams: usize, calls: usize) -> io::Result<bool> {
+pub fn measure<R: Clock + Print + Eprint + AllocGlobal>(
+    rt: &R,
+    streams: usize,
+    calls: usize,
+) -> io::Result<bool> {
     if streams < 2 || streams > 128 {
         return Ok(false);
     }
@@ -28,7 +32,10 @@ pub fn measure<R: Clock + Print + Eprint + AllocGlobal>(rt: &R, streams: usize, 
         }
     }
     let taken = begin.elapsed(rt)?;
-    println!(rt; "least {streams} streams {} arcs: the last stream starts at {latest}", arcs.len())?;
+    println!(rt;
+        "least {streams} streams {} arcs: the last stream starts at {latest}",
+        arcs.len()
+    )?;
     eprintln!(rt; "{}", taken.as_nanos())?;
     Ok(true)
 }
@@ -38,7 +45,11 @@ fn path_like(alloc: Global, streams: usize) -> Result<Vec<Arc>, AllocError> {
     let mut arcs = Vec::new(alloc);
     for to in 1..streams {
         for from in to.saturating_sub(2)..to {
-            arcs.push(Arc { from, to, weight: OCCUPANCY })?;
+            arcs.push(Arc {
+                from,
+                to,
+                weight: OCCUPANCY,
+            })?;
         }
     }
     Ok(arcs)

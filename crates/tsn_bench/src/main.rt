@@ -2,15 +2,16 @@
 //! standard error.
 //!
 //! - `tsn_bench least STREAMS CALLS`: least offsets of so many streams, so many times.
+//! - `tsn_bench book EVENTS FILE`: so many splits of the search of that network, settled in a book.
 #![tactic(auto)]
 
+mod book;
 mod least;
 
 use std::alloc::Global;
-use std::env;
-use std::io;
 use std::process::ExitCode;
-use std::rt::{Clock, Env};
+use std::rt::{Clock, Env, Files};
+use std::{env, fs, io};
 
 fn main(rt: HostRuntime) -> ExitCode {
     match run(&rt) {
@@ -21,18 +22,25 @@ fn main(rt: HostRuntime) -> ExitCode {
 }
 
 /// Runs the measurement that the words ask for; false where they ask for none.
-fn run<R: Env + Clock + Print + Eprint + AllocGlobal>(rt: &R) -> io::Result<bool> {
+fn run<R: Env + Clock + Files + Print + Eprint + AllocGlobal>(rt: &R) -> io::Result<bool> {
     let words: Vec<String> = env::args(rt)?.collect(rt.alloc())?;
-    if words.len() != 4 || words[1].as_str() != "least" {
-        return Ok(false);
-    }
-    let (Ok(streams), Ok(calls)) = (words[2].parse::<usize>(), words[3].parse::<usize>()) else {
+    let [_, part, first, second] = words.as_slice() else {
         return Ok(false);
     };
-    least::measure(rt, streams, calls)
+    let Ok(count) = first.parse::<usize>() else {
+        return Ok(false);
+    };
+    match part.as_str() {
+        "least" => match second.parse::<usize>() {
+            Ok(calls) => least::measure(rt, count, calls),
+            Err(_) => Ok(false),
+        },
+        "book" => book::measure(rt, &fs::read(rt, second.as_str())?, count),
+        _ => Ok(false),
+    }
 }
 
 fn refuse<R: Eprint>(rt: &R) -> ExitCode {
-    let _ = eprintln!(rt; "usage: tsn_bench least STREAMS CALLS");
+    let _ = eprintln!(rt; "usage: tsn_bench least STREAMS CALLS | tsn_bench book EVENTS FILE");
     ExitCode::from(2)
 }
