@@ -100,6 +100,9 @@ impl Book {
         requires proof { HasProof self.old.network event.node (outcome_of event.look) }
         ensures ok { OnOk result (self.new ≡ record self.old { history = self.old.history ++ record { teller = teller; event = event_of event } ∷ [] }) }
         ensures lawful { OnOk result (IsLawful self.new) }
+        ensures network { self.new.network ≡ self.old.network }
+        ensures tellers { self.new.tellers ≡ self.old.tellers }
+        ensures limit { self.new.limit ≡ self.old.limit }
         ensures refused { OnErr result (self.new ≡ self.old) }
         ensures fault { IfErr result (λ refusal. IsFault self.old.network self.old.limit self.old.history (event_of event) refusal.0) }
         ensures returned { IfErr result (λ refusal. refusal.1 ≡ event) }
