@@ -1,7 +1,9 @@
 //! Readers and writers of the system, as sources and sinks: nothing is known of their bytes.
 ghost use Rattle.std.specs.Prelude.{◌≡◌, None, true};
 
+use std::fs;
 use std::io::{Read, Write};
+use std::rt::Files;
 use tsn_cli::device::{Broken, Sink, Source};
 
 /// A reader. One that could not be opened fails at each read.
@@ -77,6 +79,67 @@ impl<W: Write + Drop> Sink for WriterSink<W> {
                 Err(Broken)
             }
         }
+    }
+
+    fn failures(&self) -> u64 {
+        self.failures
+    }
+}
+
+/// A file that is made when its first byte is written. Where no file is asked for, the bytes are dropped.
+#[derive(Drop)]
+pub struct FileSink<'a, R: Files> {
+    rt: &'a R,
+    path: Option<&'a str>,
+    file: Option<R::File>,
+    failures: u64,
+}
+
+impl<'a, R: Files> FileSink<'a, R> {
+    /// The file of this path, if one is asked for, of which no write has failed yet.
+    pub fn new(rt: &'a R, path: Option<&'a str>) -> FileSink<'a, R>
+        ensures { result.failures ≡ 0 }
+    {
+        FileSink {
+            rt,
+            path,
+            file: None,
+            failures: 0,
+        }
+    }
+
+    /// Makes the file, where it isn't made yet.
+    fn make(&mut self, path: &str)
+        ensures { self.new.failures ≡ self.old.failures }
+    {
+        if self.file.is_none() {
+            self.file = fs::create(self.rt, path).ok();
+        }
+    }
+}
+
+impl<'a, R: Files> Sink for FileSink<'a, R> {
+    ghost taken = { λ _. None };
+
+    ghost failed = { λ s. s.failures };
+
+    fn write(&mut self, bytes: &[u8]) -> Result<usize, Broken> {
+        let Some(path) = self.path else {
+            return Ok(bytes.len());
+        };
+        if bytes.is_empty() {
+            return Ok(0);
+        }
+        self.make(path);
+        if let Some(file) = &mut self.file {
+            if let Ok(count) = file.write(bytes) {
+                if count > 0 {
+                    return Ok(count);
+                }
+            }
+        }
+        self.failures += 1;
+        Err(Broken)
     }
 
     fn failures(&self) -> u64 {

@@ -3,15 +3,17 @@
 
 mod files;
 
-use crate::files::{ReaderSource, WriterSink};
+use crate::files::{FileSink, ReaderSource, WriterSink};
 use std::alloc::Global;
 use std::io::ErrorKind;
 use std::process::ExitCode;
 use std::rt::{Env, Files};
+use std::sync::Wait;
+use std::thread::Threads;
 use std::{env, fs, io};
 use tsn_cli::run::{MEMORY, NO_MEMORY_LINE, WORDS, finish};
-use tsn_cli::{check_run, valid_run};
-use tsn_words::{CheckWords, ValidWords, Words, WordsFault, words_from};
+use tsn_cli::{check_run, gates_run, plan_run, valid_run};
+use tsn_words::{CheckWords, GatesWords, PlanWords, ValidWords, Words, WordsFault, words_from};
 
 fn main(rt: HostRuntime) -> ExitCode {
     let status = match run(&rt) {
@@ -23,7 +25,9 @@ fn main(rt: HostRuntime) -> ExitCode {
 }
 
 /// Runs the command that the words ask for, and says the status.
-fn run<R: Env + Files + Input + Print + Eprint + AllocGlobal>(rt: &R) -> io::Result<u8> {
+fn run<R: Env + Files + Input + Print + Eprint + AllocGlobal + Threads + Wait + Sync>(
+    rt: &R,
+) -> io::Result<u8> {
     let alloc = rt.alloc();
     let args: Vec<String> = env::args(rt)?.collect(alloc)?;
     let mut words = Vec::with_capacity(alloc, args.len())?;
@@ -32,7 +36,9 @@ fn run<R: Env + Files + Input + Print + Eprint + AllocGlobal>(rt: &R) -> io::Res
     }
     match words_from(alloc, words.as_slice()) {
         Ok(Words::Valid(words)) => Ok(valid(rt, alloc, &words)),
+        Ok(Words::Plan(words)) => Ok(plan(rt, alloc, words)),
         Ok(Words::Check(words)) => Ok(check(rt, alloc, words)),
+        Ok(Words::Gates(words)) => Ok(gates(rt, alloc, words)),
         Err(WordsFault::Refused(text)) => Ok(refuse(rt, text.as_str())),
         Err(WordsFault::Unknown) => Ok(refuse(rt, "error: no command has these words\n")),
         Err(WordsFault::Memory) => Ok(no_memory(rt)),
@@ -51,6 +57,43 @@ fn valid<R: Files + Input + Print>(rt: &R, alloc: Global, words: &ValidWords<'_>
     }
 }
 
+/// Plans a network; the network `-` is standard input.
+fn plan<R: Files + Input + Print + Threads + Wait + Sync>(
+    rt: &R,
+    alloc: Global,
+    words: PlanWords<'_>,
+) -> u8 {
+    let (workers, steps) = (words.workers, words.steps);
+    let mut plan = FileSink::new(rt, words.plan);
+    let mut cert = FileSink::new(rt, words.cert);
+    let mut sink = WriterSink::new(io::writer(rt));
+    if words.network == "-" {
+        let mut network = ReaderSource::new(Some(rt.reader()));
+        plan_run(
+            rt,
+            alloc,
+            &mut network,
+            workers,
+            steps,
+            &mut plan,
+            &mut cert,
+            &mut sink,
+        )
+    } else {
+        let mut network = ReaderSource::new(fs::open(rt, words.network).ok());
+        plan_run(
+            rt,
+            alloc,
+            &mut network,
+            workers,
+            steps,
+            &mut plan,
+            &mut cert,
+            &mut sink,
+        )
+    }
+}
+
 /// Checks a certificate; the network `-` is standard input.
 fn check<R: Files + Input + Print>(rt: &R, alloc: Global, words: CheckWords<'_>) -> u8 {
     let mut plan = ReaderSource::new(fs::open(rt, words.plan).ok());
@@ -62,6 +105,19 @@ fn check<R: Files + Input + Print>(rt: &R, alloc: Global, words: CheckWords<'_>)
     } else {
         let mut network = ReaderSource::new(fs::open(rt, words.network).ok());
         check_run(alloc, &mut network, &mut plan, &mut cert, &mut sink)
+    }
+}
+
+/// Prints gate lists; the network `-` is standard input.
+fn gates<R: Files + Input + Print>(rt: &R, alloc: Global, words: GatesWords<'_>) -> u8 {
+    let mut plan = ReaderSource::new(fs::open(rt, words.plan).ok());
+    let mut sink = WriterSink::new(io::writer(rt));
+    if words.network == "-" {
+        let mut network = ReaderSource::new(Some(rt.reader()));
+        gates_run(alloc, &mut network, &mut plan, &mut sink)
+    } else {
+        let mut network = ReaderSource::new(fs::open(rt, words.network).ok());
+        gates_run(alloc, &mut network, &mut plan, &mut sink)
     }
 }
 

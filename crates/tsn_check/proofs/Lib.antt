@@ -3,3 +3,4 @@ mod Verdicts
 mod Walks
 mod Chains
 mod Firsts
+mod Kept

@@ -1,10 +1,10 @@
 -- What a node is found to be at the end of a path, and where the walk goes on from it.
-use Rattle.std.specs.Prelude.{◌≡◌, ℕ, List, ℤ, pos, ◌+ℤ◌, ◌≤ℤ◌, Result, Ok, Err}
+use Rattle.std.specs.Prelude.{◌≡◌, ℕ, List, ℤ, pos, ◌+ℤ◌, ◌≤ℤ◌, Result, Ok, Err, Contains}
 use Rattle.tsn_model.specs.declared.Decision.{Decision}
 use Rattle.tsn_model.specs.Network.{Network}
-use Rattle.tsn_model.specs.Schedule.{IsConflict}
 use Rattle.tsn_model.specs.Certificate.{LeadsTo, sum_on, Node, split_node, leaf_node}
 use Rattle.tsn_model.specs.Places.{IsNodeRight}
+use Rattle.tsn_conflict.specs.Kept.{Kept}
 use Rattle.tsn_check.specs.Faults.{IsNoConflict, IsChainBroken, IsBoundTooLow}
 use Rattle.tsn_check.specs.declared.fault.NodeFault.{NodeFault}
 use Rattle.tsn_check.specs.declared.fault.NodeFault.TheVariants.{NotConflict, ChainBroken, BoundTooLow}
@@ -32,7 +32,7 @@ abbrev pub FindsSum : Network → List Decision → List ℕ → ℕ → Result 
 FindsSum network path chain i (Ok sum) = IsSumTo network path chain i sum
 FindsSum network path chain i (Err fault) = (fault ≡ ChainBroken) × (LeadsTo network path chain i → ⊥)
 
--- if the node is a branch, it is on a conflict
-abbrev pub IsBranchRight : Network → Node → Type 0
-IsBranchRight network (split_node triple) = IsConflict network triple
-IsBranchRight network (leaf_node leaf) = Unit {0}
+-- if the node is a branch, it is on one of the conflicts that are kept
+abbrev pub IsBranchOf : Kept → Node → Type 0
+IsBranchOf kept (split_node triple) = Contains kept.triples triple
+IsBranchOf kept (leaf_node leaf) = Unit {0}

@@ -1,7 +1,6 @@
 //! Checks plans and their certificates, and stands alone: its yes implies the optimum, its no names the first fault.
 #![tactic(auto)]
 
-mod arcs;
 mod chain;
 pub mod fault;
 pub mod laws;

@@ -2,28 +2,36 @@
 ghost use Rattle.std.specs.Prelude.{◌≡◌, ◌≤◌, ◌⊎◌, [], ◌∷◌, map, IfOk, IfErr, OnOk};
 ghost use Rattle.tsn_cert.specs.Node.{tree_node};
 ghost use Rattle.tsn_model.specs.Places.{Fills, next_places, pending};
+ghost use Rattle.tsn_conflict.specs.Kept.{AreConflictsOf};
 ghost use Rattle.tsn_check.specs.Faults.{IsTreeFault};
-ghost use Rattle.tsn_check.specs.Turns.{AreTurns, decisions, places_at};
-ghost use Rattle.tsn_check.specs.Steps.{Judges, IsBranchRight};
+ghost use Rattle.tsn_check.specs.Turns.{AreTurns, AreTurnsOf, decisions, places_at};
+ghost use Rattle.tsn_check.specs.Steps.{Judges, IsBranchOf};
 
-use crate::arcs::is_conflict;
 use crate::fault::{CheckFault, NodeFault};
 use crate::leaf::{judge_cycle, judge_late, judge_overrun};
 use crate::path::{Turn, next_place, turn_to};
 use std::alloc::Global;
 use tsn_cert::Node;
+use tsn_conflict::sharing::Conflicts;
 use tsn_model::Side;
 use tsn_timing::Timing;
 
 /// Whether the node is right at the end of the path.
-fn judge(timing: &Timing, target: u64, path: &[Turn], node: &Node) -> Result<(), NodeFault>
+fn judge(
+    timing: &Timing,
+    conflicts: &Conflicts,
+    target: u64,
+    path: &[Turn],
+    node: &Node,
+) -> Result<(), NodeFault>
+    requires conflicts { AreConflictsOf timing.now conflicts.now }
     requires turns { AreTurns timing.now path.now }
     requires target { target ≤ 2_000_000_000 }
     ensures { Judges timing.now target (decisions path.now) (tree_node node.now) result }
 {
     match node {
         Node::Branch(triple) => {
-            if is_conflict(timing, *triple) {
+            if conflicts.has(*triple) {
                 Ok(())
             } else {
                 Err(NodeFault::NotConflict)
@@ -37,10 +45,10 @@ fn judge(timing: &Timing, target: u64, path: &[Turn], node: &Node) -> Result<(),
 
 /// Goes on from a node at the end of the path to the next open place: a branch's left side, or past a leaf. False where the
 /// tree is at its end.
-fn go_on(timing: &Timing, path: &mut Vec<Turn>, node: &Node) -> Result<bool, CheckFault>
-    requires turns { AreTurns timing.now path.old.items }
-    requires conflict { IsBranchRight timing.now (tree_node node.now) }
-    ensures turns { OnOk result (AreTurns timing.now path.new.items) }
+fn go_on(conflicts: &Conflicts, path: &mut Vec<Turn>, node: &Node) -> Result<bool, CheckFault>
+    requires turns { AreTurnsOf conflicts.now path.old.items }
+    requires conflict { IsBranchOf conflicts.now (tree_node node.now) }
+    ensures turns { OnOk result (AreTurnsOf conflicts.now path.new.items) }
     ensures places { IfOk result (λ is_open.
         next_places (decisions path.old.items ∷ pending (decisions path.old.items)) (tree_node node.now)
         ≡ places_at is_open (decisions path.new.items)) }
@@ -48,10 +56,10 @@ fn go_on(timing: &Timing, path: &mut Vec<Turn>, node: &Node) -> Result<bool, Che
 {
     match node {
         Node::Branch(triple) => {
-            path.push(turn_to(timing, *triple, Side::Left))?;
+            path.push(turn_to(conflicts, *triple, Side::Left))?;
             Ok(true)
         }
-        Node::Late(..) | Node::Overrun(..) | Node::Cycle(_) => Ok(next_place(timing, path)),
+        Node::Late(..) | Node::Overrun(..) | Node::Cycle(_) => Ok(next_place(conflicts, path)),
     }
 }
 
@@ -59,10 +67,12 @@ fn go_on(timing: &Timing, path: &mut Vec<Turn>, node: &Node) -> Result<bool, Che
 pub fn check_tree(
     alloc: Global,
     timing: &Timing,
+    conflicts: &Conflicts,
     target: u64,
     nodes: &[Node],
 ) -> Result<(), CheckFault>
-    requires { target ≤ 2_000_000_000 }
+    requires conflicts { AreConflictsOf timing.now conflicts.now }
+    requires target { target ≤ 2_000_000_000 }
     ensures ok { OnOk result (Fills timing.now target ([] ∷ []) (map tree_node nodes.now)) }
     ensures err { IfErr result (λ fault. (fault ≡ CheckFault.Memory)
         ⊎ IsTreeFault timing.now target (map tree_node nodes.now) fault) }
@@ -73,10 +83,10 @@ pub fn check_tree(
         if !open {
             return Err(CheckFault::TreeTooLong(number));
         }
-        if let Err(fault) = judge(timing, target, &path, node) {
+        if let Err(fault) = judge(timing, conflicts, target, &path, node) {
             return Err(fault.at(number));
         }
-        open = go_on(timing, &mut path, node)?;
+        open = go_on(conflicts, &mut path, node)?;
     }
     if open {
         Err(CheckFault::TreeUnfinished(nodes.len()))

@@ -9,6 +9,7 @@ use crate::plan::judge_schedule;
 use crate::tree::check_tree;
 use std::alloc::Global;
 use tsn_cert::{Cert, Plan};
+use tsn_conflict::conflicts;
 use tsn_net::Problem;
 use tsn_timing::Timing;
 
@@ -46,7 +47,8 @@ pub fn check(
     if cert.target != target {
         return Err(CheckFault::FlowspanWrong);
     }
-    check_tree(alloc, &timing, target, cert.nodes.list())?;
+    let conflicts = conflicts(alloc, &timing)?;
+    check_tree(alloc, &timing, &conflicts, target, cert.nodes.list())?;
     Ok(verdict)
 }
 

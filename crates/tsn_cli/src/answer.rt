@@ -8,3 +8,13 @@ pub(crate) struct Answer {
     pub(crate) text: String,
     ghost not_device: { status < 8 },
 }
+
+/// A status, and the texts that go with it: a plan, its certificate, and a line.
+#[derive(Drop)]
+pub(crate) struct Told {
+    pub(crate) status: u8,
+    pub(crate) plan: String,
+    pub(crate) cert: String,
+    pub(crate) line: String,
+    ghost not_device: { status < 8 },
+}

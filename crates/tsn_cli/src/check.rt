@@ -220,7 +220,7 @@ fn rejection(alloc: Global, fault: CheckFault) -> Result<Answer, NoMemory>
 }
 
 /// What is said of a file of this kind with this fault.
-fn file_refusal(alloc: Global, kind: &str, fault: FileFault) -> Result<Answer, NoMemory>
+pub(crate) fn file_refusal(alloc: Global, kind: &str, fault: FileFault) -> Result<Answer, NoMemory>
     ensures line { IfOk result (λ a. IsLine REFUSED (refusal_line kind.now fault) (output_of (Ok a))) }
     ensures memory { fault ≡ FileFault.Memory → IsErr result }
 {

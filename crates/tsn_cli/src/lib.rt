@@ -4,9 +4,14 @@
 mod answer;
 mod check;
 pub mod device;
+mod gates;
 pub mod memory;
+mod plan;
 pub mod run;
+mod told;
 mod valid;
 
 pub use check::check_run;
+pub use gates::gates_run;
+pub use plan::plan_run;
 pub use valid::valid_run;

@@ -1,16 +1,18 @@
 -- What the words of the command line ask for, by the grammar that `clap` reads them with.
---     tsn, valid, check                    the commands
+--     tsn, valid, plan, check, gates       the commands
 --     IsNumber, number_of, offsets_in      numbers
 --     AsksFor, IsRefused                   what the words ask for, and that they are refused
-use Rattle.std.specs.Prelude.{◌≡◌, ℕ, List, map, codes, Option, Some, true, All}
+use Rattle.std.specs.Prelude.{◌≡◌, ℕ, List, map, codes, Option, Some, None, option_map, true, All}
 use Rattle.std.specs.Str.Parse.{IsNumeral, digits_value, without_leading_plus}
 use Rattle.clap.specs.Words.{App, Row, Rule, Text, all_of, first_of, new_app, new_rule, subcommand_of, with_rule, with_subcommand}
 use Rattle.clap.specs.declared.builder.ArgAction.TheVariants.{Set, Append}
 use Rattle.clap.specs.declared.builder.value_parser.ValueParser.TheVariants.{Unsigned}
 use Rattle.tsn_words.specs.declared.words.Words.{Words}
-use Rattle.tsn_words.specs.declared.words.Words.TheVariants.{Valid, Check}
+use Rattle.tsn_words.specs.declared.words.Words.TheVariants.{Valid, Plan, Check, Gates}
 use Rattle.tsn_words.specs.declared.words.ValidWords.{ValidWords}
+use Rattle.tsn_words.specs.declared.words.PlanWords.{PlanWords}
 use Rattle.tsn_words.specs.declared.words.CheckWords.{CheckWords}
+use Rattle.tsn_words.specs.declared.words.GatesWords.{GatesWords}
 use Rattle.tsn_words.specs.declared.words.WordsFault.{WordsFault}
 use Rattle.tsn_words.specs.declared.words.WordsFault.TheVariants.{Refused}
 
@@ -31,16 +33,36 @@ offsets = record (new_rule (codes "OFFSET")) {
 abbrev pub valid : App
 valid = with_rule (with_rule (new_app (codes "valid")) (file (codes "NET"))) offsets
 
+-- an option with a number from 1 on
+abbrev pub number_option : Text → ℕ → Rule
+number_option id most = record (new_rule id) { long = Some id; action = Some Set; parser = Some (Unsigned 1 most) }
+
+-- an option with a file
+abbrev pub file_option : Text → Rule
+file_option id = record (new_rule id) { long = Some id; action = Some Set }
+
+-- plan NET [--workers W] [--steps N] [--plan FILE] [--cert FILE]
+abbrev pub plan : App
+plan =
+    with_rule (with_rule (with_rule (with_rule (with_rule (new_app (codes "plan")) (file (codes "NET"))) (number_option (codes "workers") 1))
+    (number_option (codes "steps") 1000000000))
+    (file_option (codes "plan")))
+    (file_option (codes "cert"))
+
 -- check NET PLAN CERT
 abbrev pub check : App
 check = with_rule (with_rule (with_rule (new_app (codes "check")) (file (codes "NET"))) (file (codes "PLAN"))) (file (codes "CERT"))
+
+-- gates NET PLAN
+abbrev pub gates : App
+gates = with_rule (with_rule (new_app (codes "gates")) (file (codes "NET"))) (file (codes "PLAN"))
 
 -- the program: a command is required
 abbrev pub alone : App
 alone = record { top = record (new_app (codes "tsn")).top { subcommand_required = true }; subs = (new_app (codes "tsn")).subs }
 
 abbrev pub tsn : App
-tsn = with_subcommand (with_subcommand alone valid.top) check.top
+tsn = with_subcommand (with_subcommand (with_subcommand (with_subcommand alone valid.top) plan.top) check.top) gates.top
 
 -- a word that is a number: digits, where a plus may stand first
 abbrev pub IsNumber : Text → Type 0
@@ -57,15 +79,32 @@ AreNumbers argument numbers = (words : List Text) × (argument ≡ Some words) �
 abbrev pub IsValidOf : List Row → ValidWords → Type 0
 IsValidOf rows asked = (first_of (codes "NET") rows ≡ Some asked.network.now) × AreNumbers (all_of (codes "OFFSET") rows) asked.offsets.items
 
+-- the number that the word of an option is, or the default where there is none
+abbrev pub IsNumberOr : Option Text → ℕ → ℕ → Type 0
+IsNumberOr (Some word) default number = IsNumber word × (number ≡ number_of word)
+IsNumberOr None default number = number ≡ default
+
+-- the file, the numbers and the files to write of `plan`
+abbrev pub IsPlanOf : List Row → PlanWords → Type 0
+IsPlanOf rows asked =
+    (first_of (codes "NET") rows ≡ Some asked.network.now) × IsNumberOr (first_of (codes "workers") rows) 1 asked.workers × IsNumberOr (first_of (codes "steps") rows) 1000000 asked.steps
+    × (first_of (codes "plan") rows ≡ option_map (λ word. word.now) asked.plan) × (first_of (codes "cert") rows ≡ option_map (λ word. word.now) asked.cert)
+
 -- the files of `check`
 abbrev pub IsCheckOf : List Row → CheckWords → Type 0
 IsCheckOf rows asked =
     (first_of (codes "NET") rows ≡ Some asked.network.now) × (first_of (codes "PLAN") rows ≡ Some asked.plan.now) × (first_of (codes "CERT") rows ≡ Some asked.cert.now)
 
+-- the files of `gates`
+abbrev pub IsGatesOf : List Row → GatesWords → Type 0
+IsGatesOf rows asked = (first_of (codes "NET") rows ≡ Some asked.network.now) × (first_of (codes "PLAN") rows ≡ Some asked.plan.now)
+
 -- what is asked for by a command's name and the values of its arguments
 abbrev pub IsAsked : Option (Text × List Row) → Words → Type 0
 IsAsked found (Valid asked) = (rows : List Row) × (found ≡ Some (codes "valid", rows)) × IsValidOf rows asked
+IsAsked found (Plan asked) = (rows : List Row) × (found ≡ Some (codes "plan", rows)) × IsPlanOf rows asked
 IsAsked found (Check asked) = (rows : List Row) × (found ≡ Some (codes "check", rows)) × IsCheckOf rows asked
+IsAsked found (Gates asked) = (rows : List Row) × (found ≡ Some (codes "gates", rows)) × IsGatesOf rows asked
 
 -- the words ask for this
 abbrev pub AsksFor : List Text → Words → Type 0

@@ -1,11 +1,14 @@
 //! The words as `clap` reads them.
-ghost use Rattle.std.specs.Prelude.{◌≡◌, ◌≢◌, ◌≤◌, All, IfErr, IfOk, codes, false, map, true};
+ghost use Rattle.std.specs.Prelude.{◌≡◌, ◌≢◌, ◌≤◌, All, IfErr, IfOk, codes, false, map, option_map, true};
 ghost use Rattle.clap.specs.Words.{app_of, found_of, kind_of, rows_of, rule_of, subcommand_rows_of, takes};
 ghost use Rattle.clap.specs.declared.builder.command.Command.TheViews.{out-Command as fields_of};
-ghost use Rattle.tsn_words.specs.Grammar.{AsksFor, IsAsked, IsCheckOf, IsNumber, IsRefused, IsValidOf, number_of};
+ghost use Rattle.tsn_words.specs.Grammar.{AsksFor, IsAsked, IsCheckOf, IsGatesOf, IsNumber, IsNumberOr, IsPlanOf, IsRefused, IsValidOf, number_of};
 ghost use Rattle.tsn_words.specs.Grammar as grammar;
 
-use crate::words::{CheckWords, MAX_OFFSET, ValidWords, Words, WordsFault};
+use crate::words::{
+    CheckWords, DEFAULT_STEPS, GatesWords, MAX_OFFSET, MAX_STEPS, PlanWords, ValidWords, Words,
+    WordsFault,
+};
 use clap::error::ErrorKind;
 use clap::{Arg, ArgAction, ArgMatches, Command, Error, value_parser};
 use std::alloc::{AllocError, Global};
@@ -29,7 +32,9 @@ fn program<'a>(alloc: Global) -> Result<Command<'a>, AllocError>
         .about("Plans no-wait schedules for time-triggered Ethernet networks")
         .subcommand_required(true)
         .subcommand(valid_command(alloc)?)?
-        .subcommand(check_command(alloc)?)
+        .subcommand(plan_command(alloc)?)?
+        .subcommand(check_command(alloc)?)?
+        .subcommand(gates_command(alloc)?)
 }
 
 fn valid_command<'a>(alloc: Global) -> Result<Command<'a>, AllocError>
@@ -42,6 +47,19 @@ fn valid_command<'a>(alloc: Global) -> Result<Command<'a>, AllocError>
         .arg(offsets_argument(alloc))
 }
 
+fn plan_command<'a>(alloc: Global) -> Result<Command<'a>, AllocError>
+    ensures app { IfOk result (λ c. app_of c ≡ grammar.plan) }
+    ensures local { IfOk result (λ c. (fields_of c).has_globals ≡ false) }
+{
+    Command::new(alloc, "plan")
+        .about("Finds a schedule of least flowspan, and shows that it is")
+        .arg(network_argument(alloc))?
+        .arg(workers_option(alloc))?
+        .arg(steps_option(alloc))?
+        .arg(plan_option(alloc))?
+        .arg(cert_option(alloc))
+}
+
 fn check_command<'a>(alloc: Global) -> Result<Command<'a>, AllocError>
     ensures app { IfOk result (λ c. app_of c ≡ grammar.check) }
     ensures local { IfOk result (λ c. (fields_of c).has_globals ≡ false) }
@@ -51,6 +69,16 @@ fn check_command<'a>(alloc: Global) -> Result<Command<'a>, AllocError>
         .arg(network_argument(alloc))?
         .arg(plan_argument(alloc))?
         .arg(cert_argument(alloc))
+}
+
+fn gates_command<'a>(alloc: Global) -> Result<Command<'a>, AllocError>
+    ensures app { IfOk result (λ c. app_of c ≡ grammar.gates) }
+    ensures local { IfOk result (λ c. (fields_of c).has_globals ≡ false) }
+{
+    Command::new(alloc, "gates")
+        .about("Prints the gate control lists of a plan")
+        .arg(network_argument(alloc))?
+        .arg(plan_argument(alloc))
 }
 
 fn network_argument<'a>(alloc: Global) -> Arg<'a>
@@ -95,6 +123,48 @@ fn offsets_argument<'a>(alloc: Global) -> Arg<'a>
         .help("The offset of each stream in nanoseconds, in the file's order")
 }
 
+fn workers_option<'a>(alloc: Global) -> Arg<'a>
+    ensures rule { rule_of result ≡ grammar.number_option (codes "workers") 1 }
+    ensures local { result.global ≡ false }
+{
+    Arg::new(alloc, "workers")
+        .long("workers")
+        .action(ArgAction::Set)
+        .value_parser(value_parser!(u64).range(1..=1))
+        .help("How many workers plan: 1")
+}
+
+fn steps_option<'a>(alloc: Global) -> Arg<'a>
+    ensures rule { rule_of result ≡ grammar.number_option (codes "steps") 1000000000 }
+    ensures local { result.global ≡ false }
+{
+    Arg::new(alloc, "steps")
+        .long("steps")
+        .action(ArgAction::Set)
+        .value_parser(value_parser!(u64).range(1..=1_000_000_000))
+        .help("The most nodes to settle, 1000000 if not given")
+}
+
+fn plan_option<'a>(alloc: Global) -> Arg<'a>
+    ensures rule { rule_of result ≡ grammar.file_option (codes "plan") }
+    ensures local { result.global ≡ false }
+{
+    Arg::new(alloc, "plan")
+        .long("plan")
+        .action(ArgAction::Set)
+        .help("The file to write the plan to")
+}
+
+fn cert_option<'a>(alloc: Global) -> Arg<'a>
+    ensures rule { rule_of result ≡ grammar.file_option (codes "cert") }
+    ensures local { result.global ≡ false }
+{
+    Arg::new(alloc, "cert")
+        .long("cert")
+        .action(ArgAction::Set)
+        .help("The file to write the certificate to")
+}
+
 /// Why `clap` refuses the words.
 fn fault_of(alloc: Global, error: &Error) -> WordsFault
     ensures { IsRefused result → kind_of error.now ≢ ErrorKind.OutOfMemory }
@@ -114,7 +184,9 @@ fn command_of<'a>(alloc: Global, matches: &ArgMatches<'a>) -> Result<Words<'a>, 
 {
     match matches.subcommand() {
         Some(("valid", words)) => Ok(Words::Valid(valid_words(alloc, words)?)),
+        Some(("plan", words)) => Ok(Words::Plan(plan_words(words)?)),
         Some(("check", words)) => Ok(Words::Check(check_words(words)?)),
+        Some(("gates", words)) => Ok(Words::Gates(gates_words(words)?)),
         _ => Err(WordsFault::Unknown),
     }
 }
@@ -133,6 +205,42 @@ fn valid_words<'a>(alloc: Global, words: &ArgMatches<'a>) -> Result<ValidWords<'
     Ok(ValidWords { network, offsets })
 }
 
+fn plan_words<'a>(words: &ArgMatches<'a>) -> Result<PlanWords<'a>, WordsFault>
+    ensures read { IfOk result (IsPlanOf (rows_of (found_of words.now))) }
+    ensures not_refused { IfErr result (λ fault. IsRefused fault → ⊥) }
+{
+    let Some(network) = words.get_str("NET") else {
+        return Err(WordsFault::Unknown);
+    };
+    let workers = number_or(words.get_str("workers"), 1, 1)?;
+    let steps = number_or(words.get_str("steps"), MAX_STEPS, DEFAULT_STEPS)?;
+    Ok(PlanWords {
+        network,
+        workers,
+        steps,
+        plan: words.get_str("plan"),
+        cert: words.get_str("cert"),
+    })
+}
+
+/// The number that a word is, from 1 to `most`; the default where there is no word.
+fn number_or(word: Option<&str>, most: usize, default: usize) -> Result<usize, WordsFault>
+    requires some { 1 ≤ default }
+    requires within { default ≤ most }
+    ensures some { IfOk result (λ number. 1 ≤ number) }
+    ensures most { IfOk result (λ number. number ≤ most) }
+    ensures value { IfOk result (IsNumberOr (option_map (λ word. word.now) word.entry) default) }
+    ensures not_refused { IfErr result (λ fault. IsRefused fault → ⊥) }
+{
+    let Some(word) = word else {
+        return Ok(default);
+    };
+    match word.parse::<usize>() {
+        Ok(number) if 1 <= number && number <= most => Ok(number),
+        _ => Err(WordsFault::Unknown),
+    }
+}
+
 fn check_words<'a>(words: &ArgMatches<'a>) -> Result<CheckWords<'a>, WordsFault>
     ensures read { IfOk result (IsCheckOf (rows_of (found_of words.now))) }
     ensures not_refused { IfErr result (λ fault. IsRefused fault → ⊥) }
@@ -149,6 +257,16 @@ fn check_words<'a>(words: &ArgMatches<'a>) -> Result<CheckWords<'a>, WordsFault>
         plan,
         cert,
     })
+}
+
+fn gates_words<'a>(words: &ArgMatches<'a>) -> Result<GatesWords<'a>, WordsFault>
+    ensures read { IfOk result (IsGatesOf (rows_of (found_of words.now))) }
+    ensures not_refused { IfErr result (λ fault. IsRefused fault → ⊥) }
+{
+    let (Some(network), Some(plan)) = (words.get_str("NET"), words.get_str("PLAN")) else {
+        return Err(WordsFault::Unknown);
+    };
+    Ok(GatesWords { network, plan })
 }
 
 fn offsets_of(alloc: Global, words: &[&str]) -> Result<Vec<u64>, WordsFault>

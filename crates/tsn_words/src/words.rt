@@ -7,6 +7,12 @@ use thiserror::Error;
 /// The greatest offset, in nanoseconds.
 pub const MAX_OFFSET: u64 = 2_000_000_000;
 
+/// The most nodes that a run may be asked to settle.
+pub const MAX_STEPS: usize = 1_000_000_000;
+
+/// The most nodes that a run settles where the words don't say.
+pub const DEFAULT_STEPS: usize = 1_000_000;
+
 /// `valid NET OFFSET..`: judge some offsets.
 #[derive(Drop)]
 pub struct ValidWords<'a> {
@@ -29,11 +35,40 @@ pub struct CheckWords<'a> {
     pub cert: &'a str,
 }
 
+/// `gates NET PLAN`: print the gate control lists of a plan.
+#[derive(Clone, Copy)]
+pub struct GatesWords<'a> {
+    /// The network file, or `-` for standard input.
+    pub network: &'a str,
+    /// The plan file.
+    pub plan: &'a str,
+}
+
+/// `plan NET`: plan a network.
+#[derive(Clone, Copy)]
+pub struct PlanWords<'a> {
+    /// The network file, or `-` for standard input.
+    pub network: &'a str,
+    /// How many workers plan: one.
+    pub workers: usize,
+    /// The most nodes that may be settled, 1 to `MAX_STEPS`.
+    pub steps: usize,
+    /// The file that the plan is written to, if any.
+    pub plan: Option<&'a str>,
+    /// The file that the certificate is written to, if any.
+    pub cert: Option<&'a str>,
+    pub ghost one: { workers ≡ 1 },
+    pub ghost some: { 1 ≤ steps },
+    pub ghost few: { steps ≤ 1000000000 },
+}
+
 /// A command, with its words.
 #[derive(Drop)]
 pub enum Words<'a> {
     Valid(ValidWords<'a>),
+    Plan(PlanWords<'a>),
     Check(CheckWords<'a>),
+    Gates(GatesWords<'a>),
 }
 
 /// Why there is no command.

@@ -7,6 +7,7 @@ use Rattle.tsn_model.specs.Places.{IsNodeRight, next_places, pending}
 use Rattle.tsn_check.specs.Turns.{decisions, places_at}
 use Rattle.tsn_check.specs.Steps.{HasFault}
 use Rattle.tsn_check.proofs.Walks.{start_places, node_there, walk_more, all_filled, fault_there, unfinished_there}
+use Rattle.tsn_check.proofs.Kept.{turns_in, branch_of}
 use Rattle.tsn_check.proofs.tree.check_tree.Goals as goal
 
 pub loop-number-init : goal.loop-number-init
@@ -26,7 +27,8 @@ returns-then-not-open-clause-err c =
     )
 
 pub judge-requires-clause-turns : goal.judge-requires-clause-turns
-judge-requires-clause-turns c = rw c.deref.ensures.value c.loop-number.invariant.turns
+judge-requires-clause-turns c =
+    rw c.deref.ensures.value (turns_in c.args.timing.now c.args.conflicts.now c.requires.conflicts c.loop-number.path.items c.loop-number.invariant.turns)
 
 pub returns-in-Err-clause-err : goal.returns-in-Err-clause-err
 returns-in-Err-clause-err c =
@@ -36,6 +38,10 @@ returns-in-Err-clause-err c =
     let wrong : HasFault c.args.timing.now c.args.target path node c.in-Err.fault = rw c.deref.ensures.value at c.in-Err.ensures in
     rw c.at.ensures (inr (fault_there c.args.timing.now c.args.target (map tree_node c.args.nodes.now) c.loop-number.number path node c.in-Err.fault
     c.loop-number.invariant.right (c.loop-number.invariant.places ∙ ap (λ is_open. places_at is_open path) c.if-not-open.false) there wrong))
+
+pub go_on-requires-clause-conflict : goal.go_on-requires-clause-conflict
+go_on-requires-clause-conflict c =
+    branch_of c.args.timing.now c.args.conflicts.now c.requires.conflicts c.args.target (decisions c.deref.result.now) (tree_node c.index-nodes-number.result) c.in_default.ensures
 
 pub go_on-requires-clause-turns : goal.go_on-requires-clause-turns
 go_on-requires-clause-turns c = c.loop-number.invariant.turns

@@ -1,0 +1,24 @@
+use Rattle.std.proofs.Common.{◌∙◌, sym, ap, arith}
+use Rattle.tsn_model.specs.Timing.{occupancy}
+use Rattle.tsn_model.proofs.Routes.{hop_on_found, hop_on_link}
+use Rattle.tsn_gate.proofs.Occupancies.{window_is}
+use Rattle.tsn_gate.proofs.windows.stream_window.Goals as goal
+
+pub start-requires-clause-hop : goal.start-requires-clause-hop
+start-requires-clause-hop c =
+    let found = hop_on_found c.args.timing.now c.args.stream c.args.link c.in_ok-hop.hop (sym c.hop_on.ensures ∙ c.in_ok-hop.was) in
+    let below = found.1 in
+    omega arith
+
+pub occ-requires-clause-hop : goal.occ-requires-clause-hop
+occ-requires-clause-hop c =
+    let found = hop_on_found c.args.timing.now c.args.stream c.args.link c.in_ok-hop.hop (sym c.hop_on.ensures ∙ c.in_ok-hop.was) in
+    let below = found.1 in
+    omega arith
+
+pub returns-clause-window : goal.returns-clause-window
+returns-clause-window c =
+    let at = sym c.hop_on.ensures ∙ c.in_ok-hop.was in
+    let found = hop_on_found c.args.timing.now c.args.stream c.args.link c.in_ok-hop.hop at in
+    window_is c.args.timing.now c.args.offsets.now c.args.link c.args.stream c.start.result c.occ.result (c.start.ensures.value ∙ found.2)
+    (c.occ.ensures.value ∙ ap (occupancy c.args.timing.now c.args.stream) (hop_on_link c.args.timing.now c.args.stream c.args.link c.in_ok-hop.hop at))

@@ -1,0 +1,15 @@
+//! Gate control lists (IEEE Std 802.1Q-2018, clause 8.6.8.4): those that a schedule asks for, and others' lists.
+#![tactic(auto)]
+
+pub mod fault;
+pub mod laws;
+pub mod list;
+pub mod lists;
+mod sweep;
+mod timeline;
+mod windows;
+
+pub use fault::GateFault;
+pub use list::GateList;
+pub use lists::gate_lists;
+pub use tsn_model::{GateEntry, NoMemory};

@@ -1,0 +1,144 @@
+//! Looks at nodes of the search.
+
+use crate::timing::{FAST, LOOP, ONE, TWO, star, timing_of};
+use std::process::Abort;
+use std::test::Fail;
+use tsn_branch::outcome::Look;
+use tsn_branch::{Node, Side, Triple, fits, look};
+use tsn_conflict::conflicts;
+use tsn_timing::Timing;
+
+/// The node one decision below, on which of the first two streams goes first on a link.
+fn below(rt: &impl Abort, node: &Node, link: usize, side: Side) -> Result<Node, Fail> {
+    let triple = Triple {
+        left: 0,
+        right: 1,
+        link,
+    };
+    assert!(rt; node.path().iter().all(|decision| decision.triple != triple));
+    Ok(node.child(triple, side)?)
+}
+
+/// What a look finds, in words.
+fn found<R: Abort + AllocGlobal>(
+    rt: &R,
+    timing: &Timing,
+    node: &Node,
+    target: u64,
+) -> Result<String, Fail> {
+    let alloc = rt.alloc();
+    let shared = conflicts(alloc, timing)?;
+    assert!(rt; fits(&shared, node));
+    Ok(match look(alloc, timing, &shared, node, target)? {
+        Look::Split(triple) => {
+            format!(in alloc; "split {} {} {}", triple.left, triple.right, triple.link)?
+        }
+        Look::Solved { valid, bound, leaf } => {
+            format!(in alloc; "solved {:?} {bound} {leaf:?}", valid.offsets())?
+        }
+        Look::Pruned { bound, leaf } => format!(in alloc; "pruned {bound} {leaf:?}")?,
+        Look::Refuted(leaf) => format!(in alloc; "refuted {leaf:?}")?,
+    })
+}
+
+/// Looks at a node, which is to find this.
+fn expect_look<R: Abort + AllocGlobal>(
+    rt: &R,
+    timing: &Timing,
+    node: &Node,
+    target: u64,
+    answer: &str,
+) -> Result<(), Fail> {
+    let text = found(rt, timing, node, target)?;
+    assert_eq!(rt; text.as_str(), answer);
+    Ok(())
+}
+
+#[test]
+fn splits_solves_and_prunes(rt: HostRuntime) -> Result<(), Fail> {
+    let alloc = rt.alloc();
+    let timing = star(alloc, 1_000_000, FAST, TWO)?;
+    let root = Node::root(alloc);
+    let left = below(&rt, &root, 4, Side::Left)?;
+    let right = below(&rt, &root, 4, Side::Right)?;
+    for (node, target, answer) in [
+        (&root, 1_000_001, "split 0 1 4"),
+        (&root, 2_252, "pruned 2252 Late(0, Chain { depths: [] })"),
+        (
+            &left,
+            1_000_001,
+            "solved [0, 672] 2924 Late(1, Chain { depths: [0] })",
+        ),
+        (
+            &left,
+            2_925,
+            "solved [0, 672] 2924 Late(1, Chain { depths: [0] })",
+        ),
+        (&left, 2_924, "pruned 2924 Late(1, Chain { depths: [0] })"),
+        (&right, 2_924, "pruned 2924 Late(0, Chain { depths: [0] })"),
+    ] {
+        expect_look(&rt, &timing, node, target, answer)?;
+    }
+    Ok(())
+}
+
+#[test]
+fn spans_end_within_the_cycle(rt: HostRuntime) -> Result<(), Fail> {
+    let alloc = rt.alloc();
+    // An overrun goes before a flowspan that is the target.
+    for (cycle, target, answer) in [
+        (2_297, 2_298, "refuted Overrun(0, Chain { depths: [] })"),
+        (2_297, 2_252, "refuted Overrun(0, Chain { depths: [] })"),
+        (
+            2_298,
+            2_299,
+            "solved [0] 2252 Late(0, Chain { depths: [] })",
+        ),
+    ] {
+        let timing = star(alloc, cycle, FAST, ONE)?;
+        expect_look(&rt, &timing, &Node::root(alloc), target, answer)?;
+    }
+    Ok(())
+}
+
+#[test]
+fn cycles_of_positive_sum_refute(rt: HostRuntime) -> Result<(), Fail> {
+    let alloc = rt.alloc();
+    let timing = timing_of(alloc, LOOP)?;
+    let root = Node::root(alloc);
+    // The arcs weigh 672 and 2016: from stream 1 to 0, and back.
+    let crossed = below(&rt, &below(&rt, &root, 4, Side::Right)?, 12, Side::Left)?;
+    // These weigh 672 and -672, and a sum of 0 refutes nothing.
+    let level = below(&rt, &below(&rt, &root, 4, Side::Left)?, 12, Side::Right)?;
+    for (node, target, answer) in [
+        (
+            &crossed,
+            1_000_001,
+            "refuted Cycle(Chain { depths: [0, 1] })",
+        ),
+        (
+            &level,
+            1_000_001,
+            "solved [0, 672] 3648 Late(0, Chain { depths: [] })",
+        ),
+        (
+            &level.copy()?,
+            3_648,
+            "pruned 3648 Late(0, Chain { depths: [] })",
+        ),
+    ] {
+        expect_look(&rt, &timing, node, target, answer)?;
+    }
+    Ok(())
+}
+
+#[test]
+fn strange_nodes_dont_fit(rt: HostRuntime) -> Result<(), Fail> {
+    let alloc = rt.alloc();
+    let shared = conflicts(alloc, &star(alloc, 1_000_000, FAST, TWO)?)?;
+    let known = below(&rt, &Node::root(alloc), 4, Side::Left)?;
+    assert!(rt; fits(&shared, &known));
+    // One of the two streams alone uses link 2.
+    assert!(rt; !fits(&shared, &below(&rt, &known, 2, Side::Left)?));
+    Ok(())
+}

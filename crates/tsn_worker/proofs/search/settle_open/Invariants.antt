@@ -1,0 +1,9 @@
+use Rattle.std.proofs.Common.{◌-◌, length}
+use Rattle.tsn_worker.specs.Search.{IsSearchOf}
+use Rattle.tsn_worker.proofs.search.settle_open.Given as goal
+
+abbrev pub invariant-settlements : goal.invariant-settlements
+invariant-settlements g l = IsSearchOf l.timing l.limit l.book
+
+abbrev pub decreases-settlements : goal.decreases-settlements
+decreases-settlements g l = l.limit - length l.book.history
