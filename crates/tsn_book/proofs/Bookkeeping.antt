@@ -1,5 +1,5 @@
 -- What a book keeps beside its places, after one more settlement.
-use Rattle.std.proofs.Common.{◌≡◌, ◌≢◌, ℕ, zero, suc, ◌+◌, ◌≤◌, ◌<◌, min, List, [], ◌∷◌, ◌++◌, length, get_or, set, fold, filter, All, Bool, not, refl, sym, ap, ◌∙◌, subst, arith, inl, inr, Option, Some, None}
+use Rattle.std.proofs.Common.{◌≡◌, ◌≢◌, ℕ, zero, suc, ◌+◌, ◌≤◌, ◌<◌, min, List, [], ◌∷◌, ◌++◌, length, get_or, set, fold, filter, All, Bool, false, not, refl, sym, ap, ◌∙◌, subst, arith, inl, inr, Option, Some, None}
 use Rattle.std.specs.Prelude.{replicate, ◌==◌, MatchOption}
 use Rattle.std.specs.List.{slice_index_or, flat_map}
 use Rattle.std.proofs.lemmas.Bool.{cases_lt, cases_eq, cond-true, cond-false, lt-ltb, le-ltb}
@@ -28,7 +28,7 @@ use Rattle.tsn_book.specs.declared.arena.Standing.{Standing}
 use Rattle.tsn_book.specs.declared.arena.Standing.TheVariants.{Open}
 use Rattle.tsn_book.specs.declared.arena.Settled.{Settled}
 use Rattle.tsn_branch.specs.Outcome.{outcome_of}
-use Rattle.tsn_book.specs.Arena.{paths_of, settlement_of, history_of, IsEvent, IsTree, IsBelow, CountsAt, at_place}
+use Rattle.tsn_book.specs.Arena.{paths_of, settlement_of, history_of, IsEvent, IsTree, AreClosed, ClosedAt}
 use Rattle.tsn_book.specs.Book.{child_count, kept_after, tally_after, IsKept, IsSummary, IsBook, IsLawful}
 use Rattle.tsn_book.proofs.Growing.{event_stays, event_new}
 use Rattle.tsn_book.proofs.Places.{length-paths_of}
@@ -226,25 +226,25 @@ tally_few network history k tally same =
 -- a book with nothing settled
 pub start_book : (network : Network) (origins : List Origin) (standings : List Standing) (events : List Settled) (limit cycle tellers : ℕ) → IsTree network origins standings events → standings ≡ Open ∷ []
     → history_of origins events ≡ [] → events ≡ [] → cycle ≡ network.cycle → IsWellFormed network
-    → IsBook network origins standings events (1 ∷ []) limit (cycle + 1) None (replicate tellers (0, cycle + 1, cycle + 1))
+    → IsBook network origins standings events (false ∷ []) limit 1 (cycle + 1) None (replicate tellers (0, cycle + 1, cycle + 1))
 start_book network origins standings events limit cycle tellers tree root nothing none same formed =
     record {
       tree = tree;
-      below = subst (λ ss. IsBelow ss (1 ∷ [])) (sym root) (record { counted = refl; each = λ place within. root_counts place within });
+      closed = subst (λ ss. AreClosed ss (false ∷ [])) (sym root) (record { counted = refl; each = λ place within. root_flags place within });
       within_limit = omega (arith, ap length none);
       summary = subst (λ h. IsSummary network h 1 (cycle + 1) None (replicate tellers (0, cycle + 1, cycle + 1))) (sym nothing) (empty_summary network cycle tellers same);
       formed = formed;
     }
   where
-    root_counts : (place : ℕ) → place < 1 → CountsAt (1 ∷ []) place (slice_index_or (Open ∷ []) place Open)
-    root_counts zero within = refl
-    root_counts (suc place) within = absurd (omega (arith, within))
+    root_flags : (place : ℕ) → place < 1 → ClosedAt (false ∷ []) place (slice_index_or (Open ∷ []) place Open)
+    root_flags zero within = refl
+    root_flags (suc place) within = absurd (omega (arith, within))
 
 -- what a book keeps to
-pub lawful : (network : Network) (origins : List Origin) (standings : List Standing) (events : List Settled) (counts : List ℕ) (limit best : ℕ) (kept : Option ℕ) (tallies : List (ℕ × ℕ × ℕ))
-    → IsBook network origins standings events counts limit best kept tallies
+pub lawful : (network : Network) (origins : List Origin) (standings : List Standing) (events : List Settled) (flags : List Bool) (limit open_count best : ℕ) (kept : Option ℕ) (tallies : List (ℕ × ℕ × ℕ))
+    → IsBook network origins standings events flags limit open_count best kept tallies
     → IsLawful (record { network = network; tellers = length tallies; limit = limit; history = history_of origins events })
-lawful network origins standings events counts limit best kept tallies book =
+lawful network origins standings events flags limit open_count best kept tallies book =
     let history = history_of origins events in
     record {
       legal = book.tree.legal;
@@ -255,35 +255,28 @@ lawful network origins standings events counts limit best kept tallies book =
     }
 
 -- after one more settlement
-pub book_grows : (network : Network) (origins : List Origin) (standings : List Standing) (events : List Settled) (counts : List ℕ) (limit best : ℕ) (kept : Option ℕ) (tallies : List (ℕ × ℕ × ℕ))
-    → IsBook network origins standings events counts limit best kept tallies
+pub book_grows : (network : Network) (origins : List Origin) (standings : List Standing) (events : List Settled) (flags : List Bool) (limit open_count best : ℕ) (kept : Option ℕ) (tallies : List (ℕ × ℕ × ℕ))
+    → IsBook network origins standings events flags limit open_count best kept tallies
     → (teller : ℕ) (path : List Decision) (outcome : Outcome) → teller < length tallies → length (history_of origins events) < limit → IsAllowed network (history_of origins events) (record { path = path; outcome = outcome })
-    → (network' : Network) (origins' : List Origin) (standings' : List Standing) (events' : List Settled) (counts' : List ℕ) → network' ≡ network → IsTree network' origins' standings' events' → IsBelow standings' counts'
+    → (network' : Network) (origins' : List Origin) (standings' : List Standing) (events' : List Settled) (flags' : List Bool) → network' ≡ network → IsTree network' origins' standings' events' → AreClosed standings' flags'
     → history_of origins' events' ≡ history_of origins events ++ record { teller = teller; event = record { path = path; outcome = outcome } } ∷ []
-    → at_place counts' 0 + 1 ≡ at_place counts 0 + child_count outcome
-    → (new_best : ℕ) (new_kept : Option ℕ) (new_tally : ℕ × ℕ × ℕ) (number : ℕ) → number ≡ length events
+    → (new_count new_best : ℕ) (new_kept : Option ℕ) (new_tally : ℕ × ℕ × ℕ) (number : ℕ) → number ≡ length events → new_count + 1 ≡ open_count + child_count outcome
     → new_best ≡ fold min best (solved_bound outcome) → new_kept ≡ kept_after kept best number outcome → new_tally ≡ tally_after (slice_index_or tallies teller (0, 0, 0)) outcome
-    → IsBook network' origins' standings' events' counts' limit new_best new_kept (set tallies teller new_tally)
-book_grows network origins standings events counts limit best kept tallies before teller path outcome is_teller below allowed network' origins' standings' events' counts' same_network tree' below' longer counted new_best new_kept new_tally number next lowered keeping tallying =
+    → IsBook network' origins' standings' events' flags' limit new_count new_best new_kept (set tallies teller new_tally)
+book_grows network origins standings events flags limit open_count best kept tallies before teller path outcome is_teller below allowed network' origins' standings' events' flags' same_network tree' closed' longer new_count new_best new_kept new_tally number next opened lowered keeping tallying =
     let history = history_of origins events in
     let settlement : Settlement = record { teller = teller; event = record { path = path; outcome = outcome } } in
     let as_many = length-history_of origins events in
     let sum : length (history_of origins' events') ≡ length history + 1 = ap length longer ∙ length-append history (settlement ∷ []) in
-    let after = summary_grows network history teller path outcome before.tree.legal (at_place counts 0) best kept tallies before.summary allowed is_teller (at_place counts' 0) new_best new_kept new_tally number (next ∙ sym as_many) counted lowered keeping tallying in
+    let after = summary_grows network history teller path outcome before.tree.legal open_count best kept tallies before.summary allowed is_teller new_count new_best new_kept new_tally number (next ∙ sym as_many) opened lowered keeping tallying in
     record {
       tree = tree';
-      below = below';
+      closed = closed';
       within_limit = omega (arith, sum, below, length-history_of origins' events');
-      summary = subst (λ n. IsSummary n (history_of origins' events') (at_place counts' 0) new_best new_kept (set tallies teller new_tally)) (sym same_network)
-          (subst (λ h. IsSummary network h (at_place counts' 0) new_best new_kept (set tallies teller new_tally)) (sym longer) after);
+      summary = subst (λ n. IsSummary n (history_of origins' events') new_count new_best new_kept (set tallies teller new_tally)) (sym same_network)
+          (subst (λ h. IsSummary network h new_count new_best new_kept (set tallies teller new_tally)) (sym longer) after);
       formed = subst IsWellFormed (sym same_network) before.formed;
     }
-
--- few enough open places
-pub root_few : (network : Network) (origins : List Origin) (standings : List Standing) (events : List Settled) (counts : List ℕ) (limit best : ℕ) (kept : Option ℕ) (tallies : List (ℕ × ℕ × ℕ))
-    → IsBook network origins standings events counts limit best kept tallies → at_place counts 0 ≤ length origins
-root_few network origins standings events counts limit best kept tallies book =
-    omega (arith, open_few network origins standings events book.tree, book.summary.counted)
 
 -- what is kept is valid, with the least flowspan that was solved
 pub kept_best : (network : Network) (history : List Settlement) → IsLegal network history → (offsets : List ℕ) → kept_of network history ≡ Some offsets
@@ -297,16 +290,16 @@ unfolding target_of
 none_best network history legal none = sym (kept_target network history legal) ∙ ap (target_of network) none
 
 -- the offsets of the event that a book keeps, as they are read
-pub book_keeps : (network : Network) (origins : List Origin) (standings : List Standing) (events : List Settled) (counts : List ℕ) (limit best : ℕ) (kept : Option ℕ) (tallies : List (ℕ × ℕ × ℕ))
-    → IsBook network origins standings events counts limit best kept tallies → (number : ℕ) → kept ≡ Some number → (read : Settled) → read ≡ get_or events number read
+pub book_keeps : (network : Network) (origins : List Origin) (standings : List Standing) (events : List Settled) (flags : List Bool) (limit open_count best : ℕ) (kept : Option ℕ) (tallies : List (ℕ × ℕ × ℕ))
+    → IsBook network origins standings events flags limit open_count best kept tallies → (number : ℕ) → kept ≡ Some number → (read : Settled) → read ≡ get_or events number read
     → (offsets : List ℕ) × HasOffsets offsets (outcome_of read.look) × (kept_of network (history_of origins events) ≡ Some offsets)
-book_keeps network origins standings events counts limit best kept tallies book number is read there =
+book_keeps network origins standings events flags limit open_count best kept tallies book number is read there =
     let stored = (kept_is_stored network origins events number (subst (IsKept network (history_of origins events)) is book.summary.kept)).1 read there in
     (stored.0, stored_offsets stored.0 stored.1 stored.2 (outcome_of read.look) stored.3, stored.4)
 
-pub keeps_within : (network : Network) (origins : List Origin) (standings : List Standing) (events : List Settled) (counts : List ℕ) (limit best : ℕ) (kept : Option ℕ) (tallies : List (ℕ × ℕ × ℕ))
-    → IsBook network origins standings events counts limit best kept tallies → (number : ℕ) → kept ≡ Some number → number < length events
-keeps_within network origins standings events counts limit best kept tallies book number is =
+pub keeps_within : (network : Network) (origins : List Origin) (standings : List Standing) (events : List Settled) (flags : List Bool) (limit open_count best : ℕ) (kept : Option ℕ) (tallies : List (ℕ × ℕ × ℕ))
+    → IsBook network origins standings events flags limit open_count best kept tallies → (number : ℕ) → kept ≡ Some number → number < length events
+keeps_within network origins standings events flags limit open_count best kept tallies book number is =
     (kept_is_stored network origins events number (subst (IsKept network (history_of origins events)) is book.summary.kept)).0
 
 -- the least solved flowspan is a target

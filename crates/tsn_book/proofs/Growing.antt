@@ -2,7 +2,7 @@
 use Rattle.std.proofs.Common.{◌≡◌, ◌≢◌, ℕ, zero, suc, ◌+◌, ◌-◌, ◌≤◌, ◌<◌, List, [], ◌∷◌, ◌++◌, map, length, get_or, set, All, AllPairs, Contains, false, ◌||◌, refl, sym, ap, ◌∙◌, subst, arith, append_assoc, inl, inr, Some}
 use Rattle.std.specs.List.{slice_index_or}
 use Rattle.std.proofs.lemmas.Bool.{cases_lt, cases_eq}
-use Rattle.std.proofs.lemmas.List.{append-nil, length-append, length-set, length-map, map-append, get_or_append_left, get_or-append_right, get_or-set_same, get_or-set_other}
+use Rattle.std.proofs.lemmas.List.{append-nil, length-append, length-set, length-map, map-append, get_or_append_left, get_or-append-add, get_or-append_right, get_or-set_same, get_or-set_other}
 use Rattle.std.proofs.lemmas.List.Elements.{Contains-get_or, All-append, All-cons, All-nil, All-head, All-tail, All-weaker}
 use Rattle.std.proofs.lemmas.Option.{slice_get-get_or, get_or_from_slice_get}
 use Rattle.tsn_model.specs.declared.Triple.{Triple}
@@ -21,8 +21,8 @@ use Rattle.tsn_book.specs.declared.arena.Settled.{Settled}
 use Rattle.tsn_branch.specs.declared.outcome.Look.{Look}
 use Rattle.tsn_branch.specs.declared.outcome.Look.TheVariants.{Split as FoundSplit}
 use Rattle.tsn_branch.specs.Outcome.{outcome_of}
-use Rattle.tsn_book.specs.Arena.{path_at, path_from, with_path, paths_of, settlement_of, history_of, IsEvent, IsPlaced, IsTree, IsOpenPlace, IsLeafOutcome}
-use Rattle.tsn_book.proofs.Places.{paths_of-snoc, length-paths_of, path_at-left, path_at-right, open_place}
+use Rattle.tsn_book.specs.Arena.{path_at, path_from, with_path, paths_of, settlement_of, history_of, IsEvent, IsPlaced, IsTree, IsOpenPlace, IsLeafOutcome, IsAfterParent}
+use Rattle.tsn_book.proofs.Places.{paths_of-snoc, length-paths_of, path_at-left, path_at-right}
 
 -- ---- settlements stay
 
@@ -214,17 +214,40 @@ split_paths origins place triple below =
     ∙ ap (λ path. (paths ++ (path_at paths place ++ left ∷ []) ∷ []) ++ (path ++ right ∷ []) ∷ []) (path_at-left paths ((path_at paths place ++ left ∷ []) ∷ []) place inside)
     ∙ append_assoc paths ((path_at paths place ++ left ∷ []) ∷ []) ((path_at paths place ++ right ∷ []) ∷ [])
 
+-- a split's two places stand after it
+one_parent_more : (origins : List Origin) (parent : ℕ) (decision : Decision) → ((k : ℕ) → k < length origins → IsAfterParent k (slice_index_or origins k Root)) → parent < length origins
+    → (k : ℕ) → k < length (origins ++ Child parent decision ∷ []) → IsAfterParent k (slice_index_or (origins ++ Child parent decision ∷ []) k Root)
+one_parent_more origins parent decision parents below k within =
+    elim (cases_lt k (length origins)) [
+      | inl earlier ↦ subst (IsAfterParent k) (sym (get_or_append_left origins (Child parent decision ∷ []) Root k earlier)) (parents k earlier)
+      | inr past ↦
+          let last : k ≡ length origins + 0 = omega (arith, within, past, length-append origins (Child parent decision ∷ [])) in
+          let is : get_or (origins ++ Child parent decision ∷ []) k Root ≡ Child parent decision = ap (λ n. get_or (origins ++ Child parent decision ∷ []) n Root) last ∙ get_or-append-add origins (Child parent decision ∷ []) 0 Root in
+          let after : parent < k = omega (arith, below, past) in
+          subst (IsAfterParent k) (sym is) after
+    ]
+
+split_parents : (origins : List Origin) → ((k : ℕ) → k < length origins → IsAfterParent k (slice_index_or origins k Root)) → (place : ℕ) (triple : Triple) → place < length origins
+    → let more = (origins ++ Child place (record { triple = triple; side = Left }) ∷ []) ++ Child place (record { triple = triple; side = Right }) ∷ [] in
+    (k : ℕ) → k < length more → IsAfterParent k (slice_index_or more k Root)
+split_parents origins parents place triple below =
+    let left : Decision = record { triple = triple; side = Left } in
+    let right : Decision = record { triple = triple; side = Right } in
+    let longer : place < length (origins ++ Child place left ∷ []) = omega (arith, below, length-append origins (Child place left ∷ [])) in
+    one_parent_more (origins ++ Child place left ∷ []) place right (one_parent_more origins place left parents below) longer
+
 -- the tree after a settlement at an open place, with its history
 pub tree_grows : (network : Network) (origins : List Origin) (standings : List Standing) (events : List Settled) → IsTree network origins standings events
     → (place teller : ℕ) (found : Look) → IsOpenPlace standings place → IsRight network (history_of origins events) (path_at (paths_of origins) place) (outcome_of found)
     → (more : List Origin) → paths_of more ≡ paths_of origins ++ children_of (path_at (paths_of origins) place) (outcome_of found)
+    → ((k : ℕ) → k < length more → IsAfterParent k (slice_index_or more k Root))
     → (standing : Standing) (opens : List Standing) → ((k : ℕ) → get_or opens k Open ≡ Open) → length opens ≡ length (children_of (path_at (paths_of origins) place) (outcome_of found))
     → let settlement : Settlement = record { teller = teller; event = record { path = path_at (paths_of origins) place; outcome = outcome_of found } } in
     IsPlaced (paths_of origins ++ children_of (path_at (paths_of origins) place) (outcome_of found)) (history_of origins events ++ settlement ∷ []) place standing
     → IsTree network more (set standings place standing ++ opens) (events ++ record { teller = teller; place = place; look = found } ∷ [])
     × (history_of more (events ++ record { teller = teller; place = place; look = found } ∷ []) ≡ history_of origins events ++ settlement ∷ [])
 unfolding settlement_of
-tree_grows network origins standings events tree place teller found at right more longer standing opens all_open as_many settled =
+tree_grows network origins standings events tree place teller found at right more longer parents standing opens all_open as_many settled =
     let paths = paths_of origins in
     let history = history_of origins events in
     let path = path_at paths place in
@@ -248,6 +271,7 @@ tree_grows network origins standings events tree place teller found at right mor
             subst (λ ps. IsPlaced ps (history_of more (events ++ one ∷ [])) p (slice_index_or (set standings place standing ++ opens) p Open)) (sym longer)
             (subst (λ h. IsPlaced (paths ++ extra) h p (slice_index_or (set standings place standing ++ opens) p Open)) (sym same) (after.placed p fits));
         within = All-weaker (λ (s : Settled). s.place < length origins) (λ (s : Settled). s.place < length more) (λ s low. omega (arith, low, wider)) (events ++ one ∷ []) inside;
+        parents = parents;
       },
       same,
     )
@@ -297,7 +321,7 @@ split_grows network origins standings events tree place teller children number t
       ap (path_at (paths ++ extra)) (sym second) ∙ path_at-right paths extra 1 ∙ second_of path triple ∙ ap (λ p. decided p triple Right) same_path,
       omega (arith, below, first_child),
     ) in
-    let grown_tree = tree_grows network origins standings events tree place teller (FoundSplit triple) at right more (split_paths origins place triple below) standing (Open ∷ Open ∷ []) two_open refl settled in
+    let grown_tree = tree_grows network origins standings events tree place teller (FoundSplit triple) at right more (split_paths origins place triple below) (split_parents origins tree.parents place triple below) standing (Open ∷ Open ∷ []) two_open refl settled in
     (subst (λ ss. IsTree network more ss (events ++ one ∷ [])) (sym (append_assoc (set standings place standing) (Open ∷ []) (Open ∷ []))) grown_tree.0, grown_tree.1)
 
 -- a leaf has no children, and its path ends there
@@ -332,7 +356,7 @@ leaf_grows network origins standings events tree place teller number found next 
       subst (λ p. IsEvent (history ++ settlement ∷ []) number p outcome) same_path (event_new history teller path outcome number (next ∙ sym (length-map events (settlement_of paths)))),
       subst (λ p. ends_of p outcome ≡ p ∷ []) same_path parts.1,
     ) in
-    let grown_tree = tree_grows network origins standings events tree place teller found at right origins longer (Leaf number) [] (λ k. refl) (sym (ap length parts.0)) settled in
+    let grown_tree = tree_grows network origins standings events tree place teller found at right origins longer tree.parents (Leaf number) [] (λ k. refl) (sym (ap length parts.0)) settled in
     (subst (λ ss. IsTree network origins ss (events ++ one ∷ [])) (append-nil (set standings place (Leaf number))) grown_tree.0, grown_tree.1)
 
 -- the tree of the root alone
@@ -345,37 +369,13 @@ root_tree network =
       counted = refl;
       placed = λ place below. root_placed place below;
       within = All-nil (λ (s : Settled). s.place < 1);
+      parents = λ place below. root_parents place below;
     }
   where
+    root_parents : (place : ℕ) → place < 1 → IsAfterParent place (slice_index_or (Root ∷ []) place Root)
+    root_parents zero below = tt
+    root_parents (suc place) below = absurd (omega (arith, below))
+
     root_placed : (place : ℕ) → place < 1 → IsPlaced (paths_of (Root ∷ [])) [] place (slice_index_or (Open ∷ []) place Open)
     root_placed zero below = refl
     root_placed (suc place) below = absurd (omega (arith, below))
-
--- ---- settlements by their paths
-
--- the tree after an open path is split
-pub split_settles : (network : Network) (origins : List Origin) (standings : List Standing) (events : List Settled) → IsTree network origins standings events
-    → (path : List Decision) (place teller children number : ℕ) (triple : Triple) → place < length origins → path_at (paths_of origins) place ≡ path → Contains (open_paths (history_of origins events)) path
-    → children ≡ length origins → number ≡ length events → IsRight network (history_of origins events) path (split triple)
-    → let more = (origins ++ Child place (record { triple = triple; side = Left }) ∷ []) ++ Child place (record { triple = triple; side = Right }) ∷ [] in
-    let one : Settled = record { teller = teller; place = place; look = FoundSplit triple } in
-    IsTree network more ((set standings place (Split triple children number) ++ Open ∷ []) ++ Open ∷ []) (events ++ one ∷ [])
-    × (history_of more (events ++ one ∷ []) ≡ history_of origins events ++ record { teller = teller; event = record { path = path; outcome = split triple } } ∷ [])
-split_settles network origins standings events tree path place teller children number triple below same found first_child next right =
-    let at = open_place network origins standings events tree place below (subst (Contains (open_paths (history_of origins events))) (sym same) found) in
-    let grown_tree = split_grows network origins standings events tree place teller children number triple first_child next at
-    (subst (λ p. IsRight network (history_of origins events) p (split triple)) (sym same) right) in
-    (grown_tree.0, grown_tree.1 ∙ ap (λ p. history_of origins events ++ record { teller = teller; event = record { path = p; outcome = split triple } } ∷ []) same)
-
--- the tree after an open path is closed
-pub leaf_settles : (network : Network) (origins : List Origin) (standings : List Standing) (events : List Settled) → IsTree network origins standings events
-    → (path : List Decision) (place teller number : ℕ) (found : Look) → place < length origins → path_at (paths_of origins) place ≡ path → Contains (open_paths (history_of origins events)) path
-    → number ≡ length events → IsRight network (history_of origins events) path (outcome_of found) → IsLeafOutcome (outcome_of found)
-    → let one : Settled = record { teller = teller; place = place; look = found } in
-    IsTree network origins (set standings place (Leaf number)) (events ++ one ∷ [])
-    × (history_of origins (events ++ one ∷ []) ≡ history_of origins events ++ record { teller = teller; event = record { path = path; outcome = outcome_of found } } ∷ [])
-leaf_settles network origins standings events tree path place teller number found below same there next right leaf =
-    let at = open_place network origins standings events tree place below (subst (Contains (open_paths (history_of origins events))) (sym same) there) in
-    let grown_tree = leaf_grows network origins standings events tree place teller number found next at
-    (subst (λ p. IsRight network (history_of origins events) p (outcome_of found)) (sym same) right) leaf in
-    (grown_tree.0, grown_tree.1 ∙ ap (λ p. history_of origins events ++ record { teller = teller; event = record { path = p; outcome = outcome_of found } } ∷ []) same)

@@ -18,6 +18,7 @@ use Rattle.tsn_search_laws.proofs.Lists.{snoc_induction, Contains-cons, Contains
 use Rattle.tsn_search_laws.proofs.Paths.{path_eq-true, path_eq-refl, path_eq-false, decided-parts, nil-ne-decided}
 use Rattle.tsn_search_laws.proofs.Histories.{settled_at, parent_settled, settled_is_made, settled_once, open_is_made, open_not_settled, child_of}
 use Rattle.tsn_book.specs.declared.arena.Origin.{Origin}
+use Rattle.tsn_book.specs.declared.arena.Origin.TheVariants.{Root, Child}
 use Rattle.tsn_book.specs.declared.arena.Standing.{Standing}
 use Rattle.tsn_book.specs.declared.arena.Standing.TheVariants.{Open, Split, Leaf}
 use Rattle.tsn_book.specs.declared.arena.Settled.{Settled}
@@ -281,13 +282,70 @@ stops_below network origins standings events tree path place k decision below so
 pub stands_as : (standings : List Standing) (place : ℕ) → place < length standings → (standing is : Standing) → standing ≡ get_or standings place standing → standing ≡ is → slice_index_or standings place Open ≡ is
 stands_as standings place within standing is read same = get_or_default standings place Open standing within ∙ sym read ∙ same
 
--- a place whose path is open is open
-pub open_place : (network : Network) (origins : List Origin) (standings : List Standing) (events : List Settled) → IsTree network origins standings events → (place : ℕ) → place < length origins
-    → Contains (open_paths (history_of origins events)) (path_at (paths_of origins) place) → IsOpenPlace standings place
-open_place network origins standings events tree place below found =
-    record { within = omega (arith, below, tree.counted); is_open = stands (slice_index_or standings place Open) (tree.placed place below) }
+-- ---- parents
+
+-- a child's path is its parent's, and one decision
+pub child_path : (origins : List Origin) (place parent : ℕ) (decision : Decision) → place < length origins → slice_index_or origins place Root ≡ Child parent decision → parent < place
+    → path_at (paths_of origins) place ≡ path_at (paths_of origins) parent ++ decision ∷ []
+unfolding path_at path_from
+child_path =
+    snoc_induction (λ origins. (place parent : ℕ) (decision : Decision) → place < length origins → slice_index_or origins place Root ≡ Child parent decision → parent < place
+    → path_at (paths_of origins) place ≡ path_at (paths_of origins) parent ++ decision ∷ [])
+    (λ place parent decision within is before. absurd (omega (arith, within)))
+    (λ origins origin known place parent decision within is before.
+    let paths = paths_of origins in
+    let one = paths_of-snoc origins origin in
+    let extra = path_from paths origin ∷ [] in
+    let many = length-paths_of origins in
+    let total : place < length origins + 1 = omega (arith, within, length-append origins (origin ∷ [])) in
+    elim (cases_lt place (length origins)) [
+      | inl earlier ↦
+          let at : place < length paths = omega (arith, earlier, many) in
+          let its : parent < length paths = omega (arith, earlier, before, many) in
+          ap (λ ps. path_at ps place) one ∙ path_at-left paths extra place at
+          ∙ known place parent decision earlier (sym (get_or_append_left origins (origin ∷ []) Root place earlier) ∙ is) before
+          ∙ ap (λ p. p ++ decision ∷ []) (sym (path_at-left paths extra parent its) ∙ ap (λ ps. path_at ps parent) (sym one))
+      | inr past ↦
+          let last : place ≡ length origins + 0 = omega (arith, total, past) in
+          let here : origin ≡ Child parent decision = sym (get_or-append-add origins (origin ∷ []) 0 Root) ∙ ap (λ k. get_or (origins ++ origin ∷ []) k Root) (sym last) ∙ is in
+          let at : place ≡ length paths + 0 = omega (arith, last, many) in
+          let its : parent < length paths = omega (arith, at, before) in
+          ap (λ ps. path_at ps place) one ∙ ap (path_at (paths ++ extra)) at ∙ path_at-right paths extra 0 ∙ first_at (path_from paths origin) ∙ from_parent paths origin parent decision here
+          ∙ ap (λ p. p ++ decision ∷ []) (sym (path_at-left paths extra parent its) ∙ ap (λ ps. path_at ps parent) (sym one))
+    ])
   where
-    stands : (standing : Standing) → IsPlaced (paths_of origins) (history_of origins events) place standing → standing ≡ Open
-    stands Open placed = refl
-    stands (Split triple children event) placed = absurd (settled_not_open (history_of origins events) (path_at (paths_of origins) place) (split triple) event placed.0 found)
-    stands (Leaf event) placed = absurd (settled_not_open (history_of origins events) (path_at (paths_of origins) place) placed.0 event placed.1 found)
+    first_at : (path : List Decision) → path_at (path ∷ []) 0 ≡ path
+    first_at path = refl
+
+    from_parent : (paths : List (List Decision)) (origin : Origin) (parent : ℕ) (decision : Decision) → origin ≡ Child parent decision → path_from paths origin ≡ path_at paths parent ++ decision ∷ []
+    from_parent paths origin parent decision is = ap (path_from paths) is
+
+-- the root's path is empty
+pub root_path : (origins : List Origin) (place : ℕ) → place < length origins → slice_index_or origins place Root ≡ Root → path_at (paths_of origins) place ≡ []
+unfolding path_at path_from
+root_path =
+    snoc_induction (λ origins. (place : ℕ) → place < length origins → slice_index_or origins place Root ≡ Root → path_at (paths_of origins) place ≡ [])
+    (λ place within is. absurd (omega (arith, within)))
+    (λ origins origin known place within is.
+    let paths = paths_of origins in
+    let one = paths_of-snoc origins origin in
+    let extra = path_from paths origin ∷ [] in
+    let many = length-paths_of origins in
+    let total : place < length origins + 1 = omega (arith, within, length-append origins (origin ∷ [])) in
+    elim (cases_lt place (length origins)) [
+      | inl earlier ↦
+          let at : place < length paths = omega (arith, earlier, many) in
+          ap (λ ps. path_at ps place) one ∙ path_at-left paths extra place at
+          ∙ known place earlier (sym (get_or_append_left origins (origin ∷ []) Root place earlier) ∙ is)
+      | inr past ↦
+          let last : place ≡ length origins + 0 = omega (arith, total, past) in
+          let here : origin ≡ Root = sym (get_or-append-add origins (origin ∷ []) 0 Root) ∙ ap (λ k. get_or (origins ++ origin ∷ []) k Root) (sym last) ∙ is in
+          let at : place ≡ length paths + 0 = omega (arith, last, many) in
+          ap (λ ps. path_at ps place) one ∙ ap (path_at (paths ++ extra)) at ∙ path_at-right paths extra 0 ∙ first_at (path_from paths origin) ∙ from_root paths origin here
+    ])
+  where
+    first_at : (path : List Decision) → path_at (path ∷ []) 0 ≡ path
+    first_at path = refl
+
+    from_root : (paths : List (List Decision)) (origin : Origin) → origin ≡ Root → path_from paths origin ≡ []
+    from_root paths origin is = ap (path_from paths) is

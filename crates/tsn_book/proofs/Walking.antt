@@ -1,6 +1,7 @@
--- The walk to the first open place, by the numbers of open places below.
-use Rattle.std.proofs.Common.{◌≡◌, ◌≢◌, ℕ, ◌+◌, ◌<◌, List, [], ◌∷◌, ◌++◌, length, get_or, All, AllPairs, Contains, refl, sym, ap, ◌∙◌, subst, arith, append_assoc, ◌⊎◌, inl, inr}
+-- The walk to the first open place, by which places are closed.
+use Rattle.std.proofs.Common.{◌≡◌, ◌≢◌, ℕ, ◌+◌, ◌<◌, List, [], ◌∷◌, ◌++◌, Bool, true, length, get_or, All, AllPairs, Contains, refl, sym, ap, ◌∙◌, subst, arith, append_assoc, ◌⊎◌, inl, inr}
 use Rattle.std.specs.List.{slice_index_or}
+use Rattle.std.proofs.lemmas.Bool.{both_ways, and_parts}
 use Rattle.std.proofs.lemmas.List.{append-nil, length-append, get_or_default, get_or_append_left, get_or-append-add}
 use Rattle.std.proofs.lemmas.List.Elements.{Contains-get_or}
 use Rattle.tsn_model.specs.declared.Triple.{Triple}
@@ -17,7 +18,7 @@ use Rattle.tsn_book.specs.declared.arena.Origin.{Origin}
 use Rattle.tsn_book.specs.declared.arena.Standing.{Standing}
 use Rattle.tsn_book.specs.declared.arena.Standing.TheVariants.{Open, Split, Leaf}
 use Rattle.tsn_book.specs.declared.arena.Settled.{Settled}
-use Rattle.tsn_book.specs.Arena.{path_at, paths_of, history_of, IsEvent, IsPlaced, IsTree, IsOpenPlace, CountsAt, IsBelow, IsAhead, at_place}
+use Rattle.tsn_book.specs.Arena.{path_at, paths_of, history_of, IsEvent, IsPlaced, IsTree, IsOpenPlace, ClosedAt, AreClosed, IsAhead, flag_at}
 use Rattle.tsn_book.proofs.Places.{length-paths_of, event_among, same_settlement, split_of_made, nothing_below, left_child, right_child, made_beginning, settled_not_open, decided_by, root_place}
 use Rattle.tsn_book.proofs.Asking.{open_at}
 
@@ -42,26 +43,26 @@ step_made network history legal path rest decision found =
     made_beginning network history legal (path ++ decision ∷ []) rest
     (subst (Contains (made_paths history)) (sym (append_assoc path (decision ∷ []) rest)) (open_is_made history (path ++ decision ∷ rest) found))
 
--- a place with a count of 0 isn't open itself
-pub not_open_itself : (network : Network) (origins : List Origin) (standings : List Standing) (events : List Settled) → IsTree network origins standings events → (below : List ℕ) (place : ℕ) (standing : Standing)
-    → IsPlaced (paths_of origins) (history_of origins events) place standing → CountsAt below place standing → at_place below place ≡ 0 → Contains (open_paths (history_of origins events)) (path_at (paths_of origins) place) → ⊥
-not_open_itself network origins standings events tree below place Open placed count none found = absurd (omega (arith, count, none))
-not_open_itself network origins standings events tree below place (Split triple children event) placed count none found =
+-- a closed place isn't open itself
+pub not_open_itself : (network : Network) (origins : List Origin) (standings : List Standing) (events : List Settled) → IsTree network origins standings events → (closed : List Bool) (place : ℕ) (standing : Standing)
+    → IsPlaced (paths_of origins) (history_of origins events) place standing → ClosedAt closed place standing → flag_at closed place ≡ true → Contains (open_paths (history_of origins events)) (path_at (paths_of origins) place) → ⊥
+not_open_itself network origins standings events tree closed place Open placed count none found = absurd (both_ways (flag_at closed place) count none)
+not_open_itself network origins standings events tree closed place (Split triple children event) placed count none found =
     settled_not_open (history_of origins events) (path_at (paths_of origins) place) (split triple) event placed.0 found
-not_open_itself network origins standings events tree below place (Leaf event) placed count none found =
+not_open_itself network origins standings events tree closed place (Leaf event) placed count none found =
     settled_not_open (history_of origins events) (path_at (paths_of origins) place) placed.0 event placed.1 found
 
 -- the place at the next step of an open path below a split
-pub record NextPlace (origins : List Origin) (below : List ℕ) (place children : ℕ) (rest : List Decision) (history : List Settlement) : Type 0 where
+pub record NextPlace (origins : List Origin) (closed : List Bool) (place children : ℕ) (rest : List Decision) (history : List Settlement) : Type 0 where
   pub next : ℕ
   pub within : next < length origins
   pub one_of : (next ≡ children) ⊎ (next ≡ children + 1)
   pub there : Contains (open_paths history) (path_at (paths_of origins) next ++ rest)
 
-pub next_place : (network : Network) (origins : List Origin) (standings : List Standing) (events : List Settled) → IsTree network origins standings events → (below : List ℕ) (place : ℕ) (triple : Triple) (children event : ℕ)
+pub next_place : (network : Network) (origins : List Origin) (standings : List Standing) (events : List Settled) → IsTree network origins standings events → (closed : List Bool) (place : ℕ) (triple : Triple) (children event : ℕ)
     → IsPlaced (paths_of origins) (history_of origins events) place (Split triple children event) → (decision : Decision) (rest : List Decision)
-    → Contains (open_paths (history_of origins events)) (path_at (paths_of origins) place ++ decision ∷ rest) → (side : Side) → decision.side ≡ side → NextPlace origins below place children rest (history_of origins events)
-next_place network origins standings events tree below place triple children event placed decision rest found Left side =
+    → Contains (open_paths (history_of origins events)) (path_at (paths_of origins) place ++ decision ∷ rest) → (side : Side) → decision.side ≡ side → NextPlace origins closed place children rest (history_of origins events)
+next_place network origins standings events tree closed place triple children event placed decision rest found Left side =
     let history = history_of origins events in
     let path = path_at (paths_of origins) place in
     let same = same_triple network history tree.legal path triple event placed.0 decision (step_made network history tree.legal path rest decision found) in
@@ -72,7 +73,7 @@ next_place network origins standings events tree below place triple children eve
       one_of = inl refl;
       there = subst (λ p. Contains (open_paths history) (p ++ rest)) (sym child.1) (subst (Contains (open_paths history)) (sym (append_assoc path (decision ∷ []) rest)) found);
     }
-next_place network origins standings events tree below place triple children event placed decision rest found Right side =
+next_place network origins standings events tree closed place triple children event placed decision rest found Right side =
     let history = history_of origins events in
     let path = path_at (paths_of origins) place in
     let same = same_triple network history tree.legal path triple event placed.0 decision (step_made network history tree.legal path rest decision found) in
@@ -85,33 +86,34 @@ next_place network origins standings events tree below place triple children eve
     }
 
 -- an open path goes on below a split alone
-pub step_below : (network : Network) (origins : List Origin) (standings : List Standing) (events : List Settled) → IsTree network origins standings events → (below : List ℕ) (place : ℕ) (standing : Standing)
-    → IsPlaced (paths_of origins) (history_of origins events) place standing → CountsAt below place standing → at_place below place ≡ 0 → (decision : Decision) (rest : List Decision)
+pub step_below : (network : Network) (origins : List Origin) (standings : List Standing) (events : List Settled) → IsTree network origins standings events → (closed : List Bool) (place : ℕ) (standing : Standing)
+    → IsPlaced (paths_of origins) (history_of origins events) place standing → ClosedAt closed place standing → flag_at closed place ≡ true → (decision : Decision) (rest : List Decision)
     → Contains (open_paths (history_of origins events)) (path_at (paths_of origins) place ++ decision ∷ rest)
-    → ((next : ℕ) → next < length origins → at_place below next ≡ 0 → Contains (open_paths (history_of origins events)) (path_at (paths_of origins) next ++ rest) → ⊥) → ⊥
-step_below network origins standings events tree below place Open placed count none decision rest found further = absurd (omega (arith, count, none))
-step_below network origins standings events tree below place (Leaf event) placed count none decision rest found further =
+    → ((next : ℕ) → next < length origins → flag_at closed next ≡ true → Contains (open_paths (history_of origins events)) (path_at (paths_of origins) next ++ rest) → ⊥) → ⊥
+step_below network origins standings events tree closed place Open placed count none decision rest found further = absurd (both_ways (flag_at closed place) count none)
+step_below network origins standings events tree closed place (Leaf event) placed count none decision rest found further =
     nothing_below network origins standings events tree place decision (Leaf event) placed tt (step_made network (history_of origins events) tree.legal (path_at (paths_of origins) place) rest decision found)
-step_below network origins standings events tree below place (Split triple children event) placed count none decision rest found further =
-    let to = next_place network origins standings events tree below place triple children event placed decision rest found decision.side refl in
-    let left : at_place below children ≡ 0 = omega (arith, count, none) in
-    let right : at_place below (children + 1) ≡ 0 = omega (arith, count, none) in
+step_below network origins standings events tree closed place (Split triple children event) placed count none decision rest found further =
+    let to = next_place network origins standings events tree closed place triple children event placed decision rest found decision.side refl in
+    let both = and_parts (flag_at closed children) (flag_at closed (children + 1)) (sym count ∙ none) in
+    let left : flag_at closed children ≡ true = both.0 in
+    let right : flag_at closed (children + 1) ≡ true = both.1 in
     elim to.one_of [
-      | inl is ↦ further to.next to.within (ap (at_place below) is ∙ left) to.there
-      | inr is ↦ further to.next to.within (ap (at_place below) is ∙ right) to.there
+      | inl is ↦ further to.next to.within (ap (flag_at closed) is ∙ left) to.there
+      | inr is ↦ further to.next to.within (ap (flag_at closed) is ∙ right) to.there
     ]
 
--- nothing is open where the count is 0
-pub none_open : (network : Network) (origins : List Origin) (standings : List Standing) (events : List Settled) → IsTree network origins standings events → (below : List ℕ) → IsBelow standings below
-    → (rest : List Decision) (place : ℕ) → place < length origins → at_place below place ≡ 0 → Contains (open_paths (history_of origins events)) (path_at (paths_of origins) place ++ rest) → ⊥
-none_open network origins standings events tree below counts [] place within none found =
+-- nothing is open below a closed place
+pub none_open : (network : Network) (origins : List Origin) (standings : List Standing) (events : List Settled) → IsTree network origins standings events → (closed : List Bool) → AreClosed standings closed
+    → (rest : List Decision) (place : ℕ) → place < length origins → flag_at closed place ≡ true → Contains (open_paths (history_of origins events)) (path_at (paths_of origins) place ++ rest) → ⊥
+none_open network origins standings events tree closed flags [] place within none found =
     let inside : place < length standings = omega (arith, within, tree.counted) in
-    not_open_itself network origins standings events tree below place (slice_index_or standings place Open) (tree.placed place within) (counts.each place inside) none
+    not_open_itself network origins standings events tree closed place (slice_index_or standings place Open) (tree.placed place within) (flags.each place inside) none
     (subst (Contains (open_paths (history_of origins events))) (append-nil (path_at (paths_of origins) place)) found)
-none_open network origins standings events tree below counts (decision ∷ rest) place within none found =
+none_open network origins standings events tree closed flags (decision ∷ rest) place within none found =
     let inside : place < length standings = omega (arith, within, tree.counted) in
-    step_below network origins standings events tree below place (slice_index_or standings place Open) (tree.placed place within) (counts.each place inside) none decision rest found
-    (none_open network origins standings events tree below counts rest)
+    step_below network origins standings events tree closed place (slice_index_or standings place Open) (tree.placed place within) (flags.each place inside) none decision rest found
+    (none_open network origins standings events tree closed flags rest)
 
 -- ---- what comes after the walk's path
 
@@ -138,13 +140,13 @@ before_longer path other decision before = (
 )
 
 -- an open path that goes on below a split, seen from the child that the walk takes
-pub turn : (network : Network) (origins : List Origin) (standings : List Standing) (events : List Settled) → IsTree network origins standings events → (below : List ℕ) → IsBelow standings below
+pub turn : (network : Network) (origins : List Origin) (standings : List Standing) (events : List Settled) → IsTree network origins standings events → (closed : List Bool) → AreClosed standings closed
     → (place : ℕ) (triple : Triple) (children event : ℕ) → IsPlaced (paths_of origins) (history_of origins events) place (Split triple children event) → (decision : Decision) (rest other : List Decision)
     → other ≡ path_at (paths_of origins) place ++ decision ∷ rest → Contains (open_paths (history_of origins events)) (path_at (paths_of origins) place ++ decision ∷ rest)
-    → (side its : Side) → decision.side ≡ its → (side ≡ Left) ⊎ (at_place below children ≡ 0)
+    → (side its : Side) → decision.side ≡ its → (side ≡ Left) ⊎ (flag_at closed children ≡ true)
     → ((more : List Decision) × (other ≡ (path_at (paths_of origins) place ++ record { triple = triple; side = side } ∷ []) ++ more)) ⊎ PathBefore (path_at (paths_of origins) place ++ record { triple = triple; side = side } ∷ []) other
 unfolding decided
-turn network origins standings events tree below counts place triple children event placed decision rest other is found side its same_side why =
+turn network origins standings events tree closed flags place triple children event placed decision rest other is found side its same_side why =
     let history = history_of origins events in
     let path = path_at (paths_of origins) place in
     let same = same_triple network history tree.legal path triple event placed.0 decision (step_made network history tree.legal path rest decision found) in
@@ -154,7 +156,7 @@ turn network origins standings events tree below counts place triple children ev
     ∙ ap (λ s. (path ++ record { triple = triple; side = s } ∷ []) ++ rest) same_side in
     by_sides side its same_side why parted
   where
-    by_sides : (side its : Side) → decision.side ≡ its → (side ≡ Left) ⊎ (at_place below children ≡ 0)
+    by_sides : (side its : Side) → decision.side ≡ its → (side ≡ Left) ⊎ (flag_at closed children ≡ true)
         → other ≡ (path_at (paths_of origins) place ++ record { triple = triple; side = its } ∷ []) ++ rest
         → ((more : List Decision) × (other ≡ (path_at (paths_of origins) place ++ record { triple = triple; side = side } ∷ []) ++ more)) ⊎ PathBefore (path_at (paths_of origins) place ++ record { triple = triple; side = side } ∷ []) other
     by_sides Left Left same_side why parts = inl (rest, parts)
@@ -167,16 +169,16 @@ turn network origins standings events tree below counts place triple children ev
           | inr none ↦
               let history = history_of origins events in
               let to = left_child network origins standings events tree place triple children event placed (record { triple = triple; side = Left }) refl refl in
-              absurd (none_open network origins standings events tree below counts rest children to.0 none
+              absurd (none_open network origins standings events tree closed flags rest children to.0 none
               (subst (λ p. Contains (open_paths history) (p ++ rest)) (sym to.1) (subst (Contains (open_paths history)) (sym is ∙ parts) found)))
         ]
 
 -- a step of the walk: to the left child, or to the right one where nothing is open below the left one
-pub step_ahead : (network : Network) (origins : List Origin) (standings : List Standing) (events : List Settled) → IsTree network origins standings events → (below : List ℕ) → IsBelow standings below
+pub step_ahead : (network : Network) (origins : List Origin) (standings : List Standing) (events : List Settled) → IsTree network origins standings events → (closed : List Bool) → AreClosed standings closed
     → (place : ℕ) (triple : Triple) (children event : ℕ) → IsPlaced (paths_of origins) (history_of origins events) place (Split triple children event) → (side : Side)
-    → (side ≡ Left) ⊎ (at_place below children ≡ 0)
+    → (side ≡ Left) ⊎ (flag_at closed children ≡ true)
     → IsAhead (history_of origins events) (path_at (paths_of origins) place) → IsAhead (history_of origins events) (path_at (paths_of origins) place ++ record { triple = triple; side = side } ∷ [])
-step_ahead network origins standings events tree below counts place triple children event placed side why ahead other found =
+step_ahead network origins standings events tree closed flags place triple children event placed side why ahead other found =
     let history = history_of origins events in
     let path = path_at (paths_of origins) place in
     let step : Decision = record { triple = triple; side = side } in
@@ -190,7 +192,7 @@ step_ahead network origins standings events tree below counts place triple child
     from_rest [] is at =
         absurd (settled_not_open (history_of origins events) (path_at (paths_of origins) place) (split triple) event placed.0
         (subst (Contains (open_paths (history_of origins events))) (append-nil (path_at (paths_of origins) place)) at))
-    from_rest (decision ∷ rest) is at = turn network origins standings events tree below counts place triple children event placed decision rest other is at side decision.side refl why
+    from_rest (decision ∷ rest) is at = turn network origins standings events tree closed flags place triple children event placed decision rest other is at side decision.side refl why
 
 -- an open place that is ahead of all others is the first
 pub open_is_first : (network : Network) (origins : List Origin) (standings : List Standing) (events : List Settled) → IsTree network origins standings events → (place : ℕ) → IsOpenPlace standings place
@@ -216,25 +218,25 @@ open_is_first network origins standings events tree place at ahead =
         absurd (nothing_below network origins standings events tree place decision Open placed tt
         (step_made network (history_of origins events) tree.legal (path_at (paths_of origins) place) rest decision (subst (Contains (open_paths (history_of origins events))) is found)))
 
--- where the root's count is 0 nothing is open
-pub nothing_open : (network : Network) (origins : List Origin) (standings : List Standing) (events : List Settled) → IsTree network origins standings events → (below : List ℕ) → IsBelow standings below
-    → at_place below 0 ≡ 0 → open_paths (history_of origins events) ≡ []
-nothing_open network origins standings events tree below counts none =
+-- where the root is closed nothing is open
+pub nothing_open : (network : Network) (origins : List Origin) (standings : List Standing) (events : List Settled) → IsTree network origins standings events → (closed : List Bool) → AreClosed standings closed
+    → flag_at closed 0 ≡ true → open_paths (history_of origins events) ≡ []
+nothing_open network origins standings events tree closed flags none =
     let root = root_place network origins standings events tree in
     empty_from (open_paths (history_of origins events)) (λ path found.
-    none_open network origins standings events tree below counts path 0 root.0 none
+    none_open network origins standings events tree closed flags path 0 root.0 none
     (subst (λ p. Contains (open_paths (history_of origins events)) (p ++ path)) (sym root.1) found))
   where
     empty_from : (paths : List (List Decision)) → ((path : List Decision) → Contains paths path → ⊥) → paths ≡ []
     empty_from [] no_path = refl
     empty_from (path ∷ paths) no_path = absurd (no_path path (Contains-here path paths))
 
--- what is counted below a place, by its standing as it is read
-pub counts_as : (network : Network) (origins : List Origin) (standings : List Standing) (events : List Settled) → IsTree network origins standings events → (below : List ℕ) → IsBelow standings below
-    → (place : ℕ) → place < length origins → (standing is : Standing) → standing ≡ get_or standings place standing → standing ≡ is → CountsAt below place is
-counts_as network origins standings events tree below counts place within standing is read same =
+-- whether a place is closed, by its standing as it is read
+pub closed_as : (network : Network) (origins : List Origin) (standings : List Standing) (events : List Settled) → IsTree network origins standings events → (closed : List Bool) → AreClosed standings closed
+    → (place : ℕ) → place < length origins → (standing is : Standing) → standing ≡ get_or standings place standing → standing ≡ is → ClosedAt closed place is
+closed_as network origins standings events tree closed flags place within standing is read same =
     let inside : place < length standings = omega (arith, within, tree.counted) in
-    subst (CountsAt below place) (get_or_default standings place Open standing inside ∙ sym read ∙ same) (counts.each place inside)
+    subst (ClosedAt closed place) (get_or_default standings place Open standing inside ∙ sym read ∙ same) (flags.each place inside)
 
 -- a place's path was made
 pub place_made : (network : Network) (origins : List Origin) (standings : List Standing) (events : List Settled) → IsTree network origins standings events → (place : ℕ) → place < length origins

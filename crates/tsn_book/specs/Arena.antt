@@ -3,7 +3,8 @@
 --     history_of               what was settled, with the paths
 --     IsPlaced, IsTree         what is known of a place, and of all of them
 --     IsStop                   where a walk along a path ends
-use Rattle.std.specs.Prelude.{Bool, true, ◌≢◌, ◌≡◌, ℕ, ◌<◌, ◌≤◌, ◌+◌, ◌⊎◌, List, [], ◌∷◌, ◌++◌, map, fold, length, All, Contains, Some, None, position, false, slice_get, vec_len, vec_capacity}
+--     AreClosed                where nothing is open any longer
+use Rattle.std.specs.Prelude.{Bool, true, ◌&&◌, ◌≢◌, ◌≡◌, ℕ, ◌<◌, ◌≤◌, ◌+◌, ◌⊎◌, List, [], ◌∷◌, ◌++◌, map, fold, length, All, Contains, Some, None, position, false, slice_get, vec_len, vec_capacity}
 use Rattle.std.specs.List.{slice_index_or}
 use Rattle.tsn_model.specs.declared.Triple.{Triple}
 use Rattle.tsn_model.specs.declared.Side.TheVariants.{Left, Right}
@@ -62,6 +63,11 @@ IsPlaced paths history place (Split triple children event) =
 IsPlaced paths history place (Leaf event) =
     (outcome : search.Outcome) × IsEvent history event (path_at paths place) outcome × (ends_of (path_at paths place) outcome ≡ path_at paths place ∷ [])
 
+-- a parent stands before its children
+abbrev pub IsAfterParent : ℕ → Origin → Type 0
+IsAfterParent place Root = Unit {0}
+IsAfterParent place (Child parent decision) = parent < place
+
 -- the settlements are a legal history, the places are the paths that it made, and each stands as it says
 pub record IsTree (network : Network) (origins : List Origin) (standings : List Standing) (events : List Settled) : Type 0 where
   pub legal : IsLegal network (history_of origins events)
@@ -69,6 +75,7 @@ pub record IsTree (network : Network) (origins : List Origin) (standings : List 
   pub counted : length standings ≡ length origins
   pub placed : (place : ℕ) → place < length origins → IsPlaced (paths_of origins) (history_of origins events) place (slice_index_or standings place Open)
   pub within : All (λ settled. settled.place < length origins) events
+  pub parents : (place : ℕ) → place < length origins → IsAfterParent place (slice_index_or origins place Root)
 
 -- the same of an arena
 abbrev pub IsArena : Tree → Type 0
@@ -107,20 +114,20 @@ pub record HasRoom (tree : Tree) : Type 0 where
   pub standings : vec_len tree.standings + 2 ≤ vec_capacity tree.standings
   pub events : vec_len tree.events + 1 ≤ vec_capacity tree.events
 
--- ---- what is open below a place
+-- ---- what is closed
 
-abbrev pub at_place : List ℕ → ℕ → ℕ
-at_place numbers place = slice_index_or numbers place 0
+abbrev pub flag_at : List Bool → ℕ → Bool
+flag_at closed place = slice_index_or closed place false
 
--- how many open places there are at a place and below it: as many as below its children
-abbrev pub CountsAt : List ℕ → ℕ → Standing → Type 0
-CountsAt below place Open = at_place below place ≡ 1
-CountsAt below place (Split triple children event) = at_place below place ≡ at_place below children + at_place below (children + 1)
-CountsAt below place (Leaf event) = at_place below place ≡ 0
+-- whether nothing is open at a place and below it: a leaf is closed, and a split where both its children are
+abbrev pub ClosedAt : List Bool → ℕ → Standing → Type 0
+ClosedAt closed place Open = flag_at closed place ≡ false
+ClosedAt closed place (Split triple children event) = flag_at closed place ≡ (flag_at closed children && flag_at closed (children + 1))
+ClosedAt closed place (Leaf event) = flag_at closed place ≡ true
 
-pub record IsBelow (standings : List Standing) (below : List ℕ) : Type 0 where
-  pub counted : length below ≡ length standings
-  pub each : (place : ℕ) → place < length standings → CountsAt below place (slice_index_or standings place Open)
+pub record AreClosed (standings : List Standing) (closed : List Bool) : Type 0 where
+  pub counted : length closed ≡ length standings
+  pub each : (place : ℕ) → place < length standings → ClosedAt closed place (slice_index_or standings place Open)
 
 -- the open paths that don't begin with the path come after it
 abbrev pub IsAhead : List Settlement → List Decision → Type 0
@@ -134,24 +141,26 @@ pub record IsChildOf (standings : List Standing) (place child : ℕ) : Type 0 wh
   pub stands : slice_index_or standings place Open ≡ Split triple children event
   pub which : (child ≡ children) ⊎ (child ≡ children + 1)
 
--- 1 where it is so, and 1 where it isn't
-abbrev pub one_more : Bool → ℕ
-one_more true = 1
-one_more false = 0
+-- the place became a leaf, and isn't marked as closed yet
+pub record IsNewLeaf (standings : List Standing) (closed : List Bool) (place : ℕ) : Type 0 where
+  pub counted : length closed ≡ length standings
+  pub within : place < length standings
+  pub event : ℕ
+  pub stands : slice_index_or standings place Open ≡ Leaf event
+  pub unmarked : flag_at closed place ≡ false
+  pub others : (other : ℕ) → other < length standings → other ≢ place → ClosedAt closed other (slice_index_or standings other Open)
 
-abbrev pub one_fewer : Bool → ℕ
-one_fewer true = 0
-one_fewer false = 1
+-- the place was marked last, and what is above it isn't looked at yet
+pub record IsClosing (standings : List Standing) (closed : List Bool) (place : ℕ) : Type 0 where
+  pub counted : length closed ≡ length standings
+  pub within : place < length standings
+  pub marked : flag_at closed place ≡ true
+  pub others : (other : ℕ) → other < length standings → (IsChildOf standings other place → ⊥) → ClosedAt closed other (slice_index_or standings other Open)
+  pub above : (other : ℕ) → IsChildOf standings other place → flag_at closed other ≡ false
 
--- the count of the place has `more` added and `fewer` taken, and its children's haven't yet
-abbrev pub CountsOff : ℕ → ℕ → List ℕ → ℕ → Standing → Type 0
-CountsOff more fewer below place Open = at_place below place + fewer ≡ 1 + more
-CountsOff more fewer below place (Split triple children event) = at_place below place + fewer ≡ at_place below children + at_place below (children + 1) + more
-CountsOff more fewer below place (Leaf event) = at_place below place + fewer ≡ more
-
--- the counts while a walk stands at the place
-pub record IsRecounted (standings : List Standing) (more fewer : ℕ) (old below : List ℕ) (place : ℕ) : Type 0 where
-  pub counted : length below ≡ length standings
-  pub others : (other : ℕ) → other < length standings → other ≢ place → CountsAt below other (slice_index_or standings other Open)
-  pub here : CountsOff more fewer below place (slice_index_or standings place Open)
-  pub later : (other : ℕ) → place < other → at_place below other ≡ at_place old other
+-- the place was split into two, which are both closed
+pub record IsParentClosed (standings : List Standing) (closed : List Bool) (parent place : ℕ) : Type 0 where
+  pub of : IsChildOf standings parent place
+  pub before : parent < of.children
+  pub left : flag_at closed of.children ≡ true
+  pub right : flag_at closed (of.children + 1) ≡ true

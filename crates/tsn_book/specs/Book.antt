@@ -1,5 +1,5 @@
 -- What a book knows, and why it refuses an event.
-use Rattle.std.specs.Prelude.{◌≡◌, ℕ, ◌<◌, ◌≤◌, ◌+◌, ◌-◌, ◌^◌, min, fold, List, [], length, All, Contains, Option, Some, None, nat_lt, if◌then◌else◌}
+use Rattle.std.specs.Prelude.{Bool, ◌≡◌, ℕ, ◌<◌, ◌≤◌, ◌+◌, ◌-◌, ◌^◌, min, fold, List, [], length, All, Contains, Option, Some, None, nat_lt, if◌then◌else◌}
 use Rattle.std.specs.List.{slice_index_or}
 use Rattle.tsn_model.specs.declared.Decision.{Decision}
 use Rattle.tsn_model.specs.Network.{Network, IsWellFormed}
@@ -7,7 +7,7 @@ use Rattle.tsn_model.specs.Certificate.{Leaf, Tree, Accepts, Node, Spells}
 use Rattle.tsn_model.specs.Arcs.{conflicts_of}
 use Rattle.tsn_model.specs.Search.{Outcome, split, solved, pruned, refuted, Event, Settlement, open_paths, best_bound, kept_of, solved_bound, pruned_bound, tally_of, IsAllowed, IsLegal}
 use Rattle.tsn_search_laws.specs.Replies.{not_open, limit_met, not_conflict, already_decided, not_met, IsFirstRefusal}
-use Rattle.tsn_book.specs.Arena.{IsEvent, IsTree, IsBelow, history_of, at_place}
+use Rattle.tsn_book.specs.Arena.{IsEvent, IsTree, AreClosed, history_of}
 use Rattle.tsn_book.specs.declared.arena.Origin.{Origin}
 use Rattle.tsn_book.specs.declared.arena.Standing.{Standing}
 use Rattle.tsn_book.specs.declared.arena.Settled.{Settled}
@@ -79,9 +79,9 @@ pub record IsSummary (network : Network) (history : List Settlement) (open_count
   pub tellers : All (λ settlement. settlement.teller < length tallies) history
 
 -- the fields of a book stand for what was settled of a search for that network
-pub record IsBook (network : Network) (origins : List Origin) (standings : List Standing) (events : List Settled) (counts : List ℕ) (limit best : ℕ) (kept_number : Option ℕ) (tallies : List (ℕ × ℕ × ℕ)) : Type 0 where
+pub record IsBook (network : Network) (origins : List Origin) (standings : List Standing) (events : List Settled) (flags : List Bool) (limit open_count best : ℕ) (kept_number : Option ℕ) (tallies : List (ℕ × ℕ × ℕ)) : Type 0 where
   pub tree : IsTree network origins standings events
-  pub below : IsBelow standings counts
+  pub closed : AreClosed standings flags
   pub within_limit : length events ≤ limit
-  pub summary : IsSummary network (history_of origins events) (at_place counts 0) best kept_number tallies
+  pub summary : IsSummary network (history_of origins events) open_count best kept_number tallies
   pub formed : IsWellFormed network

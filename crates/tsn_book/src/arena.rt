@@ -1,12 +1,12 @@
 //! The tree of a search, in an arena. A place is known by its number, and the root has number 0.
-ghost use Rattle.std.specs.Prelude.{◌≡◌, ◌<◌, ◌≤◌, ◌+◌, ◌++◌, ◌∷◌, [], ◌↔◌, IsTrue, length, IfOk, MatchResult, OnOk, MatchOption, Any, Contains, vec_len, vec_capacity};
+ghost use Rattle.std.specs.Prelude.{◌≡◌, ◌<◌, ◌≤◌, ◌+◌, ◌++◌, false, ◌∷◌, [], ◌↔◌, IsTrue, length, IfOk, MatchResult, OnOk, MatchOption, Any, Contains, vec_len, vec_capacity};
 ghost use Rattle.tsn_model.specs.Schedule.{IsConflict};
 ghost use Rattle.tsn_model.specs.Search.{split, made_paths, open_paths, best_bound, IsRight, IsAllowed, IsFirstOpen};
 ghost use Rattle.tsn_branch.specs.Outcome.{outcome_of};
 ghost use Rattle.tsn_branch.specs.Look.{HasProof};
 ghost use Rattle.tsn_book.specs.Event.{event_of};
-ghost use Rattle.tsn_book.specs.Book.{IsFault, child_count};
-ghost use Rattle.tsn_book.specs.Arena.{IsArena, IsStop, settled_in, path_in, IsOpenPlace, IsLeafOutcome, HasRoom, IsBelow, IsAhead, IsChildOf, IsRecounted, one_more, one_fewer, at_place};
+ghost use Rattle.tsn_book.specs.Book.{IsFault};
+ghost use Rattle.tsn_book.specs.Arena.{IsArena, IsStop, settled_in, path_in, IsOpenPlace, IsLeafOutcome, HasRoom, AreClosed, IsAhead, IsNewLeaf, IsClosing, IsParentClosed, flag_at};
 
 use crate::event::Event;
 use crate::fault::BookFault;
@@ -85,7 +85,7 @@ impl Tree {
         requires place { place < length self.now.origins.items }
         ensures { MatchOption result
             (Contains (made_paths (settled_in self.now)) (path_in self.now place ++ decision ∷ []) → ⊥)
-            (λ child. (child < length self.now.origins.items) × (path_in self.now child ≡ path_in self.now place ++ decision ∷ []) × IsChildOf self.now.standings.items place child) }
+            (λ child. (child < length self.now.origins.items) × (path_in self.now child ≡ path_in self.now place ++ decision ∷ [])) }
     {
         let standing = self.standings[place];
         match standing {
@@ -107,35 +107,35 @@ impl Tree {
         }
     }
 
-    /// The open node that is first in preorder; `below` counts the open places at and below each place.
-    pub fn first_open(&self, alloc: Global, below: &[usize]) -> Result<Option<Node>, NoMemory>
+    /// The open node that is first in preorder; `closed` marks each place with nothing open at it or below it.
+    pub fn first_open(&self, alloc: Global, closed: &[bool]) -> Result<Option<Node>, NoMemory>
         requires tree { IsArena self.now }
-        requires below { IsBelow self.now.standings.items below.now }
+        requires closed { AreClosed self.now.standings.items closed.now }
         ensures { let history = settled_in self.now in
             IfOk result (λ first. MatchOption first (open_paths history ≡ []) (IsFirstOpen history)) }
     {
-        if below[0] == 0 {
+        if closed[0] {
             return Ok(None);
         }
         let mut node = Node::root(alloc);
         let mut place = 0;
-        while let Some((child, decision)) = self.first_child(below, place) {
+        while let Some((child, decision)) = self.first_child(closed, place) {
             node.push(decision.triple, decision.side)?;
             place = child;
         }
         Ok(Some(node))
     }
 
-    // The first child of a place below which there are open places, or none where the place is open itself.
-    fn first_child(&self, below: &[usize], place: usize) -> Option<(usize, Decision)>
+    // The first child of a place that isn't closed, or none where the place is open itself.
+    fn first_child(&self, closed: &[bool], place: usize) -> Option<(usize, Decision)>
         requires tree { IsArena self.now }
-        requires below { IsBelow self.now.standings.items below.now }
+        requires closed { AreClosed self.now.standings.items closed.now }
         requires place { place < length self.now.origins.items }
-        requires some { 0 < at_place below.now place }
+        requires some { flag_at closed.now place ≡ false }
         ensures { let history = settled_in self.now in
             MatchOption result (IsOpenPlace self.now.standings.items place)
             (λ next. (place < next.0) × (next.0 < length self.now.origins.items) × (path_in self.now next.0 ≡ path_in self.now place ++ next.1 ∷ [])
-            × (0 < at_place below.now next.0) × (IsAhead history (path_in self.now place) → IsAhead history (path_in self.now next.0))) }
+            × (flag_at closed.now next.0 ≡ false) × (IsAhead history (path_in self.now place) → IsAhead history (path_in self.now next.0))) }
     {
         let standing = self.standings[place];
         match standing {
@@ -146,73 +146,46 @@ impl Tree {
                 children,
                 ..
             } => {
-                let (child, side) = if below[children] > 0 {
-                    (children, Side::Left)
-                } else {
+                let (child, side) = if closed[children] {
                     (children + 1, Side::Right)
+                } else {
+                    (children, Side::Left)
                 };
                 Some((child, Decision { triple, side }))
             }
         }
     }
 
-    /// Counts one more open place, or one fewer, at each place of an open path; answers the place at its end.
-    fn recount(&self, below: &mut [usize], path: &[Decision], more: bool) -> usize
-        requires tree { IsArena self.now }
-        requires below { IsBelow self.now.standings.items below.old }
-        requires open { Contains (open_paths (settled_in self.now)) path.now }
-        requires few { at_place below.old 0 < 9_223_372_036_854_775_808 }
-        ensures place { result < length self.now.origins.items }
-        ensures path { path_in self.now result ≡ path.now }
-        ensures counts { IsRecounted self.now.standings.items (one_more more) (one_fewer more) below.old below.new result }
-        ensures root { at_place below.new 0 + one_fewer more ≡ at_place below.old 0 + one_more more }
-    {
-        let mut place = 0;
-        below[0] = changed(below[0], more);
-        for decision in path {
-            let Some(child) = self.child(place, *decision) else {
-                unreachable!();
-            };
-            below[child] = changed(below[child], more);
-            place = child;
-        }
-        place
-    }
-
     /// Makes room for one more split.
-    pub fn reserve(&mut self, below: &mut Vec<usize>) -> Result<(), AllocError>
+    pub fn reserve(&mut self, closed: &mut Vec<bool>) -> Result<(), AllocError>
         ensures network { self.new.network ≡ self.old.network }
         ensures origins { self.new.origins.items ≡ self.old.origins.items }
         ensures standings { self.new.standings.items ≡ self.old.standings.items }
         ensures events { self.new.events.items ≡ self.old.events.items }
-        ensures below { below.new.items ≡ below.old.items }
+        ensures closed { closed.new.items ≡ closed.old.items }
         ensures room { OnOk result (HasRoom self.new) }
-        ensures room_below { OnOk result (vec_len below.new + 2 ≤ vec_capacity below.new) }
+        ensures room_closed { OnOk result (vec_len closed.new + 2 ≤ vec_capacity closed.new) }
     {
         self.origins.try_reserve(2)?;
         self.standings.try_reserve(2)?;
         self.events.try_reserve(1)?;
-        below.try_reserve(2)
+        closed.try_reserve(2)
     }
 
-    /// Settles an open path as a split.
-    fn split(&mut self, below: &mut Vec<usize>, path: &[Decision], teller: usize, triple: Triple)
+    /// Settles an open place as a split.
+    fn split(&mut self, closed: &mut Vec<bool>, place: usize, teller: usize, triple: Triple)
         requires tree { IsArena self.old }
-        requires below { IsBelow self.old.standings.items below.old.items }
+        requires closed { AreClosed self.old.standings.items closed.old.items }
         requires room { HasRoom self.old }
-        requires room_below { vec_len below.old + 2 ≤ vec_capacity below.old }
-        requires open { Contains (open_paths (settled_in self.old)) path.now }
-        requires few { at_place below.old.items 0 < 9_223_372_036_854_775_808 }
-        requires right { IsRight self.old.network (settled_in self.old) path.now (split triple) }
+        requires room_closed { vec_len closed.old + 2 ≤ vec_capacity closed.old }
+        requires open { IsOpenPlace self.old.standings.items place }
+        requires right { IsRight self.old.network (settled_in self.old) (path_in self.old place) (split triple) }
         ensures tree { IsArena self.new }
         ensures network { self.new.network ≡ self.old.network }
-        ensures history { settled_in self.new
-            ≡ settled_in self.old
-            ++ record { teller = teller; event = record { path = path.now; outcome = split triple } } ∷ [] }
-        ensures below { IsBelow self.new.standings.items below.new.items }
-        ensures opened { at_place below.new.items 0 ≡ at_place below.old.items 0 + 1 }
+        ensures history { settled_in self.new ≡ settled_in self.old
+            ++ record { teller = teller; event = record { path = path_in self.old place; outcome = split triple } } ∷ [] }
+        ensures closed { AreClosed self.new.standings.items closed.new.items }
     {
-        let place = self.recount(below, path, true);
         let children = self.origins.len();
         let event = self.events.len();
         self.standings[place] = Standing::Split {
@@ -232,8 +205,8 @@ impl Tree {
         self.origins.push_reserved(Origin::Child(place, right));
         self.standings.push_reserved(Standing::Open);
         self.standings.push_reserved(Standing::Open);
-        below.push_reserved(1);
-        below.push_reserved(1);
+        closed.push_reserved(false);
+        closed.push_reserved(false);
         self.events.push_reserved(Settled {
             teller,
             place,
@@ -241,78 +214,110 @@ impl Tree {
         });
     }
 
-    /// Settles an open path as a leaf.
-    fn close(&mut self, below: &mut Vec<usize>, path: &[Decision], teller: usize, look: Look)
+    /// Settles an open place as a leaf.
+    fn close(&mut self, closed: &mut Vec<bool>, place: usize, teller: usize, look: Look)
         requires tree { IsArena self.old }
-        requires below { IsBelow self.old.standings.items below.old.items }
+        requires closed { AreClosed self.old.standings.items closed.old.items }
         requires room { HasRoom self.old }
-        requires room_below { vec_len below.old + 2 ≤ vec_capacity below.old }
-        requires open { Contains (open_paths (settled_in self.old)) path.now }
-        requires few { at_place below.old.items 0 < 9_223_372_036_854_775_808 }
-        requires right { IsRight self.old.network (settled_in self.old) path.now (outcome_of look) }
+        requires open { IsOpenPlace self.old.standings.items place }
+        requires right { IsRight self.old.network (settled_in self.old) (path_in self.old place) (outcome_of look) }
         requires leaf { IsLeafOutcome (outcome_of look) }
         ensures tree { IsArena self.new }
         ensures network { self.new.network ≡ self.old.network }
-        ensures history { settled_in self.new
-            ≡ settled_in self.old
-            ++ record { teller = teller; event = record { path = path.now; outcome = outcome_of look } } ∷ [] }
-        ensures below { IsBelow self.new.standings.items below.new.items }
-        ensures closed { at_place below.new.items 0 + 1 ≡ at_place below.old.items 0 }
+        ensures history { settled_in self.new ≡ settled_in self.old
+            ++ record { teller = teller; event = record { path = path_in self.old place; outcome = outcome_of look } } ∷ [] }
+        ensures closed { AreClosed self.new.standings.items closed.new.items }
     {
-        let place = self.recount(below, path, false);
         self.standings[place] = Standing::Leaf(self.events.len());
         self.events.push_reserved(Settled {
             teller,
             place,
             look,
         });
+        self.mark(closed, place);
     }
 
-    /// Settles an open path.
-    pub fn settle(&mut self, below: &mut Vec<usize>, path: &[Decision], teller: usize, look: Look)
-        requires tree { IsArena self.old }
-        requires below { IsBelow self.old.standings.items below.old.items }
-        requires room { HasRoom self.old }
-        requires room_below { vec_len below.old + 2 ≤ vec_capacity below.old }
-        requires open { Contains (open_paths (settled_in self.old)) path.now }
-        requires few { at_place below.old.items 0 < 9_223_372_036_854_775_808 }
-        requires right { IsRight self.old.network (settled_in self.old) path.now (outcome_of look) }
-        ensures tree { IsArena self.new }
-        ensures network { self.new.network ≡ self.old.network }
-        ensures history { settled_in self.new
-            ≡ settled_in self.old
-            ++ record { teller = teller; event = record { path = path.now; outcome = outcome_of look } } ∷ [] }
-        ensures below { IsBelow self.new.standings.items below.new.items }
-        ensures counted { at_place below.new.items 0 + 1 ≡ at_place below.old.items 0 + child_count (outcome_of look) }
+    // Marks a new leaf as closed, and each place above it whose children are both closed now.
+    fn mark(&self, closed: &mut [bool], leaf: usize)
+        requires tree { IsArena self.now }
+        requires leaf { IsNewLeaf self.now.standings.items closed.old leaf }
+        ensures { AreClosed self.now.standings.items closed.new }
     {
-        match look {
-            Look::Split(triple) => self.split(below, path, teller, triple),
-            Look::Solved { valid, bound, leaf } => {
-                self.close(below, path, teller, Look::Solved { valid, bound, leaf })
-            }
-            Look::Pruned { bound, leaf } => {
-                self.close(below, path, teller, Look::Pruned { bound, leaf })
-            }
-            Look::Refuted(leaf) => self.close(below, path, teller, Look::Refuted(leaf)),
+        let mut place = leaf;
+        closed[place] = true;
+        while let Some(parent) = self.next_closed(closed, place) {
+            closed[parent] = true;
+            place = parent;
         }
     }
 
-    /// Whether an event may be settled, where at most `limit` may be and `best` is the least flowspan solved; if not, the
-    /// first reason.
-    pub fn judge(&self, limit: usize, best: u64, event: &Event) -> Result<(), BookFault>
+    // The parent of a place, where both its children are closed.
+    fn next_closed(&self, closed: &[bool], place: usize) -> Option<usize>
+        requires tree { IsArena self.now }
+        requires closing { IsClosing self.now.standings.items closed.now place }
+        ensures { MatchOption result (AreClosed self.now.standings.items closed.now)
+            (λ parent. (parent < place) × IsParentClosed self.now.standings.items closed.now parent place) }
+    {
+        let Origin::Child(parent, _) = self.origins[place] else {
+            return None;
+        };
+        let standing = self.standings[parent];
+        let Standing::Split { children, .. } = standing else {
+            unreachable!();
+        };
+        if !closed[children] {
+            return None;
+        }
+        if closed[children + 1] {
+            Some(parent)
+        } else {
+            None
+        }
+    }
+
+    /// Settles an open place.
+    pub fn settle(&mut self, closed: &mut Vec<bool>, place: usize, teller: usize, look: Look)
+        requires tree { IsArena self.old }
+        requires closed { AreClosed self.old.standings.items closed.old.items }
+        requires room { HasRoom self.old }
+        requires room_closed { vec_len closed.old + 2 ≤ vec_capacity closed.old }
+        requires open { IsOpenPlace self.old.standings.items place }
+        requires right { IsRight self.old.network (settled_in self.old) (path_in self.old place) (outcome_of look) }
+        ensures tree { IsArena self.new }
+        ensures network { self.new.network ≡ self.old.network }
+        ensures history { settled_in self.new ≡ settled_in self.old
+            ++ record { teller = teller; event = record { path = path_in self.old place; outcome = outcome_of look } } ∷ [] }
+        ensures closed { AreClosed self.new.standings.items closed.new.items }
+    {
+        match look {
+            Look::Split(triple) => self.split(closed, place, teller, triple),
+            Look::Solved { valid, bound, leaf } => {
+                self.close(closed, place, teller, Look::Solved { valid, bound, leaf })
+            }
+            Look::Pruned { bound, leaf } => {
+                self.close(closed, place, teller, Look::Pruned { bound, leaf })
+            }
+            Look::Refuted(leaf) => self.close(closed, place, teller, Look::Refuted(leaf)),
+        }
+    }
+
+    /// The open place of an event that may be settled, where at most `limit` may be and `best` is the least flowspan solved;
+    /// else the first reason why it may not.
+    pub fn place_for(&self, limit: usize, best: u64, event: &Event) -> Result<usize, BookFault>
         requires tree { IsArena self.now }
         requires limit { length self.now.events.items ≤ limit }
         requires best { best ≡ best_bound self.now.network (settled_in self.now) }
         requires proof { HasProof self.now.network event.now.node (outcome_of event.now.look) }
         ensures { let history = settled_in self.now in MatchResult result
-            (λ _. (length history < limit) × IsAllowed self.now.network history (event_of event.now))
+            (λ place. IsOpenPlace self.now.standings.items place × (path_in self.now place ≡ event.now.node)
+            × (length history < limit) × IsAllowed self.now.network history (event_of event.now))
             (λ fault. IsFault self.now.network limit history (event_of event.now) fault) }
     {
-        match self.find(event.node.path()) {
-            Stop::Open(_) => {}
+        let place = match self.find(event.node.path()) {
+            Stop::Open(place) => place,
             Stop::Settled(number) => return Err(BookFault::NotOpen(Some(number))),
             Stop::Outside => return Err(BookFault::NotOpen(None)),
-        }
+        };
         if self.events.len() >= limit {
             return Err(BookFault::Limit(self.events.len()));
         }
@@ -333,7 +338,7 @@ impl Tree {
             Look::Solved { .. } => {}
             Look::Refuted(_) => {}
         }
-        Ok(())
+        Ok(place)
     }
 
     /// A tree whose root is open.
@@ -381,12 +386,4 @@ fn same_triple(a: Triple, b: Triple) -> bool
     ensures { IsTrue result ↔ (a ≡ b) }
 {
     a == b
-}
-
-fn changed(count: usize, more: bool) -> usize
-    requires some { 1 ≤ count }
-    requires few { count < 9_223_372_036_854_775_808 }
-    ensures { result + one_fewer more ≡ count + one_more more }
-{
-    if more { count + 1 } else { count - 1 }
 }

@@ -6,7 +6,7 @@ ghost use Rattle.tsn_branch.specs.Outcome.{outcome_of};
 ghost use Rattle.tsn_branch.specs.Look.{HasProof};
 ghost use Rattle.tsn_book.specs.Event.{event_of};
 ghost use Rattle.tsn_search_laws.specs.Laws.{IsBelowBounds};
-ghost use Rattle.tsn_book.specs.Book.{Progress, IsLawful, IsFault, SpellsAccepted, kept_after, tally_after};
+ghost use Rattle.tsn_book.specs.Book.{Progress, IsLawful, IsFault, SpellsAccepted, child_count, kept_after, tally_after};
 
 use crate::arena::Tree;
 use crate::event::Event;
@@ -28,8 +28,9 @@ pub type Tally = (u64, u64, u64);
 #[derive(Drop)]
 pub struct Book {
     tree: Tree,
-    // How many open places there are at and below each place of the tree.
-    below: Vec<usize>,
+    // Of each place of the tree, whether nothing is open at it and below it.
+    closed: Vec<bool>,
+    open_nodes: usize,
     limit: usize,
     // The least flowspan solved, and the number of the first event that solved it.
     best: u64,
@@ -51,8 +52,8 @@ impl Model for Book {
       history = history_of b.tree.origins.items b.tree.events.items;
     } };
 
-    ghost invariant = { λ b. IsBook b.tree.network b.tree.origins.items b.tree.standings.items b.tree.events.items b.below.items
-        b.limit b.best b.kept b.tallies.items };
+    ghost invariant = { λ b. IsBook b.tree.network b.tree.origins.items b.tree.standings.items b.tree.events.items b.closed.items
+        b.limit b.open_nodes b.best b.kept b.tallies.items };
 }
 
 impl Book {
@@ -81,7 +82,8 @@ impl Book {
         let past_cycle = network.cycle() + 1;
         Ok(Book {
             tree: Tree::new(alloc, network)?,
-            below: vec![in alloc; 1]?,
+            closed: vec![in alloc; false]?,
+            open_nodes: 1,
             limit,
             best: past_cycle,
             kept: None,
@@ -98,22 +100,27 @@ impl Book {
         requires proof { HasProof self.old.network event.node (outcome_of event.look) }
         ensures ok { OnOk result (self.new ≡ record self.old { history = self.old.history ++ record { teller = teller; event = event_of event } ∷ [] }) }
         ensures lawful { OnOk result (IsLawful self.new) }
+        ensures network { self.new.network ≡ self.old.network }
+        ensures tellers { self.new.tellers ≡ self.old.tellers }
+        ensures limit { self.new.limit ≡ self.old.limit }
         ensures refused { OnErr result (self.new ≡ self.old) }
         ensures fault { IfErr result (λ refusal. IsFault self.old.network self.old.limit self.old.history (event_of event) refusal.0) }
         ensures returned { IfErr result (λ refusal. refusal.1 ≡ event) }
     {
-        if let Err(fault) = self.tree.judge(self.limit, self.best, &event) {
-            return Err((fault, event));
-        }
-        if self.tree.reserve(&mut self.below).is_err() {
+        let place = match self.tree.place_for(self.limit, self.best, &event) {
+            Ok(place) => place,
+            Err(fault) => return Err((fault, event)),
+        };
+        if self.tree.reserve(&mut self.closed).is_err() {
             return Err((BookFault::Memory, event));
         }
-        let Event { node, look } = event;
+        let look = event.look;
         let number = self.tree.events.len();
+        self.open_nodes = open_after(self.open_nodes, &look);
         self.kept = kept_after(self.kept, self.best, number, &look);
         self.best = best_after(self.best, &look);
         self.tallies[teller] = tally_after(self.tallies[teller], &look);
-        self.tree.settle(&mut self.below, node.path(), teller, look);
+        self.tree.settle(&mut self.closed, place, teller, look);
         Ok(())
     }
 
@@ -130,7 +137,7 @@ impl Book {
         ensures count { result ≡ length (open_paths self.now.history) }
         ensures lawful { IsLawful self.now }
     {
-        self.below[0]
+        self.open_nodes
     }
 
     /// The open node that is first in preorder, a node's Left child before its Right one. The error says that there was no
@@ -139,7 +146,7 @@ impl Book {
         ensures first { IfOk result (λ first. MatchOption first (open_paths self.now.history ≡ []) (IsFirstOpen self.now.history)) }
         ensures lawful { IsLawful self.now }
     {
-        self.tree.first_open(alloc, &self.below)
+        self.tree.first_open(alloc, &self.closed)
     }
 
     /// What a teller settled.
@@ -201,6 +208,19 @@ fn tallies_of(alloc: Global, tellers: usize, past_cycle: u64) -> Result<Vec<Tall
         tallies.push((0, past_cycle, past_cycle))?;
     }
     Ok(tallies)
+}
+
+fn open_after(count: usize, look: &Look) -> usize
+    requires some { 1 ≤ count }
+    requires few { count < 18446744073709551615 }
+    ensures { result + 1 ≡ count + child_count (outcome_of look.now) }
+{
+    match look {
+        Look::Split(_) => count + 1,
+        Look::Solved { .. } => count - 1,
+        Look::Pruned { .. } => count - 1,
+        Look::Refuted(_) => count - 1,
+    }
 }
 
 #[tactic(auto, unfolding(tsn_model::specs::Search::solved_bound, tsn_model::specs::Search::pruned_bound))]

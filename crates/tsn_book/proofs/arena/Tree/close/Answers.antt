@@ -1,37 +1,42 @@
-use Rattle.std.proofs.Common.{◌≡◌, length, ap, subst, arith}
-use Rattle.tsn_book.specs.Arena.{IsRecounted, at_place}
-use Rattle.tsn_book.proofs.Growing.{leaf_settles}
-use Rattle.tsn_book.proofs.Recounting.{leaf_counts, written_back}
+use Rattle.std.proofs.Common.{◌≡◌, length, set, subst, sym, arith}
+use Rattle.std.proofs.lemmas.List.{length-set}
+use Rattle.tsn_book.specs.declared.arena.Standing.TheVariants.{Leaf}
+use Rattle.tsn_book.specs.Arena.{IsNewLeaf}
+use Rattle.tsn_book.proofs.Growing.{leaf_grows}
+use Rattle.tsn_book.proofs.Closing.{new_leaf, written_back}
 use Rattle.tsn_book.proofs.arena.Tree.close.Goals as goal
+
+pub mark-requires-clause-tree : goal.mark-requires-clause-tree
+mark-requires-clause-tree c =
+    let self = c.args.self.now in
+    let number : c.len.result ≡ length self.events.items = omega (arith, c.len.ensures, self.events.ok) in
+    rw c.push_reserved.ensures.items
+    (leaf_grows self.network self.origins.items self.standings.items self.events.items c.requires.tree c.args.place c.args.teller c.len.result c.args.look number c.requires.«open» c.requires.right c.requires.leaf).0
+
+pub mark-requires-clause-leaf : goal.mark-requires-clause-leaf
+mark-requires-clause-leaf c =
+    let self = c.args.self.now in
+    subst (λ flags. IsNewLeaf (set self.standings.items c.args.place (Leaf c.len.result)) flags c.args.place) (sym c.deref_mut.ensures.value)
+    (new_leaf self.standings.items c.args.closed.now.items c.args.place c.len.result c.requires.closed c.requires.«open»)
 
 pub returns-clause-tree : goal.returns-clause-tree
 returns-clause-tree c =
     let self = c.args.self.now in
     let number : c.len.result ≡ length self.events.items = omega (arith, c.len.ensures, self.events.ok) in
     rw c.push_reserved.ensures.items
-    (leaf_settles self.network self.origins.items self.standings.items self.events.items c.requires.tree c.args.path.now c.recount-place.result c.args.teller c.len.result c.args.look
-    c.recount-place.ensures.place c.recount-place.ensures.path c.requires.«open» number c.requires.right c.requires.leaf).0
+    (leaf_grows self.network self.origins.items self.standings.items self.events.items c.requires.tree c.args.place c.args.teller c.len.result c.args.look number c.requires.«open» c.requires.right c.requires.leaf).0
 
 pub returns-clause-history : goal.returns-clause-history
 returns-clause-history c =
     let self = c.args.self.now in
     let number : c.len.result ≡ length self.events.items = omega (arith, c.len.ensures, self.events.ok) in
     rw c.push_reserved.ensures.items
-    (leaf_settles self.network self.origins.items self.standings.items self.events.items c.requires.tree c.args.path.now c.recount-place.result c.args.teller c.len.result c.args.look
-    c.recount-place.ensures.place c.recount-place.ensures.path c.requires.«open» number c.requires.right c.requires.leaf).1
-
-pub returns-clause-below : goal.returns-clause-below
-returns-clause-below c =
-    let self = c.args.self.now in
-    let was = c.args.below.now in
-    let same = written_back c.recount-place.new.below was.items was.len (omega (arith, was.ok)) (omega (arith, c.recount-place.ensures.counts.counted, c.requires.below.counted)) in
-    let counts = subst (λ old. IsRecounted self.standings.items 0 1 old c.recount-place.new.below c.recount-place.result) c.deref_mut.ensures.value c.recount-place.ensures.counts in
-    rw same
-    (leaf_counts self.network self.origins.items self.standings.items self.events.items c.requires.tree was.items c.recount-place.new.below c.args.path.now c.recount-place.result c.len.result
-    c.recount-place.ensures.place c.recount-place.ensures.path c.requires.«open» counts)
+    (leaf_grows self.network self.origins.items self.standings.items self.events.items c.requires.tree c.args.place c.args.teller c.len.result c.args.look number c.requires.«open» c.requires.right c.requires.leaf).1
 
 pub returns-clause-closed : goal.returns-clause-closed
 returns-clause-closed c =
-    let was = c.args.below.now in
-    let same = written_back c.recount-place.new.below was.items was.len (omega (arith, was.ok)) (omega (arith, c.recount-place.ensures.counts.counted, c.requires.below.counted)) in
-    omega (arith, ap (λ numbers. at_place numbers 0) same, ap (λ numbers. at_place numbers 0) c.deref_mut.ensures.value, c.recount-place.ensures.root)
+    let self = c.args.self.now in
+    let was = c.args.closed.now in
+    let same = written_back c.mark.new.closed was.items was.len (omega (arith, was.ok))
+    (omega (arith, c.mark.ensures.counted, c.requires.closed.counted, length-set self.standings.items c.args.place (Leaf c.len.result))) in
+    rw same c.mark.ensures

@@ -6,23 +6,23 @@ use Rattle.tsn_book.proofs.Places.{root_place, decided_by}
 use Rattle.tsn_book.proofs.Walking.{child_undecided, root_ahead, open_is_first, nothing_open}
 use Rattle.tsn_book.proofs.arena.Tree.first_open.Goals as goal
 
-pub bounds-below-0 : goal.bounds-below-0
-bounds-below-0 c =
+pub bounds-closed-0 : goal.bounds-closed-0
+bounds-closed-0 c =
     let self = c.args.self.now in
     let root = root_place self.network self.origins.items self.standings.items self.events.items c.requires.tree in
-    omega (arith, root.0, c.requires.tree.counted, c.requires.below.counted)
+    omega (arith, root.0, c.requires.tree.counted, c.requires.closed.counted)
 
-pub returns-then-below-eq0 : goal.returns-then-below-eq0
-returns-then-below-eq0 c =
+pub returns-then-closed : goal.returns-then-closed
+returns-then-closed c =
     let self = c.args.self.now in
-    nothing_open self.network self.origins.items self.standings.items self.events.items c.requires.tree c.args.below.now c.requires.below c.if-below-eq0.true
+    nothing_open self.network self.origins.items self.standings.items self.events.items c.requires.tree c.args.closed.now c.requires.closed c.if-closed.true
 
 pub loop-child-init : goal.loop-child-init
 loop-child-init c =
     let self = c.args.self.now in
     let history = history_of self.origins.items self.events.items in
     let root = root_place self.network self.origins.items self.standings.items self.events.items c.requires.tree in
-    (root.0, omega (arith, c.if-below-eq0.false), c.root-node.ensures ∙ sym root.1, subst (IsAhead history) (sym root.1) (root_ahead history))
+    (root.0, c.if-closed.false, c.root-node.ensures ∙ sym root.1, subst (IsAhead history) (sym root.1) (root_ahead history))
 
 pub loop-child-preserved : goal.loop-child-preserved
 loop-child-preserved c =

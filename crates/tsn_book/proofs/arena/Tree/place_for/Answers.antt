@@ -6,15 +6,15 @@ use Rattle.tsn_branch.specs.Outcome.{outcome_of}
 use Rattle.tsn_branch.specs.Look.{HasProof}
 use Rattle.tsn_book.specs.Arena.{path_at, paths_of, history_of}
 use Rattle.tsn_book.proofs.Asking.{open_at, length-history_of, undecided}
-use Rattle.tsn_book.proofs.arena.Tree.judge.Goals as goal
+use Rattle.tsn_book.proofs.arena.Tree.place_for.Goals as goal
 
 pub returns-then-len-limit : goal.returns-then-len-limit
 returns-then-len-limit c =
     let self = c.args.self.now in
     let history = history_of self.origins.items self.events.items in
     let path = c.args.event.now.node in
-    let same : path_at (paths_of self.origins.items) c.in-Open.field-0 ≡ path = search rules in
-    let is_open = open_at self.network self.origins.items self.standings.items self.events.items c.requires.tree c.in-Open.field-0 path c.in-Open.ensures.0 same in
+    let same : path_at (paths_of self.origins.items) c.in-Open.place ≡ path = search rules in
+    let is_open = open_at self.network self.origins.items self.standings.items self.events.items c.requires.tree c.in-Open.place path c.in-Open.ensures.0 same in
     let count : length history ≡ length self.events.items = length-history_of self.origins.items self.events.items in
     (is_open, omega (arith, count, c.len.ensures, c.if-len-limit.true, self.events.ok), omega (arith, count, c.len-then-len-limit.ensures, self.events.ok))
 
@@ -23,8 +23,8 @@ returns-then-not-is_conflict c =
     let self = c.args.self.now in
     let history = history_of self.origins.items self.events.items in
     let path = c.args.event.now.node in
-    let same : path_at (paths_of self.origins.items) c.in-Open.field-0 ≡ path = search rules in
-    let is_open = open_at self.network self.origins.items self.standings.items self.events.items c.requires.tree c.in-Open.field-0 path c.in-Open.ensures.0 same in
+    let same : path_at (paths_of self.origins.items) c.in-Open.place ≡ path = search rules in
+    let is_open = open_at self.network self.origins.items self.standings.items self.events.items c.requires.tree c.in-Open.place path c.in-Open.ensures.0 same in
     let count : length history ≡ length self.events.items = length-history_of self.origins.items self.events.items in
     let below : length history < c.args.limit = omega (arith, count, c.len.ensures, c.if-len-limit.false, self.events.ok) in
     let none : IsConflict self.network c.in-Split.triple → ⊥ = search rules in
@@ -35,8 +35,8 @@ returns-then-decides c =
     let self = c.args.self.now in
     let history = history_of self.origins.items self.events.items in
     let path = c.args.event.now.node in
-    let same : path_at (paths_of self.origins.items) c.in-Open.field-0 ≡ path = search rules in
-    let is_open = open_at self.network self.origins.items self.standings.items self.events.items c.requires.tree c.in-Open.field-0 path c.in-Open.ensures.0 same in
+    let same : path_at (paths_of self.origins.items) c.in-Open.place ≡ path = search rules in
+    let is_open = open_at self.network self.origins.items self.standings.items self.events.items c.requires.tree c.in-Open.place path c.in-Open.ensures.0 same in
     let count : length history ≡ length self.events.items = length-history_of self.origins.items self.events.items in
     let below : length history < c.args.limit = omega (arith, count, c.len.ensures, c.if-len-limit.false, self.events.ok) in
     let conflict : IsConflict self.network c.in-Split.triple = search rules in
@@ -48,8 +48,8 @@ returns-then-bound-best c =
     let self = c.args.self.now in
     let history = history_of self.origins.items self.events.items in
     let path = c.args.event.now.node in
-    let same : path_at (paths_of self.origins.items) c.in-Open.field-0 ≡ path = search rules in
-    let is_open = open_at self.network self.origins.items self.standings.items self.events.items c.requires.tree c.in-Open.field-0 path c.in-Open.ensures.0 same in
+    let same : path_at (paths_of self.origins.items) c.in-Open.place ≡ path = search rules in
+    let is_open = open_at self.network self.origins.items self.standings.items self.events.items c.requires.tree c.in-Open.place path c.in-Open.ensures.0 same in
     let count : length history ≡ length self.events.items = length-history_of self.origins.items self.events.items in
     let below : length history < c.args.limit = omega (arith, count, c.len.ensures, c.if-len-limit.false, self.events.ok) in
     let low : c.in-Pruned.bound < best_bound self.network history = omega (arith, c.if-bound-best.true, c.requires.best) in
@@ -60,12 +60,14 @@ returns-else-decides c =
     let self = c.args.self.now in
     let history = history_of self.origins.items self.events.items in
     let path = c.args.event.now.node in
-    let same : path_at (paths_of self.origins.items) c.in-Open.field-0 ≡ path = search rules in
-    let is_open = open_at self.network self.origins.items self.standings.items self.events.items c.requires.tree c.in-Open.field-0 path c.in-Open.ensures.0 same in
+    let same : path_at (paths_of self.origins.items) c.in-Open.place ≡ path = search rules in
+    let is_open = open_at self.network self.origins.items self.standings.items self.events.items c.requires.tree c.in-Open.place path c.in-Open.ensures.0 same in
     let count : length history ≡ length self.events.items = length-history_of self.origins.items self.events.items in
     let below : length history < c.args.limit = omega (arith, count, c.len.ensures, c.if-len-limit.false, self.events.ok) in
     let conflict : IsConflict self.network c.in-Split.triple = search rules in
     let none : Any (λ decision. decision.triple ≡ c.in-Split.triple) path → ⊥ = search rules in (
+      c.in-Open.ensures.0,
+      same,
       below,
       record {
         is_open = is_open;
@@ -78,11 +80,13 @@ returns-else-bound-best c =
     let self = c.args.self.now in
     let history = history_of self.origins.items self.events.items in
     let path = c.args.event.now.node in
-    let same : path_at (paths_of self.origins.items) c.in-Open.field-0 ≡ path = search rules in
-    let is_open = open_at self.network self.origins.items self.standings.items self.events.items c.requires.tree c.in-Open.field-0 path c.in-Open.ensures.0 same in
+    let same : path_at (paths_of self.origins.items) c.in-Open.place ≡ path = search rules in
+    let is_open = open_at self.network self.origins.items self.standings.items self.events.items c.requires.tree c.in-Open.place path c.in-Open.ensures.0 same in
     let count : length history ≡ length self.events.items = length-history_of self.origins.items self.events.items in
     let below : length history < c.args.limit = omega (arith, count, c.len.ensures, c.if-len-limit.false, self.events.ok) in
     let high : best_bound self.network history ≤ c.in-Pruned.bound = omega (arith, c.if-bound-best.false, c.requires.best) in (
+      c.in-Open.ensures.0,
+      same,
       below,
       record {
         is_open = is_open;
@@ -95,10 +99,12 @@ returns-in-Solved c =
     let self = c.args.self.now in
     let history = history_of self.origins.items self.events.items in
     let path = c.args.event.now.node in
-    let same : path_at (paths_of self.origins.items) c.in-Open.field-0 ≡ path = search rules in
-    let is_open = open_at self.network self.origins.items self.standings.items self.events.items c.requires.tree c.in-Open.field-0 path c.in-Open.ensures.0 same in
+    let same : path_at (paths_of self.origins.items) c.in-Open.place ≡ path = search rules in
+    let is_open = open_at self.network self.origins.items self.standings.items self.events.items c.requires.tree c.in-Open.place path c.in-Open.ensures.0 same in
     let count : length history ≡ length self.events.items = length-history_of self.origins.items self.events.items in
     let below : length history < c.args.limit = omega (arith, count, c.len.ensures, c.if-len-limit.false, self.events.ok) in (
+      c.in-Open.ensures.0,
+      same,
       below,
       record {
         is_open = is_open;
@@ -111,10 +117,12 @@ returns-in-Refuted c =
     let self = c.args.self.now in
     let history = history_of self.origins.items self.events.items in
     let path = c.args.event.now.node in
-    let same : path_at (paths_of self.origins.items) c.in-Open.field-0 ≡ path = search rules in
-    let is_open = open_at self.network self.origins.items self.standings.items self.events.items c.requires.tree c.in-Open.field-0 path c.in-Open.ensures.0 same in
+    let same : path_at (paths_of self.origins.items) c.in-Open.place ≡ path = search rules in
+    let is_open = open_at self.network self.origins.items self.standings.items self.events.items c.requires.tree c.in-Open.place path c.in-Open.ensures.0 same in
     let count : length history ≡ length self.events.items = length-history_of self.origins.items self.events.items in
     let below : length history < c.args.limit = omega (arith, count, c.len.ensures, c.if-len-limit.false, self.events.ok) in (
+      c.in-Open.ensures.0,
+      same,
       below,
       record {
         is_open = is_open;
