@@ -18,7 +18,7 @@ fn judges(rt: &impl Abort, alloc: Global, words: &[&str], network: &str, offsets
 
 /// The words ask for a plan, of at most so many settlements, to be written to these files, or to none.
 fn plans(rt: &impl Abort, alloc: Global, words: &[&str], steps: usize, plan: &str, cert: &str) {
-    match words_from(alloc, words) {
+    match words_from(alloc, &*words) {
         Ok(Words::Plan(words)) => {
             assert_eq!(rt; words.network, "net");
             assert_eq!(rt; words.workers, 1);
