@@ -12,8 +12,10 @@ use std::sync::Wait;
 use std::thread::Threads;
 use std::{env, fs, io};
 use tsn_cli::run::{MEMORY, NO_MEMORY_LINE, WORDS, finish};
-use tsn_cli::{check_run, gates_run, plan_run, valid_run};
-use tsn_words::{CheckWords, GatesWords, PlanWords, ValidWords, Words, WordsFault, words_from};
+use tsn_cli::{check_run, gates_run, plan_run, replay_run, valid_run};
+use tsn_words::{
+    CheckWords, GatesWords, PlanWords, ReplayWords, ValidWords, Words, WordsFault, words_from,
+};
 
 fn main(rt: HostRuntime) -> ExitCode {
     let status = match run(&rt) {
@@ -39,6 +41,7 @@ fn run<R: Env + Files + Input + Print + Eprint + AllocGlobal + Threads + Wait + 
         Ok(Words::Plan(words)) => Ok(plan(rt, alloc, words)),
         Ok(Words::Check(words)) => Ok(check(rt, alloc, words)),
         Ok(Words::Gates(words)) => Ok(gates(rt, alloc, words)),
+        Ok(Words::Replay(words)) => Ok(replay(rt, alloc, words)),
         Err(WordsFault::Refused(text)) => Ok(refuse(rt, text.as_str())),
         Err(WordsFault::Unknown) => Ok(refuse(rt, "error: no command has these words\n")),
         Err(WordsFault::Memory) => Ok(no_memory(rt)),
@@ -118,6 +121,20 @@ fn gates<R: Files + Input + Print>(rt: &R, alloc: Global, words: GatesWords<'_>)
     } else {
         let mut network = ReaderSource::new(fs::open(rt, words.network).ok());
         gates_run(alloc, &mut network, &mut plan, &mut sink)
+    }
+}
+
+/// Replays the gate control lists of a plan; the network `-` is standard input.
+fn replay<R: Files + Input + Print>(rt: &R, alloc: Global, words: ReplayWords<'_>) -> u8 {
+    let (cycles, greedy) = (words.cycles, words.greedy);
+    let mut plan = ReaderSource::new(fs::open(rt, words.plan).ok());
+    let mut sink = WriterSink::new(io::writer(rt));
+    if words.network == "-" {
+        let mut network = ReaderSource::new(Some(rt.reader()));
+        replay_run(alloc, &mut network, &mut plan, cycles, greedy, &mut sink)
+    } else {
+        let mut network = ReaderSource::new(fs::open(rt, words.network).ok());
+        replay_run(alloc, &mut network, &mut plan, cycles, greedy, &mut sink)
     }
 }
 

@@ -5,8 +5,8 @@ use Rattle.std.specs.Io.KnownBytes.{Appends, Keeps}
 use Rattle.tsn_cli.specs.declared.answer.Answer.{Answer}
 use Rattle.tsn_cli.specs.declared.device.ReadFault.{ReadFault}
 use Rattle.tsn_cli.specs.declared.device.ReadFault.TheVariants.{Broken, TooLong, Memory}
-use Rattle.tsn_cli.specs.Run.{max_file, Command, Reading, GivesFile, GivesTooMuch, GoesOn, IsUnread, reading_of}
-use Rattle.tsn_cli.specs.Outcome.{ComesTo}
+use Rattle.tsn_cli.specs.Run.{max_file, Command, Reading, GivesFile, GivesTooMuch, GoesOn, IsUnread, IsOutput, reading_of}
+use Rattle.tsn_cli.specs.Outcome.{ComesTo, output_of}
 
 pub Keeps-same : (o : Option (List ℕ)) → Keeps o o
 Keeps-same None = tt
@@ -37,3 +37,11 @@ ComesTo-unread command files reading readings Broken goes unread long = inl (goe
 -- what a source gave that gave too much
 pub given_too_much : (reading : Reading) (limit : ℕ) → ((bytes : List ℕ) × Appends reading.before reading.after bytes × (max_file < length bytes) × (length bytes ≤ limit)) → GivesTooMuch reading
 given_too_much reading limit (bytes, given, long, _) = record { bytes = bytes; given = given; long = long }
+
+-- what a run comes to in which no read failed
+pub IsOutput-comes : (command : Command) (readings : List Reading) (outcome : Result Answer ReadFault) → ComesTo command [] readings outcome → (outcome ≡ Err Broken → ⊥)
+    → IsOutput command readings (output_of outcome)
+IsOutput-comes command readings (Ok answer) comes not_broken = comes
+IsOutput-comes command readings (Err TooLong) comes not_broken = comes
+IsOutput-comes command readings (Err Memory) comes not_broken = comes
+IsOutput-comes command readings (Err Broken) comes not_broken = absurd (not_broken refl)

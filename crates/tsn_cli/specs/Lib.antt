@@ -1,7 +1,7 @@
 pub mod Run
 pub mod Valid
 pub mod Check
-pub mod Gates
+pub mod Tables
 pub mod Outcome
 pub mod Told
 pub mod Plan

@@ -4,14 +4,15 @@
 mod answer;
 mod check;
 pub mod device;
-mod gates;
 pub mod memory;
 mod plan;
 pub mod run;
+mod table;
+mod tables;
 mod told;
 mod valid;
 
 pub use check::check_run;
-pub use gates::gates_run;
 pub use plan::plan_run;
+pub use tables::{gates_run, replay_run};
 pub use valid::valid_run;

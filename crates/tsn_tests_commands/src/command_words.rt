@@ -56,6 +56,27 @@ fn lists(rt: &impl Abort, alloc: Global, words: &[&str], network: &str, plan: &s
     }
 }
 
+/// The words ask for a replay of this plan.
+fn replays(
+    rt: &impl Abort,
+    alloc: Global,
+    words: &[&str],
+    plan: &str,
+    cycles: usize,
+    greedy: bool,
+) {
+    match words_from(alloc, &*words) {
+        Ok(Words::Replay(words)) => {
+            assert_eq!(rt; words.network, "net");
+            assert_eq!(rt; words.plan, plan);
+            assert_eq!(rt; words.cycles, cycles);
+            assert_eq!(rt; words.greedy, greedy);
+        }
+        Ok(_) => assert!(rt; false, "{plan}"),
+        Err(fault) => assert!(rt; false, "{fault}"),
+    }
+}
+
 /// The words are refused with a text that has this in it.
 fn refuses(rt: &impl Abort, alloc: Global, words: &[&str], part: &str) {
     match words_from(alloc, words) {
@@ -231,6 +252,35 @@ fn takes_limits(rt: HostRuntime) {
 }
 
 #[test]
+fn takes_cycles(rt: HostRuntime) {
+    let alloc = rt.alloc();
+    replays(&rt, alloc, &["tsn", "replay", "net", "p"], "p", 1, false);
+    replays(
+        &rt,
+        alloc,
+        &["tsn", "replay", "net", "--greedy", "p", "--cycles", "16"],
+        "p",
+        16,
+        true,
+    );
+    for word in ["--cycles=0", "--cycles=17"] {
+        refuses(
+            &rt,
+            alloc,
+            &["tsn", "replay", "net", "p", word],
+            "invalid value",
+        );
+    }
+    refuses(&rt, alloc, &["tsn", "replay", "net"], "<PLAN>");
+    refuses(
+        &rt,
+        alloc,
+        &["tsn", "replay", "net", "p", "--greedy=true"],
+        "unexpected value",
+    );
+}
+
+#[test]
 fn refuses_words(rt: HostRuntime) {
     let alloc = rt.alloc();
     refuses(&rt, alloc, &[], "requires a subcommand");
@@ -243,7 +293,7 @@ fn refuses_words(rt: HostRuntime) {
         &["tsn", "valid", "net", "0", "--steps", "1"],
         "unexpected argument '--steps'",
     );
-    for command in ["replay", "Valid", "val"] {
+    for command in ["Replay", "Valid", "val"] {
         refuses(
             &rt,
             alloc,

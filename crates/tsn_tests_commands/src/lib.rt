@@ -10,4 +10,6 @@ mod gates;
 #[cfg(test)]
 mod plan_command;
 #[cfg(test)]
+mod replay_command;
+#[cfg(test)]
 mod valid_command;

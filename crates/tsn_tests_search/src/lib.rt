@@ -10,6 +10,8 @@ mod checking;
 #[cfg(test)]
 mod least_offsets;
 #[cfg(test)]
+mod replays;
+#[cfg(test)]
 mod shared_links;
 #[cfg(test)]
 mod timing;

@@ -33,11 +33,17 @@ const SLOW: &str = "link = [
 
 /// The timing of a network round one bridge.
 pub fn star(alloc: Global, cycle: u64, cables: &str, streams: &str) -> Result<Timing, Fail> {
+    let text = star_text(alloc, cycle, cables, streams)?;
+    timing_of(alloc, text.as_str())
+}
+
+/// The file of a network round one bridge.
+pub fn star_text(alloc: Global, cycle: u64, cables: &str, streams: &str) -> Result<String, Fail> {
     let mut text = format!(in alloc; "cycle = {cycle}\n")?;
     text.push_str(NODES)?;
     text.push_str(cables)?;
     text.push_str(streams)?;
-    timing_of(alloc, text.as_str())
+    Ok(text)
 }
 
 pub fn timing_of(alloc: Global, text: &str) -> Result<Timing, Fail> {

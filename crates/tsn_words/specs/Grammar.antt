@@ -1,18 +1,19 @@
 -- What the words of the command line ask for, by the grammar that `clap` reads them with.
---     tsn, valid, plan, check, gates       the commands
+--     tsn, valid, plan, check, gates, replay    the commands
 --     IsNumber, number_of, offsets_in      numbers
 --     AsksFor, IsRefused                   what the words ask for, and that they are refused
-use Rattle.std.specs.Prelude.{◌≡◌, ℕ, List, map, codes, Option, Some, None, option_map, true, All}
+use Rattle.std.specs.Prelude.{◌≡◌, ℕ, List, map, codes, Option, Some, None, option_map, Bool, true, false, All}
 use Rattle.std.specs.Str.Parse.{IsNumeral, digits_value, without_leading_plus}
-use Rattle.clap.specs.Words.{App, Row, Rule, Text, all_of, first_of, new_app, new_rule, subcommand_of, with_rule, with_subcommand}
-use Rattle.clap.specs.declared.builder.ArgAction.TheVariants.{Set, Append}
+use Rattle.clap.specs.Words.{App, Row, Rule, Text, all_of, first_of, one_of, new_app, new_rule, subcommand_of, with_rule, with_subcommand}
+use Rattle.clap.specs.declared.builder.ArgAction.TheVariants.{Set, Append, SetTrue}
 use Rattle.clap.specs.declared.builder.value_parser.ValueParser.TheVariants.{Unsigned}
 use Rattle.tsn_words.specs.declared.words.Words.{Words}
-use Rattle.tsn_words.specs.declared.words.Words.TheVariants.{Valid, Plan, Check, Gates}
+use Rattle.tsn_words.specs.declared.words.Words.TheVariants.{Valid, Plan, Check, Gates, Replay}
 use Rattle.tsn_words.specs.declared.words.ValidWords.{ValidWords}
 use Rattle.tsn_words.specs.declared.words.PlanWords.{PlanWords}
 use Rattle.tsn_words.specs.declared.words.CheckWords.{CheckWords}
 use Rattle.tsn_words.specs.declared.words.GatesWords.{GatesWords}
+use Rattle.tsn_words.specs.declared.words.ReplayWords.{ReplayWords}
 use Rattle.tsn_words.specs.declared.words.WordsFault.{WordsFault}
 use Rattle.tsn_words.specs.declared.words.WordsFault.TheVariants.{Refused}
 
@@ -57,12 +58,21 @@ check = with_rule (with_rule (with_rule (new_app (codes "check")) (file (codes "
 abbrev pub gates : App
 gates = with_rule (with_rule (new_app (codes "gates")) (file (codes "NET"))) (file (codes "PLAN"))
 
+-- a flag, which takes no word
+abbrev pub flag : Text → Rule
+flag id = record (new_rule id) { long = Some id; action = Some SetTrue }
+
+-- replay NET PLAN [--cycles N] [--greedy]
+abbrev pub replay : App
+replay =
+    with_rule (with_rule (with_rule (with_rule (new_app (codes "replay")) (file (codes "NET"))) (file (codes "PLAN"))) (number_option (codes "cycles") 16)) (flag (codes "greedy"))
+
 -- the program: a command is required
 abbrev pub alone : App
 alone = record { top = record (new_app (codes "tsn")).top { subcommand_required = true }; subs = (new_app (codes "tsn")).subs }
 
 abbrev pub tsn : App
-tsn = with_subcommand (with_subcommand (with_subcommand (with_subcommand alone valid.top) plan.top) check.top) gates.top
+tsn = with_subcommand (with_subcommand (with_subcommand (with_subcommand (with_subcommand alone valid.top) plan.top) check.top) gates.top) replay.top
 
 -- a word that is a number: digits, where a plus may stand first
 abbrev pub IsNumber : Text → Type 0
@@ -99,12 +109,23 @@ IsCheckOf rows asked =
 abbrev pub IsGatesOf : List Row → GatesWords → Type 0
 IsGatesOf rows asked = (first_of (codes "NET") rows ≡ Some asked.network.now) × (first_of (codes "PLAN") rows ≡ Some asked.plan.now)
 
+-- whether a flag is set, by the text that stands for it
+abbrev pub IsFlag : Option Text → Bool → Type 0
+IsFlag word is_set = (word ≡ Some (codes "true") → is_set ≡ true) × (word ≡ Some (codes "false") → is_set ≡ false) × (word ≡ None → is_set ≡ false)
+
+-- the files, the number and the flag of `replay`
+abbrev pub IsReplayOf : List Row → ReplayWords → Type 0
+IsReplayOf rows asked =
+    (first_of (codes "NET") rows ≡ Some asked.network.now) × (first_of (codes "PLAN") rows ≡ Some asked.plan.now)
+    × IsNumberOr (first_of (codes "cycles") rows) 1 asked.cycles × IsFlag (one_of (codes "greedy") rows) asked.greedy
+
 -- what is asked for by a command's name and the values of its arguments
 abbrev pub IsAsked : Option (Text × List Row) → Words → Type 0
 IsAsked found (Valid asked) = (rows : List Row) × (found ≡ Some (codes "valid", rows)) × IsValidOf rows asked
 IsAsked found (Plan asked) = (rows : List Row) × (found ≡ Some (codes "plan", rows)) × IsPlanOf rows asked
 IsAsked found (Check asked) = (rows : List Row) × (found ≡ Some (codes "check", rows)) × IsCheckOf rows asked
 IsAsked found (Gates asked) = (rows : List Row) × (found ≡ Some (codes "gates", rows)) × IsGatesOf rows asked
+IsAsked found (Replay asked) = (rows : List Row) × (found ≡ Some (codes "replay", rows)) × IsReplayOf rows asked
 
 -- the words ask for this
 abbrev pub AsksFor : List Text → Words → Type 0

@@ -2,12 +2,12 @@
 ghost use Rattle.std.specs.Prelude.{◌≡◌, ◌≢◌, ◌≤◌, All, IfErr, IfOk, codes, false, map, option_map, true};
 ghost use Rattle.clap.specs.Words.{app_of, found_of, kind_of, rows_of, rule_of, subcommand_rows_of, takes};
 ghost use Rattle.clap.specs.declared.builder.command.Command.TheViews.{out-Command as fields_of};
-ghost use Rattle.tsn_words.specs.Grammar.{AsksFor, IsAsked, IsCheckOf, IsGatesOf, IsNumber, IsNumberOr, IsPlanOf, IsRefused, IsValidOf, number_of};
+ghost use Rattle.tsn_words.specs.Grammar.{AsksFor, IsAsked, IsCheckOf, IsGatesOf, IsNumber, IsNumberOr, IsPlanOf, IsRefused, IsReplayOf, IsValidOf, number_of};
 ghost use Rattle.tsn_words.specs.Grammar as grammar;
 
 use crate::words::{
-    CheckWords, DEFAULT_STEPS, GatesWords, MAX_OFFSET, MAX_STEPS, PlanWords, ValidWords, Words,
-    WordsFault,
+    CheckWords, DEFAULT_STEPS, GatesWords, MAX_CYCLES, MAX_OFFSET, MAX_STEPS, PlanWords,
+    ReplayWords, ValidWords, Words, WordsFault,
 };
 use clap::error::ErrorKind;
 use clap::{Arg, ArgAction, ArgMatches, Command, Error, value_parser};
@@ -34,7 +34,8 @@ fn program<'a>(alloc: Global) -> Result<Command<'a>, AllocError>
         .subcommand(valid_command(alloc)?)?
         .subcommand(plan_command(alloc)?)?
         .subcommand(check_command(alloc)?)?
-        .subcommand(gates_command(alloc)?)
+        .subcommand(gates_command(alloc)?)?
+        .subcommand(replay_command(alloc)?)
 }
 
 fn valid_command<'a>(alloc: Global) -> Result<Command<'a>, AllocError>
@@ -79,6 +80,18 @@ fn gates_command<'a>(alloc: Global) -> Result<Command<'a>, AllocError>
         .about("Prints the gate control lists of a plan")
         .arg(network_argument(alloc))?
         .arg(plan_argument(alloc))
+}
+
+fn replay_command<'a>(alloc: Global) -> Result<Command<'a>, AllocError>
+    ensures app { IfOk result (λ c. app_of c ≡ grammar.replay) }
+    ensures local { IfOk result (λ c. (fields_of c).has_globals ≡ false) }
+{
+    Command::new(alloc, "replay")
+        .about("Replays cycles of a plan by its gate control lists")
+        .arg(network_argument(alloc))?
+        .arg(plan_argument(alloc))?
+        .arg(cycles_option(alloc))?
+        .arg(greedy_flag(alloc))
 }
 
 fn network_argument<'a>(alloc: Global) -> Arg<'a>
@@ -165,6 +178,27 @@ fn cert_option<'a>(alloc: Global) -> Arg<'a>
         .help("The file to write the certificate to")
 }
 
+fn cycles_option<'a>(alloc: Global) -> Arg<'a>
+    ensures rule { rule_of result ≡ grammar.number_option (codes "cycles") 16 }
+    ensures local { result.global ≡ false }
+{
+    Arg::new(alloc, "cycles")
+        .long("cycles")
+        .action(ArgAction::Set)
+        .value_parser(value_parser!(u64).range(1..=16))
+        .help("How many cycles to replay, 1 if not given")
+}
+
+fn greedy_flag<'a>(alloc: Global) -> Arg<'a>
+    ensures rule { rule_of result ≡ grammar.flag (codes "greedy") }
+    ensures local { result.global ≡ false }
+{
+    Arg::new(alloc, "greedy")
+        .long("greedy")
+        .action(ArgAction::SetTrue)
+        .help("Let a background frame of 1522 octets always wait on each link")
+}
+
 /// Why `clap` refuses the words.
 fn fault_of(alloc: Global, error: &Error) -> WordsFault
     ensures { IsRefused result → kind_of error.now ≢ ErrorKind.OutOfMemory }
@@ -187,6 +221,7 @@ fn command_of<'a>(alloc: Global, matches: &ArgMatches<'a>) -> Result<Words<'a>, 
         Some(("plan", words)) => Ok(Words::Plan(plan_words(words)?)),
         Some(("check", words)) => Ok(Words::Check(check_words(words)?)),
         Some(("gates", words)) => Ok(Words::Gates(gates_words(words)?)),
+        Some(("replay", words)) => Ok(Words::Replay(replay_words(words)?)),
         _ => Err(WordsFault::Unknown),
     }
 }
@@ -267,6 +302,22 @@ fn gates_words<'a>(words: &ArgMatches<'a>) -> Result<GatesWords<'a>, WordsFault>
         return Err(WordsFault::Unknown);
     };
     Ok(GatesWords { network, plan })
+}
+
+fn replay_words<'a>(words: &ArgMatches<'a>) -> Result<ReplayWords<'a>, WordsFault>
+    ensures read { IfOk result (IsReplayOf (rows_of (found_of words.now))) }
+    ensures not_refused { IfErr result (λ fault. IsRefused fault → ⊥) }
+{
+    let (Some(network), Some(plan)) = (words.get_str("NET"), words.get_str("PLAN")) else {
+        return Err(WordsFault::Unknown);
+    };
+    let cycles = number_or(words.get_str("cycles"), MAX_CYCLES, 1)?;
+    Ok(ReplayWords {
+        network,
+        plan,
+        cycles,
+        greedy: words.get_flag("greedy"),
+    })
 }
 
 fn offsets_of(alloc: Global, words: &[&str]) -> Result<Vec<u64>, WordsFault>

@@ -5,4 +5,4 @@ mod command;
 pub mod words;
 
 pub use command::words_from;
-pub use words::{CheckWords, GatesWords, PlanWords, ValidWords, Words, WordsFault};
+pub use words::{CheckWords, GatesWords, PlanWords, ReplayWords, ValidWords, Words, WordsFault};

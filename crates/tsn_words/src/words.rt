@@ -10,6 +10,9 @@ pub const MAX_OFFSET: u64 = 2_000_000_000;
 /// The most nodes that a run may be asked to settle.
 pub const MAX_STEPS: usize = 1_000_000_000;
 
+/// The most cycles of a replay.
+pub const MAX_CYCLES: usize = 16;
+
 /// The most nodes that a run settles where the words don't say.
 pub const DEFAULT_STEPS: usize = 1_000_000;
 
@@ -62,6 +65,21 @@ pub struct PlanWords<'a> {
     pub ghost few: { steps ≤ 1000000000 },
 }
 
+/// `replay NET PLAN`: replay the gate control lists of a plan.
+#[derive(Clone, Copy)]
+pub struct ReplayWords<'a> {
+    /// The network file, or `-` for standard input.
+    pub network: &'a str,
+    /// The plan file.
+    pub plan: &'a str,
+    /// How many cycles are replayed, 1 to `MAX_CYCLES`.
+    pub cycles: usize,
+    /// Whether a background frame always waits.
+    pub greedy: bool,
+    pub ghost some: { 1 ≤ cycles },
+    pub ghost few: { cycles ≤ 16 },
+}
+
 /// A command, with its words.
 #[derive(Drop)]
 pub enum Words<'a> {
@@ -69,6 +87,7 @@ pub enum Words<'a> {
     Plan(PlanWords<'a>),
     Check(CheckWords<'a>),
     Gates(GatesWords<'a>),
+    Replay(ReplayWords<'a>),
 }
 
 /// Why there is no command.

@@ -1,0 +1,36 @@
+-- The gate lists that a schedule asks for can be replayed.
+use Rattle.std.proofs.Common.{◌≡◌, ℕ, ◌<◌, ◌*◌, List, [], length, All, Bool, true, false, refl, arith}
+use Rattle.std.proofs.lemmas.List.Elements.{All-nil}
+use Rattle.tsn_model.specs.Network.{Network, IsWellFormed, route_link}
+use Rattle.tsn_model.specs.Bridge.{LinkGates, Background}
+use Rattle.tsn_model.proofs.OnTime.{hop_uses}
+use Rattle.tsn_gate.specs.GateLists.{AreWantedLists}
+use Rattle.tsn_replay.specs.Faults.{NamesLinks, KeepsLimits, IsListed, IsWithin, frames_of, HasReplayFault}
+use Rattle.tsn_replay.specs.declared.fault.ReplayFault.{ReplayFault}
+use Rattle.tsn_replay.specs.declared.fault.ReplayFault.TheVariants.{UnknownLink, Limit, Memory}
+use Rattle.tsn_cli.specs.Tables.{background_for}
+
+module _ (network : Network) (formed : IsWellFormed network) (offsets : List ℕ) (lists : List LinkGates) (wanted : AreWantedLists network offsets lists) (exist : All (λ list. list.link < length network.links) lists) where
+  names : (is_greedy : Bool) → NamesLinks network lists (background_for is_greedy)
+  names true = record {
+    exist = exist;
+    distinct = λ i j d order below same. let less = wanted.in_order i j d order below in omega (arith, less, same);
+    used = λ i below k at. wanted.all_used (route_link network i k) (i, hop_uses network formed i below k at);
+    waited = All-nil (λ frame. IsListed lists frame.link);
+  }
+  names false = record {
+    exist = exist;
+    distinct = λ i j d order below same. let less = wanted.in_order i j d order below in omega (arith, less, same);
+    used = λ i below k at. wanted.all_used (route_link network i k) (i, hop_uses network formed i below k at);
+    waited = All-nil (λ frame. IsListed lists frame.link);
+  }
+
+  keeps : (cycles : ℕ) (is_greedy : Bool) → KeepsLimits network lists cycles (background_for is_greedy)
+  keeps cycles true = record { whole = λ k d below. (wanted.wanted k d below).whole; few = omega arith; within = All-nil (IsWithin (cycles * network.cycle)) }
+  keeps cycles false = record { whole = λ k d below. (wanted.wanted k d below).whole; few = omega arith; within = All-nil (IsWithin (cycles * network.cycle)) }
+
+  -- so they are refused for want of memory alone
+  pub memory_alone : (cycles : ℕ) (is_greedy : Bool) (fault : ReplayFault) → HasReplayFault network lists cycles (background_for is_greedy) fault → fault ≡ Memory
+  memory_alone cycles is_greedy UnknownLink fault = absurd (fault (names is_greedy))
+  memory_alone cycles is_greedy Limit fault = absurd (fault.1 (keeps cycles is_greedy))
+  memory_alone cycles is_greedy Memory fault = refl

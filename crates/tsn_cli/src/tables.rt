@@ -1,0 +1,280 @@
+//! `gates` and `replay`: print the gate control lists of a plan, and a replay by them.
+ghost use Rattle.std.specs.Prelude.{◌≡◌, ◌≢◌, ◌≤◌, ◌<◌, ◌+◌, ◌-◌, ◌^◌, ◌⊎◌, ℕ, List, [], ◌∷◌, IfOk, IsErr};
+ghost use Rattle.std.specs.Io.KnownBytes.{Keeps};
+ghost use Rattle.tsn_model.specs.Schedule.{IsValid};
+ghost use Rattle.tsn_net.specs.File.{States};
+ghost use Rattle.tsn_cli.specs.Run.{BreaksOff, Ends, EndsEarly, IsLine, reading_of, writing_of};
+ghost use Rattle.tsn_cli.specs.Outcome.{ComesTo, output_of};
+ghost use Rattle.tsn_replay.specs.Feeding.{background_of};
+ghost use Rattle.tsn_cli.specs.Tables.{CanShow, GatesAnswers, JudgesPlan, RejectsPlan, ReplayAnswers, ShowsLists, ShowsPlan, ShowsReplay, ShowsTable, TableAnswers, background_for, rejected_plan};
+
+use crate::answer::Answer;
+use crate::check::file_refusal;
+use crate::device::{ReadFault, Sink, Source, read_all};
+use crate::run::{DEVICE, DONE, MAX_FILE, REJECTED, respond};
+use crate::table::Table;
+use crate::valid::refusal;
+use std::alloc::Global;
+use tsn_cert::{Plan, plan_from_json};
+use tsn_check::{CheckFault, check_plan};
+use tsn_gate::gate_lists;
+use tsn_model::NoMemory;
+use tsn_net::{Problem, read_problem};
+use tsn_replay::{Background, ReplayFault, replay};
+use tsn_timing::{Timing, Valid};
+
+/// Reads a network file and a plan file, the first judged before the second is read, and writes the table of the plan's
+/// gate control lists, or a line on what is refused. The answer is the status.
+pub fn gates_run<N: Source, P: Source, W: Sink>(
+    alloc: Global,
+    network: &mut N,
+    plan: &mut P,
+    sink: &mut W,
+) -> u8
+    requires network_reads { N.failed network.old < 2 ^ 64 - 1 }
+    requires plan_reads { P.failed plan.old < 2 ^ 64 - 1 }
+    requires writes { W.failed sink.old < 2 ^ 64 - 1 }
+
+    ensures ended { result ≢ DEVICE → Ends GatesAnswers
+        (reading_of (N.given network.old) (N.given network.new) (N.is_at_end network.new)
+        ∷ reading_of (P.given plan.old) (P.given plan.new) (P.is_at_end plan.new) ∷ [])
+        (writing_of (W.taken sink.old) (W.taken sink.new) ∷ []) result }
+    ensures no_failure { result ≢ DEVICE → (N.failed network.new ≡ N.failed network.old)
+        × (P.failed plan.new ≡ P.failed plan.old) × (W.failed sink.new ≡ W.failed sink.old) }
+
+    ensures failure { result ≡ DEVICE → N.failed network.new + P.failed plan.new + W.failed sink.new
+        ≡ N.failed network.old + P.failed plan.old + W.failed sink.old + 1 }
+    ensures read_failed { N.failed network.new + P.failed plan.new
+        ≢ N.failed network.old + P.failed plan.old
+        → Keeps (W.taken sink.old) (W.taken sink.new) × BreaksOff GatesAnswers []
+        (reading_of (N.given network.old) (N.given network.new) (N.is_at_end network.new)
+        ∷ reading_of (P.given plan.old) (P.given plan.new) (P.is_at_end plan.new) ∷ []) }
+    ensures write_failed { W.failed sink.new ≢ W.failed sink.old → EndsEarly GatesAnswers
+        (reading_of (N.given network.old) (N.given network.new) (N.is_at_end network.new)
+        ∷ reading_of (P.given plan.old) (P.given plan.new) (P.is_at_end plan.new) ∷ [])
+        (writing_of (W.taken sink.old) (W.taken sink.new) ∷ []) }
+{
+    respond(sink, answer_of(alloc, network, plan, Table::Gates))
+}
+
+/// Reads a network file and a plan file, the first judged before the second is read, and writes the table of a
+/// replay of the plan by the gate control lists that it asks for, over 1 to 16 cycles, with no background or, where
+/// `greedy`, with a background frame of 1522 octets always waiting; or a line on what is refused. The answer is the status.
+pub fn replay_run<N: Source, P: Source, W: Sink>(
+    alloc: Global,
+    network: &mut N,
+    plan: &mut P,
+    cycles: usize,
+    greedy: bool,
+    sink: &mut W,
+) -> u8
+    requires some { 1 ≤ cycles }
+    requires few { cycles ≤ 16 }
+    requires network_reads { N.failed network.old < 2 ^ 64 - 1 }
+    requires plan_reads { P.failed plan.old < 2 ^ 64 - 1 }
+    requires writes { W.failed sink.old < 2 ^ 64 - 1 }
+
+    ensures ended { result ≢ DEVICE → Ends (ReplayAnswers cycles greedy)
+        (reading_of (N.given network.old) (N.given network.new) (N.is_at_end network.new)
+        ∷ reading_of (P.given plan.old) (P.given plan.new) (P.is_at_end plan.new) ∷ [])
+        (writing_of (W.taken sink.old) (W.taken sink.new) ∷ []) result }
+    ensures no_failure { result ≢ DEVICE → (N.failed network.new ≡ N.failed network.old)
+        × (P.failed plan.new ≡ P.failed plan.old) × (W.failed sink.new ≡ W.failed sink.old) }
+
+    ensures failure { result ≡ DEVICE → N.failed network.new + P.failed plan.new + W.failed sink.new
+        ≡ N.failed network.old + P.failed plan.old + W.failed sink.old + 1 }
+    ensures read_failed { N.failed network.new + P.failed plan.new
+        ≢ N.failed network.old + P.failed plan.old
+        → Keeps (W.taken sink.old) (W.taken sink.new) × BreaksOff (ReplayAnswers cycles greedy) []
+        (reading_of (N.given network.old) (N.given network.new) (N.is_at_end network.new)
+        ∷ reading_of (P.given plan.old) (P.given plan.new) (P.is_at_end plan.new) ∷ []) }
+    ensures write_failed { W.failed sink.new ≢ W.failed sink.old → EndsEarly (ReplayAnswers cycles greedy)
+        (reading_of (N.given network.old) (N.given network.new) (N.is_at_end network.new)
+        ∷ reading_of (P.given plan.old) (P.given plan.new) (P.is_at_end plan.new) ∷ [])
+        (writing_of (W.taken sink.old) (W.taken sink.new) ∷ []) }
+{
+    let table = Table::Replay { cycles, greedy };
+    respond(sink, answer_of(alloc, network, plan, table))
+}
+
+/// What the run answers.
+fn answer_of<N: Source, P: Source>(
+    alloc: Global,
+    network: &mut N,
+    plan: &mut P,
+    table: Table,
+) -> Result<Answer, ReadFault>
+    requires table { CanShow table }
+    requires network_reads { N.failed network.old < 2 ^ 64 - 1 }
+    requires plan_reads { P.failed plan.old < 2 ^ 64 - 1 }
+    ensures comes { ComesTo (TableAnswers table) []
+        (reading_of (N.given network.old) (N.given network.new) (N.is_at_end network.new)
+        ∷ reading_of (P.given plan.old) (P.given plan.new) (P.is_at_end plan.new) ∷ []) result }
+    ensures broken { result ≡ Err ReadFault.Broken → N.failed network.new + P.failed plan.new
+        ≡ N.failed network.old + P.failed plan.old + 1 }
+    ensures kept { (result ≡ Err ReadFault.Broken → ⊥) → (N.failed network.new ≡ N.failed network.old)
+        × (P.failed plan.new ≡ P.failed plan.old) }
+{
+    let file = read_all(alloc, network, MAX_FILE)?;
+    answer_to_network(alloc, &file, plan, table)
+}
+
+/// What the run answers to a network file, and to what it reads after that.
+fn answer_to_network<P: Source>(
+    alloc: Global,
+    file: &[u8],
+    plan: &mut P,
+    table: Table,
+) -> Result<Answer, ReadFault>
+    requires table { CanShow table }
+    requires plan_reads { P.failed plan.old < 2 ^ 64 - 1 }
+    ensures comes { ComesTo (TableAnswers table) (file.now ∷ [])
+        (reading_of (P.given plan.old) (P.given plan.new) (P.is_at_end plan.new) ∷ []) result }
+    ensures broken { result ≡ Err ReadFault.Broken → P.failed plan.new ≡ P.failed plan.old + 1 }
+    ensures kept { (result ≡ Err ReadFault.Broken → ⊥) → P.failed plan.new ≡ P.failed plan.old }
+{
+    match read_problem(alloc, file) {
+        Ok(problem) => answer_on(alloc, &problem, plan, table),
+        Err(fault) => Ok(refusal(alloc, fault)?),
+    }
+}
+
+/// What the run answers on a network, once its file is read.
+fn answer_on<P: Source>(
+    alloc: Global,
+    problem: &Problem,
+    plan: &mut P,
+    table: Table,
+) -> Result<Answer, ReadFault>
+    requires table { CanShow table }
+    requires plan_reads { P.failed plan.old < 2 ^ 64 - 1 }
+    ensures comes { (network : List ℕ) → States network problem.now → ComesTo (TableAnswers table) (network ∷ [])
+        (reading_of (P.given plan.old) (P.given plan.new) (P.is_at_end plan.new) ∷ []) result }
+    ensures broken { result ≡ Err ReadFault.Broken → P.failed plan.new ≡ P.failed plan.old + 1 }
+    ensures kept { (result ≡ Err ReadFault.Broken → ⊥) → P.failed plan.new ≡ P.failed plan.old }
+{
+    let file = read_all(alloc, plan, MAX_FILE)?;
+    Ok(answer_to_plan(alloc, problem, &file, table)?)
+}
+
+/// What the run answers to a plan file.
+fn answer_to_plan(
+    alloc: Global,
+    problem: &Problem,
+    file: &[u8],
+    table: Table,
+) -> Result<Answer, NoMemory>
+    requires { CanShow table }
+    ensures { IfOk result (λ a. JudgesPlan table problem.now file.now (output_of (Ok a))) }
+{
+    match plan_from_json(alloc, file) {
+        Ok(plan) => judgement(alloc, problem, &plan, table),
+        Err(fault) => file_refusal(alloc, "plan", fault),
+    }
+}
+
+/// What is said of a plan.
+fn judgement(
+    alloc: Global,
+    problem: &Problem,
+    plan: &Plan,
+    table: Table,
+) -> Result<Answer, NoMemory>
+    requires { CanShow table }
+    ensures { IfOk result (λ a. ShowsPlan table problem.now plan.now (output_of (Ok a))
+        ⊎ RejectsPlan problem.now.network plan.now (output_of (Ok a))) }
+{
+    let timing = Timing::of(alloc, problem)?;
+    match check_plan(alloc, &timing, plan) {
+        Ok(valid) => table_of(alloc, problem, &valid, table),
+        Err(fault) => rejection(alloc, fault),
+    }
+}
+
+/// The table of a valid schedule.
+fn table_of(
+    alloc: Global,
+    problem: &Problem,
+    valid: &Valid,
+    table: Table,
+) -> Result<Answer, NoMemory>
+    requires table { CanShow table }
+    requires valid { IsValid problem.now.network valid.now }
+    ensures { IfOk result (λ a. ShowsTable table problem.now valid.now (output_of (Ok a))) }
+{
+    match table {
+        Table::Gates => gate_tables(alloc, problem, valid),
+        Table::Replay { cycles, greedy } => replay_table(alloc, problem, valid, cycles, greedy),
+    }
+}
+
+/// The table of a replay by the gate lists that a schedule asks for.
+fn replay_table(
+    alloc: Global,
+    problem: &Problem,
+    valid: &Valid,
+    cycles: usize,
+    greedy: bool,
+) -> Result<Answer, NoMemory>
+    requires some { 1 ≤ cycles }
+    requires few { cycles ≤ 16 }
+    requires valid { IsValid problem.now.network valid.now }
+    ensures { IfOk result (λ a. ShowsReplay problem.now valid.now cycles greedy (output_of (Ok a))) }
+{
+    let lists = gate_lists(alloc, problem, valid)?;
+    let background = background_for(greedy);
+    let _limits = problem.cycle();
+    let trace = match replay(alloc, problem, valid, &lists, cycles, &background) {
+        Ok(trace) => trace,
+        Err(fault) => return Err(want_of_memory(fault)),
+    };
+    let text = trace.to_text(alloc, problem)?;
+    Ok(Answer { status: DONE, text })
+}
+
+/// The background of a replay.
+fn background_for(greedy: bool) -> Background
+    ensures { background_of result ≡ background_for greedy }
+{
+    if greedy {
+        Background::Greedy
+    } else {
+        Background::Nothing
+    }
+}
+
+/// The lists that a schedule asks for are replayed unless memory is wanting.
+fn want_of_memory(_fault: ReplayFault) -> NoMemory
+    requires { _fault ≡ ReplayFault.Memory }
+{
+    NoMemory
+}
+
+/// The tables of the gate lists that a schedule asks for.
+fn gate_tables(alloc: Global, problem: &Problem, valid: &Valid) -> Result<Answer, NoMemory>
+    requires { IsValid problem.now.network valid.now }
+    ensures { IfOk result (λ a. ShowsLists problem.now valid.now (output_of (Ok a))) }
+{
+    let lists = gate_lists(alloc, problem, valid)?;
+    let mut text = String::new(alloc);
+    for list in &lists {
+        text.push_str(list.to_text(alloc, problem)?.as_str())?;
+    }
+    Ok(Answer { status: DONE, text })
+}
+
+/// What is said of a plan with this fault.
+fn rejection(alloc: Global, fault: CheckFault) -> Result<Answer, NoMemory>
+    ensures line { IfOk result (λ a. IsLine REJECTED (rejected_plan fault) (output_of (Ok a))) }
+    ensures memory { fault ≡ CheckFault.Memory → IsErr result }
+{
+    if fault == CheckFault::Memory {
+        return Err(NoMemory);
+    }
+    let number = fault.number();
+    let text = format!(in alloc; "plan refused K{number}\n")?;
+    Ok(Answer {
+        status: REJECTED,
+        text,
+    })
+}

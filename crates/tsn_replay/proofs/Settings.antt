@@ -1,0 +1,66 @@
+-- What is handed in can be replayed, where it has no fault.
+use Rattle.std.proofs.Common.{◌≡◌, ℕ, ◌*◌, ◌≤◌, ◌<◌, List, length, get_or, Option, Some, None, MatchOption, All, refl, ap, ◌∙◌, subst, arith, mul-le-mul}
+use Rattle.std.proofs.lemmas.List.{get_or_default}
+use Rattle.tsn_model.specs.Network.{Network, IsWellFormed, route_link}
+use Rattle.tsn_model.specs.Schedule.{IsValid}
+use Rattle.tsn_model.specs.Bridge.{LinkGates, BackgroundFrame, Background, frame_at}
+use Rattle.tsn_model.specs.Bridge.Background.{nothing, greedy, frames}
+use Rattle.tsn_replay.specs.declared.fault.ReplayFault.{ReplayFault}
+use Rattle.tsn_replay.specs.Openings.{IsGivenFrame, HasBackground}
+use Rattle.tsn_replay.specs.Faults.{IsListed, NamesLinks, KeepsLimits, HasReplayFault}
+use Rattle.tsn_replay.specs.Progress.{Setting, IsSetting}
+
+pub no_fault : (network : Network) (lists : List LinkGates) (cycles : ℕ) (background : Background) (found : Option ReplayFault) → ((fault : ReplayFault) → found ≡ Some fault → ⊥)
+    → MatchOption found (NamesLinks network lists background × KeepsLimits network lists cycles background) (HasReplayFault network lists cycles background) → NamesLinks network lists background × KeepsLimits network lists cycles background
+no_fault network lists cycles background None never both = both
+no_fault network lists cycles background (Some fault) never has = absurd (never fault refl)
+
+small_offsets : (network : Network) (offsets : List ℕ) → IsValid network offsets → All (λ offset. offset ≤ network.cycle) offsets
+small_offsets network offsets valid k d below =
+    let count = valid.count in
+    let arrived = valid.arrived k (omega arith) in
+    let same = get_or_default offsets k d 0 below in
+    omega arith
+
+-- where the list of a link stands
+listed_at : (lists : List LinkGates) (link : ℕ) → IsListed lists link → (place : ℕ) × (place < length lists) × ((d : LinkGates) → (get_or lists place d).link ≡ link)
+listed_at lists link (place, list, below, is, same) = (place, below, λ d. ap (λ (g : LinkGates). g.link) (get_or_default lists place d list below ∙ is) ∙ same)
+
+listed_exists : (network : Network) (lists : List LinkGates) (link : ℕ) → All (λ (list : LinkGates). list.link < length network.links) lists → IsListed lists link → link < length network.links
+listed_exists network lists link exist (place, list, below, is, same) =
+    let here = exist place list below in
+    subst (λ n. n < length network.links) (ap (λ (g : LinkGates). g.link) is ∙ same) here
+
+given_frame : (network : Network) (formed : IsWellFormed network) (lists : List LinkGates) (cycles : ℕ) (few : cycles ≤ 16) (list : List BackgroundFrame) → NamesLinks network lists (frames list) → KeepsLimits network lists cycles (frames list)
+    → (place : ℕ) → place < length list → IsGivenFrame network lists (frame_at list place)
+unfolding frame_at
+given_frame network formed lists cycles few list names keeps place below =
+    let none : BackgroundFrame = record { link = 0; wanted = 0; octets = 0 } in
+    let listed = names.waited place none below in
+    let within = keeps.within place none below in
+    let soon = within.2 in
+    let short = formed.short_cycle in
+    let end : cycles * network.cycle ≤ 16 * 1000000000 = mul-le-mul few short in
+    record {
+      exists = listed_exists network lists (get_or list place none).link names.exist listed;
+      listed = listed_at lists (get_or list place none).link listed;
+      early = omega arith;
+      short = within.1;
+    }
+
+has_background : (network : Network) (formed : IsWellFormed network) (lists : List LinkGates) (cycles : ℕ) (few : cycles ≤ 16) (background : Background) → NamesLinks network lists background → KeepsLimits network lists cycles background
+    → HasBackground network lists background
+has_background network formed lists cycles few nothing names keeps = record {}
+has_background network formed lists cycles few greedy names keeps = record {}
+has_background network formed lists cycles few (frames list) names keeps = given_frame network formed lists cycles few list names keeps
+
+pub setting_right : (setting : Setting) → IsWellFormed setting.network → IsValid setting.network setting.offsets → setting.cycles ≤ 16 → NamesLinks setting.network setting.gates setting.background
+    → KeepsLimits setting.network setting.gates setting.cycles setting.background → IsSetting setting
+setting_right setting formed valid few names keeps = record {
+  formed = formed;
+  count = valid.count;
+  small = small_offsets setting.network setting.offsets valid;
+  few = few;
+  lists = record { links = names.exist; distinct = names.distinct; used = λ i k i_below k_below. listed_at setting.gates (route_link setting.network i k) (names.used i i_below k k_below) };
+  background = has_background setting.network formed setting.gates setting.cycles few setting.background names keeps;
+}

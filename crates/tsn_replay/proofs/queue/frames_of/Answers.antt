@@ -1,0 +1,40 @@
+use Rattle.std.proofs.Common.{◌≡◌, ◌+◌, ◌*◌, ◌≤◌, ◌<◌, [], ◌∷◌, length, get_or, refl, sym, ap, ◌∙◌, subst, arith, mul-le-mul}
+use Rattle.std.proofs.lemmas.List.{length-append}
+use Rattle.tsn_model.specs.Network.{stream_count}
+use Rattle.tsn_replay.specs.Queue.{frame_in}
+use Rattle.tsn_replay.proofs.Fresh.{IsFresh, fresh_tracked, frames_more, early_all}
+use Rattle.tsn_replay.proofs.queue.frames_of.Goals as goal
+
+pub loop-stream-preserved : goal.loop-stream-preserved
+loop-stream-preserved c =
+    let items = c.in_ok-push.ensures.items in
+    let counted : c.loop-stream.stream < stream_count c.args.network.now = let below = c.loop-stream-test.true in let last = c.loop-stream.invariant.last in omega arith in
+    let cycle = c.loop-cycle-test.true in
+    let few : c.loop-cycle.cycle ≤ 16 = let limit = c.requires.few in omega arith in
+    let size : c.cycle.result ≤ 1000000000 = c.cycle.ensures.bound in
+    let product : c.loop-cycle.cycle * c.cycle.result ≤ 16 * 1000000000 = mul-le-mul few size in
+    let offset = c.requires.small c.loop-stream.stream 0 (let same = c.requires.count in omega arith) in
+    let value = c.cycle.ensures.value in
+    let index = c.loop-stream.invariant.count in
+    let last : IsFresh c.args.network.now c.args.offsets.now c.args.cycles (length c.loop-stream.frames.items)
+    (record { stream = c.loop-stream.stream; cycle = c.loop-cycle.cycle; hop = 0; ready = c.loop-cycle.cycle * c.cycle.result + get_or c.args.offsets.now c.loop-stream.stream 0 }) =
+    record { index = index; stream = counted; cycle = cycle; hop = refl; ready = ap (λ n. c.loop-cycle.cycle * n + get_or c.args.offsets.now c.loop-stream.stream 0) value; early = omega arith } in
+    record {
+      count = ap length items ∙ (length-append c.loop-stream.frames.items (record { stream = c.loop-stream.stream; cycle = c.loop-cycle.cycle; hop = 0; ready = c.loop-cycle.cycle * c.cycle.result + get_or c.args.offsets.now c.loop-stream.stream 0 } ∷ []) ∙ omega arith);
+      fresh = λ place below. subst (λ frames. IsFresh c.args.network.now c.args.offsets.now c.args.cycles place (frame_in frames place)) (sym items)
+          (frames_more (IsFresh c.args.network.now c.args.offsets.now c.args.cycles) c.loop-stream.frames.items
+          (record { stream = c.loop-stream.stream; cycle = c.loop-cycle.cycle; hop = 0; ready = c.loop-cycle.cycle * c.cycle.result + get_or c.args.offsets.now c.loop-stream.stream 0 })
+          c.loop-stream.invariant.fresh last place (subst (λ frames. place < length frames) items below));
+      last = c.loop-stream.invariant.last;
+    }
+
+pub returns-clause-tracked : goal.returns-clause-tracked
+returns-clause-tracked c =
+    let ended = c.loop-cycle-test.false in
+    let end = c.loop-cycle.auto.cycle-end in
+    let same : c.loop-cycle.cycle ≡ c.args.cycles = omega arith in
+    fresh_tracked c.args.network.now c.args.offsets.now c.args.cycles c.loop-cycle.frames.items
+    (c.loop-cycle.invariant.count ∙ ap (λ n. n * stream_count c.args.network.now) same) c.loop-cycle.invariant.fresh
+
+pub returns-clause-ready : goal.returns-clause-ready
+returns-clause-ready c = early_all c.args.network.now c.args.offsets.now c.args.cycles c.loop-cycle.frames.items c.loop-cycle.invariant.fresh

@@ -1,0 +1,12 @@
+use Rattle.std.proofs.Common.{◌≡◌, ◌++◌, map}
+use Rattle.std.specs.List.{range_with_len}
+use Rattle.tsn_model.specs.Network.{hop_count}
+use Rattle.tsn_replay.specs.Rows.{row_of}
+use Rattle.tsn_replay.proofs.Tables.{passage_at}
+use Rattle.tsn_replay.proofs.rows.push_stream.Given as goal
+
+abbrev pub invariant-loop-hop : goal.invariant-loop-hop
+invariant-loop-hop l = record {
+  so_far : l.rows.items ≡ l.fn.rows.items ++ map (row_of l.timing l.offsets l.table) (map (passage_at l.cycle l.stream) (range_with_len 0 l.hop));
+  last : l.hop-end ≡ hop_count l.timing l.stream;
+}

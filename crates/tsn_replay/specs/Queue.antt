@@ -1,0 +1,80 @@
+-- The queue of a link, and what starts next.
+--     passage_of, Waits, Precedes, IsHead      the frames that wait on a link, in order
+--     Next, CanStart, IsIdle, IsNextOf         what starts next, and that nothing starts before it
+use Rattle.std.specs.Prelude.{◌≡◌, ℕ, ◌≤◌, ◌<◌, ◌⊎◌, List, length, slice_index, slice_index_or, Option, Some, None}
+use Rattle.tsn_model.specs.Network.{Network, hop_count, route_link}
+use Rattle.tsn_model.specs.Bridge.{LinkGates, BackgroundOpen, Passage, FitsAt}
+use Rattle.tsn_replay.specs.declared.queue.Frame.{Frame}
+use Rattle.tsn_replay.specs.declared.feed.Waiting.{Waiting}
+
+-- the passage for which a frame waits
+unfoldable pub passage_of : Frame → Passage
+passage_of frame = record { stream = frame.stream; cycle = frame.cycle; hop = frame.hop }
+
+-- the frame at that place of the list
+unfoldable pub frame_in : List Frame → ℕ → Frame
+frame_in frames place = slice_index_or frames place (record { stream = 0; cycle = 0; hop = 0; ready = 0 })
+
+-- the frame waits for its start on the link
+pub record Waits (network : Network) (link : ℕ) (frame : Frame) : Type 0 where
+  pub waits : frame.hop < hop_count network frame.stream
+  pub on : route_link network frame.stream frame.hop ≡ link
+
+-- by readiness, then by stream
+abbrev pub Precedes : Frame → Frame → Type 0
+Precedes a b = (a.ready < b.ready) ⊎ ((a.ready ≡ b.ready) × (a.stream ≤ b.stream))
+
+-- of the first so many frames, the one that is first in the link's queue, if one waits there
+abbrev pub IsFirstOf : Network → List Frame → ℕ → ℕ → Option ℕ → Type 0
+IsFirstOf network frames link count None = (place : ℕ) → place < count → ¬ Waits network link (frame_in frames place)
+IsFirstOf network frames link count (Some head) = (head < count) × Waits network link (frame_in frames head)
+    × ((place : ℕ) → place < count → Waits network link (frame_in frames place) → Precedes (frame_in frames head) (frame_in frames place))
+
+-- the first frame of the link's queue, if there is one
+abbrev pub IsHead : Network → List Frame → ℕ → Option ℕ → Type 0
+IsHead network frames link head = IsFirstOf network frames link (length frames) head
+
+-- at instant t no scheduled frame can start on the link
+pub record IsSilent (network : Network) (gates : List LinkGates) (frames : List Frame) (link t : ℕ) : Type 0 where
+  pub head : Option ℕ
+  pub is_head : IsHead network frames link head
+  pub closed : (place : ℕ) → head ≡ Some place → (frame_in frames place).ready ≤ t → ¬ FitsAt network gates (passage_of (frame_in frames place)) t
+
+-- what starts next on a link, and when: the frame at a place of the list, or a background frame
+pub record Next : Type 0 where
+  pub link : ℕ
+  pub time : ℕ
+  pub frame : Option ℕ
+
+-- what starts next can start: the head of a queue, or the background frame that waits where no scheduled one can
+abbrev pub CanStart : Network → List LinkGates → List Frame → (ℕ → Option Waiting) → Next → Option ℕ → Type 0
+CanStart network gates frames line next (Some place) = IsHead network frames next.link (Some place) × ((frame_in frames place).ready ≤ next.time)
+    × FitsAt network gates (passage_of (frame_in frames place)) next.time
+CanStart network gates frames line next None = ((waiting : Waiting) × (line next.link ≡ Some waiting) × (waiting.wanted ≤ next.time))
+    × BackgroundOpen gates next.link next.time × IsSilent network gates frames next.link next.time
+
+-- the wire of that link is free from then on
+abbrev pub free_on : List ℕ → ℕ → ℕ
+free_on free link = slice_index free link
+
+-- nothing can start on the link at instant t
+pub record IsIdle (network : Network) (gates : List LinkGates) (frames : List Frame) (line : ℕ → Option Waiting) (link t : ℕ) : Type 0 where
+  pub scheduled : IsSilent network gates frames link t
+  pub background : (waiting : Waiting) → line link ≡ Some waiting → waiting.wanted ≤ t → ¬ BackgroundOpen gates link t
+
+-- nothing can start on the link from `now` until `next`, and there it can
+pub record IsNextOn (network : Network) (gates : List LinkGates) (frames : List Frame) (line : ℕ → Option Waiting) (link free now end : ℕ) (next : Next) : Type 0 where
+  pub on : next.link ≡ link
+  pub forward : now ≤ next.time
+  pub idle : (t : ℕ) → now ≤ t → free ≤ t → t < next.time → t < end → IsIdle network gates frames line link t
+  pub wire : free ≤ next.time
+  pub can : next.time < end → CanStart network gates frames line next next.frame
+
+-- nothing can start on any list's link from `now` until `next`, and there it can
+pub record IsNextOf (network : Network) (gates : List LinkGates) (frames : List Frame) (line : ℕ → Option Waiting) (free : List ℕ) (now end : ℕ) (next : Next) : Type 0 where
+  pub forward : now ≤ next.time
+  pub idle : (t place : ℕ) (d : LinkGates) → now ≤ t → t < next.time → t < end → place < length gates → free_on free (slice_index_or gates place d).link ≤ t
+      → IsIdle network gates frames line (slice_index_or gates place d).link t
+  pub link : next.time < end → next.link < length network.links
+  pub wire : next.time < end → free_on free next.link ≤ next.time
+  pub can : next.time < end → CanStart network gates frames line next next.frame

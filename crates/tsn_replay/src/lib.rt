@@ -1,0 +1,21 @@
+//! Replays cycles of a network by its gate control lists (IEEE Std 802.1Q-2018, clause 8.6.8.4).
+#![tactic(auto)]
+
+pub mod background;
+mod conditions;
+pub mod cycles;
+mod engine;
+pub mod fault;
+mod feed;
+mod openings;
+mod port;
+mod queue;
+mod rows;
+pub mod starts;
+pub mod trace;
+
+pub use background::{Background, BackgroundFrame};
+pub use cycles::replay;
+pub use fault::ReplayFault;
+pub use starts::Sent;
+pub use trace::{Row, Trace};

@@ -1,0 +1,157 @@
+//! What starts next on a link.
+ghost use Rattle.std.specs.Prelude.{◌≡◌, ◌≤◌, ◌<◌, ◌^◌, ℕ, length, All, Some, MatchOption};
+ghost use Rattle.tsn_model.specs.Network.{stream_count};
+ghost use Rattle.tsn_model.specs.Bridge.{length_of};
+ghost use Rattle.tsn_replay.specs.Openings.{IsOpenFor};
+ghost use Rattle.tsn_replay.specs.Queue.{Waits, IsHead, passage_of};
+ghost use Rattle.tsn_replay.specs.Ports.{IsScheduledNext, IsBackgroundNext, IsPort, IsFirstPort, port_time, port_in};
+
+use crate::feed::Waiting;
+use crate::openings::Openings;
+use crate::queue::{Frame, head};
+use tsn_model::plain::PlainNetwork;
+
+/// The first frame of a link's queue, and when it and the background frame that waits can start.
+#[derive(Clone, Copy, Debug)]
+pub struct Port {
+    pub head: Option<usize>,
+    pub scheduled: u64,
+    pub background: u64,
+}
+
+impl Port {
+    /// The port of a link, from an instant on.
+    pub fn of(
+        network: &PlainNetwork,
+        frames: &[Frame],
+        list: &Openings,
+        waiting: Option<Waiting>,
+        from: u64,
+        end: u64,
+    ) -> Port
+        requires streams { All (λ (frame : Frame). frame.stream < stream_count network.now) frames.now }
+        requires ready { All (λ (frame : Frame). frame.ready ≤ 2 ^ 50) frames.now }
+        requires wanted { (frame : Waiting) → waiting ≡ Some frame → frame.wanted ≤ 2 ^ 50 }
+        requires from { from ≤ 2 ^ 50 }
+        requires end { end ≤ 2 ^ 50 }
+        ensures { IsPort network.now list.now.entries frames.now waiting list.now.link from end result }
+    {
+        let head = head(network, frames, list.link());
+        Port {
+            head,
+            scheduled: scheduled_on(network, frames, head, list, from, end),
+            background: background_on(list, waiting, from, end),
+        }
+    }
+
+    /// The port once the background frame that waited has started: its queue is as it was.
+    pub fn after_sent(
+        self,
+        network: &PlainNetwork,
+        frames: &[Frame],
+        list: &Openings,
+        waiting: Option<Waiting>,
+        from: u64,
+        end: u64,
+    ) -> Port
+        requires streams { All (λ (frame : Frame). frame.stream < stream_count network.now) frames.now }
+        requires ready { All (λ (frame : Frame). frame.ready ≤ 2 ^ 50) frames.now }
+        requires wanted { (frame : Waiting) → waiting ≡ Some frame → frame.wanted ≤ 2 ^ 50 }
+        requires from { from ≤ 2 ^ 50 }
+        requires end { end ≤ 2 ^ 50 }
+        requires head { IsHead network.now frames.now list.now.link self.head }
+        requires still { from ≤ self.scheduled → IsScheduledNext network.now list.now.entries frames.now self.head from end self.scheduled }
+        ensures { IsPort network.now list.now.entries frames.now waiting list.now.link from end result }
+    {
+        let scheduled = if from <= self.scheduled {
+            self.scheduled
+        } else {
+            scheduled_on(network, frames, self.head, list, from, end)
+        };
+        Port {
+            head: self.head,
+            scheduled,
+            background: background_on(list, waiting, from, end),
+        }
+    }
+
+    /// When something starts.
+    fn time(&self) -> u64
+        ensures { result ≡ port_time self.now }
+    {
+        self.scheduled.min(self.background)
+    }
+}
+
+/// The port where something starts first, if that is before the end.
+pub fn first_port(ports: &[Port], end: u64) -> Option<usize>
+    ensures { MatchOption result
+        ((place : ℕ) → place < length ports.now → end ≤ port_time (port_in ports.now place))
+        (λ place. IsFirstPort ports.now end place) }
+{
+    let mut first = None;
+    let mut least = end;
+    for (place, port) in ports.iter().enumerate() {
+        let time = port.time();
+        if time < least {
+            first = Some(place);
+            least = time;
+        }
+    }
+    first
+}
+
+/// When the first frame of the list's queue can start, from that instant on.
+fn scheduled_on(
+    network: &PlainNetwork,
+    frames: &[Frame],
+    first: Option<usize>,
+    list: &Openings,
+    from: u64,
+    end: u64,
+) -> u64
+    requires first { IsHead network.now frames.now list.now.link first }
+    requires streams { All (λ (frame : Frame). frame.stream < stream_count network.now) frames.now }
+    requires ready { All (λ (frame : Frame). frame.ready ≤ 2 ^ 50) frames.now }
+    requires from { from ≤ 2 ^ 50 }
+    requires end { end ≤ 2 ^ 50 }
+    ensures { IsScheduledNext network.now list.now.entries frames.now first from end result }
+{
+    match first {
+        Some(place) => start_of(network, &frames[place], list, from, end),
+        None => from.max(end),
+    }
+}
+
+/// When the background frame that waits can start, from that instant on.
+fn background_on(list: &Openings, waiting: Option<Waiting>, from: u64, end: u64) -> u64
+    requires wanted { (frame : Waiting) → waiting ≡ Some frame → frame.wanted ≤ 2 ^ 50 }
+    requires from { from ≤ 2 ^ 50 }
+    requires end { end ≤ 2 ^ 50 }
+    ensures { IsBackgroundNext list.now.entries waiting from end result }
+{
+    match waiting {
+        Some(frame) => list.first_background(from.max(frame.wanted), end),
+        None => from.max(end),
+    }
+}
+
+/// When a frame can start on the list's link, from that instant on.
+fn start_of(network: &PlainNetwork, frame: &Frame, list: &Openings, from: u64, end: u64) -> u64
+    requires stream { frame.now.stream < stream_count network.now }
+    requires waits { Waits network.now list.now.link frame.now }
+    requires ready { frame.now.ready ≤ 2 ^ 50 }
+    requires from { from ≤ 2 ^ 50 }
+    requires end { end ≤ 2 ^ 50 }
+    ensures forward { from ≤ result }
+    ensures ready { frame.now.ready ≤ result }
+    ensures none { (u : ℕ) → from ≤ u → frame.now.ready ≤ u → u < result → u < end → ¬ IsOpenFor list.now.entries (length_of network.now (passage_of frame.now)) u }
+    ensures here { result < end → IsOpenFor list.now.entries (length_of network.now (passage_of frame.now)) result }
+{
+    let link = network.route_link(frame.stream, frame.hop);
+    list.first_fit(
+        from.max(frame.ready),
+        network.occupancy(frame.stream, link),
+        end,
+    )
+}

@@ -1,0 +1,118 @@
+//! What a replay shows.
+ghost use Rattle.std.specs.Prelude.{◌≡◌, ◌++◌, ◌<◌, length, filter, string_bytes, All, IfOk, OnOk};
+ghost use Rattle.tsn_net.specs.Problem.{NamedNetwork};
+ghost use Rattle.tsn_replay.specs.Rows.{is_late, stream_name, row_text, late_text, table_text};
+
+use crate::starts::{Sent, Starts};
+use std::alloc::{AllocError, Global};
+use std::fmt::Write;
+use std::marker::Model;
+use tsn_model::NoMemory;
+use tsn_net::Problem;
+
+/// A stream's frame on a hop, in a cycle, each counted from 0: when it was planned to start there, and when it did, in
+/// nanoseconds from the replay's beginning. A frame that hadn't started by the end has no actual start.
+#[derive(Clone, Copy, Debug, PartialEq, Eq)]
+pub struct Row {
+    pub stream: usize,
+    pub cycle: usize,
+    pub hop: usize,
+    pub planned: u64,
+    pub actual: Option<u64>,
+}
+
+impl Row {
+    /// Whether the frame didn't start when it was planned to.
+    #[tactic(auto, unfolding(crate::specs::Rows::is_late))]
+    pub fn is_late(&self) -> bool
+        ensures { result ≡ is_late self.now }
+    {
+        match self.actual {
+            Some(time) => time != self.planned,
+            None => true,
+        }
+    }
+}
+
+/// What started in a replay, and when.
+#[derive(Drop)]
+pub struct Trace {
+    starts: Starts,
+    rows: Vec<Row>,
+}
+
+impl Model for Trace {
+    ghost use Rattle.tsn_replay.specs.Rows.{Traced};
+
+    ghost Value = { Traced };
+
+    ghost view = { λ trace. record { run = trace.starts; rows = trace.rows.items } };
+}
+
+impl Trace {
+    /// A trace with its table.
+    pub(crate) fn new(starts: Starts, rows: Vec<Row>) -> Trace
+        ensures { result ≡ record { run = starts; rows = rows.items } }
+    {
+        Trace { starts, rows }
+    }
+
+    /// A row for each scheduled frame and hop, by cycle, then stream, then hop.
+    pub fn rows(&self) -> &[Row]
+        ensures { result.now ≡ self.now.rows }
+    {
+        &self.rows
+    }
+
+    /// The starts of background frames, in their order.
+    pub fn background(&self) -> &[Sent]
+        ensures { result.now ≡ self.now.run.background }
+    {
+        self.starts.background()
+    }
+
+    /// The rows as a table: a line for each with the stream's name, the cycle, the hop, the planned and the actual start,
+    /// `-` where there is none; and a last line with the number of rows that are late.
+    pub fn to_text(&self, alloc: Global, problem: &Problem) -> Result<String, NoMemory>
+        requires { All (λ (row : Row). row.stream < length problem.now.stream_names) self.now.rows }
+        ensures { IfOk result (λ text. string_bytes text ≡ table_text problem.now self.now.rows) }
+    {
+        let mut text = String::new(alloc);
+        for row in &self.rows {
+            write_row(&mut text, problem, row)?;
+        }
+        write_late(&mut text, late_count(&self.rows))?;
+        Ok(text)
+    }
+}
+
+/// How many rows are late.
+fn late_count(rows: &[Row]) -> usize
+    ensures { result ≡ length (filter is_late rows.now) }
+{
+    rows.iter().filter(|row| row.is_late()).count()
+}
+
+/// Writes the line of a row.
+#[tactic(auto, unfolding(crate::specs::Rows::row_text))]
+fn write_row(text: &mut String, problem: &Problem, row: &Row) -> Result<(), AllocError>
+    requires { row.now.stream < length problem.now.stream_names }
+    ensures { OnOk result (string_bytes text.new ≡ string_bytes text.old ++ row_text problem.now row.now) }
+{
+    let name = problem.stream_name(row.stream);
+    let cycle = row.cycle;
+    let hop = row.hop;
+    let planned = row.planned;
+    match row.actual {
+        Some(actual) => write!(text, "{name} {cycle} {hop} {planned} {actual}\n"),
+        None => write!(text, "{name} {cycle} {hop} {planned} -\n"),
+    }
+}
+
+/// Writes the last line.
+#[tactic(auto, unfolding(crate::specs::Rows::late_text))]
+fn write_late(text: &mut String, count: usize) -> Result<(), AllocError>
+    ensures { OnOk result (string_bytes text.new ≡ string_bytes text.old ++ late_text count) }
+{
+    write!(text, "late {count}\n")
+}
