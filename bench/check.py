@@ -11,25 +11,19 @@ import shutil
 import subprocess
 import sys
 import tempfile
-import time
 
-ROOT = os.path.dirname(os.path.dirname(os.path.abspath(__file__)))
+from measure import PROGRAM, ROOT, build, run
+
 GENERATE = os.path.join(ROOT, "bench", "check", "generate.py")
-PROGRAM = os.path.join(ROOT, "crates", "tsn", "out", "tsn")
 
 
 def check(folder):
     """Seconds and peak bytes of one run."""
-    words = [PROGRAM, "check"] + [os.path.join(folder, name) for name in ("net.toml", "plan.json", "cert.json")]
-    begin = time.perf_counter()
-    process = subprocess.Popen(words, stdout=subprocess.PIPE)
-    line = process.stdout.read()
-    _, status, usage = os.wait4(process.pid, 0)
-    taken = time.perf_counter() - begin
-    process.returncode = os.waitstatus_to_exitcode(status)
-    if process.returncode != 0 or not line.startswith(b"accepted optimal"):
-        sys.exit(f"{words}: status {process.returncode}, {line!r}")
-    return taken, usage.ru_maxrss * 1024
+    files = [os.path.join(folder, name) for name in ("net.toml", "plan.json", "cert.json")]
+    line, status, taken, memory = run(["check", *files])
+    if status != 0 or not line.startswith("accepted optimal"):
+        sys.exit(f"{files}: status {status}, {line!r}")
+    return taken, memory
 
 
 def generate(folder, nodes):
@@ -49,8 +43,7 @@ def profile(folder):
 
 
 def main():
-    subprocess.run([os.path.join(ROOT, "tsn"), "valid", os.path.join(ROOT, "examples", "two-streams.toml"), "0", "672"],
-                   check=True, capture_output=True)
+    build()
     with tempfile.TemporaryDirectory() as folder:
         print("  nodes  depth  file MB  seconds  us/node  memory MB  bytes/node")
         for wanted in (1_001, 10_001, 100_001, 1_000_001):

@@ -12,23 +12,16 @@ import shutil
 import subprocess
 import sys
 import tempfile
-import time
 
-ROOT = os.path.dirname(os.path.dirname(os.path.abspath(__file__)))
-PROGRAM = os.path.join(ROOT, "crates", "tsn", "out", "tsn")
+from measure import PROGRAM, ROOT, build, run
+
 NETWORKS = os.path.join(ROOT, "bench", "networks")
 
 
 def plan(name, steps):
     """The line of one run, its seconds and its peak bytes."""
-    words = [PROGRAM, "plan", os.path.join(NETWORKS, name + ".toml"), "--steps", str(steps)]
-    begin = time.perf_counter()
-    process = subprocess.Popen(words, stdout=subprocess.PIPE, text=True)
-    line = process.stdout.read().strip()
-    _, status, usage = os.wait4(process.pid, 0)
-    taken = time.perf_counter() - begin
-    process.returncode = os.waitstatus_to_exitcode(status)
-    return line, taken, usage.ru_maxrss * 1024
+    line, _, taken, memory = run(["plan", os.path.join(NETWORKS, name + ".toml"), "--steps", str(steps)])
+    return line, taken, memory
 
 
 def profile(name, steps):
@@ -45,8 +38,7 @@ def profile(name, steps):
 
 def main():
     steps = int(sys.argv[1]) if len(sys.argv) > 1 else 1_000_000
-    subprocess.run([os.path.join(ROOT, "tsn"), "valid", os.path.join(ROOT, "examples", "two-streams.toml"), "0", "672"],
-                   check=True, capture_output=True)
+    build()
     print("network    line                            seconds   nodes/s  us/node  memory MB")
     for name in ("star", "line", "random-20", "random-40"):
         runs = [plan(name, steps) for _ in range(3)]

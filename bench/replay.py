@@ -6,13 +6,11 @@ The plan is made by `tsn plan`. Each replay of 16 cycles is run three times; the
 """
 
 import os
-import subprocess
 import sys
 import tempfile
-import time
 
-ROOT = os.path.dirname(os.path.dirname(os.path.abspath(__file__)))
-PROGRAM = os.path.join(ROOT, "crates", "tsn", "out", "tsn")
+from measure import build, run
+
 
 
 def network(stations, cycle):
@@ -26,32 +24,28 @@ def network(stations, cycle):
     return "\n".join(lines) + "\n"
 
 
-def run(words):
-    """The seconds and the peak bytes of one run."""
-    begin = time.perf_counter()
-    process = subprocess.Popen([PROGRAM, *words], stdout=subprocess.PIPE, text=True)
-    last = process.stdout.read().splitlines()[-1]
-    _, status, usage = os.wait4(process.pid, 0)
-    process.returncode = os.waitstatus_to_exitcode(status)
-    if process.returncode != 0:
-        sys.exit(f"{words}: {last}")
-    return time.perf_counter() - begin, usage.ru_maxrss * 1024, last
+def measured(words):
+    """The seconds and the peak bytes of one run, and its last line."""
+    text, status, taken, memory = run(words)
+    last = (text.splitlines() or [""])[-1]
+    if status != 0:
+        sys.exit(f"{words}: status {status}, {last}")
+    return taken, memory, last
 
 
 def main():
-    subprocess.run([os.path.join(ROOT, "tsn"), "valid", os.path.join(ROOT, "examples", "two-streams.toml"), "0", "672"],
-                   check=True, capture_output=True)
+    build()
     print("links  streams  cycle s  background  seconds  simulated s a second  memory MB  last line")
     with tempfile.TemporaryDirectory() as folder:
         net, plan = os.path.join(folder, "net.toml"), os.path.join(folder, "plan.json")
         for stations, cycle in ((2, 1_000_000_000), (20, 100_000_000), (20, 1_000_000_000), (120, 1_000_000_000)):
             with open(net, "w") as file:
                 file.write(network(stations, cycle))
-            run(["plan", net, "--plan", plan])
+            measured(["plan", net, "--plan", plan])
             for background in ([], ["--greedy"]):
                 if background and stations > 100:
                     continue
-                runs = [run(["replay", net, plan, "--cycles", "16", *background]) for _ in range(3)]
+                runs = [measured(["replay", net, plan, "--cycles", "16", *background]) for _ in range(3)]
                 taken, memory = min(one[0] for one in runs), max(one[1] for one in runs)
                 name = "greedy" if background else "none"
                 print(f"{2 * stations:5}  {stations:7}  {cycle / 1e9:7.1f}  {name:<10}  {taken:7.3f}  "
