@@ -3,14 +3,15 @@ use Rattle.std.proofs.Common.{◌≡◌, ℕ, ◌+◌, ◌-◌, ◌≤◌, ◌<�
 use Rattle.std.proofs.lemmas.List.Elements.{Contains-get_or}
 use Rattle.tsn_model.specs.declared.Triple.{Triple}
 use Rattle.tsn_model.specs.Network.{Network}
+use Rattle.tsn_model.specs.Timing.{occupancy, start_on}
 use Rattle.tsn_model.specs.Schedule.{IsConflict, Overlaps, offset_of}
 use Rattle.tsn_model.proofs.Overlaps.{overlap_from, overlap_to}
 use Rattle.tsn_conflict.specs.declared.uses.Use.{Use}
 use Rattle.tsn_conflict.specs.declared.pairs.Pair.{Pair}
-use Rattle.tsn_conflict.specs.Kept.{Kept, AreConflictsOf}
+use Rattle.tsn_conflict.specs.Kept.{Kept, use_in, AreConflictsOf}
 use Rattle.tsn_conflict.specs.Raised.{triple_at}
 use Rattle.tsn_conflict.specs.Pairs.{IsInUses, Meets, pair_in}
-use Rattle.tsn_conflict.proofs.Reading.{Reads-used}
+use Rattle.tsn_conflict.proofs.Reading.{Reads, Reads-used}
 use Rattle.tsn_conflict.proofs.Listed.{conflict_kept}
 
 -- ---- by the uses of a network
@@ -19,24 +20,41 @@ module _ (network : Network) (kept : Kept) (is : AreConflictsOf network kept) wh
   pub conflict_at : (place : ℕ) → place < length kept.triples → IsConflict network (triple_at kept.triples place)
   conflict_at place below = conflict_kept network kept _ is (Contains-get_or kept.triples place _ below)
 
-  pub in_uses : (triple : Triple) → IsConflict network triple → IsInUses kept.uses triple
-  in_uses triple conflict =
+  -- what is kept of a triple's two uses is what the network has
+  record IsRead (triple : Triple) : Type 0 where
+    left : Reads network kept.uses triple.left triple.link
+    right : Reads network kept.uses triple.right triple.link
+    left_start : (use_in kept.uses triple.left triple.link).start ≡ start_on network triple.left triple.link
+    left_occupancy : (use_in kept.uses triple.left triple.link).occupancy ≡ occupancy network triple.left triple.link
+    right_start : (use_in kept.uses triple.right triple.link).start ≡ start_on network triple.right triple.link
+    right_occupancy : (use_in kept.uses triple.right triple.link).occupancy ≡ occupancy network triple.right triple.link
+
+  read : (triple : Triple) → IsConflict network triple → IsRead triple
+  read triple conflict =
       let left = Reads-used network kept.uses triple.left triple.link is.formed is.uses conflict.left_uses in
       let right = Reads-used network kept.uses triple.right triple.link is.formed is.uses conflict.right_uses in
-      let left_start = ap (λ (u : Use). u.start) left.value in
-      let left_occupancy = ap (λ (u : Use). u.occupancy) left.value in
-      let right_start = ap (λ (u : Use). u.start) right.value in
-      let right_occupancy = ap (λ (u : Use). u.occupancy) right.value in
+      record {
+        left = left;
+        right = right;
+        left_start = ap (λ (u : Use). u.start) left.value;
+        left_occupancy = ap (λ (u : Use). u.occupancy) left.value;
+        right_start = ap (λ (u : Use). u.start) right.value;
+        right_occupancy = ap (λ (u : Use). u.occupancy) right.value;
+      }
+
+  pub in_uses : (triple : Triple) → IsConflict network triple → IsInUses kept.uses triple
+  in_uses triple conflict =
+      let found = read triple conflict in
       let streams = is.streams in
       let few = is.formed.few_streams in
       record {
         few = omega arith;
-        left_row = left.row_kept;
-        left_link = left.link_kept;
+        left_row = found.left.row_kept;
+        left_link = found.left.link_kept;
         left_early = omega arith;
         left_short = omega arith;
-        right_row = right.row_kept;
-        right_link = right.link_kept;
+        right_row = found.right.row_kept;
+        right_link = found.right.link_kept;
         right_early = omega arith;
         right_short = omega arith;
       }
@@ -46,12 +64,7 @@ module _ (network : Network) (kept : Kept) (is : AreConflictsOf network kept) wh
 
   pub meets_from : (offsets : List ℕ) (triple : Triple) → IsConflict network triple → Overlaps network offsets triple → Meets kept.uses offsets triple
   meets_from offsets triple conflict overlaps =
-      let left = Reads-used network kept.uses triple.left triple.link is.formed is.uses conflict.left_uses in
-      let right = Reads-used network kept.uses triple.right triple.link is.formed is.uses conflict.right_uses in
-      let left_start = ap (λ (u : Use). u.start) left.value in
-      let left_occupancy = ap (λ (u : Use). u.occupancy) left.value in
-      let right_start = ap (λ (u : Use). u.start) right.value in
-      let right_occupancy = ap (λ (u : Use). u.occupancy) right.value in
+      let found = read triple conflict in
       let both = overlap_to network offsets triple.left triple.right triple.link (conflict, overlaps) in
       let first = both.0 in
       let second = both.1 in
@@ -59,14 +72,7 @@ module _ (network : Network) (kept : Kept) (is : AreConflictsOf network kept) wh
 
   pub overlaps_from : (offsets : List ℕ) (triple : Triple) → IsConflict network triple → Meets kept.uses offsets triple → Overlaps network offsets triple
   overlaps_from offsets triple conflict meets =
-      let left = Reads-used network kept.uses triple.left triple.link is.formed is.uses conflict.left_uses in
-      let right = Reads-used network kept.uses triple.right triple.link is.formed is.uses conflict.right_uses in
-      let left_start = ap (λ (u : Use). u.start) left.value in
-      let left_occupancy = ap (λ (u : Use). u.occupancy) left.value in
-      let right_start = ap (λ (u : Use). u.start) right.value in
-      let right_occupancy = ap (λ (u : Use). u.occupancy) right.value in
-      let left_begun = meets.left_begun in
-      let right_begun = meets.right_begun in
+      let found = read triple conflict in
       (overlap_from network offsets triple.left triple.right triple.link is.formed conflict.ordered conflict.counted conflict.left_uses conflict.right_uses (omega arith) (omega arith)).1
 
 -- ---- by the bounds of the gap of the offsets
@@ -80,7 +86,7 @@ unfolding pair_in
 pair_in-right uses triple = omega arith
 
 module _ (uses : List (List Use)) (offsets : List ℕ) (triple : Triple) (gap : ℕ) where
-  -- the gap is the left offset less the right one, raised
+  -- the gap is the left offset less the right one, with the greatest offset added
   pub record IsGap : Type 0 where
     pub within : IsInUses uses triple
     pub right_small : offset_of offsets triple.right ≤ 1000000000

@@ -17,6 +17,12 @@ use Rattle.tsn_conflict.proofs.Order.{AreApartBefore, all_apart, first_from}
 
 -- ---- the first overlap, by the places of the triples
 
+left_on_side : (triple : Triple) → has_stream triple.left triple ≡ true
+left_on_side triple = or_left _ _ (eq-eqb triple.left triple.left refl)
+
+right_on_side : (triple : Triple) → has_stream triple.right triple ≡ true
+right_on_side triple = or_right _ _ (eq-eqb triple.right triple.right refl)
+
 module _ (network : Network) (kept : Kept) (is : AreConflictsOf network kept) (offsets : List ℕ) where
   apart_before : (n : ℕ) → ((place : ℕ) → place < n → Meets kept.uses offsets (triple_at kept.triples place) → ⊥) → AreApartBefore network offsets n
   apart_before n apart k d before below overlaps =
@@ -38,12 +44,6 @@ module _ (network : Network) (kept : Kept) (is : AreConflictsOf network kept) (o
       get_or_default (conflicts_of network) place (triple_at kept.triples place) _ inside ∙ ap (λ ts. triple_at ts place) (sym is.triples) in
       first_from network offsets is.formed place (triple_at kept.triples place) inside same
       (overlaps_from network kept is offsets (triple_at kept.triples place) (conflict_at network kept is place below) meets) (apart_before place apart)
-
-  left_on_side : (triple : Triple) → has_stream triple.left triple ≡ true
-  left_on_side triple = or_left _ _ (eq-eqb triple.left triple.left refl)
-
-  right_on_side : (triple : Triple) → has_stream triple.right triple ≡ true
-  right_on_side triple = or_right _ _ (eq-eqb triple.right triple.right refl)
 
   -- where none of the raised streams' triples before a place meets, none before it does
   pub apart_unraised : (raised : List ℕ) (end n : ℕ) → end ≤ length kept.triples → OnlyRaisedOverlap kept offsets raised end → n ≤ end → All (IsApartBefore kept offsets n) raised
@@ -74,8 +74,7 @@ premise_from_parent network kept parent offsets raised start is below first agre
     let right = agree _ none_raised.right in
     let met : Meets kept.uses parent (triple_at kept.triples place) = record { left_begun = omega arith; right_begun = omega arith } in
     let conflict = conflict_at network kept is place (omega arith) in
-    let order = subst (λ ts. TripleBefore (triple_at ts place) (triple_at ts start)) (sym is.triples) (ordered network) in
+    let long = ap length is.triples in
+    let order = subst (λ ts. TripleBefore (triple_at ts place) (triple_at ts start)) (sym is.triples)
+    (conflicts_ordered network place start (record { left = 0; right = 0; link = 0 }) before (omega arith)) in
     first.none_before (triple_at kept.triples place) order conflict (overlaps_from network kept is parent (triple_at kept.triples place) conflict met)
-  where
-    ordered : (n : Network) → TripleBefore (triple_at (conflicts_of network) place) (triple_at (conflicts_of network) start)
-    ordered n = let long = ap length is.triples in conflicts_ordered network place start _ before (omega arith)

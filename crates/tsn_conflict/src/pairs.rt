@@ -7,12 +7,12 @@ use crate::uses::{Row, look_up};
 use std::alloc::{AllocError, Global};
 use tsn_model::Triple;
 
-/// The greatest offset, in nanoseconds.
-///
-/// The gap of two offsets is the left stream's less the right one's, raised by this, so that it's never below 0.
+/// The greatest offset, in nanoseconds. The gap of a triple's offsets is the left stream's less the right one's, with this
+/// added, so that it's never below 0.
 pub const GREATEST_OFFSET: u64 = 1_000_000_000;
 
-/// The two streams of a triple, which overlap exactly where the gap of their offsets is above the one bound and below the other.
+/// The two streams of a triple, which overlap exactly where the gap of their offsets is above the one bound and below the
+/// other.
 #[derive(Clone, Copy, Debug)]
 pub struct Pair {
     pub left: u32,
