@@ -167,9 +167,10 @@ root_open : [] ∷ pending [] ≡ open_paths []
 unfolding open_paths made_paths is_settled
 root_open = ap (λ ps. [] ∷ ps) pending-nil
 
-root_at : IsPlaceOf [] [] 0
+-- the root has place 0
+pub root_at : (history : List Settlement) → IsPlaceOf history [] 0
 unfolding path_made made_paths
-root_at = record { within = omega arith; is = refl }
+root_at history = record { within = omega arith; is = refl }
 
 -- a search begins at its root
 pub walk_root : IsWalk [] [] 0 []
@@ -177,7 +178,7 @@ walk_root =
     record {
       is_open = λ other found. subst (λ ps. Contains ps other) root_open found;
       nothing_else = λ other found. subst (λ ps. Contains ps other) (sym root_open) found;
-      at = root_at;
+      at = root_at [];
       made = All-nil (λ next. next < length (made_paths []));
       waits = sym pending-nil;
     }
