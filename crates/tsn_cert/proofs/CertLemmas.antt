@@ -1,7 +1,7 @@
 -- A printed certificate is read again.
 use Rattle.std.proofs.Common.{◌≡◌, ◌≤◌, ◌<◌, ◌+◌, ℕ, List, [], ◌∷◌, ◌++◌, length, take, get_or, map, true, false, Option, Some, None, Ok, refl, sym, ap, ap₂, ◌∙◌, arith, lit≤, append-nil}
 use Rattle.std.proofs.lemmas.Bool.Decides.{nat_tests}
-use Rattle.std.specs.Prelude.{option_and_then, option_map, nat_le}
+use Rattle.std.specs.Prelude.{option_and_then, option_map, nat_le, ◌&&◌}
 use Rattle.std.proofs.lemmas.List.{take_more, map-append}
 use Rattle.std.proofs.Math.ListN.{take-append-drop, drop_of_length-le}
 use Rattle.serde_json.specs.Data.{Data, depth}
@@ -10,7 +10,7 @@ use Rattle.serde_json.specs.Written.{has_float}
 use Rattle.tsn_model.specs.Certificate.{Node, split_node, leaf_node, Leaf, late, overrun, positive_cycle, load, overload, Entry}
 use Rattle.tsn_cert.specs.Json.{when, value_of, each, elements, number_value, array_value}
 use Rattle.tsn_cert.specs.Fault.{shaped, answer}
-use Rattle.tsn_cert.specs.Cert.{chain_of, node_of, nodes_of, cert_of, cert_fits, cert_in, chain_value, entry_value, leaf_value, node_value, nodes_value, cert_value}
+use Rattle.tsn_cert.specs.Cert.{chain_of, entry_of, entry_list, entries_of, entries_value, node_of, nodes_of, cert_of, cert_fits, cert_in, chain_value, entry_value, leaf_value, node_value, nodes_value, cert_value}
 use Rattle.tsn_cert.specs.declared.cert.Cert.{Cert}
 use Rattle.tsn_cert.proofs.JsonLemmas.{listed-items_of_list, numbers-array_value, no_float-items, items_depth-le}
 
@@ -77,6 +77,21 @@ overrun_back stream chain short = reason_back (λ r. leaf_node (overrun r.0 r.1)
 
 pub cycle_back : (chain : List ℕ) → length chain ≤ 128 → node_of (node_value (leaf_node (positive_cycle chain))) ≡ Some (leaf_node (positive_cycle chain))
 cycle_back chain short = ap (option_map (λ c. leaf_node (positive_cycle c))) (chain_back chain short)
+
+pub entry_back : (e : Entry) → length e.chain ≤ 128 → entry_of (entry_value e) ≡ Some e
+entry_back e short = reason_back (λ r. record { stream = r.0; chain = r.1 }) e.stream e.chain short
+
+pub entries_back : (es : List Entry) → 1 ≤ length es → length es ≤ 128 → entry_list (entries_value es) ≡ Some es → entries_of (entries_value es) ≡ Some es
+entries_back es some few back =
+    let least : nat_le 1 (length es) ≡ true = grind (arith, nat_tests) in
+    let most : nat_le (length es) 128 ≡ true = grind (arith, nat_tests) in
+    ap (λ o. option_and_then (λ xs. when (nat_le 1 (length xs) && nat_le (length xs) 128) (Some xs)) o) back ∙ ap₂ (λ a b. when (a && b) (Some es)) least most
+
+pub load_back : (link : ℕ) (es : List Entry) → entries_of (entries_value es) ≡ Some es → node_of (node_value (leaf_node (load link es))) ≡ Some (leaf_node (load link es))
+load_back link es back = ap (λ o. option_map (λ (l : ℕ × List Entry). leaf_node (load l.0 l.1)) (option_and_then (λ xs. Some (link, xs)) o)) back
+
+pub overload_back : (link : ℕ) (es : List Entry) → entries_of (entries_value es) ≡ Some es → node_of (node_value (leaf_node (overload link es))) ≡ Some (leaf_node (overload link es))
+overload_back link es back = ap (λ o. option_map (λ (l : ℕ × List Entry). leaf_node (overload l.0 l.1)) (option_and_then (λ xs. Some (link, xs)) o)) back
 
 -- ---- no float, and shallow
 

@@ -7,6 +7,7 @@ use Rattle.serde_json.specs.Find.{get, as_str}
 use Rattle.tsn_model.specs.declared.Triple.{Triple}
 use Rattle.tsn_model.specs.Certificate.{Node, split_node, leaf_node, Leaf, late, overrun, positive_cycle, load, overload, Entry}
 use Rattle.tsn_cert.specs.Json.{◌>>=◌, when, value_of, file_text, whole_number, numbers, elements, each, is_object_of, all_within, number_value, array_value}
+use Rattle.tsn_cert.specs.Entry.{tree_entry}
 use Rattle.tsn_cert.specs.Fault.{answer}
 use Rattle.tsn_cert.specs.Plan.{max_time}
 use Rattle.tsn_cert.specs.declared.fault.FileFault.{FileFault}
@@ -45,6 +46,34 @@ abbrev pub cycle_parts : List Data → Option (List ℕ)
 cycle_parts (chain ∷ []) = chain_of chain
 cycle_parts _ = None
 
+-- a stream and a chain, as an entry
+abbrev pub entry_of : Data → Option Entry
+entry_of d = do
+  ds ← elements d
+  option_map tree_entry (reason_parts ds)
+
+abbrev pub entry_list : Data → Option (List Entry)
+entry_list d = do
+  ds ← elements d
+  each entry_of ds
+
+abbrev pub max_entries : ℕ
+max_entries = 128
+
+-- an array of 1 to 128 entries
+abbrev pub entries_of : Data → Option (List Entry)
+entries_of d = do
+  entries ← entry_list d
+  when (nat_le 1 (length entries) && nat_le (length entries) max_entries) (Some entries)
+
+-- a link and entries
+abbrev pub load_parts : List Data → Option (ℕ × List Entry)
+load_parts (link ∷ entries ∷ []) = do
+  l ← whole_number link
+  es ← entries_of entries
+  Some (l, es)
+load_parts _ = None
+
 -- what stands behind the word of a node
 abbrev pub node_parts : List ℕ → List Data → Option Node
 node_parts word ds =
@@ -52,7 +81,9 @@ node_parts word ds =
     else (if bytes_eq word (codes "late") then option_map (λ r. leaf_node (late r.0 r.1)) (reason_parts ds)
     else (if bytes_eq word (codes "overrun") then option_map (λ r. leaf_node (overrun r.0 r.1)) (reason_parts ds)
     else (if bytes_eq word (codes "cycle") then option_map (λ chain. leaf_node (positive_cycle chain)) (cycle_parts ds)
-    else None)))
+    else (if bytes_eq word (codes "load") then option_map (λ l. leaf_node (load l.0 l.1)) (load_parts ds)
+    else (if bytes_eq word (codes "overload") then option_map (λ l. leaf_node (overload l.0 l.1)) (load_parts ds)
+    else None)))))
 
 -- a word, and what stands behind it
 abbrev pub node_list : List Data → Option Node

@@ -3,13 +3,15 @@ ghost use Rattle.std.specs.Prelude.{map, codes, [], ◌∷◌, string_bytes, OnO
 ghost use Rattle.std.specs.List.{list_all};
 ghost use Rattle.serde_json.specs.Data.{object, member, no_members, string};
 ghost use Rattle.serde_json.specs.View.{view};
-ghost use Rattle.tsn_model.specs.Certificate.{split_node};
+ghost use Rattle.tsn_model.specs.Certificate.{split_node, load};
 ghost use Rattle.tsn_cert.specs.Fault.{Gives, Reads};
 ghost use Rattle.tsn_cert.specs.Json.{number_value, array_value, all_within};
+ghost use Rattle.tsn_cert.specs.Entry.{tree_entry};
 ghost use Rattle.tsn_cert.specs.Node.{tree_node};
-ghost use Rattle.tsn_cert.specs.Cert.{chain_of, reason_parts, triple_parts, cycle_parts, node_parts, node_of, nodes_of, cert_of_values, cert_of, cert_in, node_fits, max_number, cert_fits, chain_value, node_value, nodes_value, cert_text};
+ghost use Rattle.tsn_cert.specs.Cert.{chain_of, reason_parts, triple_parts, cycle_parts, entry_of, entry_list, entries_of, load_parts, entry_fits, leaf_fits, entry_value, entries_value, node_parts, node_of, nodes_of, cert_of_values, cert_of, cert_in, node_fits, max_number, cert_fits, chain_value, node_value, nodes_value, cert_text};
 
 use crate::chain::{Chain, MAX_CHAIN};
+use crate::entries::{Entries, MAX_ENTRIES};
 use crate::plan::MAX_TIME;
 use crate::{FileFault, document};
 use serde_json::{Value, json};
@@ -31,6 +33,12 @@ pub enum Node {
     Overrun(usize, Chain),
     /// The decisions contradict one another: the chain is closed, and its sum is above 0.
     Cycle(Chain),
+    /// The link is busy for too long: the least head of the entries, their occupancies of the link and the least tail are
+    /// at least the target.
+    Load(usize, Entries),
+    /// The link is busy behind the cycle: the least head of the entries and their occupancies of the link are above the
+    /// cycle.
+    Overload(usize, Entries),
 }
 
 /// The nodes of a certificate in preorder, the Left child of a branch first.
@@ -127,6 +135,46 @@ fn cycle_from_parts(alloc: Global, parts: &[Value]) -> Result<Chain, FileFault>
     chain_from(alloc, chain)
 }
 
+/// The entry that the value is.
+fn entry_from(alloc: Global, value: &Value) -> Result<(usize, Chain), FileFault>
+    ensures { Reads tree_entry result (entry_of (view value.now)) }
+{
+    reason_from_parts(alloc, document::elements_from(value)?)
+}
+
+/// The entries that the value is, however many.
+fn entry_list_from(alloc: Global, value: &Value) -> Result<Vec<(usize, Chain)>, FileFault>
+    ensures { Reads (λ v. map tree_entry v.items) result (entry_list (view value.now)) }
+{
+    let items = document::elements_from(value)?;
+    let mut found = Vec::with_capacity(alloc, items.len())?;
+    for item in items {
+        found.push(entry_from(alloc, item)?)?;
+    }
+    Ok(found)
+}
+
+/// The entries that the value is.
+fn entries_from(alloc: Global, value: &Value) -> Result<Entries, FileFault>
+    ensures { Reads (λ entries. entries) result (entries_of (view value.now)) }
+{
+    let list = entry_list_from(alloc, value)?;
+    if list.is_empty() || list.len() > MAX_ENTRIES {
+        return Err(FileFault::WrongShape);
+    }
+    Ok(Entries::of(list))
+}
+
+/// A link and entries.
+fn load_from_parts(alloc: Global, parts: &[Value]) -> Result<(usize, Entries), FileFault>
+    ensures { Reads (λ load. load) result (load_parts (map view parts.now)) }
+{
+    let [link, entries] = parts else {
+        return Err(FileFault::WrongShape);
+    };
+    Ok((document::index_from(link)?, entries_from(alloc, entries)?))
+}
+
 /// The node of this word.
 fn node_from_parts(alloc: Global, word: &str, parts: &[Value]) -> Result<Node, FileFault>
     ensures { Reads tree_node result (node_parts word.now (map view parts.now)) }
@@ -141,6 +189,12 @@ fn node_from_parts(alloc: Global, word: &str, parts: &[Value]) -> Result<Node, F
         Ok(Node::Overrun(stream, chain))
     } else if word == "cycle" {
         Ok(Node::Cycle(cycle_from_parts(alloc, parts)?))
+    } else if word == "load" {
+        let (link, entries) = load_from_parts(alloc, parts)?;
+        Ok(Node::Load(link, entries))
+    } else if word == "overload" {
+        let (link, entries) = load_from_parts(alloc, parts)?;
+        Ok(Node::Overload(link, entries))
     } else {
         Err(FileFault::WrongShape)
     }
@@ -177,6 +231,24 @@ fn chain_fits(chain: &Chain) -> bool
     chain.depths().iter().all(|depth| *depth <= MAX_NUMBER)
 }
 
+fn entry_fits(entry: &(usize, Chain)) -> bool
+    ensures { result ≡ entry_fits (tree_entry entry.now) }
+{
+    entry.0 <= MAX_NUMBER && chain_fits(&entry.1)
+}
+
+fn entries_fit(entries: &[(usize, Chain)]) -> bool
+    ensures { result ≡ list_all (λ entry. entry_fits (tree_entry entry)) entries.now }
+{
+    entries.iter().all(|entry| entry_fits(entry))
+}
+
+fn load_fits(link: usize, entries: &Entries) -> bool
+    ensures { result ≡ leaf_fits (load link entries.now) }
+{
+    link <= MAX_NUMBER && entries_fit(entries.list())
+}
+
 fn node_fits(node: &Node) -> bool
     ensures { result ≡ node_fits (tree_node node.now) }
 {
@@ -188,6 +260,7 @@ fn node_fits(node: &Node) -> bool
             *stream <= MAX_NUMBER && chain_fits(chain)
         }
         Node::Cycle(chain) => chain_fits(chain),
+        Node::Load(link, entries) | Node::Overload(link, entries) => load_fits(*link, entries),
     }
 }
 
@@ -284,7 +357,7 @@ fn nodes_value(alloc: Global, nodes: &[Node]) -> Result<Value, AllocError>
     Ok(Value::Array(items))
 }
 
-#[tactic(auto, using(crate::proofs::CertLemmas::late_back, crate::proofs::CertLemmas::overrun_back, crate::proofs::CertLemmas::cycle_back))]
+#[tactic(auto, using(crate::proofs::CertLemmas::late_back, crate::proofs::CertLemmas::overrun_back, crate::proofs::CertLemmas::cycle_back, crate::proofs::CertLemmas::load_back, crate::proofs::CertLemmas::overload_back))]
 fn node_value(alloc: Global, node: &Node) -> Result<Value, AllocError>
     ensures value { IfOk result (λ v. view v ≡ node_value (tree_node node.now)) }
     ensures reads_back { OnOk result
@@ -299,7 +372,55 @@ fn node_value(alloc: Global, node: &Node) -> Result<Value, AllocError>
             reason_value(alloc, "overrun", *stream, chain_value(alloc, chain)?)
         }
         Node::Cycle(chain) => cycle_value(alloc, chain_value(alloc, chain)?),
+        Node::Load(link, entries) => {
+            load_value(alloc, "load", *link, entries_value(alloc, entries)?)
+        }
+        Node::Overload(link, entries) => {
+            load_value(alloc, "overload", *link, entries_value(alloc, entries)?)
+        }
     }
+}
+
+/// A leaf of a link and entries.
+fn load_value(alloc: Global, word: &str, link: usize, entries: Value) -> Result<Value, AllocError>
+    ensures { IfOk result (λ v. view v
+        ≡ array_value (string word.now ∷ number_value link ∷ view entries ∷ [])) }
+{
+    json!(in alloc; [word, link, entries])
+}
+
+#[tactic(auto, using(crate::proofs::CertLemmas::entries_back))]
+fn entries_value(alloc: Global, entries: &Entries) -> Result<Value, AllocError>
+    ensures value { IfOk result (λ v. view v ≡ entries_value entries.now) }
+    ensures reads_back { OnOk result (entries_of (entries_value entries.now) ≡ Some entries.now) }
+{
+    entry_values(alloc, entries.list())
+}
+
+fn entry_values(alloc: Global, entries: &[(usize, Chain)]) -> Result<Value, AllocError>
+    ensures value { IfOk result (λ v. view v ≡ entries_value (map tree_entry entries.now)) }
+    ensures reads_back { OnOk result
+        (entry_list (entries_value (map tree_entry entries.now)) ≡ Some (map tree_entry entries.now)) }
+{
+    let mut items = Vec::with_capacity(alloc, entries.len())?;
+    for entry in entries {
+        items.push(entry_value(alloc, entry)?)?;
+    }
+    Ok(Value::Array(items))
+}
+
+fn entry_value(alloc: Global, entry: &(usize, Chain)) -> Result<Value, AllocError>
+    ensures value { IfOk result (λ v. view v ≡ entry_value (tree_entry entry.now)) }
+    ensures reads_back { OnOk result
+        (entry_of (entry_value (tree_entry entry.now)) ≡ Some (tree_entry entry.now)) }
+{
+    pair_value(alloc, entry.0, chain_value(alloc, &entry.1)?)
+}
+
+fn pair_value(alloc: Global, stream: usize, chain: Value) -> Result<Value, AllocError>
+    ensures { IfOk result (λ v. view v ≡ array_value (number_value stream ∷ view chain ∷ [])) }
+{
+    json!(in alloc; [stream, chain])
 }
 
 /// A leaf of a stream and a chain.

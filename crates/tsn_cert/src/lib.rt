@@ -4,10 +4,12 @@
 pub mod cert;
 pub mod chain;
 mod document;
+pub mod entries;
 pub mod fault;
 pub mod plan;
 
 pub use cert::{Cert, Node, Nodes, cert_from_json, cert_to_json};
 pub use chain::Chain;
+pub use entries::Entries;
 pub use fault::FileFault;
 pub use plan::{Offsets, Plan, plan_from_json, plan_to_json};

@@ -1,31 +1,167 @@
 -- A plan and a certificate have at most one first fault.
-use Rattle.std.proofs.Common.{◌≡◌, ℕ, zero, suc, ◌<◌, ◌≤◌, List, [], ◌∷◌, length, take, Some, inl, inr, refl, sym, ap, ◌∙◌, subst, arith}
+use Rattle.std.proofs.Common.{◌≡◌, ◌≢◌, ℕ, zero, suc, ◌<◌, ◌≤◌, List, [], ◌∷◌, length, take, All, Any, Some, inl, inr, refl, sym, ap, ◌∙◌, subst, arith}
 use Rattle.std.specs.Prelude.{slice_get}
 use Rattle.std.proofs.lemmas.Bool.{cases_lt}
-use Rattle.std.proofs.lemmas.List.{take_all}
+use Rattle.std.proofs.lemmas.List.{take_all, take-take}
 use Rattle.tsn_model.specs.declared.Decision.{Decision}
 use Rattle.tsn_model.specs.Network.{Network}
-use Rattle.tsn_model.specs.Certificate.{Node, split_node, leaf_node}
+use Rattle.tsn_model.specs.Arcs.{arcs_of, IsClosedChain}
+use Rattle.tsn_model.specs.Certificate.{Leaf, late, overrun, positive_cycle, load, overload, Entry, LeadsTo, AreEntries, Proves, Node, split_node, leaf_node}
 use Rattle.tsn_cert.specs.declared.plan.Plan.{Plan}
 use Rattle.tsn_cert.specs.declared.plan.Plan.TheVariants as plan
 use Rattle.tsn_cert.specs.declared.cert.Cert.{Cert}
 use Rattle.tsn_model.specs.Places.{IsNodeRight, next_places, places_from, places_after, AreRight}
-use Rattle.tsn_check.specs.Faults.{IsNoConflict, IsChainBroken, IsBoundTooLow, Stands, IsTreeFault, IsScheduleFault, IsClaimFault, IsFirstFault}
+use Rattle.tsn_check.specs.Numbers.{fault_at}
+use Rattle.tsn_check.specs.Steps.{IsWrongEntry, IsRightEntry, HasFault}
+use Rattle.tsn_check.specs.declared.fault.NodeFault.{NodeFault}
+use Rattle.tsn_check.specs.declared.fault.NodeFault.TheVariants as kinds
+use Rattle.tsn_check.specs.Faults.{IsFirstWrong, Stands, IsTreeFault, IsScheduleFault, IsClaimFault, IsFirstFault}
 use Rattle.tsn_check.specs.declared.fault.CheckFault.{CheckFault}
-use Rattle.tsn_check.specs.declared.fault.CheckFault.TheVariants.{PlanInvalid, FlowspanWrong, TreeUnfinished, TreeTooLong, NotConflict, ChainBroken, BoundTooLow, Memory}
-use Rattle.tsn_check.proofs.Refusals.{no_conflict_wrong, chain_broken_wrong, bound_too_low_wrong}
+use Rattle.tsn_check.specs.declared.fault.CheckFault.TheVariants.{PlanInvalid, FlowspanWrong, TreeUnfinished, TreeTooLong, NotConflict, ChainBroken, BoundTooLow, StreamRepeated, NotOnLink, Memory}
+use Rattle.tsn_check.proofs.Refusals.{there_below, entry_right, wrong_not_right, first_wrong_refutes, fault_wrong}
 use Rattle.tsn_check.proofs.Verdicts.{claim_fault_refutes}
-
-there_below : (nodes : List Node) (k : ℕ) (node : Node) → slice_get nodes k ≡ Some node → k < length nodes
-there_below [] zero node at = cc
-there_below [] (suc k) node at = cc
-there_below (first ∷ nodes) zero node at = omega arith
-there_below (first ∷ nodes) (suc k) node at = let below = there_below nodes k node at in omega arith
 
 there_is : (nodes : List Node) (k : ℕ) → k < length nodes → (node : Node) × (slice_get nodes k ≡ Some node)
 there_is [] k below = absurd (omega arith)
 there_is (first ∷ nodes) zero below = (first, refl)
 there_is (first ∷ nodes) (suc k) below = there_is nodes k (omega arith)
+
+there_taken : {X : Type 0} (xs : List X) (k m : ℕ) (x : X) → k < m → slice_get xs k ≡ Some x → slice_get (take m xs) k ≡ Some x
+there_taken [] zero m x below at = cc
+there_taken [] (suc k) m x below at = cc
+there_taken (first ∷ xs) k zero x below at = absurd (omega arith)
+there_taken (first ∷ xs) zero (suc m) x below at = at
+there_taken (first ∷ xs) (suc k) (suc m) x below at = there_taken xs k m x (omega arith) at
+
+-- no stream is among others that it differs from
+none_repeated : (before : List Entry) (entry : Entry) → Any (λ other. other.stream ≡ entry.stream) before → All (λ other. other.stream ≢ entry.stream) before → ⊥
+none_repeated before entry some none = none some.0 some.1 some.2 (ap (λ e. e.stream) some.3 ∙ some.4)
+
+-- ---- of one node
+
+module _ (network : Network) (path : List Decision) (link : ℕ) where
+  -- an entry is wrong in one way
+  one_entry_fault : (before : List Entry) (entry : Entry) (one other : NodeFault) → IsWrongEntry network path link one before entry → IsWrongEntry network path link other before entry → one ≡ other
+  one_entry_fault before entry kinds.NotOnLink kinds.NotOnLink is another = refl
+  one_entry_fault before entry kinds.NotOnLink kinds.StreamRepeated is another = absurd (is another.0)
+  one_entry_fault before entry kinds.NotOnLink kinds.ChainBroken is another = absurd (is another.0)
+  one_entry_fault before entry kinds.StreamRepeated kinds.NotOnLink is another = absurd (another is.0)
+  one_entry_fault before entry kinds.StreamRepeated kinds.StreamRepeated is another = refl
+  one_entry_fault before entry kinds.StreamRepeated kinds.ChainBroken is another = absurd (none_repeated before entry is.1 another.1)
+  one_entry_fault before entry kinds.ChainBroken kinds.NotOnLink is another = absurd (another is.0)
+  one_entry_fault before entry kinds.ChainBroken kinds.StreamRepeated is another = absurd (none_repeated before entry another.1 is.1)
+  one_entry_fault before entry kinds.ChainBroken kinds.ChainBroken is another = refl
+  one_entry_fault before entry kinds.NotConflict _ is another = absurd is
+  one_entry_fault before entry kinds.BoundTooLow _ is another = absurd is
+  one_entry_fault before entry _ kinds.NotConflict is another = absurd another
+  one_entry_fault before entry _ kinds.BoundTooLow is another = absurd another
+
+  entry_blocks : (entries : List Entry) (k m : ℕ) (entry : Entry) (fault : NodeFault) → slice_get entries k ≡ Some entry → IsWrongEntry network path link fault (take k entries) entry → k < m
+      → AreEntries network path link (take m entries) → ⊥
+  entry_blocks entries k m entry fault there wrong_there below are =
+      let at : slice_get (take m entries) k ≡ Some entry = there_taken entries k m entry below there in
+      let right = entry_right network path link (take m entries) k entry are at in
+      let same : take k (take m entries) ≡ take k entries = take-take k m entries (omega arith) in
+      wrong_not_right network path link (take k entries) entry fault wrong_there (subst (λ es. IsRightEntry network path link es entry) same right)
+
+  -- and is the first that is wrong at one place
+  one_first_wrong : (entries : List Entry) (one other : NodeFault) → IsFirstWrong network path link entries (IsWrongEntry network path link one) → IsFirstWrong network path link entries (IsWrongEntry network path link other)
+      → one ≡ other
+  one_first_wrong entries one other is another = elim (cases_lt is.k another.k) [
+    | inl below ↦ absurd (entry_blocks entries is.k another.k is.entry one is.there is.wrong below another.right_before)
+    | inr above ↦ elim (cases_lt another.k is.k) [
+      | inl below ↦ absurd (entry_blocks entries another.k is.k another.entry other another.there another.wrong below is.right_before)
+      | inr past ↦
+          let place : is.k ≡ another.k = omega arith in
+          let there : Some is.entry ≡ Some another.entry = sym is.there ∙ ap (slice_get entries) place ∙ another.there in
+          let entry : is.entry ≡ another.entry = cc in
+          one_entry_fault (take another.k entries) another.entry one other
+          (subst (λ e. IsWrongEntry network path link one (take another.k entries) e) entry (subst (λ n. IsWrongEntry network path link one (take n entries) is.entry) place is.wrong)) another.wrong
+    ]
+  ]
+
+module _ (network : Network) (target : ℕ) (path : List Decision) where
+  -- a leaf without entries: its chain is broken, or its bound is too low
+  PlainFault : Type 0 → Type 0 → NodeFault → Type 0
+  PlainFault Chains Low kinds.ChainBroken = Chains → ⊥
+  PlainFault Chains Low kinds.BoundTooLow = Chains × Low
+  PlainFault Chains Low _ = ⊥
+
+  one_plain_fault : (Chains Low : Type 0) (one other : NodeFault) → PlainFault Chains Low one → PlainFault Chains Low other → one ≡ other
+  unfolding PlainFault
+  one_plain_fault Chains Low kinds.ChainBroken kinds.ChainBroken is another = refl
+  one_plain_fault Chains Low kinds.ChainBroken kinds.BoundTooLow is another = absurd (is another.0)
+  one_plain_fault Chains Low kinds.ChainBroken _ is another = absurd another
+  one_plain_fault Chains Low kinds.BoundTooLow kinds.ChainBroken is another = absurd (another is.0)
+  one_plain_fault Chains Low kinds.BoundTooLow kinds.BoundTooLow is another = refl
+  one_plain_fault Chains Low kinds.BoundTooLow _ is another = absurd another
+  one_plain_fault Chains Low _ other is another = absurd is
+
+  late_fault : (i : ℕ) (chain : List ℕ) (fault : NodeFault) → HasFault network target path (leaf_node (late i chain)) fault
+      → PlainFault (LeadsTo network path chain i) (Proves network path target (late i chain) → ⊥) fault
+  unfolding PlainFault
+  late_fault i chain kinds.ChainBroken is = is
+  late_fault i chain kinds.BoundTooLow is = is
+  late_fault i chain _ is = absurd is
+
+  overrun_fault : (i : ℕ) (chain : List ℕ) (fault : NodeFault) → HasFault network target path (leaf_node (overrun i chain)) fault
+      → PlainFault (LeadsTo network path chain i) (Proves network path target (overrun i chain) → ⊥) fault
+  unfolding PlainFault
+  overrun_fault i chain kinds.ChainBroken is = is
+  overrun_fault i chain kinds.BoundTooLow is = is
+  overrun_fault i chain _ is = absurd is
+
+  cycle_fault : (chain : List ℕ) (fault : NodeFault) → HasFault network target path (leaf_node (positive_cycle chain)) fault
+      → PlainFault (IsClosedChain (arcs_of network path) chain) (Proves network path target (positive_cycle chain) → ⊥) fault
+  unfolding PlainFault
+  cycle_fault chain kinds.ChainBroken is = is
+  cycle_fault chain kinds.BoundTooLow is = is
+  cycle_fault chain _ is = absurd is
+
+  -- a leaf over a link: an entry is wrong, or its bound is too low
+  LinkFault : ℕ → List Entry → Type 0 → NodeFault → Type 0
+  LinkFault link entries Low kinds.BoundTooLow = AreEntries network path link entries × Low
+  LinkFault link entries Low fault = IsFirstWrong network path link entries (IsWrongEntry network path link fault)
+
+  one_link_fault : (link : ℕ) (entries : List Entry) (Low : Type 0) (one other : NodeFault) → LinkFault link entries Low one → LinkFault link entries Low other → one ≡ other
+  unfolding LinkFault
+  one_link_fault link entries Low kinds.BoundTooLow kinds.BoundTooLow is another = refl
+  one_link_fault link entries Low kinds.BoundTooLow other is another = absurd (first_wrong_refutes network path link entries other another is.0)
+  one_link_fault link entries Low one kinds.BoundTooLow is another = absurd (first_wrong_refutes network path link entries one is another.0)
+  one_link_fault link entries Low one other is another = one_first_wrong network path link entries one other is another
+
+  load_fault : (link : ℕ) (entries : List Entry) (fault : NodeFault) → HasFault network target path (leaf_node (load link entries)) fault
+      → LinkFault link entries (Proves network path target (load link entries) → ⊥) fault
+  unfolding LinkFault
+  load_fault link entries kinds.NotConflict is = absurd is
+  load_fault link entries _ is = is
+
+  overload_fault : (link : ℕ) (entries : List Entry) (fault : NodeFault) → HasFault network target path (leaf_node (overload link entries)) fault
+      → LinkFault link entries (Proves network path target (overload link entries) → ⊥) fault
+  unfolding LinkFault
+  overload_fault link entries kinds.NotConflict is = absurd is
+  overload_fault link entries _ is = is
+
+  one_leaf_fault : (proof : Leaf) (one other : NodeFault) → HasFault network target path (leaf_node proof) one → HasFault network target path (leaf_node proof) other → one ≡ other
+  one_leaf_fault (late i chain) one other is another = one_plain_fault _ _ one other (late_fault i chain one is) (late_fault i chain other another)
+  one_leaf_fault (overrun i chain) one other is another = one_plain_fault _ _ one other (overrun_fault i chain one is) (overrun_fault i chain other another)
+  one_leaf_fault (positive_cycle chain) one other is another = one_plain_fault _ _ one other (cycle_fault chain one is) (cycle_fault chain other another)
+  one_leaf_fault (load link entries) one other is another = one_link_fault link entries _ one other (load_fault link entries one is) (load_fault link entries other another)
+  one_leaf_fault (overload link entries) one other is another = one_link_fault link entries _ one other (overload_fault link entries one is) (overload_fault link entries other another)
+
+  -- a node has one fault
+  one_node_fault : (node : Node) (one other : NodeFault) → HasFault network target path node one → HasFault network target path node other → one ≡ other
+  one_node_fault (split_node triple) kinds.NotConflict kinds.NotConflict is another = refl
+  one_node_fault (split_node triple) kinds.NotConflict _ is another = absurd another
+  one_node_fault (split_node triple) _ other is another = absurd is
+  one_node_fault (leaf_node proof) one other is another = one_leaf_fault proof one other is another
+
+-- ---- of a list of nodes
+
+data Kind : Type 0 where
+  unfinished : Kind
+  too_long : Kind
+  wrong : NodeFault → Kind
 
 module _ (network : Network) (target : ℕ) where
   -- where the first m nodes are right, so is each of them
@@ -50,57 +186,64 @@ module _ (network : Network) (target : ℕ) where
   -- a node that isn't right where it stands is no node before which others are right
   stands_blocks : (nodes : List Node) (m k : ℕ) (path : List Decision) (node : Node) → Stands network target nodes k path node → (IsNodeRight network target path node → ⊥) → k < m
       → AreRight network target ([] ∷ []) (take m nodes) → ⊥
-  stands_blocks nodes m k path node stands wrong below right =
+  stands_blocks nodes m k path node stands isnt below right =
       let found = right_there nodes m k node right below stands.there in
       let places : path ∷ stands.waiting ≡ found.0 ∷ found.1 = sym stands.first_place ∙ found.2 in
       let same : path ≡ found.0 = cc in
-      wrong (subst (λ p. IsNodeRight network target p node) (sym same) found.3)
+      isnt (subst (λ p. IsNodeRight network target p node) (sym same) found.3)
 
-  -- the place of a fault of the nodes
-  place_of : CheckFault → ℕ
-  place_of (TreeUnfinished k) = k
-  place_of (TreeTooLong k) = k
-  place_of (NotConflict k) = k
-  place_of (ChainBroken k) = k
-  place_of (BoundTooLow k) = k
-  place_of _ = 0
+  -- ---- what a fault of the nodes says of a place
 
-  reaches : (nodes : List Node) (fault : CheckFault) → IsTreeFault network target nodes fault → AreRight network target ([] ∷ []) (take (place_of fault) nodes) × (place_of fault ≤ length nodes)
-  unfolding place_of
-  reaches nodes (TreeUnfinished k) is =
+  fault_of : Kind → ℕ → CheckFault
+  fault_of unfinished k = TreeUnfinished k
+  fault_of too_long k = TreeTooLong k
+  fault_of (wrong fault) k = fault_at k fault
+
+  -- the nodes end and a place is open; a node stands after the tree's end; or a node isn't right where it stands
+  Says : List Node → Kind → ℕ → Type 0
+  Says nodes unfinished k = (k ≡ length nodes) × AreRight network target ([] ∷ []) nodes
+  Says nodes too_long k = (k < length nodes) × AreRight network target ([] ∷ []) (take k nodes) × (places_after (take k nodes) ≡ [])
+  Says nodes (wrong fault) k = (path : List Decision) × (node : Node) × Stands network target nodes k path node × HasFault network target path node fault
+
+  says : (nodes : List Node) (fault : CheckFault) → IsTreeFault network target nodes fault → (kind : Kind) × (k : ℕ) × (fault ≡ fault_of kind k) × Says nodes kind k
+  unfolding fault_of Says
+  says nodes (TreeUnfinished k) is = (unfinished, k, refl, (is.0, is.1))
+  says nodes (TreeTooLong k) is = (too_long, k, refl, is)
+  says nodes (NotConflict k) is = (wrong kinds.NotConflict, k, refl, is)
+  says nodes (ChainBroken k) is = (wrong kinds.ChainBroken, k, refl, is)
+  says nodes (BoundTooLow k) is = (wrong kinds.BoundTooLow, k, refl, is)
+  says nodes (StreamRepeated k) is = (wrong kinds.StreamRepeated, k, refl, is)
+  says nodes (NotOnLink k) is = (wrong kinds.NotOnLink, k, refl, is)
+  says nodes PlanInvalid is = absurd is
+  says nodes FlowspanWrong is = absurd is
+  says nodes Memory is = absurd is
+
+  reaches : (nodes : List Node) (kind : Kind) (k : ℕ) → Says nodes kind k → AreRight network target ([] ∷ []) (take k nodes) × (k ≤ length nodes)
+  unfolding Says
+  reaches nodes unfinished k is =
       let ends = is.0 in
       (subst (AreRight network target ([] ∷ [])) (sym (take_all k nodes (omega arith))) is.1, omega arith)
-  reaches nodes (TreeTooLong k) is = let below = is.0 in (is.1, omega arith)
-  reaches nodes (NotConflict k) is = let below = there_below nodes k is.1 is.2.there in (is.2.right_before, omega arith)
-  reaches nodes (ChainBroken k) is = let below = there_below nodes k is.1 is.2.there in (is.2.right_before, omega arith)
-  reaches nodes (BoundTooLow k) is = let below = there_below nodes k is.1 is.2.there in (is.2.right_before, omega arith)
-  reaches nodes PlanInvalid is = absurd is
-  reaches nodes FlowspanWrong is = absurd is
-  reaches nodes Memory is = absurd is
+  reaches nodes too_long k is = let below = is.0 in (is.1, omega arith)
+  reaches nodes (wrong fault) k is = let below = there_below nodes k is.1 is.2.there in (is.2.right_before, omega arith)
 
-  blocks : (nodes : List Node) (fault : CheckFault) (m : ℕ) → IsTreeFault network target nodes fault → place_of fault < m → m ≤ length nodes → AreRight network target ([] ∷ []) (take m nodes) → ⊥
-  unfolding place_of
-  blocks nodes (TreeUnfinished k) m is below within right = let ends = is.0 in omega arith
-  blocks nodes (TreeTooLong k) m is below within right =
+  blocks : (nodes : List Node) (kind : Kind) (k m : ℕ) → Says nodes kind k → k < m → m ≤ length nodes → AreRight network target ([] ∷ []) (take m nodes) → ⊥
+  unfolding Says
+  blocks nodes unfinished k m is below within right = let ends = is.0 in omega arith
+  blocks nodes too_long k m is below within right =
       let node = there_is nodes k is.0 in
       let found = right_there nodes m k node.0 right below node.1 in
       let clash : [] ≡ found.0 ∷ found.1 = sym is.2 ∙ found.2 in
       cc
-  blocks nodes (NotConflict k) m is below within right = stands_blocks nodes m k is.0 is.1 is.2 (no_conflict_wrong network target is.0 is.1 is.3) below right
-  blocks nodes (ChainBroken k) m is below within right = stands_blocks nodes m k is.0 is.1 is.2 (chain_broken_wrong network target is.0 is.1 is.3) below right
-  blocks nodes (BoundTooLow k) m is below within right = stands_blocks nodes m k is.0 is.1 is.2 (bound_too_low_wrong network target is.0 is.1 is.3) below right
-  blocks nodes PlanInvalid m is below within right = is
-  blocks nodes FlowspanWrong m is below within right = is
-  blocks nodes Memory m is below within right = is
+  blocks nodes (wrong fault) k m is below within right = stands_blocks nodes m k is.0 is.1 is.2 (fault_wrong network target is.0 is.1 fault is.3) below right
 
-  same_place : (nodes : List Node) (one other : CheckFault) → IsTreeFault network target nodes one → IsTreeFault network target nodes other → place_of one ≡ place_of other
-  same_place nodes one other is is_other =
-      let reach = reaches nodes one is in
-      let reach_other = reaches nodes other is_other in
-      elim (cases_lt (place_of one) (place_of other)) [
-        | inl below ↦ absurd (blocks nodes one (place_of other) is below reach_other.1 reach_other.0)
-        | inr above ↦ elim (cases_lt (place_of other) (place_of one)) [
-          | inl below ↦ absurd (blocks nodes other (place_of one) is_other below reach.1 reach.0)
+  same_place : (nodes : List Node) (one other : Kind) (k m : ℕ) → Says nodes one k → Says nodes other m → k ≡ m
+  same_place nodes one other k m is is_other =
+      let reach = reaches nodes one k is in
+      let reach_other = reaches nodes other m is_other in
+      elim (cases_lt k m) [
+        | inl below ↦ absurd (blocks nodes one k m is below reach_other.1 reach_other.0)
+        | inr above ↦ elim (cases_lt m k) [
+          | inl below ↦ absurd (blocks nodes other m k is_other below reach.1 reach.0)
           | inr past ↦ omega arith
         ]
       ]
@@ -116,77 +259,32 @@ module _ (network : Network) (target : ℕ) where
       let same_node : node ≡ another = cc in
       (same_path, same_node)
 
-  no_branch : (path : List Decision) (node : Node) → IsNoConflict network node → IsChainBroken network path node → ⊥
-  no_branch path (split_node triple) branch leaf = leaf
-  no_branch path (leaf_node proof) branch leaf = branch
-
-  no_branch_bound : (path : List Decision) (node : Node) → IsNoConflict network node → IsBoundTooLow network target path node → ⊥
-  no_branch_bound path (split_node triple) branch leaf = leaf
-  no_branch_bound path (leaf_node proof) branch leaf = branch
-
-  one_leaf_fault : (path : List Decision) (node : Node) → IsChainBroken network path node → IsBoundTooLow network target path node → ⊥
-  one_leaf_fault path (split_node triple) broken low = broken
-  one_leaf_fault path (leaf_node proof) broken low = broken low.0
-
-  conflict_and_chain : (nodes : List Node) (k m : ℕ) → IsTreeFault network target nodes (NotConflict k) → IsTreeFault network target nodes (ChainBroken m) → k ≡ m → ⊥
-  conflict_and_chain nodes k m is other same =
-      let both = same_stand nodes k m is.0 other.0 is.1 other.1 is.2 other.2 same in
-      no_branch other.0 other.1 (subst (IsNoConflict network) both.1 is.3) other.3
-
-  conflict_and_bound : (nodes : List Node) (k m : ℕ) → IsTreeFault network target nodes (NotConflict k) → IsTreeFault network target nodes (BoundTooLow m) → k ≡ m → ⊥
-  conflict_and_bound nodes k m is other same =
-      let both = same_stand nodes k m is.0 other.0 is.1 other.1 is.2 other.2 same in
-      no_branch_bound other.0 other.1 (subst (IsNoConflict network) both.1 is.3) other.3
-
-  chain_and_bound : (nodes : List Node) (k m : ℕ) → IsTreeFault network target nodes (ChainBroken k) → IsTreeFault network target nodes (BoundTooLow m) → k ≡ m → ⊥
-  chain_and_bound nodes k m is other same =
-      let both = same_stand nodes k m is.0 other.0 is.1 other.1 is.2 other.2 same in
-      one_leaf_fault other.0 other.1 (subst (λ p. IsChainBroken network p other.1) both.0 (subst (IsChainBroken network is.0) both.1 is.3)) other.3
-
-  end_and_place : (nodes : List Node) (k m : ℕ) (path : List Decision) (node : Node) → k ≡ length nodes → Stands network target nodes m path node → k ≡ m → ⊥
-  end_and_place nodes k m path node ends stands same = let below = there_below nodes m node stands.there in omega arith
-
-  close_and_place : (nodes : List Node) (k m : ℕ) (path : List Decision) (node : Node) → places_after (take k nodes) ≡ [] → Stands network target nodes m path node → k ≡ m → ⊥
-  close_and_place nodes k m path node closed stands same =
-      let clash : [] ≡ path ∷ stands.waiting = sym closed ∙ ap (λ n. places_after (take n nodes)) same ∙ stands.first_place in
+  same_kind : (nodes : List Node) (one other : Kind) (k m : ℕ) → Says nodes one k → Says nodes other m → k ≡ m → one ≡ other
+  unfolding Says
+  same_kind nodes unfinished unfinished k m is another same = refl
+  same_kind nodes unfinished too_long k m is another same = let ends = is.0 in let below = another.0 in absurd (omega arith)
+  same_kind nodes unfinished (wrong fault) k m is another same = let ends = is.0 in let below = there_below nodes m another.1 another.2.there in absurd (omega arith)
+  same_kind nodes too_long unfinished k m is another same = let ends = another.0 in let below = is.0 in absurd (omega arith)
+  same_kind nodes too_long too_long k m is another same = refl
+  same_kind nodes too_long (wrong fault) k m is another same =
+      let clash : [] ≡ another.0 ∷ another.2.waiting = sym is.2 ∙ ap (λ n. places_after (take n nodes)) same ∙ another.2.first_place in
       cc
-
-  same_fault : (nodes : List Node) (one other : CheckFault) → IsTreeFault network target nodes one → IsTreeFault network target nodes other → place_of one ≡ place_of other → one ≡ other
-  unfolding place_of
-  same_fault nodes (TreeUnfinished k) (TreeUnfinished m) is another same = ap TreeUnfinished same
-  same_fault nodes (TreeUnfinished k) (TreeTooLong m) is another same = let ends = is.0 in let below = another.0 in absurd (omega arith)
-  same_fault nodes (TreeUnfinished k) (NotConflict m) is another same = absurd (end_and_place nodes k m another.0 another.1 is.0 another.2 same)
-  same_fault nodes (TreeUnfinished k) (ChainBroken m) is another same = absurd (end_and_place nodes k m another.0 another.1 is.0 another.2 same)
-  same_fault nodes (TreeUnfinished k) (BoundTooLow m) is another same = absurd (end_and_place nodes k m another.0 another.1 is.0 another.2 same)
-  same_fault nodes (TreeTooLong k) (TreeUnfinished m) is another same = let ends = another.0 in let below = is.0 in absurd (omega arith)
-  same_fault nodes (TreeTooLong k) (TreeTooLong m) is another same = ap TreeTooLong same
-  same_fault nodes (TreeTooLong k) (NotConflict m) is another same = absurd (close_and_place nodes k m another.0 another.1 is.2 another.2 same)
-  same_fault nodes (TreeTooLong k) (ChainBroken m) is another same = absurd (close_and_place nodes k m another.0 another.1 is.2 another.2 same)
-  same_fault nodes (TreeTooLong k) (BoundTooLow m) is another same = absurd (close_and_place nodes k m another.0 another.1 is.2 another.2 same)
-  same_fault nodes (NotConflict k) (TreeUnfinished m) is another same = absurd (end_and_place nodes m k is.0 is.1 another.0 is.2 (sym same))
-  same_fault nodes (NotConflict k) (TreeTooLong m) is another same = absurd (close_and_place nodes m k is.0 is.1 another.2 is.2 (sym same))
-  same_fault nodes (NotConflict k) (NotConflict m) is another same = ap NotConflict same
-  same_fault nodes (NotConflict k) (ChainBroken m) is another same = absurd (conflict_and_chain nodes k m is another same)
-  same_fault nodes (NotConflict k) (BoundTooLow m) is another same = absurd (conflict_and_bound nodes k m is another same)
-  same_fault nodes (ChainBroken k) (TreeUnfinished m) is another same = absurd (end_and_place nodes m k is.0 is.1 another.0 is.2 (sym same))
-  same_fault nodes (ChainBroken k) (TreeTooLong m) is another same = absurd (close_and_place nodes m k is.0 is.1 another.2 is.2 (sym same))
-  same_fault nodes (ChainBroken k) (NotConflict m) is another same = absurd (conflict_and_chain nodes m k another is (sym same))
-  same_fault nodes (ChainBroken k) (ChainBroken m) is another same = ap ChainBroken same
-  same_fault nodes (ChainBroken k) (BoundTooLow m) is another same = absurd (chain_and_bound nodes k m is another same)
-  same_fault nodes (BoundTooLow k) (TreeUnfinished m) is another same = absurd (end_and_place nodes m k is.0 is.1 another.0 is.2 (sym same))
-  same_fault nodes (BoundTooLow k) (TreeTooLong m) is another same = absurd (close_and_place nodes m k is.0 is.1 another.2 is.2 (sym same))
-  same_fault nodes (BoundTooLow k) (NotConflict m) is another same = absurd (conflict_and_bound nodes m k another is (sym same))
-  same_fault nodes (BoundTooLow k) (ChainBroken m) is another same = absurd (chain_and_bound nodes m k another is (sym same))
-  same_fault nodes (BoundTooLow k) (BoundTooLow m) is another same = ap BoundTooLow same
-  same_fault nodes PlanInvalid other is another same = absurd is
-  same_fault nodes FlowspanWrong other is another same = absurd is
-  same_fault nodes Memory other is another same = absurd is
-  same_fault nodes one PlanInvalid is another same = absurd another
-  same_fault nodes one FlowspanWrong is another same = absurd another
-  same_fault nodes one Memory is another same = absurd another
+  same_kind nodes (wrong fault) unfinished k m is another same = let ends = another.0 in let below = there_below nodes k is.1 is.2.there in absurd (omega arith)
+  same_kind nodes (wrong fault) too_long k m is another same =
+      let clash : [] ≡ is.0 ∷ is.2.waiting = sym another.2 ∙ ap (λ n. places_after (take n nodes)) (sym same) ∙ is.2.first_place in
+      cc
+  same_kind nodes (wrong fault) (wrong other) k m is another same =
+      let both = same_stand nodes k m is.0 another.0 is.1 another.1 is.2 another.2 same in
+      ap wrong (one_node_fault network target another.0 another.1 fault other
+      (subst (λ p. HasFault network target p another.1 fault) both.0 (subst (λ n. HasFault network target is.0 n fault) both.1 is.3)) another.3)
 
   one_tree_fault : (nodes : List Node) (one other : CheckFault) → IsTreeFault network target nodes one → IsTreeFault network target nodes other → one ≡ other
-  one_tree_fault nodes one other is another = same_fault nodes one other is another (same_place nodes one other is another)
+  one_tree_fault nodes one other is another =
+      let first = says nodes one is in
+      let second = says nodes other another in
+      let place = same_place nodes first.0 second.0 first.1 second.1 first.3 second.3 in
+      let kind = same_kind nodes first.0 second.0 first.1 second.1 first.3 second.3 place in
+      first.2 ∙ (λ i. fault_of (kind i) (place i)) ∙ sym second.2
 
 -- ---- of a plan and its certificate
 

@@ -1,5 +1,6 @@
 mod Refusals
 mod Verdicts
+mod Loads
 mod Walks
 mod Chains
 mod Firsts

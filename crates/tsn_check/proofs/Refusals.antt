@@ -1,15 +1,19 @@
 -- A first fault of a list of nodes shows that it doesn't fill the root's place.
-use Rattle.std.proofs.Common.{◌≡◌, ℕ, zero, suc, List, [], ◌∷◌, length, take, drop, refl, sym, ap, subst, arith, Some}
+use Rattle.std.proofs.Common.{◌≡◌, ℕ, zero, suc, ◌<◌, List, [], ◌∷◌, length, take, drop, get_or, refl, sym, ap, ◌∙◌, subst, arith, Some}
 use Rattle.std.specs.Prelude.{slice_get}
-use Rattle.std.proofs.lemmas.List.{take-append-drop, length-drop}
+use Rattle.std.proofs.lemmas.List.{take-append-drop, length-drop, length-take, get_or-take}
 use Rattle.tsn_model.specs.declared.Decision.{Decision}
 use Rattle.tsn_model.specs.Network.{Network}
-use Rattle.tsn_model.specs.Certificate.{Leaf, late, overrun, positive_cycle, load, overload, Proves, Node, split_node, leaf_node}
+use Rattle.tsn_model.specs.Certificate.{Leaf, late, overrun, positive_cycle, load, overload, Entry, LeadsTo, AreEntries, Proves, Node, split_node, leaf_node}
 use Rattle.tsn_model.specs.Places.{IsNodeRight, Fills, places_after}
 use Rattle.tsn_model.proofs.Places.{fills-append, right_from_fills}
-use Rattle.tsn_check.specs.Faults.{IsNoConflict, HasChains, IsChainBroken, IsBoundTooLow, Stands, IsTreeFault}
+use Rattle.tsn_model.specs.Timing.{UsesLink}
+use Rattle.tsn_check.specs.Faults.{IsFirstWrong, IsOffLink, IsRepeated, HasChains, HasWrongEntry, BreaksChain, Stands, IsTreeFault}
+use Rattle.tsn_check.specs.Steps.{IsWrongEntry, IsRightEntry, HasFault}
+use Rattle.tsn_check.specs.declared.fault.NodeFault.{NodeFault}
+use Rattle.tsn_check.specs.declared.fault.NodeFault.TheVariants as kinds
 use Rattle.tsn_check.specs.declared.fault.CheckFault.{CheckFault}
-use Rattle.tsn_check.specs.declared.fault.CheckFault.TheVariants.{PlanInvalid, FlowspanWrong, TreeUnfinished, TreeTooLong, NotConflict, ChainBroken, BoundTooLow, Memory}
+use Rattle.tsn_check.specs.declared.fault.CheckFault.TheVariants.{PlanInvalid, FlowspanWrong, TreeUnfinished, TreeTooLong, NotConflict, ChainBroken, BoundTooLow, StreamRepeated, NotOnLink, Memory}
 
 at_take : (nodes : List Node) (k : ℕ) (node : Node) → slice_get nodes k ≡ Some node → drop k nodes ≡ node ∷ drop (suc k) nodes
 at_take [] zero node at = cc
@@ -31,10 +35,6 @@ stands_right network target nodes k path node stands fills =
     subst (Fills network target (path ∷ stands.waiting)) (at_take nodes k node stands.there) (subst (λ ps. Fills network target ps (drop k nodes)) stands.first_place parts.1) in
     here.0
 
-pub no_conflict_wrong : (network : Network) (target : ℕ) (path : List Decision) (node : Node) → IsNoConflict network node → IsNodeRight network target path node → ⊥
-no_conflict_wrong network target path (split_node triple) fault right = fault right
-no_conflict_wrong network target path (leaf_node proof) fault right = absurd fault
-
 has_chains : (network : Network) (target : ℕ) (path : List Decision) (proof : Leaf) → Proves network path target proof → HasChains network path proof
 has_chains network target path (late i chain) proves = proves.0
 has_chains network target path (overrun i chain) proves = proves.0
@@ -42,13 +42,77 @@ has_chains network target path (positive_cycle chain) proves = proves.0
 has_chains network target path (load link entries) proves = proves.0
 has_chains network target path (overload link entries) proves = proves.0
 
-pub chain_broken_wrong : (network : Network) (target : ℕ) (path : List Decision) (node : Node) → IsChainBroken network path node → IsNodeRight network target path node → ⊥
-chain_broken_wrong network target path (split_node triple) fault right = absurd fault
-chain_broken_wrong network target path (leaf_node proof) fault right = fault (has_chains network target path proof right)
+-- ---- the entries of a leaf
 
-pub bound_too_low_wrong : (network : Network) (target : ℕ) (path : List Decision) (node : Node) → IsBoundTooLow network target path node → IsNodeRight network target path node → ⊥
-bound_too_low_wrong network target path (split_node triple) fault right = absurd fault
-bound_too_low_wrong network target path (leaf_node proof) fault right = fault.1 right
+pub there_below : {X : Type 0} (xs : List X) (k : ℕ) (x : X) → slice_get xs k ≡ Some x → k < length xs
+there_below [] zero x at = cc
+there_below [] (suc k) x at = cc
+there_below (first ∷ xs) zero x at = omega arith
+there_below (first ∷ xs) (suc k) x at = let below = there_below xs k x at in omega arith
+
+there_or : {X : Type 0} (xs : List X) (k : ℕ) (x d : X) → slice_get xs k ≡ Some x → get_or xs k d ≡ x
+there_or [] zero x d at = cc
+there_or [] (suc k) x d at = cc
+there_or (first ∷ xs) zero x d at = cc
+there_or (first ∷ xs) (suc k) x d at = there_or xs k x d at
+
+module _ (network : Network) (path : List Decision) (link : ℕ) where
+  -- each of some right entries is right behind those before it
+  pub entry_right : (entries : List Entry) (k : ℕ) (entry : Entry) → AreEntries network path link entries → slice_get entries k ≡ Some entry → IsRightEntry network path link (take k entries) entry
+  entry_right entries k entry are at =
+      let below = there_below entries k entry at in
+      let is : get_or entries k entry ≡ entry = there_or entries k entry entry at in
+      record {
+        on_link = subst (λ e. UsesLink network e.stream link) is (are.on_link k entry below);
+        other_stream = λ i d before same.
+            let within : i < k = omega (arith, length-take k entries) in
+            are.different i k d within below (ap (λ e. e.stream) (sym (get_or-take k entries i d within)) ∙ same ∙ ap (λ e. e.stream) (sym (there_or entries k entry d at)));
+        leads = subst (λ e. LeadsTo network path e.chain e.stream) is (are.chains k entry below);
+      }
+
+  -- a wrong entry isn't right
+  pub wrong_not_right : (before : List Entry) (entry : Entry) (fault : NodeFault) → IsWrongEntry network path link fault before entry → IsRightEntry network path link before entry → ⊥
+  wrong_not_right before entry kinds.NotOnLink wrong right = wrong right.on_link
+  wrong_not_right before entry kinds.StreamRepeated wrong right = right.other_stream wrong.1.0 wrong.1.1 wrong.1.2 (ap (λ e. e.stream) wrong.1.3 ∙ wrong.1.4)
+  wrong_not_right before entry kinds.ChainBroken wrong right = wrong.2 right.leads
+  wrong_not_right before entry kinds.NotConflict wrong right = wrong
+  wrong_not_right before entry kinds.BoundTooLow wrong right = wrong
+
+  pub first_wrong_refutes : (entries : List Entry) (fault : NodeFault) → IsFirstWrong network path link entries (IsWrongEntry network path link fault) → AreEntries network path link entries → ⊥
+  first_wrong_refutes entries fault first are = wrong_not_right (take first.k entries) first.entry fault first.wrong (entry_right entries first.k first.entry are first.there)
+
+chain_broken : (network : Network) (path : List Decision) (proof : Leaf) → BreaksChain network path proof → HasChains network path proof → ⊥
+chain_broken network path (late i chain) breaks has = breaks has
+chain_broken network path (overrun i chain) breaks has = breaks has
+chain_broken network path (positive_cycle chain) breaks has = breaks has
+chain_broken network path (load link entries) breaks has = first_wrong_refutes network path link entries kinds.ChainBroken breaks has
+chain_broken network path (overload link entries) breaks has = first_wrong_refutes network path link entries kinds.ChainBroken breaks has
+
+repeated_wrong : (network : Network) (path : List Decision) (proof : Leaf) → HasWrongEntry network path (IsRepeated network) proof → HasChains network path proof → ⊥
+repeated_wrong network path (late i chain) wrong has = wrong
+repeated_wrong network path (overrun i chain) wrong has = wrong
+repeated_wrong network path (positive_cycle chain) wrong has = wrong
+repeated_wrong network path (load link entries) wrong has = first_wrong_refutes network path link entries kinds.StreamRepeated wrong has
+repeated_wrong network path (overload link entries) wrong has = first_wrong_refutes network path link entries kinds.StreamRepeated wrong has
+
+off_link_wrong : (network : Network) (path : List Decision) (proof : Leaf) → HasWrongEntry network path (IsOffLink network) proof → HasChains network path proof → ⊥
+off_link_wrong network path (late i chain) wrong has = wrong
+off_link_wrong network path (overrun i chain) wrong has = wrong
+off_link_wrong network path (positive_cycle chain) wrong has = wrong
+off_link_wrong network path (load link entries) wrong has = first_wrong_refutes network path link entries kinds.NotOnLink wrong has
+off_link_wrong network path (overload link entries) wrong has = first_wrong_refutes network path link entries kinds.NotOnLink wrong has
+
+-- ---- nodes
+
+-- a node with a fault isn't right
+pub fault_wrong : (network : Network) (target : ℕ) (path : List Decision) (node : Node) (fault : NodeFault) → HasFault network target path node fault → IsNodeRight network target path node → ⊥
+fault_wrong network target path (split_node triple) kinds.NotConflict fault right = fault right
+fault_wrong network target path (split_node triple) _ fault right = absurd fault
+fault_wrong network target path (leaf_node proof) kinds.NotConflict fault right = absurd fault
+fault_wrong network target path (leaf_node proof) kinds.ChainBroken fault right = chain_broken network path proof fault (has_chains network target path proof right)
+fault_wrong network target path (leaf_node proof) kinds.BoundTooLow fault right = fault.1 right
+fault_wrong network target path (leaf_node proof) kinds.StreamRepeated fault right = repeated_wrong network path proof fault (has_chains network target path proof right)
+fault_wrong network target path (leaf_node proof) kinds.NotOnLink fault right = off_link_wrong network path proof fault (has_chains network target path proof right)
 
 pub tree_fault_refutes : (network : Network) (target : ℕ) (nodes : List Node) (fault : CheckFault) → IsTreeFault network target nodes fault → Fills network target ([] ∷ []) nodes → ⊥
 unfolding places_after
@@ -59,11 +123,15 @@ tree_fault_refutes network target nodes (TreeTooLong k) fault fills =
     let empty = filled_none network target (drop k nodes) (subst (λ ps. Fills network target ps (drop k nodes)) fault.2 parts.1) in
     omega (arith, length-drop k nodes, ap length empty)
 tree_fault_refutes network target nodes (NotConflict k) fault fills =
-    no_conflict_wrong network target fault.0 fault.1 fault.3 (stands_right network target nodes k fault.0 fault.1 fault.2 fills)
+    fault_wrong network target fault.0 fault.1 kinds.NotConflict fault.3 (stands_right network target nodes k fault.0 fault.1 fault.2 fills)
 tree_fault_refutes network target nodes (ChainBroken k) fault fills =
-    chain_broken_wrong network target fault.0 fault.1 fault.3 (stands_right network target nodes k fault.0 fault.1 fault.2 fills)
+    fault_wrong network target fault.0 fault.1 kinds.ChainBroken fault.3 (stands_right network target nodes k fault.0 fault.1 fault.2 fills)
 tree_fault_refutes network target nodes (BoundTooLow k) fault fills =
-    bound_too_low_wrong network target fault.0 fault.1 fault.3 (stands_right network target nodes k fault.0 fault.1 fault.2 fills)
+    fault_wrong network target fault.0 fault.1 kinds.BoundTooLow fault.3 (stands_right network target nodes k fault.0 fault.1 fault.2 fills)
+tree_fault_refutes network target nodes (StreamRepeated k) fault fills =
+    fault_wrong network target fault.0 fault.1 kinds.StreamRepeated fault.3 (stands_right network target nodes k fault.0 fault.1 fault.2 fills)
+tree_fault_refutes network target nodes (NotOnLink k) fault fills =
+    fault_wrong network target fault.0 fault.1 kinds.NotOnLink fault.3 (stands_right network target nodes k fault.0 fault.1 fault.2 fills)
 tree_fault_refutes network target nodes PlanInvalid fault fills = fault
 tree_fault_refutes network target nodes FlowspanWrong fault fills = fault
 tree_fault_refutes network target nodes Memory fault fills = fault

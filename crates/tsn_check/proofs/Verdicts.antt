@@ -15,7 +15,7 @@ use Rattle.tsn_check.specs.declared.verdict.Verdict.{Verdict}
 use Rattle.tsn_check.specs.Faults.{Certifies, IsPlanRight, IsOptimalPlan, IsClaimFault, IsScheduleFault, IsFirstFault, IsTreeFault, offsets_in, verdict_of}
 use Rattle.tsn_check.specs.declared.verdict.Verdict.TheVariants.{Optimal, NoSchedule}
 use Rattle.tsn_check.specs.declared.fault.CheckFault.{CheckFault}
-use Rattle.tsn_check.specs.declared.fault.CheckFault.TheVariants.{PlanInvalid, FlowspanWrong, TreeUnfinished, TreeTooLong, NotConflict, ChainBroken, BoundTooLow, Memory}
+use Rattle.tsn_check.specs.declared.fault.CheckFault.TheVariants.{PlanInvalid, FlowspanWrong, TreeUnfinished, TreeTooLong, NotConflict, ChainBroken, BoundTooLow, StreamRepeated, NotOnLink, Memory}
 use Rattle.tsn_model.proofs.Places.{filled_tree, tree_filled}
 use Rattle.tsn_check.proofs.Refusals.{tree_fault_refutes}
 
@@ -48,6 +48,8 @@ schedule_fault_refutes network span offsets (TreeTooLong k) fault right = fault
 schedule_fault_refutes network span offsets (NotConflict k) fault right = fault
 schedule_fault_refutes network span offsets (ChainBroken k) fault right = fault
 schedule_fault_refutes network span offsets (BoundTooLow k) fault right = fault
+schedule_fault_refutes network span offsets (StreamRepeated k) fault right = fault
+schedule_fault_refutes network span offsets (NotOnLink k) fault right = fault
 schedule_fault_refutes network span offsets Memory fault right = fault
 
 pub claim_fault_refutes : (network : Network) (plan : Plan) (fault : CheckFault) → IsClaimFault network plan fault → IsPlanRight network plan → ⊥

@@ -16,7 +16,7 @@ use Rattle.tsn_check.specs.Faults.{IsTreeFault}
 use Rattle.tsn_check.specs.Numbers.{fault_at}
 use Rattle.tsn_check.specs.Steps.{HasFault}
 use Rattle.tsn_check.specs.declared.fault.NodeFault.{NodeFault}
-use Rattle.tsn_check.specs.declared.fault.NodeFault.TheVariants.{NotConflict, ChainBroken, BoundTooLow}
+use Rattle.tsn_check.specs.declared.fault.NodeFault.TheVariants.{NotConflict, ChainBroken, BoundTooLow, StreamRepeated, NotOnLink}
 use Rattle.tsn_model.proofs.Places.{right-snoc, places_after-snoc, places_after-fills, fills_from_right, pending-nil, pending-left}
 
 pub start_places : places_after [] ≡ [] ∷ pending []
@@ -72,6 +72,10 @@ fault_there network target nodes i path node NotConflict right here there is =
 fault_there network target nodes i path node ChainBroken right here there is =
     (path, node, record { right_before = right; waiting = pending path; first_place = here; there = there }, is)
 fault_there network target nodes i path node BoundTooLow right here there is =
+    (path, node, record { right_before = right; waiting = pending path; first_place = here; there = there }, is)
+fault_there network target nodes i path node StreamRepeated right here there is =
+    (path, node, record { right_before = right; waiting = pending path; first_place = here; there = there }, is)
+fault_there network target nodes i path node NotOnLink right here there is =
     (path, node, record { right_before = right; waiting = pending path; first_place = here; there = there }, is)
 
 -- the nodes end and a place is open

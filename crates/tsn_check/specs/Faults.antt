@@ -1,13 +1,15 @@
 -- What a certificate of a plan shows, and the first reason why it shows nothing.
 --     Certifies                                        the plan is right, and the nodes spell an accepted tree
 --     IsFirstFault                                     the first fault of a plan and a certificate
---     IsNoConflict, IsChainBroken, IsBoundTooLow       what is wrong with a node at the end of a path
-use Rattle.std.specs.Prelude.{◌≡◌, ◌≢◌, ◌⊎◌, ℕ, ◌<◌, List, [], ◌∷◌, length, take, slice_get, Option, Some, None}
+--     IsFirstWrong                                     the first entry of a leaf that isn't right
+--     IsNoConflict, IsNotOnLink, IsStreamRepeated, IsChainBroken, IsBoundTooLow      what is wrong with a node at the end of a path
+use Rattle.std.specs.Prelude.{◌≡◌, ◌≢◌, ◌⊎◌, ℕ, ◌<◌, List, [], ◌∷◌, length, take, slice_get, Option, Some, None, All, Any}
 use Rattle.tsn_model.specs.declared.Decision.{Decision}
 use Rattle.tsn_model.specs.Network.{Network}
+use Rattle.tsn_model.specs.Timing.{UsesLink}
 use Rattle.tsn_model.specs.Schedule.{IsValid, flowspan, target_of, IsOptimal, IsConflict}
 use Rattle.tsn_model.specs.Arcs.{arcs_of, IsClosedChain}
-use Rattle.tsn_model.specs.Certificate.{Leaf, late, overrun, positive_cycle, load, overload, LeadsTo, AreEntries, Proves, Tree, Accepts, Node, split_node, leaf_node, Spells}
+use Rattle.tsn_model.specs.Certificate.{Leaf, late, overrun, positive_cycle, load, overload, Entry, LeadsTo, AreEntries, Proves, Tree, Accepts, Node, split_node, leaf_node, Spells}
 use Rattle.tsn_cert.specs.declared.plan.Plan.{Plan}
 use Rattle.tsn_cert.specs.declared.plan.Plan.TheVariants as plan
 use Rattle.tsn_cert.specs.declared.cert.Cert.{Cert}
@@ -15,7 +17,7 @@ use Rattle.tsn_model.specs.Places.{AreRight, places_after}
 use Rattle.tsn_check.specs.declared.verdict.Verdict.{Verdict}
 use Rattle.tsn_check.specs.declared.verdict.Verdict.TheVariants.{Optimal, NoSchedule}
 use Rattle.tsn_check.specs.declared.fault.CheckFault.{CheckFault}
-use Rattle.tsn_check.specs.declared.fault.CheckFault.TheVariants.{PlanInvalid, FlowspanWrong, TreeUnfinished, TreeTooLong, NotConflict, ChainBroken, BoundTooLow}
+use Rattle.tsn_check.specs.declared.fault.CheckFault.TheVariants.{PlanInvalid, FlowspanWrong, TreeUnfinished, TreeTooLong, NotConflict, ChainBroken, BoundTooLow, StreamRepeated, NotOnLink}
 
 -- ---- plans
 
@@ -65,6 +67,29 @@ abbrev pub IsOptimalPlan : Network → Plan → Type 0
 IsOptimalPlan network (plan.Schedule span offsets) = IsOptimal network offsets × (span ≡ flowspan network offsets)
 IsOptimalPlan network plan.None = ⊥
 
+-- ---- the entries of a leaf over a whole link
+
+-- The entries before place k are right, and the one there is wrong, which may hang on those before it.
+pub record IsFirstWrong (network : Network) (path : List Decision) (link : ℕ) (entries : List Entry) (Wrong : List Entry → Entry → Type 0) : Type 0 where
+  pub k : ℕ
+  pub entry : Entry
+  pub right_before : AreEntries network path link (take k entries)
+  pub there : slice_get entries k ≡ Some entry
+  pub wrong : Wrong (take k entries) entry
+
+-- its stream isn't there or doesn't use the link
+abbrev pub IsOffLink : Network → ℕ → List Entry → Entry → Type 0
+IsOffLink network link before entry = UsesLink network entry.stream link → ⊥
+
+-- it is on the link, and its stream is that of an entry before it
+abbrev pub IsRepeated : Network → ℕ → List Entry → Entry → Type 0
+IsRepeated network link before entry = UsesLink network entry.stream link × Any (λ other. other.stream ≡ entry.stream) before
+
+-- it is on the link, its stream is another than those before it, and its chain doesn't lead to the stream
+abbrev pub IsUnled : Network → List Decision → ℕ → List Entry → Entry → Type 0
+IsUnled network path link before entry =
+    UsesLink network entry.stream link × All (λ other. other.stream ≢ entry.stream) before × (LeadsTo network path entry.chain entry.stream → ⊥)
+
 -- ---- nodes
 
 -- a branch on something other than two streams and a link of both
@@ -80,10 +105,36 @@ HasChains network path (positive_cycle chain) = IsClosedChain (arcs_of network p
 HasChains network path (load link entries) = AreEntries network path link entries
 HasChains network path (overload link entries) = AreEntries network path link entries
 
+-- an entry is the first that isn't right, and is wrong in this way
+abbrev pub HasWrongEntry : Network → List Decision → (ℕ → List Entry → Entry → Type 0) → Leaf → Type 0
+HasWrongEntry network path Wrong (late i chain) = ⊥
+HasWrongEntry network path Wrong (overrun i chain) = ⊥
+HasWrongEntry network path Wrong (positive_cycle chain) = ⊥
+HasWrongEntry network path Wrong (load link entries) = IsFirstWrong network path link entries (Wrong link)
+HasWrongEntry network path Wrong (overload link entries) = IsFirstWrong network path link entries (Wrong link)
+
+-- a leaf over a link with an entry that isn't on it
+abbrev pub IsNotOnLink : Network → List Decision → Node → Type 0
+IsNotOnLink network path (split_node triple) = ⊥
+IsNotOnLink network path (leaf_node leaf) = HasWrongEntry network path (IsOffLink network) leaf
+
+-- a leaf over a link with a stream twice
+abbrev pub IsStreamRepeated : Network → List Decision → Node → Type 0
+IsStreamRepeated network path (split_node triple) = ⊥
+IsStreamRepeated network path (leaf_node leaf) = HasWrongEntry network path (IsRepeated network) leaf
+
+-- the leaf's chain, or that of the first entry that isn't right, doesn't end where it is to
+abbrev pub BreaksChain : Network → List Decision → Leaf → Type 0
+BreaksChain network path (late i chain) = LeadsTo network path chain i → ⊥
+BreaksChain network path (overrun i chain) = LeadsTo network path chain i → ⊥
+BreaksChain network path (positive_cycle chain) = IsClosedChain (arcs_of network path) chain → ⊥
+BreaksChain network path (load link entries) = IsFirstWrong network path link entries (IsUnled network path link)
+BreaksChain network path (overload link entries) = IsFirstWrong network path link entries (IsUnled network path link)
+
 -- a leaf whose chains aren't right
 abbrev pub IsChainBroken : Network → List Decision → Node → Type 0
 IsChainBroken network path (split_node triple) = ⊥
-IsChainBroken network path (leaf_node leaf) = HasChains network path leaf → ⊥
+IsChainBroken network path (leaf_node leaf) = BreaksChain network path leaf
 
 -- a leaf whose chains are right, and which doesn't prove the target
 abbrev pub IsBoundTooLow : Network → ℕ → List Decision → Node → Type 0
@@ -104,6 +155,8 @@ IsTreeFault network target nodes (TreeTooLong k) = (k < length nodes) × AreRigh
 IsTreeFault network target nodes (NotConflict k) = (path : List Decision) × (node : Node) × Stands network target nodes k path node × IsNoConflict network node
 IsTreeFault network target nodes (ChainBroken k) = (path : List Decision) × (node : Node) × Stands network target nodes k path node × IsChainBroken network path node
 IsTreeFault network target nodes (BoundTooLow k) = (path : List Decision) × (node : Node) × Stands network target nodes k path node × IsBoundTooLow network target path node
+IsTreeFault network target nodes (StreamRepeated k) = (path : List Decision) × (node : Node) × Stands network target nodes k path node × IsStreamRepeated network path node
+IsTreeFault network target nodes (NotOnLink k) = (path : List Decision) × (node : Node) × Stands network target nodes k path node × IsNotOnLink network path node
 IsTreeFault network target nodes _ = ⊥
 
 -- the first fault of a plan and its certificate: of the plan, then of the target, then of the nodes in order

@@ -1,19 +1,23 @@
 -- What a node is found to be at the end of a path, and where the walk goes on from it.
-use Rattle.std.specs.Prelude.{◌≡◌, ℕ, List, ℤ, pos, ◌+ℤ◌, ◌≤ℤ◌, Result, Ok, Err, Contains}
+use Rattle.std.specs.Prelude.{◌≡◌, ◌≢◌, ℕ, ◌*◌, ◌≤◌, List, [], ◌∷◌, length, map, All, ℤ, pos, ◌+ℤ◌, ◌≤ℤ◌, Result, Ok, Err, Contains}
 use Rattle.tsn_model.specs.declared.Decision.{Decision}
 use Rattle.tsn_model.specs.Network.{Network}
-use Rattle.tsn_model.specs.Certificate.{LeadsTo, sum_on, Node, split_node, leaf_node}
+use Rattle.tsn_model.specs.Timing.{UsesLink}
+use Rattle.tsn_model.specs.Certificate.{Entry, LeadsTo, AreEntries, sum_on, least, head_of, tail_of, work_of, Node, split_node, leaf_node}
 use Rattle.tsn_model.specs.Places.{IsNodeRight}
 use Rattle.tsn_conflict.specs.Kept.{Kept}
-use Rattle.tsn_check.specs.Faults.{IsNoConflict, IsChainBroken, IsBoundTooLow}
+use Rattle.tsn_check.specs.Faults.{IsNoConflict, IsNotOnLink, IsStreamRepeated, IsChainBroken, IsBoundTooLow, IsFirstWrong, IsOffLink, IsRepeated, IsUnled}
 use Rattle.tsn_check.specs.declared.fault.NodeFault.{NodeFault}
-use Rattle.tsn_check.specs.declared.fault.NodeFault.TheVariants.{NotConflict, ChainBroken, BoundTooLow}
+use Rattle.tsn_check.specs.declared.fault.NodeFault.TheVariants.{NotConflict, ChainBroken, BoundTooLow, StreamRepeated, NotOnLink}
+use Rattle.tsn_check.specs.declared.load.LinkLoad.{LinkLoad}
 
 -- a node at the end of a path has this fault
 abbrev pub HasFault : Network → ℕ → List Decision → Node → NodeFault → Type 0
 HasFault network target path node NotConflict = IsNoConflict network node
 HasFault network target path node ChainBroken = IsChainBroken network path node
 HasFault network target path node BoundTooLow = IsBoundTooLow network target path node
+HasFault network target path node StreamRepeated = IsStreamRepeated network path node
+HasFault network target path node NotOnLink = IsNotOnLink network path node
 
 -- the node at the end of a path is right, or has the fault that is told
 abbrev pub Judges : Network → ℕ → List Decision → Node → Result Unit NodeFault → Type 0
@@ -31,6 +35,44 @@ pub record IsSumTo (network : Network) (path : List Decision) (chain : List ℕ)
 abbrev pub FindsSum : Network → List Decision → List ℕ → ℕ → Result ℤ NodeFault → Type 0
 FindsSum network path chain i (Ok sum) = IsSumTo network path chain i sum
 FindsSum network path chain i (Err fault) = (fault ≡ ChainBroken) × (LeadsTo network path chain i → ⊥)
+
+-- ---- the entries of a leaf over a whole link
+
+-- what is wrong with an entry behind others
+abbrev pub IsWrongEntry : Network → List Decision → ℕ → NodeFault → List Entry → Entry → Type 0
+IsWrongEntry network path link NotOnLink before entry = IsOffLink network link before entry
+IsWrongEntry network path link StreamRepeated before entry = IsRepeated network link before entry
+IsWrongEntry network path link ChainBroken before entry = IsUnled network path link before entry
+IsWrongEntry network path link _ before entry = ⊥
+
+-- the entry is on the link, has another stream than those before it, and its chain leads to its stream
+pub record IsRightEntry (network : Network) (path : List Decision) (link : ℕ) (before : List Entry) (entry : Entry) : Type 0 where
+  pub on_link : UsesLink network entry.stream link
+  pub other_stream : All (λ other. other.stream ≢ entry.stream) before
+  pub leads : LeadsTo network path entry.chain entry.stream
+
+-- what some entries come to on the link
+pub record IsLoad (network : Network) (path : List Decision) (link : ℕ) (entries : List Entry) (found : LinkLoad) : Type 0 where
+  pub head : found.head ≡ least (map (head_of network path link) entries)
+  pub work : found.work ≡ work_of network link entries
+  pub tail : found.tail ≡ least (map (tail_of network link) entries)
+  pub low_head : pos 0 ≤ℤ (found.head +ℤ pos 20000000000)
+  pub high_head : found.head ≤ℤ pos 20000000000
+  pub short_work : found.work ≤ 1233600 * length entries
+  pub low_tail : pos 0 ≤ℤ (found.tail +ℤ pos 60000000)
+  pub high_tail : found.tail ≤ℤ pos 60000000
+
+-- the entry is right, and what it comes to is told, or what is wrong with it
+abbrev pub FindsEntry : Network → List Decision → ℕ → List Entry → Entry → Result LinkLoad NodeFault → Type 0
+FindsEntry network path link before entry (Ok found) = IsRightEntry network path link before entry × IsLoad network path link (entry ∷ []) found
+FindsEntry network path link before entry (Err fault) = IsWrongEntry network path link fault before entry
+
+-- the entries are right, and what they come to is told, or what is wrong with the first that isn't
+abbrev pub FindsLoad : Network → List Decision → ℕ → List Entry → Result LinkLoad NodeFault → Type 0
+FindsLoad network path link entries (Ok found) = AreEntries network path link entries × IsLoad network path link entries found × (found.work ≤ 157900800)
+FindsLoad network path link entries (Err fault) = IsFirstWrong network path link entries (IsWrongEntry network path link fault)
+
+-- ---- branches
 
 -- if the node is a branch, it is on one of the conflicts that are kept
 abbrev pub IsBranchOf : Kept → Node → Type 0

@@ -24,12 +24,19 @@ pub enum CheckFault {
     /// The node branches on what isn't a link of two streams, the lesser one on the left.
     #[error("node {0} branches on no conflict")]
     NotConflict(usize),
-    /// The leaf names a stream that isn't there, or its depths are no chain of its path that ends as it has to.
+    /// The leaf names a stream that isn't there, or its depths, or those of one of its entries, are no chain of its path that
+    /// ends as it has to.
     #[error("the chain of node {0} is broken")]
     ChainBroken(usize),
     /// The leaf's inequality fails.
     #[error("the bound of node {0} is too low")]
     BoundTooLow(usize),
+    /// An entry of the leaf has the stream of an entry before it.
+    #[error("node {0} has a stream twice")]
+    StreamRepeated(usize),
+    /// The stream of an entry of the leaf isn't there or doesn't use the leaf's link.
+    #[error("node {0} has a stream that doesn't use its link")]
+    NotOnLink(usize),
     /// A growth was refused. It may come in place of any other answer.
     #[error("no memory")]
     Memory,
@@ -48,6 +55,8 @@ impl CheckFault {
             CheckFault::NotConflict(_) => 5,
             CheckFault::ChainBroken(_) => 6,
             CheckFault::BoundTooLow(_) => 7,
+            CheckFault::StreamRepeated(_) => 8,
+            CheckFault::NotOnLink(_) => 9,
             CheckFault::Memory => 10,
         }
     }
@@ -61,7 +70,9 @@ impl CheckFault {
             | CheckFault::TreeTooLong(node)
             | CheckFault::NotConflict(node)
             | CheckFault::ChainBroken(node)
-            | CheckFault::BoundTooLow(node) => Some(node),
+            | CheckFault::BoundTooLow(node)
+            | CheckFault::StreamRepeated(node)
+            | CheckFault::NotOnLink(node) => Some(node),
             CheckFault::PlanInvalid | CheckFault::FlowspanWrong | CheckFault::Memory => None,
         }
     }
@@ -106,6 +117,8 @@ pub(crate) enum NodeFault {
     NotConflict,
     ChainBroken,
     BoundTooLow,
+    StreamRepeated,
+    NotOnLink,
 }
 
 impl NodeFault {
@@ -117,6 +130,8 @@ impl NodeFault {
             NodeFault::NotConflict => CheckFault::NotConflict(node),
             NodeFault::ChainBroken => CheckFault::ChainBroken(node),
             NodeFault::BoundTooLow => CheckFault::BoundTooLow(node),
+            NodeFault::StreamRepeated => CheckFault::StreamRepeated(node),
+            NodeFault::NotOnLink => CheckFault::NotOnLink(node),
         }
     }
 }

@@ -11,7 +11,12 @@ use tsn_cert::Chain;
 use tsn_timing::Timing;
 
 /// The sum of a chain to a stream of the network, in nanoseconds.
-fn sum_to(timing: &Timing, path: &[Turn], stream: usize, chain: &Chain) -> Result<i64, NodeFault>
+pub fn sum_to(
+    timing: &Timing,
+    path: &[Turn],
+    stream: usize,
+    chain: &Chain,
+) -> Result<i64, NodeFault>
     requires { AreTurns timing.now path.now }
     ensures { FindsSum timing.now (decisions path.now) chain.now stream result }
 {

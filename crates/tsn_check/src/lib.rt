@@ -5,6 +5,7 @@ mod chain;
 pub mod fault;
 pub mod laws;
 mod leaf;
+mod load;
 mod path;
 pub mod plan;
 mod tree;

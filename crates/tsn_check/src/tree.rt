@@ -9,6 +9,7 @@ ghost use Rattle.tsn_check.specs.Steps.{Judges, IsBranchOf};
 
 use crate::fault::{CheckFault, NodeFault};
 use crate::leaf::{judge_cycle, judge_late, judge_overrun};
+use crate::load::{judge_load, judge_overload};
 use crate::path::{Turn, next_place, turn_to};
 use std::alloc::Global;
 use tsn_cert::Node;
@@ -40,6 +41,8 @@ fn judge(
         Node::Late(stream, chain) => judge_late(timing, target, path, *stream, chain),
         Node::Overrun(stream, chain) => judge_overrun(timing, path, *stream, chain),
         Node::Cycle(chain) => judge_cycle(timing, path, chain),
+        Node::Load(link, entries) => judge_load(timing, target, path, *link, entries),
+        Node::Overload(link, entries) => judge_overload(timing, path, *link, entries),
     }
 }
 
@@ -59,7 +62,8 @@ fn go_on(conflicts: &Conflicts, path: &mut Vec<Turn>, node: &Node) -> Result<boo
             path.push(turn_to(conflicts, *triple, Side::Left))?;
             Ok(true)
         }
-        Node::Late(..) | Node::Overrun(..) | Node::Cycle(_) => Ok(next_place(conflicts, path)),
+        Node::Late(..) | Node::Overrun(..) | Node::Cycle(_) | Node::Load(..) | Node::Overload(..) =>
+            Ok(next_place(conflicts, path)),
     }
 }
 

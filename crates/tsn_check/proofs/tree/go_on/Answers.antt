@@ -1,7 +1,7 @@
 use Rattle.std.proofs.Common.{◌≡◌, [], ◌∷◌, ◌++◌, ap, sym, ◌∙◌, inl, inr}
 use Rattle.std.proofs.lemmas.List.{map-append}
 use Rattle.tsn_model.specs.declared.Side.TheVariants.{Left}
-use Rattle.tsn_model.specs.Certificate.{decided, late, overrun, positive_cycle}
+use Rattle.tsn_model.specs.Certificate.{decided, late, overrun, positive_cycle, load, overload}
 use Rattle.tsn_check.specs.declared.path.Turn.{Turn}
 use Rattle.tsn_model.specs.Places.{pending}
 use Rattle.tsn_check.specs.Turns.{decisions}
@@ -25,6 +25,12 @@ returns-in-Late-clause-places c =
       | inl is ↦ rw is.2 (after_leaf path (late is.0 is.1) c.next_place.result next c.next_place.ensures.next)
       | inr other ↦ elim other [
         | inl is ↦ rw is.2 (after_leaf path (overrun is.0 is.1) c.next_place.result next c.next_place.ensures.next)
-        | inr is ↦ rw is.1 (after_leaf path (positive_cycle is.0) c.next_place.result next c.next_place.ensures.next)
+        | inr rest ↦ elim rest [
+          | inl is ↦ rw is.1 (after_leaf path (positive_cycle is.0) c.next_place.result next c.next_place.ensures.next)
+          | inr last ↦ elim last [
+            | inl is ↦ rw is.2 (after_leaf path (load is.0 is.1) c.next_place.result next c.next_place.ensures.next)
+            | inr is ↦ rw is.2 (after_leaf path (overload is.0 is.1) c.next_place.result next c.next_place.ensures.next)
+          ]
+        ]
       ]
     ]

@@ -12,6 +12,9 @@ returns-in-Overrun c = rw c.in-Overrun.is (c.judge_overrun.ensures c.args.target
 pub returns-in-Cycle : goal.returns-in-Cycle
 returns-in-Cycle c = rw c.in-Cycle.is (c.judge_cycle.ensures c.args.target)
 
+pub returns-in-Overload : goal.returns-in-Overload
+returns-in-Overload c = rw c.in-Overload.is (c.judge_overload.ensures c.args.target)
+
 pub returns-else-has : goal.returns-else-has
 returns-else-has c = rw c.in-Branch.is (λ conflict.
     let has = c.has.ensures.1 (conflict_kept c.args.timing.now c.args.conflicts.now c.requires.conflicts c.in-Branch.triple conflict) in

@@ -1,0 +1,54 @@
+ghost use Rattle.std.specs.Prelude.{◌≡◌, ◌≤◌, length, map};
+ghost use Rattle.tsn_cert.specs.Entry.{tree_entry};
+
+use crate::chain::Chain;
+use std::marker::Model;
+
+/// The most entries of a leaf.
+pub const MAX_ENTRIES: usize = 128;
+
+/// The entries of a load or overload leaf, each a stream and a chain to it: 1 to 128 of them.
+#[derive(Debug, Drop)]
+pub struct Entries {
+    list: Vec<(usize, Chain)>,
+}
+
+impl Model for Entries {
+    ghost use Rattle.std.specs.Prelude.{◌≤◌, List, length, map};
+    ghost use Rattle.tsn_model.specs.Certificate.{Entry};
+    ghost use Rattle.tsn_cert.specs.Entry.{tree_entry};
+
+    ghost Value = { List Entry };
+
+    ghost view = { λ entries. map tree_entry entries.list.items };
+
+    ghost invariant = { λ entries. (1 ≤ length entries.list.items) × (length entries.list.items ≤ 128) };
+}
+
+impl Entries {
+    /// The entries of a list.
+    pub fn of(list: Vec<(usize, Chain)>) -> Entries
+        requires some_entry { 1 ≤ length list.items }
+        requires few_entries { length list.items ≤ MAX_ENTRIES }
+        ensures { result ≡ map tree_entry list.items }
+    {
+        Entries { list }
+    }
+
+    /// The entries, in order.
+    pub fn list(&self) -> &[(usize, Chain)]
+        ensures entries { map tree_entry result.now ≡ self.now }
+        ensures some_entry { 1 ≤ length result.now }
+        ensures few_entries { length result.now ≤ MAX_ENTRIES }
+    {
+        self.list.as_slice()
+    }
+
+    /// Gives the list back.
+    pub fn into_list(self) -> Vec<(usize, Chain)>
+        ensures { map tree_entry result.items ≡ self }
+    {
+        let Entries { list } = self;
+        list
+    }
+}

@@ -1,0 +1,165 @@
+-- The entries of a leaf over a whole link, taken one after another.
+use Rattle.std.proofs.Common.{◌≡◌, ◌≢◌, ℕ, zero, suc, ◌+◌, ◌<◌, ◌≤◌, List, [], ◌∷◌, ◌++◌, map, length, take, get_or, All, Any, ℤ, pos, ◌+ℤ◌, ◌-ℤ◌, ◌≤ℤ◌, true, false, cond, Some, ◌==◌, refl, sym, ap, ◌∙◌, subst, arith, eqb-true, eq-eqb}
+use Rattle.std.specs.Prelude.{slice_get, int_lt}
+use Rattle.std.specs.Int.{int_min}
+use Rattle.std.specs.List.{list_any}
+use Rattle.std.proofs.lemmas.Bool.{false≢true}
+use Rattle.std.proofs.lemmas.Int.{ints}
+use Rattle.std.proofs.lemmas.List.{get_or-map, length-map, length-append, length-take, map-append, take_more, take-map}
+use Rattle.std.proofs.lemmas.List.Elements.{All-map, All-push}
+use Rattle.std.proofs.lemmas.List.Folds.{Any-from_list_any, list_any_at}
+use Rattle.std.proofs.lemmas.List.Sums.{fold-append, sum_by-append}
+use Rattle.std.proofs.lemmas.List.Quantifiers.{all_pairs_push}
+use Rattle.tsn_model.specs.declared.Decision.{Decision}
+use Rattle.tsn_model.specs.Network.{Network}
+use Rattle.tsn_model.specs.Timing.{occupancy, start_on, arrival, UsesLink}
+use Rattle.tsn_model.specs.Certificate.{Entry, LeadsTo, AreEntries, sum_on, least, head_of, tail_of, work_of, busy_until, load_bound}
+use Rattle.tsn_cert.specs.Entry.{tree_entry}
+use Rattle.tsn_check.specs.Faults.{IsFirstWrong}
+use Rattle.tsn_check.specs.Steps.{IsWrongEntry, IsRightEntry, IsLoad}
+use Rattle.tsn_check.specs.declared.load.LinkLoad.{LinkLoad}
+use Rattle.tsn_check.specs.declared.fault.NodeFault.{NodeFault}
+
+-- ---- a stream among others
+
+pub repeated : (entries : List (ℕ × List ℕ)) (stream : ℕ) → list_any (λ entry. entry.0 == stream) entries ≡ true → Any (λ (other : Entry). other.stream ≡ stream) (map tree_entry entries)
+repeated entries stream found =
+    let at = Any-from_list_any (λ entry. entry.0 == stream) entries found in
+    (at.0, tree_entry at.1, omega (arith, at.2, length-map entries tree_entry), get_or-map tree_entry entries at.0 at.1 (tree_entry at.1) at.2 ∙ ap tree_entry at.3, eqb-true at.1.0 stream at.4)
+
+pub not_repeated : (entries : List (ℕ × List ℕ)) (stream : ℕ) → list_any (λ entry. entry.0 == stream) entries ≡ false → All (λ (other : Entry). other.stream ≢ stream) (map tree_entry entries)
+not_repeated entries stream none =
+    All-map (λ (other : Entry). other.stream ≢ stream) tree_entry entries (λ k d below same.
+    false≢true (sym none ∙ list_any_at (λ entry. entry.0 == stream) entries k d below (eq-eqb (get_or entries k d).0 stream same)))
+
+-- ---- the least of some numbers
+
+least-push : (x : ℤ) (xs : List ℤ) (y : ℤ) → least ((x ∷ xs) ++ y ∷ []) ≡ int_min (least (x ∷ xs)) y
+unfolding least
+least-push x xs y = fold-append int_min x xs (y ∷ [])
+
+least-map_push : {X : Type 0} (f : X → ℤ) (xs : List X) (y : X) → 0 < length xs → least (map f (xs ++ y ∷ [])) ≡ int_min (least (map f xs)) (f y)
+least-map_push f [] y some = absurd (omega arith)
+least-map_push f (x ∷ xs) y some = ap least (map-append f (x ∷ xs) (y ∷ [])) ∙ least-push (f x) (map f xs) (f y)
+
+least-one : (x : ℤ) → least (x ∷ []) ≡ x
+unfolding least
+least-one x = refl
+
+-- what holds of two numbers holds of the lesser one
+lesser : (P : ℤ → Type 0) (x y least : ℤ) → least ≡ int_min x y → P x → P y → P least
+lesser P x y least is p q = subst P (sym is) (elim (int_lt y x) as (λ b. P (cond b y x)) [ true ↦ q | false ↦ p ])
+
+module _ (network : Network) (path : List Decision) (link : ℕ) where
+  work-push : (entries : List Entry) (entry : Entry) → work_of network link (entries ++ entry ∷ []) ≡ work_of network link entries + work_of network link (entry ∷ [])
+  unfolding work_of
+  work-push entries entry = sum_by-append (λ (e : Entry). occupancy network e.stream link) entries (entry ∷ [])
+
+  work-one : (entry : Entry) → work_of network link (entry ∷ []) ≡ occupancy network entry.stream link
+  unfolding work_of
+  work-one entry = omega arith
+
+  -- ---- right entries
+
+  pub no_entries : AreEntries network path link []
+  no_entries = record {
+    different = λ i j d order below. absurd (omega arith);
+    on_link = λ k d below. absurd (omega arith);
+    chains = λ k d below. absurd (omega arith);
+  }
+
+  pub entries_push : (entries : List Entry) (entry : Entry) → AreEntries network path link entries → IsRightEntry network path link entries entry → AreEntries network path link (entries ++ entry ∷ [])
+  entries_push entries entry are right = record {
+    different = all_pairs_push (λ (a b : Entry). a.stream ≢ b.stream) entries entry are.different right.other_stream;
+    on_link = All-push (λ (e : Entry). UsesLink network e.stream link) entries entry are.on_link right.on_link;
+    chains = All-push (λ (e : Entry). LeadsTo network path e.chain e.stream) entries entry are.chains right.leads;
+  }
+
+  -- ---- what entries come to
+
+  -- one entry
+  pub one_load : (entry : Entry) (found : LinkLoad) (sum : ℤ) (begin work end : ℕ) → sum ≡ sum_on network path entry.chain → begin ≡ start_on network entry.stream link
+      → work ≡ occupancy network entry.stream link → end ≡ arrival network entry.stream → pos 0 ≤ℤ (sum +ℤ pos 12800000000) → sum ≤ℤ pos 12800000000
+      → begin ≤ 51584000 → work ≤ 1233600 → end ≤ 60000000
+      → found.head ≡ sum +ℤ pos begin → found.work ≡ work → found.tail ≡ pos end -ℤ pos (begin + work) → IsLoad network path link (entry ∷ []) found
+  unfolding least head_of tail_of
+  one_load entry found sum begin work end adds begins works ends low high short_begin short_work short_end head is_work tail = record {
+    head = head ∙ (λ i. adds i +ℤ pos (begins i));
+    work = is_work ∙ works ∙ sym (work-one entry);
+    tail = tail ∙ (λ i. pos (ends i) -ℤ pos (begins i + works i));
+    low_head = omega (arith, ints);
+    high_head = omega (arith, ints);
+    short_work = omega (arith, ints);
+    low_tail = omega (arith, ints);
+    high_tail = omega (arith, ints);
+  }
+
+  -- more entries
+  pub load_push : (entries : List Entry) (entry : Entry) (all next more : LinkLoad) → 0 < length entries → IsLoad network path link entries all → IsLoad network path link (entry ∷ []) next
+      → more.head ≡ int_min all.head next.head → more.work ≡ all.work + next.work → more.tail ≡ int_min all.tail next.tail → IsLoad network path link (entries ++ entry ∷ []) more
+  load_push entries entry all next more some is_all is_next head work tail =
+      let next_head : next.head ≡ head_of network path link entry = is_next.head ∙ least-one (head_of network path link entry) in
+      let next_tail : next.tail ≡ tail_of network link entry = is_next.tail ∙ least-one (tail_of network link entry) in
+      let short = is_all.short_work in
+      let short_next = is_next.short_work in
+      record {
+        head = rw (least-map_push (head_of network path link) entries entry some) (head ∙ (λ i. int_min (is_all.head i) (next_head i)));
+        work = work ∙ (λ i. is_all.work i + is_next.work i) ∙ sym (work-push entries entry);
+        tail = rw (least-map_push (tail_of network link) entries entry some) (tail ∙ (λ i. int_min (is_all.tail i) (next_tail i)));
+        low_head = lesser (λ z. pos 0 ≤ℤ (z +ℤ pos 20000000000)) all.head next.head more.head head is_all.low_head is_next.low_head;
+        high_head = lesser (λ z. z ≤ℤ pos 20000000000) all.head next.head more.head head is_all.high_head is_next.high_head;
+        short_work = omega (arith, ints, length-append entries (entry ∷ []));
+        low_tail = lesser (λ z. pos 0 ≤ℤ (z +ℤ pos 60000000)) all.tail next.tail more.tail tail is_all.low_tail is_next.low_tail;
+        high_tail = lesser (λ z. z ≤ℤ pos 60000000) all.tail next.tail more.tail tail is_all.high_tail is_next.high_tail;
+      }
+
+  -- what a leaf with these entries shows
+  pub busy_until_is : (entries : List Entry) (all : LinkLoad) → IsLoad network path link entries all → busy_until network path link entries ≡ all.head +ℤ pos all.work
+  unfolding busy_until
+  busy_until_is entries all loaded = λ i. sym loaded.head i +ℤ pos (sym loaded.work i)
+
+  pub load_bound_is : (entries : List Entry) (all : LinkLoad) → IsLoad network path link entries all → load_bound network path link entries ≡ all.head +ℤ pos all.work +ℤ all.tail
+  unfolding load_bound
+  load_bound_is entries all loaded = λ i. busy_until_is entries all loaded i +ℤ sym loaded.tail i
+
+  -- ---- and in the code
+
+  pub start_load : (entries : List (ℕ × List ℕ)) (first : ℕ × List ℕ) (all : LinkLoad) → 0 < length entries → first ≡ get_or entries 0 first → IsRightEntry network path link [] (tree_entry first)
+      → IsLoad network path link (tree_entry first ∷ []) all → AreEntries network path link (take 1 (map tree_entry entries)) × IsLoad network path link (take 1 (map tree_entry entries)) all
+  start_load [] first all some is right loaded = absurd (omega arith)
+  start_load (entry ∷ entries) first all some is right loaded =
+      let both : AreEntries network path link (tree_entry first ∷ []) × IsLoad network path link (tree_entry first ∷ []) all = (entries_push [] (tree_entry first) no_entries right, loaded) in
+      subst (λ e. AreEntries network path link (tree_entry e ∷ []) × IsLoad network path link (tree_entry e ∷ []) all) is both
+
+  pub more_load : (entries : List (ℕ × List ℕ)) (k : ℕ) (next : ℕ × List ℕ) (all found more : LinkLoad) → 0 < k → k < length entries → next ≡ get_or entries k next
+      → AreEntries network path link (take k (map tree_entry entries)) → IsLoad network path link (take k (map tree_entry entries)) all
+      → IsRightEntry network path link (map tree_entry (take k entries)) (tree_entry next) → IsLoad network path link (tree_entry next ∷ []) found
+      → more.head ≡ int_min all.head found.head → more.work ≡ all.work + found.work → more.tail ≡ int_min all.tail found.tail
+      → AreEntries network path link (take (k + 1) (map tree_entry entries)) × IsLoad network path link (take (k + 1) (map tree_entry entries)) more
+  more_load entries k next all found more some below is are loaded right next_loaded head work tail =
+      let before = take k (map tree_entry entries) in
+      let longer : take (k + 1) (map tree_entry entries) ≡ before ++ tree_entry next ∷ [] =
+      take_more (map tree_entry entries) k (tree_entry next) (omega (arith, length-map entries tree_entry))
+      ∙ ap (λ e. before ++ e ∷ []) (get_or-map tree_entry entries k next (tree_entry next) below ∙ ap tree_entry (sym is)) in
+      let behind : IsRightEntry network path link before (tree_entry next) = subst (λ es. IsRightEntry network path link es (tree_entry next)) (sym (take-map tree_entry k entries)) right in
+      let some_before : 0 < length before = omega (arith, length-take k (map tree_entry entries), length-map entries tree_entry) in (
+        subst (AreEntries network path link) (sym longer) (entries_push before (tree_entry next) are behind),
+        subst (λ es. IsLoad network path link es more) (sym longer) (load_push before (tree_entry next) all found more some_before loaded next_loaded head work tail),
+      )
+
+  there_entry : (entries : List (ℕ × List ℕ)) (k : ℕ) (d : ℕ × List ℕ) → k < length entries → slice_get (map tree_entry entries) k ≡ Some (tree_entry (get_or entries k d))
+  there_entry [] k d below = absurd (omega arith)
+  there_entry (entry ∷ entries) zero d below = refl
+  there_entry (entry ∷ entries) (suc k) d below = there_entry entries k d (omega arith)
+
+  -- the entry at k is the first that isn't right
+  pub wrong_there : (entries : List (ℕ × List ℕ)) (k : ℕ) (next : ℕ × List ℕ) (fault : NodeFault) → k < length entries → next ≡ get_or entries k next
+      → AreEntries network path link (take k (map tree_entry entries)) → IsWrongEntry network path link fault (map tree_entry (take k entries)) (tree_entry next)
+      → IsFirstWrong network path link (map tree_entry entries) (IsWrongEntry network path link fault)
+  wrong_there entries k next fault below is right wrong = record {
+    k = k;
+    entry = tree_entry next;
+    right_before = right;
+    there = there_entry entries k next below ∙ ap (λ e. Some (tree_entry e)) (sym is);
+    wrong = subst (λ es. IsWrongEntry network path link fault es (tree_entry next)) (sym (take-map tree_entry k entries)) wrong;
+  }

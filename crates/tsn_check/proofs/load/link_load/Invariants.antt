@@ -1,0 +1,12 @@
+use Rattle.std.proofs.Common.{map, take}
+use Rattle.tsn_model.specs.Certificate.{AreEntries}
+use Rattle.tsn_cert.specs.Entry.{tree_entry}
+use Rattle.tsn_check.specs.Turns.{decisions}
+use Rattle.tsn_check.specs.Steps.{IsLoad}
+use Rattle.tsn_check.proofs.load.link_load.Given as goal
+
+abbrev pub invariant-loop-place : goal.invariant-loop-place
+invariant-loop-place l = record {
+  right : AreEntries l.timing (decisions l.path) l.link (take l.place (map tree_entry l.list));
+  loaded : IsLoad l.timing (decisions l.path) l.link (take l.place (map tree_entry l.list)) l.all;
+}
