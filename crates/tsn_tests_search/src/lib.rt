@@ -1,5 +1,5 @@
-//! Tests of conflicts, of looks at nodes of a search, and of its book. A crate with tests is proved twice, so they stand
-//! apart.
+//! Tests of conflicts, of looks at nodes of a search, of its book and of the planner. A crate with tests is proved twice, so
+//! they stand apart.
 #![tactic(auto)]
 
 #[cfg(test)]
@@ -8,5 +8,7 @@ mod book;
 mod branch;
 #[cfg(test)]
 mod networks;
+#[cfg(test)]
+mod planner;
 #[cfg(test)]
 mod shared_links;

@@ -29,7 +29,7 @@ pub fn star(alloc: Global, cycle: u64, cables: &str, streams: &str) -> Result<Ti
 }
 
 /// The file of a network round one bridge.
-fn star_text(alloc: Global, cycle: u64, cables: &str, streams: &str) -> Result<String, Fail> {
+pub fn star_text(alloc: Global, cycle: u64, cables: &str, streams: &str) -> Result<String, Fail> {
     let mut text = format!(in alloc; "cycle = {cycle}\n")?;
     text.push_str(NODES)?;
     text.push_str(cables)?;
