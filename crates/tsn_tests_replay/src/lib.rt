@@ -4,4 +4,8 @@
 #[cfg(test)]
 mod networks;
 #[cfg(test)]
+mod playing;
+#[cfg(test)]
 mod replays;
+#[cfg(test)]
+mod rings;
