@@ -4,6 +4,8 @@
 #[cfg(test)]
 mod networks;
 #[cfg(test)]
+mod open_gates;
+#[cfg(test)]
 mod playing;
 #[cfg(test)]
 mod replays;
