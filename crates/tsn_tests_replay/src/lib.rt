@@ -6,6 +6,8 @@ mod networks;
 #[cfg(test)]
 mod open_gates;
 #[cfg(test)]
+mod openings;
+#[cfg(test)]
 mod playing;
 #[cfg(test)]
 mod replays;
