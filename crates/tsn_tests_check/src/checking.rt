@@ -1,4 +1,5 @@
 //! Plans and their certificates, accepted and refused.
+ghost use Rattle.std.specs.Prelude.{◌≤◌, length};
 
 use std::alloc::Global;
 use std::process::Abort;
@@ -352,60 +353,74 @@ fn branches(alloc: Global, count: usize) -> Result<Vec<Node>, Fail> {
     Ok(nodes)
 }
 
-#[test]
-fn long_paths_are_walked(rt: HostRuntime) -> Result<(), Fail> {
-    let alloc = rt.alloc();
+/// The check of the two streams' plan with these nodes.
+fn expect_answer(
+    rt: &impl Abort,
+    alloc: Global,
+    nodes: Vec<Node>,
+    answer: Result<Verdict, CheckFault>,
+) -> Result<(), Fail> {
     let problem = problem_of(alloc, 1_000_000, TWO)?;
     let plan = plan_from_json(alloc, PLAN.as_bytes())?;
-    let open = Cert {
-        target: 2924,
-        nodes: Nodes::of(branches(alloc, 200_000)?),
-    };
-    let answer = check(alloc, &problem, &plan, &open);
-    assert_eq!(rt; answer, Err(CheckFault::TreeUnfinished(200_000)));
-
-    // Each right side but the root's lies below the root's left one.
-    let mut nodes = branches(alloc, 100_000)?;
-    for _ in 0..100_000 {
-        nodes.push(Node::Late(1, Chain::of(alloc, &[0])?))?;
-    }
-    nodes.push(Node::Late(0, Chain::of(alloc, &[0])?))?;
-    let whole = Cert {
-        target: 2924,
-        nodes: Nodes::of(nodes),
-    };
-    assert_eq!(rt; check(alloc, &problem, &plan, &whole), OPTIMAL);
-    Ok(())
-}
-
-#[test]
-fn long_chains_are_walked(rt: HostRuntime) -> Result<(), Fail> {
-    let alloc = rt.alloc();
-    let problem = problem_of(alloc, 1_000_000, TWO)?;
-    let plan = plan_from_json(alloc, PLAN.as_bytes())?;
-    let depths = [0usize; 128];
-    let mut nodes = branches(alloc, 1)?;
-    nodes.push(Node::Late(1, Chain::of(alloc, &depths)?))?;
     let cert = Cert {
         target: 2924,
         nodes: Nodes::of(nodes),
     };
-    let answer = check(alloc, &problem, &plan, &cert);
-    assert_eq!(rt; answer, Err(CheckFault::ChainBroken(1)));
+    assert_eq!(rt; check(alloc, &problem, &plan, &cert), answer);
+    Ok(())
+}
 
-    // The two sides of one conflict in turn: 128 arcs of 672.
+/// A leaf by these arcs.
+fn late(alloc: Global, stream: usize, depths: &[usize]) -> Result<Node, Fail>
+    requires { length depths.now ≤ 128 }
+{
+    Ok(Node::Late(stream, Chain::of(alloc, depths)?))
+}
+
+/// So many branches with all their leaves: each right side but the root's lies below the root's left one.
+fn whole_tree(alloc: Global, count: usize) -> Result<Vec<Node>, Fail> {
+    let mut nodes = branches(alloc, count)?;
+    for _ in 0..count {
+        nodes.push(late(alloc, 1, &[0])?)?;
+    }
+    nodes.push(late(alloc, 0, &[0])?)?;
+    Ok(nodes)
+}
+
+#[test]
+fn long_paths_are_walked(rt: HostRuntime) -> Result<(), Fail> {
+    let alloc = rt.alloc();
+    let open = branches(alloc, 200_000)?;
+    expect_answer(&rt, alloc, open, Err(CheckFault::TreeUnfinished(200_000)))?;
+    expect_answer(&rt, alloc, whole_tree(alloc, 100_000)?, OPTIMAL)
+}
+
+/// One branch, and its left leaf by a chain of these arcs.
+fn chained(alloc: Global, depths: &[usize]) -> Result<Vec<Node>, Fail>
+    requires { length depths.now ≤ 128 }
+{
+    let mut nodes = branches(alloc, 1)?;
+    nodes.push(late(alloc, 1, depths)?)?;
+    Ok(nodes)
+}
+
+/// Two branches on one conflict, with a leaf by its two sides in turn: 128 arcs of 672.
+fn in_turn(alloc: Global) -> Result<Vec<Node>, Fail> {
     let mut turns = [0usize; 128];
     for place in 0..128 {
         turns[place] = place % 2;
     }
     let mut nodes = branches(alloc, 2)?;
-    nodes.push(Node::Late(1, Chain::of(alloc, &[1])?))?;
-    nodes.push(Node::Late(0, Chain::of(alloc, &turns)?))?;
-    nodes.push(Node::Late(0, Chain::of(alloc, &[0])?))?;
-    let cert = Cert {
-        target: 2924,
-        nodes: Nodes::of(nodes),
-    };
-    assert_eq!(rt; check(alloc, &problem, &plan, &cert), OPTIMAL);
-    Ok(())
+    nodes.push(late(alloc, 1, &[1])?)?;
+    nodes.push(late(alloc, 0, &turns)?)?;
+    nodes.push(late(alloc, 0, &[0])?)?;
+    Ok(nodes)
+}
+
+#[test]
+fn long_chains_are_walked(rt: HostRuntime) -> Result<(), Fail> {
+    let alloc = rt.alloc();
+    let broken = chained(alloc, &[0; 128])?;
+    expect_answer(&rt, alloc, broken, Err(CheckFault::ChainBroken(1)))?;
+    expect_answer(&rt, alloc, in_turn(alloc)?, OPTIMAL)
 }

@@ -4,4 +4,12 @@
 #[cfg(test)]
 mod networks;
 #[cfg(test)]
+mod open_gates;
+#[cfg(test)]
+mod openings;
+#[cfg(test)]
+mod playing;
+#[cfg(test)]
 mod replays;
+#[cfg(test)]
+mod rings;

@@ -1,15 +1,16 @@
 //! The replay of cycles.
-ghost use Rattle.std.specs.Prelude.{◌≤◌, IfOk};
+ghost use Rattle.std.specs.Prelude.{◌≤◌};
 ghost use Rattle.tsn_model.specs.Schedule.{IsValid};
 
 use crate::networks::{FAST, ONE, TWO, star_text};
+use crate::playing::{read, schedule};
 use std::alloc::Global;
 use std::process::Abort;
 use std::test::Fail;
 use tsn_gate::{GateEntry, GateList, gate_lists};
-use tsn_net::{Problem, read_problem};
+use tsn_net::Problem;
 use tsn_replay::{Background, BackgroundFrame, replay};
-use tsn_timing::{Timing, Valid};
+use tsn_timing::Valid;
 
 /// Two streams round one bridge, two cycles by their own lists, with a greedy background.
 const GREEDY: &str = "one 0 0 0 0
@@ -59,15 +60,7 @@ late 0
 /// The streams round one bridge, with a cycle of 1,000,000 ns.
 fn problem_of(alloc: Global, streams: &str) -> Result<Problem, Fail> {
     let text = star_text(alloc, 1_000_000, FAST, streams)?;
-    Ok(read_problem(alloc, text.as_bytes()).map_err(|_| "the network is refused")?)
-}
-
-fn schedule(alloc: Global, problem: &Problem, offsets: &[u64]) -> Result<Valid, Fail>
-    ensures { IfOk result (λ valid. IsValid problem.now.network valid) }
-{
-    let timing = Timing::of(alloc, problem)?;
-    let valid = timing.valid(Vec::from_slice(alloc, offsets)?);
-    Ok(valid.map_err(|_| "the offsets are refused")?)
+    read(alloc, text.as_str())
 }
 
 /// The table of a replay and the background starts on link 4 from one instant until another, or its fault.
