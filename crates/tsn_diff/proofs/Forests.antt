@@ -1,7 +1,7 @@
-use Rattle.std.proofs.Common.{◌≡◌, ◌≢◌, ℕ, zero, suc, ◌*◌, ◌<◌, ◌≤◌, ℤ, pos, neg_ℤ, ◌+ℤ◌, ◌≤ℤ◌, false, List, length, get_or, set, sum, All, slice_index, Option, Some, None, refl, sym, ◌∙◌, ⊎_elim, arith, length-set, get_or-set_other, get_or-set_same, to_z, of_z, w64, nat_abs}
+use Rattle.std.proofs.Common.{◌≡◌, ◌≢◌, ℕ, zero, suc, ◌*◌, ◌<◌, ◌≤◌, pos, ◌+ℤ◌, ◌≤ℤ◌, false, List, length, set, sum, All, slice_index, Option, Some, None, refl, sym, ◌∙◌, ⊎_elim, arith, length-set, get_or-set_other, get_or-set_same}
 use Rattle.std.proofs.lemmas.Bool.{cases_eq}
 use Rattle.std.proofs.lemmas.Int.{ints}
-use Rattle.std.proofs.lemmas.List.{get_or_default, get_or_read}
+use Rattle.std.proofs.lemmas.List.{get_or_default}
 use Rattle.std.proofs.lemmas.List.Sums.{sum_by-le, sum_by-set}
 use Rattle.tsn_model.specs.declared.Arc.{Arc}
 use Rattle.tsn_diff.specs.declared.labels.Step.{Step}
@@ -29,8 +29,11 @@ offset_small {arcs} {labels} f among i l =
     let short = f.few in
     omega (arith, ints, few, above, heavy', early, short)
 
+pub all_small : {arcs : List Arc} {labels : Labelling} → IsForest arcs labels → All (IsArcAmong (length labels.offsets)) arcs → All (λ offset. offset ≤ 13700000000) labels.offsets
+all_small {arcs} {labels} f among = λ k d l. rw (get_or_default labels.offsets k d 0 l) (offset_small f among k l)
+
 pub offsets_small : {arcs : List Arc} {labels : Labelling} → IsForest arcs labels → All (IsArcAmong (length labels.offsets)) arcs → sum labels.offsets ≤ length labels.offsets * 13700000000
-offsets_small {arcs} {labels} f among = sum_by-le (λ x. x) 13700000000 labels.offsets (λ k d l. rw (get_or_default labels.offsets k d 0 l) (offset_small f among k l))
+offsets_small {arcs} {labels} f among = sum_by-le (λ x. x) 13700000000 labels.offsets (all_small f among)
 
 -- the test on the way back fails at its first stream too
 pub unlike_from_passes : (last : List (Option Step)) (n v i : ℕ) → 0 < n → passes_within n last v i ≡ false → i ≢ v
@@ -52,25 +55,25 @@ raised_labels arcs labels place value =
     record { offsets = set labels.offsets (arc_at arcs place).to value; last = set labels.last (arc_at arcs place).to (Some (record { place = place; from = (arc_at arcs place).from })) }
 
 module _ (arcs : List Arc) (labels : Labelling) (place value : ℕ) (r : Raises arcs labels place value) where
-  to_in : (arc_at arcs place).to < length labels.last
+  pub to_in : (arc_at arcs place).to < length labels.last
   to_in = omega (arith, r.forest.count, r.among.to_below)
 
-  unlike : (arc_at arcs place).from ≢ (arc_at arcs place).to
+  pub unlike : (arc_at arcs place).from ≢ (arc_at arcs place).to
   unlike = unlike_from_passes labels.last (length labels.last) (arc_at arcs place).to (arc_at arcs place).from (let l = to_in in omega arith) r.aside
 
-  offset_same : slice_index (raised_labels arcs labels place value).offsets (arc_at arcs place).to ≡ value
+  pub offset_same : slice_index (raised_labels arcs labels place value).offsets (arc_at arcs place).to ≡ value
   offset_same = get_or-set_same labels.offsets (arc_at arcs place).to value 0 r.among.to_below
 
-  offset_other : (i : ℕ) → i ≢ (arc_at arcs place).to → slice_index (raised_labels arcs labels place value).offsets i ≡ slice_index labels.offsets i
+  pub offset_other : (i : ℕ) → i ≢ (arc_at arcs place).to → slice_index (raised_labels arcs labels place value).offsets i ≡ slice_index labels.offsets i
   offset_other i e = get_or-set_other labels.offsets (arc_at arcs place).to i value 0 e
 
-  last_other : (i : ℕ) → i ≢ (arc_at arcs place).to → last_of (raised_labels arcs labels place value).last i ≡ last_of labels.last i
+  pub last_other : (i : ℕ) → i ≢ (arc_at arcs place).to → last_of (raised_labels arcs labels place value).last i ≡ last_of labels.last i
   last_other i e = get_or-set_other labels.last (arc_at arcs place).to i _ None e
 
-  last_same : last_of (raised_labels arcs labels place value).last (arc_at arcs place).to ≡ Some (record { place = place; from = (arc_at arcs place).from })
+  pub last_same : last_of (raised_labels arcs labels place value).last (arc_at arcs place).to ≡ Some (record { place = place; from = (arc_at arcs place).from })
   last_same = get_or-set_same labels.last (arc_at arcs place).to _ None to_in
 
-  offset_rises : (i : ℕ) → slice_index labels.offsets i ≤ slice_index (raised_labels arcs labels place value).offsets i
+  pub offset_rises : (i : ℕ) → slice_index labels.offsets i ≤ slice_index (raised_labels arcs labels place value).offsets i
   offset_rises i =
       ⊎_elim (λ (e : i ≡ (arc_at arcs place).to). let h = r.higher in rw (e, offset_same) (omega (arith, h)))
       (λ (e : i ≢ (arc_at arcs place).to). omega (arith, offset_other i e)) (cases_eq i (arc_at arcs place).to)
@@ -129,21 +132,6 @@ module _ (arcs : List Arc) (labels : Labelling) (place value : ℕ) (r : Raises 
       let h = r.higher in
       omega (arith, e, h)
 
--- an offset as the code reads it
-pub read_small : (arcs : List Arc) (labels : Labelling) (i x : ℕ) → IsForest arcs labels → All (IsArcAmong (length labels.offsets)) arcs → i < length labels.offsets → x ≡ get_or labels.offsets i x → (x ≡ slice_index labels.offsets i) × (x ≤ 13700000000)
-read_small arcs labels i x forest among l e =
-    let is : x ≡ slice_index labels.offsets i = get_or_read labels.offsets i x l e 0 in
-    let small = offset_small forest among i l in
-    (is, omega (arith, is, small))
-
 -- an arc of the list
 pub arc_among : (arcs : List Arc) (n place : ℕ) → All (IsArcAmong n) arcs → place < length arcs → IsArcAmong n (arc_at arcs place)
 arc_among arcs n place among l = among place (record { from = 0; to = 0; weight = pos 0 }) l
-
--- what the code computes for the arc's last stream
-pub reach_is : (x : ℕ) (w : ℤ) → x ≤ 13700000000 → neg_ℤ (pos 100000000) ≤ℤ w → w ≤ℤ pos 100000000 → to_z w64 (of_z w64 (to_z w64 x +ℤ to_z w64 (of_z w64 w))) ≡ pos x +ℤ w
-reach_is x w small above below = omega (arith, ints)
-
--- the value that it stores there
-abbrev pub reach_value : ℕ → ℤ → ℕ
-reach_value x w = nat_abs (to_z w64 (of_z w64 (to_z w64 x +ℤ to_z w64 (of_z w64 w))))

@@ -2,11 +2,11 @@ use Rattle.std.proofs.Common.{◌≡◌, ℕ, ◌+◌, ◌<◌, ◌≤◌, pos, 
 use Rattle.std.proofs.lemmas.Bool.{cases_lt}
 use Rattle.std.proofs.lemmas.Int.{ints}
 use Rattle.std.proofs.lemmas.List.{get_or-replicate, get_or_past, get_or_append_left, length-replicate}
-use Rattle.std.proofs.lemmas.List.Elements.{All-push}
+use Rattle.std.proofs.lemmas.List.Elements.{All-nil, All-push}
 use Rattle.tsn_model.specs.declared.Arc.{Arc}
 use Rattle.tsn_diff.specs.declared.labels.Step.{Step}
 use Rattle.tsn_model.specs.Schedule.{offset_of}
-use Rattle.tsn_model.specs.Arcs.{arc_at, HoldsAll}
+use Rattle.tsn_model.specs.Arcs.{arc_at, Holds, HoldsAll}
 use Rattle.tsn_model.proofs.Chains.{met_along}
 use Rattle.tsn_diff.specs.Limits.{IsArcAmong}
 use Rattle.tsn_model.specs.Arcs.{chain_sum, start_of}
@@ -138,6 +138,11 @@ IsRaised-unraised offsets = record {
   kept = λ i h. refl;
   raised = λ i s h. let e = last_of-replicate (length offsets) i in cc;
 }
+
+-- they solve no arcs at all
+pub Solves-unraised : (offsets : List ℕ) → length offsets ≤ 128 → All (λ release. release ≤ 1000000000) offsets → Solves offsets [] (record { offsets = offsets; last = replicate (length offsets) None })
+Solves-unraised offsets few early =
+    Solves-from_forest offsets [] (record { offsets = offsets; last = replicate (length offsets) None }) (IsForest-unraised [] offsets few early) (IsRaised-unraised offsets) (All-nil (Holds offsets))
 
 -- one more arc breaks no chain
 pub IsForest-more : (arcs : List Arc) (labels : Labelling) (arc : Arc) → IsForest arcs labels → IsForest (arcs ++ arc ∷ []) labels

@@ -5,3 +5,7 @@ pub mod Labels
 pub mod Progress
 pub mod Releases
 pub mod Answers
+pub mod Listing
+pub mod Trail
+pub mod Spread
+pub mod Stack

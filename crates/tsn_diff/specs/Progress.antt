@@ -24,6 +24,11 @@ pub record Closes (arcs : List Arc) (labels : Labelling) (place : ℕ) : Type 0 
   pub unmet : pos (offset_of labels.offsets (arc_at arcs place).to) <ℤ (pos (offset_of labels.offsets (arc_at arcs place).from) +ℤ (arc_at arcs place).weight)
   pub passes : passes_within (length labels.last) labels.last (arc_at arcs place).to (arc_at arcs place).from ≡ true
 
+-- the offset to which an arc that is not met asks to raise its last stream
+pub record IsAsked (offsets : List ℕ) (arc : Arc) (offset : ℕ) : Type 0 where
+  pub value : pos offset ≡ pos (offset_of offsets arc.from) +ℤ arc.weight
+  pub higher : offset_of offsets arc.to < offset
+
 -- what a correction by one arc says
 abbrev pub Corrects : List Arc → ℕ → Labelling → Labelling → Progress → Type 0
 Corrects arcs place old new Steady = (new ≡ old) × Holds new.offsets (arc_at arcs place)

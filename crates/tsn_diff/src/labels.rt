@@ -1,7 +1,8 @@
-ghost use Rattle.std.specs.Prelude.{◌≡◌, ◌<◌, All, IfOk, length};
+ghost use Rattle.std.specs.Prelude.{◌≡◌, ◌++◌, ◌<◌, ◌≤◌, [], ◌∷◌, All, IfOk, MatchOption, length, slice_set};
+ghost use Rattle.tsn_model.specs.Arcs.{Holds};
 ghost use Rattle.tsn_diff.specs.Limits.{IsArcAmong};
 ghost use Rattle.tsn_diff.specs.Forest.{HasSteps, IsForest, steps_back, places_of};
-ghost use Rattle.tsn_diff.specs.Progress.{KeepsRaised, passes_within, Corrects, CorrectsAll};
+ghost use Rattle.tsn_diff.specs.Progress.{KeepsRaised, IsAsked, passes_within, Corrects, CorrectsAll};
 ghost use Rattle.tsn_diff.specs.Labels.{labelling_of};
 
 use std::alloc::{AllocError, Global};
@@ -64,19 +65,43 @@ impl Labels {
         ensures progress { Corrects arcs.now place (labelling_of self.old) (labelling_of self.new) result }
     {
         let arc = arcs[place];
-        let reach = self.offsets[arc.from] as i64 + arc.weight;
-        if reach <= self.offsets[arc.to] as i64 {
+        let Some(offset) = self.asked(arc) else {
             return Progress::Steady;
-        }
+        };
         if self.passes(arc.from, arc.to) {
             return Progress::Closed(place);
         }
-        self.offsets[arc.to] = reach as u64;
+        self.raise(place, arc, offset);
+        Progress::Raised
+    }
+
+    /// The offset to which an arc asks to raise its last stream, or none where the arc is met.
+    pub fn asked(&self, arc: Arc) -> Option<u64>
+        requires arc { IsArcAmong (length self.now.offsets.items) arc }
+        requires small { All (λ offset. offset ≤ 13700000000) self.now.offsets.items }
+        ensures { MatchOption result (Holds self.now.offsets.items arc)
+            (IsAsked self.now.offsets.items arc) }
+    {
+        let reach = self.offsets[arc.from] as i64 + arc.weight;
+        if reach <= self.offsets[arc.to] as i64 {
+            return None;
+        }
+        Some(reach as u64)
+    }
+
+    /// Raises the last stream of an arc to an offset.
+    pub fn raise(&mut self, place: usize, arc: Arc, offset: u64)
+        requires offsets { arc.to < length self.old.offsets.items }
+        requires last { arc.to < length self.old.last.items }
+        ensures offsets { self.new.offsets.items ≡ slice_set self.old.offsets.items arc.to offset }
+        ensures last { self.new.last.items
+            ≡ slice_set self.old.last.items arc.to (Some (record { place = place; from = arc.from })) }
+    {
+        self.offsets[arc.to] = offset;
         self.last[arc.to] = Some(Step {
             place,
             from: arc.from,
         });
-        Progress::Raised
     }
 
     /// Whether the chain of `stream` passes the stream `through`.
@@ -96,6 +121,18 @@ impl Labels {
             stream = step.from;
         }
         false
+    }
+
+    /// The closed chain of an arc that comes after what leads from its last stream to its first.
+    pub fn cycle(&self, alloc: Global, place: usize, arc: Arc) -> Result<Vec<usize>, AllocError>
+        requires steps { HasSteps (labelling_of self.now) }
+        requires stream { arc.from < length self.now.last.items }
+        ensures { IfOk result (λ cycle. cycle.items
+            ≡ places_of (steps_back (length self.now.last.items) self.now.last.items (Some arc.to) arc.from) ++ place ∷ []) }
+    {
+        let mut cycle = self.chain(alloc, Some(arc.to), arc.from)?;
+        cycle.push(place)?;
+        Ok(cycle)
     }
 
     /// The places of the arcs that lead to `stream`: all of its chain, or what follows `top` in it.

@@ -3,6 +3,11 @@
 #![tactic(auto)]
 
 mod labels;
+mod listing;
 mod solve;
+mod spread;
+mod stack;
+mod trail;
 
 pub use solve::{Least, MAX_RELEASE, MAX_STREAMS, MAX_WEIGHT, Net, Outcome};
+pub use stack::ArcStack;

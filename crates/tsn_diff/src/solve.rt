@@ -43,7 +43,7 @@ pub enum Outcome {
 /// The least offsets that meet a list of arcs, with the chains that show them.
 #[derive(Debug, Drop)]
 pub struct Least {
-    labels: Labels,
+    pub(crate) labels: Labels,
 }
 
 impl Model for Net {
@@ -142,6 +142,17 @@ impl Net {
     }
 }
 
+impl Net {
+    /// The offsets that no arc has raised.
+    pub(crate) fn unraised(&self, alloc: Global) -> Result<Least, NoMemory>
+        ensures { IfOk result (Solves self.now []) }
+    {
+        Ok(Least {
+            labels: self.releases.labels(alloc)?,
+        })
+    }
+}
+
 impl Releases {
     /// Labels that no arc has raised yet.
     fn labels(&self, alloc: Global) -> Result<Labels, AllocError>
@@ -204,10 +215,7 @@ fn settle(alloc: Global, mut labels: Labels, arcs: &[Arc]) -> Result<Outcome, Al
             Progress::Steady => return Ok(Outcome::Least(Least { labels })),
             Progress::Raised => {}
             Progress::Closed(place) => {
-                let arc = arcs[place];
-                let mut cycle = labels.chain(alloc, Some(arc.to), arc.from)?;
-                cycle.push(place)?;
-                return Ok(Outcome::Positive(cycle));
+                return Ok(Outcome::Positive(labels.cycle(alloc, place, arcs[place])?));
             }
         }
     }

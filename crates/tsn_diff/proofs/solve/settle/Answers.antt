@@ -1,4 +1,4 @@
-use Rattle.std.proofs.Common.{◌≡◌, ◌*◌, ◌-◌, ◌<◌, ◌≤◌, ◌++◌, ◌∷◌, [], ℕ, List, length, sum, All, sym, ap, ◌∙◌, subst, arith}
+use Rattle.std.proofs.Common.{◌≡◌, ◌*◌, ◌-◌, ◌<◌, ◌≤◌, ℕ, length, sum, All, sym, ◌∙◌, subst, arith}
 use Rattle.tsn_diff.specs.Limits.{IsArcAmong}
 use Rattle.tsn_diff.specs.Labels.{labelling_of}
 use Rattle.tsn_diff.proofs.Forests.{HasSteps-from_forest, offsets_small}
@@ -23,8 +23,8 @@ loop-labels-smaller c =
     let falls : length c.round.new.self.offsets.items * 13700000000 - sum c.round.new.self.offsets.items < length c.loop-labels.labels.offsets.items * 13700000000 - sum c.loop-labels.labels.offsets.items = omega (arith, small, more, same) in
     falls
 
-pub chain-requires-clause-steps : goal.chain-requires-clause-steps
-chain-requires-clause-steps c = HasSteps-from_forest c.in-Closed.ensures.forest
+pub cycle-requires-clause-steps : goal.cycle-requires-clause-steps
+cycle-requires-clause-steps c = HasSteps-from_forest c.in-Closed.ensures.forest
 
 pub returns-in-Closed : goal.returns-in-Closed
 returns-in-Closed c =
@@ -34,5 +34,4 @@ returns-in-Closed c =
     let among = subst (λ (n : ℕ). All (IsArcAmong n) c.args.arcs.now) (sym count) c.requires.arcs in
     let refutes = Refutes-from_closes c.args.arcs.now now c.in-Closed.place c.in-Closed.ensures.forest among c.in-Closed.ensures.progress in
     let long : length now.offsets ≡ length releases = count ∙ old.count in
-    let chain = c.in_ok-push-in-Closed.ensures.items ∙ ap (λ (xs : List ℕ). xs ++ c.in-Closed.place ∷ []) c.in_ok-cycle-in-Closed.ensures in
-    rw chain (Refutes-same _ _ c.args.arcs.now _ long refutes)
+    rw c.in_ok-cycle-in-Closed.ensures (Refutes-same _ _ c.args.arcs.now _ long refutes)

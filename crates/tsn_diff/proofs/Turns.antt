@@ -1,0 +1,185 @@
+-- A wave from its start over each stream's turn to its end.
+use Rattle.std.proofs.Common.{◌≡◌, ◌≢◌, ℕ, zero, suc, ◌+◌, ◌-◌, ◌*◌, ◌<◌, ◌≤◌, pos, List, [], ◌∷◌, length, set, drop, sum, All, Contains, refl, sym, ap, ◌∙◌, subst, inl, inr, ⊎_elim, arith, length-append, length-set, get_or, get_or-set_other, get_or-set_same, take_all}
+use Rattle.std.proofs.lemmas.Bool.{cases_eq, cases_lt}
+use Rattle.std.proofs.lemmas.List.{drop_all, drop_more, take_at}
+use Rattle.std.proofs.lemmas.List.Elements.{All-nil, All-push, All-take, All-weaker, All-from_get_or}
+use Rattle.tsn_model.specs.declared.Arc.{Arc}
+use Rattle.tsn_model.specs.Schedule.{offset_of}
+use Rattle.tsn_model.specs.Arcs.{arc_at, Holds}
+use Rattle.tsn_diff.specs.declared.listing.Listing.{Listing}
+use Rattle.tsn_diff.specs.declared.trail.Former.{Former}
+use Rattle.tsn_diff.specs.declared.spread.Standing.{Standing}
+use Rattle.tsn_diff.specs.declared.spread.Standing.TheVariants.{Calm, Fixed, Waiting, Settled}
+use Rattle.tsn_diff.specs.declared.spread.Wave.{Wave}
+use Rattle.tsn_diff.specs.Forest.{Labelling}
+use Rattle.tsn_diff.specs.Limits.{IsArcAmong}
+use Rattle.tsn_diff.specs.Listing.{IsListing}
+use Rattle.tsn_diff.specs.Spread.{Base, all_arcs, noted_by, standing_of, IsPlaced, IsLifted, AreFixed, IsNoted, IsQueued, IsWave, IsTurn, IsStart, IsWide, MeetsFrom, AreQueued, IsSeen, GoesOn}
+use Rattle.tsn_diff.proofs.Solutions.{IsForest-more}
+use Rattle.tsn_diff.proofs.Spreads.{arc_at-new, met_before}
+
+module _ (base : Base) (labels : Labelling) (wave : Wave) (listing : Listing) (arc : Arc) (start : IsStart base labels wave.trail listing arc) where
+  -- all arcs join the streams
+  pub start_among : All (IsArcAmong (length labels.offsets)) base.arcs
+  start_among =
+      let P = IsArcAmong (length base.labels.offsets) in
+      let before : All P base.arcs = rw (← take_at base.arcs (base.arc ∷ []) (length base.arcs) refl) (All-take P (length base.arcs) (all_arcs base) start.among) in
+      rw start.labels_are at before
+
+  -- the new arc begins at one of the streams
+  pub stream_in : arc.from < length labels.last
+  stream_in =
+      let here = start.among (length base.arcs) (record { from = 0; to = 0; weight = pos 0 }) (omega (arith, length-append base.arcs (base.arc ∷ []))) in
+      let arc_is = arc_at-new base (length base.arcs) (omega (arith, length-append base.arcs (base.arc ∷ []))) (omega arith) ∙ start.arc_is in
+      let below = (rw arc_is at here).from_below in
+      omega (arith, below, start.forest.count, ap (λ (l : Labelling). length l.last) start.labels_are)
+
+  pub none_noted : noted_by base wave.trail ≡ []
+  none_noted = drop_all (length base.formers) wave.trail.formers.items (rw start.formers_are (omega arith))
+
+  pub IsNoted-start : IsNoted base labels wave.trail
+  IsNoted-start = record {
+    streams = start.noted;
+    before = rw (← start.formers_are) (take_all (length base.formers) base.formers (omega arith));
+    back = rw none_noted (sym start.labels_are);
+    offsets = ap (λ (l : Labelling). length l.offsets) (sym start.labels_are);
+    last = rw (← start.labels_are) start.forest.count;
+  }
+
+  pub IsWave-start : (standings : List Standing) → length base.labels.offsets ≤ length standings → AreFixed labels.last standings arc.from → ((stream : ℕ) → IsLifted (standing_of standings stream) → ⊥) → wave.queue.items ≡ [] → IsWave base labels standings wave
+  IsWave-start standings room fixed calm queue = record {
+    among = start.among;
+    met = start.met;
+    noted = IsNoted-start;
+    room = room;
+    forest = rw (← start.labels_are) (IsForest-more base.arcs base.labels base.arc start.forest);
+    raised = rw start.labels_are (λ releases old. old);
+    rises = λ i. rw start.labels_are (omega arith);
+    roots = λ i n. rw start.labels_are refl;
+    fixed = rw start.arc_is fixed;
+    kept = λ i f. rw start.labels_are refl;
+    lifted = λ i l. absurd (calm i l);
+    each = rw none_noted (All-nil (λ (f : Former). offset_of base.labels.offsets f.stream < offset_of labels.offsets f.stream));
+    queued = rw queue (All-nil (IsQueued (length base.labels.offsets) standings));
+  }
+
+  -- where the new arc is met at once, the wave ends
+  pub IsWide-start : Holds labels.offsets arc → IsWide base labels wave.trail
+  IsWide-start met = record {
+    forest = rw (← start.labels_are) (IsForest-more base.arcs base.labels base.arc start.forest);
+    raised = rw start.labels_are (λ releases old. old);
+    met = All-push (Holds labels.offsets) base.arcs base.arc (rw start.labels_are at start.met) (rw start.arc_is met);
+    each = rw none_noted (All-nil (λ (f : Former). offset_of base.labels.offsets f.stream < offset_of labels.offsets f.stream));
+  }
+
+  -- the new arc has the place after the others
+  pub IsPlaced-new : (place : ℕ) → place ≡ length listing.arcs.items → IsPlaced (all_arcs base) (record { place = place; arc = arc })
+  IsPlaced-new place e =
+      let at : place ≡ length base.arcs = e ∙ ap length start.arcs_are in
+      let in_all : place < length (all_arcs base) = omega (arith, at, length-append base.arcs (base.arc ∷ [])) in
+      record { place_in = in_all; arc = arc_at-new base place in_all (omega (arith, at)) ∙ start.arc_is }
+
+-- once the new arc is met, every arc is seen
+pub seen_first : (base : Base) (labels new : Labelling) (standings after : List Standing) (wave : Wave) (queue : List ℕ) → IsWave base labels standings wave → base.labels ≡ labels → GoesOn (all_arcs base) labels new standings after wave.queue.items queue → Holds new.offsets base.arc
+    → (place : ℕ) → place < length (all_arcs base) → IsSeen (all_arcs base) new after place
+seen_first base labels new standings after wave queue w same g met place l =
+    ⊎_elim
+    (λ (old : place < length base.arcs). g.seen place l (inl (rw (← same) (met_before base labels standings wave w place old))))
+    (λ (at : length base.arcs ≤ place). inl (rw (arc_at-new base place l at) met))
+    (cases_lt place (length base.arcs))
+
+-- what is in a list and isn't its first element is in the rest
+contains_rest : (x i : ℕ) (xs : List ℕ) → x ≢ i → Contains (x ∷ xs) i → Contains xs i
+contains_rest x i xs unlike (zero, l, e) = absurd (unlike e)
+contains_rest x i xs unlike (suc k, l, e) = (k, omega (arith, l), e)
+
+module _ (base : Base) (labels : Labelling) (standings : List Standing) (wave : Wave) (turn stream : ℕ) (w : IsWave base labels standings wave) (turn_in : turn < length wave.queue.items) (is : stream ≡ get_or wave.queue.items turn stream) where
+  abbrev after : List Standing
+  after = set standings stream Settled
+
+  place : IsQueued (length base.labels.offsets) standings stream
+  place = subst (λ (s : ℕ). IsQueued (length base.labels.offsets) standings s) (sym is) (w.queued turn stream turn_in)
+
+  stands : standing_of after stream ≡ Settled
+  stands = get_or-set_same standings stream Settled Calm (omega (arith, place.stream_in, w.room))
+
+  stands_other : (i : ℕ) → i ≢ stream → standing_of after i ≡ standing_of standings i
+  stands_other i e = get_or-set_other standings stream i Settled Calm e
+
+  fixed_other : (i : ℕ) → standing_of standings i ≡ Fixed → i ≢ stream
+  fixed_other i f e = rw (← e, f) at place.lifted
+
+  still_fixed : (i : ℕ) → standing_of after i ≡ Fixed → standing_of standings i ≡ Fixed
+  still_fixed i f =
+      ⊎_elim (λ (e : i ≡ stream). let g = rw (e, stands) at f in cc) (λ (e : i ≢ stream). sym (stands_other i e) ∙ f) (cases_eq i stream)
+
+  now_fixed : (i : ℕ) → standing_of standings i ≡ Fixed → standing_of after i ≡ Fixed
+  now_fixed i f = stands_other i (fixed_other i f) ∙ f
+
+  queued_still : (i : ℕ) → IsQueued (length base.labels.offsets) standings i → IsQueued (length base.labels.offsets) after i
+  queued_still i q =
+      record {
+        stream_in = q.stream_in;
+        lifted = ⊎_elim (λ (e : i ≡ stream). rw (e, stands) tt) (λ (e : i ≢ stream). rw (stands_other i e) q.lifted) (cases_eq i stream);
+      }
+
+  pub IsTurn-settled : (listing : Listing) → IsListing (length base.labels.offsets) listing → listing.arcs.items ≡ base.arcs → IsTurn base labels after wave listing stream
+  IsTurn-settled listing listed same = record {
+    moves = record {
+      among = w.among;
+      met = w.met;
+      noted = w.noted;
+      room = omega (arith, w.room, length-set standings stream Settled);
+      forest = w.forest;
+      raised = w.raised;
+      rises = w.rises;
+      roots = w.roots;
+      fixed = record {
+        begins = now_fixed base.arc.from w.fixed.begins;
+        closed = λ i s f h. now_fixed s.from (w.fixed.closed i s (still_fixed i f) h);
+        way = λ i f. w.fixed.way i (still_fixed i f);
+      };
+      kept = λ i f. w.kept i (still_fixed i f);
+      lifted = λ i l. ⊎_elim (λ (e : i ≡ stream). w.lifted i (rw e place.lifted)) (λ (e : i ≢ stream). w.lifted i (rw (stands_other i e) at l)) (cases_eq i stream);
+      each = w.each;
+      queued = All-weaker (IsQueued (length base.labels.offsets) standings) (IsQueued (length base.labels.offsets) after) queued_still wave.queue.items w.queued;
+    };
+    listed = listed;
+    same = same;
+    stream_in = place.stream_in;
+    settled = stands;
+  }
+
+  module _ (new : Labelling) (later : List Standing) (queue : List ℕ) (g : GoesOn (all_arcs base) labels new after later wave.queue.items queue) where
+    pub seen_then : MeetsFrom (all_arcs base) new.offsets stream → ((q : ℕ) → q < length (all_arcs base) → IsSeen (all_arcs base) labels standings q) → (q : ℕ) → q < length (all_arcs base) → IsSeen (all_arcs base) new later q
+    seen_then met seen q l =
+        let arc = arc_at (all_arcs base) q in
+        ⊎_elim (λ (e : arc.from ≡ stream). inl (met q l e))
+        (λ (e : arc.from ≢ stream).
+        g.seen q l
+        (⊎_elim (λ (m : Holds labels.offsets arc). inl m) (λ (waits : standing_of standings arc.from ≡ Waiting). inr (stands_other arc.from e ∙ waits)) (seen q l))) (cases_eq arc.from stream)
+
+    pub queued_then : AreQueued standings (drop turn wave.queue.items) → AreQueued later (drop (turn + 1) queue)
+    queued_then queued =
+        g.queued (turn + 1) (omega (arith, turn_in))
+        (λ i waits.
+        let unlike : stream ≢ i = λ e. let g = rw (← e, stands) at waits in cc in
+        let among = queued i (sym (stands_other i (λ e. unlike (sym e))) ∙ waits) in
+        contains_rest stream i (drop (turn + 1) wave.queue.items) unlike (subst (λ (xs : List ℕ). Contains xs i) (drop_more wave.queue.items turn stream turn_in ∙ ap (λ (s : ℕ). s ∷ drop (turn + 1) wave.queue.items) (sym is)) among))
+
+    pub turn_smaller : length new.offsets ≡ length labels.offsets → sum new.offsets ≤ length new.offsets * 13700000000 → (length new.offsets * 13700000000 - sum new.offsets) + (length queue - (turn + 1)) < (length labels.offsets * 13700000000 - sum labels.offsets) + (length wave.queue.items - turn)
+    turn_smaller same small = omega (arith, g.raises, g.more, same, small, turn_in)
+
+-- where no stream waits any more, every arc is met
+pub IsWide-end : (base : Base) (labels : Labelling) (standings : List Standing) (wave : Wave) (turn : ℕ) → IsWave base labels standings wave → length wave.queue.items ≤ turn → AreQueued standings (drop turn wave.queue.items) → ((q : ℕ) → q < length (all_arcs base) → IsSeen (all_arcs base) labels standings q) → IsWide base labels wave.trail
+IsWide-end base labels standings wave turn w ended queued seen = record {
+  forest = w.forest;
+  raised = w.raised;
+  met = All-from_get_or (Holds labels.offsets) (all_arcs base) (record { from = 0; to = 0; weight = pos 0 })
+      (λ q l.
+      ⊎_elim (λ (m : Holds labels.offsets (arc_at (all_arcs base) q)). m)
+      (λ (waits : standing_of standings (arc_at (all_arcs base) q).from ≡ Waiting).
+      let among = rw (drop_all turn wave.queue.items ended) at (queued (arc_at (all_arcs base) q).from waits) in
+      absurd (omega (arith, among.1))) (seen q l));
+  each = w.each;
+}

@@ -1,0 +1,30 @@
+use Rattle.std.proofs.Common.{◌+◌, ◌<◌, ◌≤◌, length, ⊎_elim, arith, ap, ◌∙◌}
+use Rattle.std.proofs.lemmas.Bool.{cases_lt}
+use Rattle.std.proofs.lemmas.List.{get_or_append_left, get_or_push, length_push}
+use Rattle.std.proofs.lemmas.List.Elements.{All-nil}
+use Rattle.tsn_model.specs.declared.Arc.{Arc}
+use Rattle.tsn_diff.proofs.listing.Listing.new.Goals as goal
+
+pub loop-init : goal.loop-init
+loop-init c = record { count = ap length c.in_ok-leaving.ensures.items; none = λ k d l. absurd (omega arith) }
+
+pub loop-preserved : goal.loop-preserved
+loop-preserved c =
+    let xs = c.loop.leaving.items in
+    let v = c.new.result in
+    record {
+      count = rw c.in_ok-push.ensures.items (length_push xs v ∙ ap (λ n. n + 1) c.loop.invariant.count);
+      none = λ k d l.
+          rw c.in_ok-push.ensures.items
+          (⊎_elim (λ (below : k < length xs). rw (get_or_append_left xs _ d k below) (c.loop.invariant.none k d (omega (arith, c.loop.invariant.count))))
+          (λ (here : length xs ≤ k). rw (get_or_push xs v d k (omega (arith, c.loop.invariant.count))) c.new.ensures.items) (cases_lt k (length xs)));
+    }
+
+pub returns-clause-listing : goal.returns-clause-listing
+returns-clause-listing c =
+    record {
+      from_in = rw c.new-2.ensures.items (All-nil (λ (arc : Arc). arc.from < c.args.streams));
+      count = omega (arith, c.loop.invariant.count);
+      leaving = λ i d l. rw c.new-2.ensures.items (c.loop.invariant.none i d (omega arith));
+      marks = rw (c.new-2.ensures.items, c.new-3.ensures.items);
+    }

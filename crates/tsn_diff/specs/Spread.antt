@@ -1,0 +1,156 @@
+-- How one more arc is taken into account: the streams that it raises, and where a chain closes.
+use Rattle.std.specs.Prelude.{◌≡◌, ℕ, ◌+◌, ◌<◌, ◌≤◌, ◌⊎◌, List, [], ◌∷◌, ◌++◌, length, map, sum, take, drop, slice_index_or, Option, Some, None, All, Contains}
+use Rattle.tsn_model.specs.declared.Arc.{Arc}
+use Rattle.tsn_model.specs.Schedule.{offset_of}
+use Rattle.tsn_model.specs.Arcs.{arc_at, Holds, HoldsAll}
+use Rattle.tsn_diff.specs.declared.labels.Step.{Step}
+use Rattle.tsn_diff.specs.declared.listing.Placed.{Placed}
+use Rattle.tsn_diff.specs.declared.listing.Listing.{Listing}
+use Rattle.tsn_diff.specs.declared.trail.Former.{Former}
+use Rattle.tsn_diff.specs.declared.trail.Trail.{Trail}
+use Rattle.tsn_diff.specs.declared.spread.Standing.{Standing}
+use Rattle.tsn_diff.specs.declared.spread.Standing.TheVariants.{Calm, Fixed, Waiting, Settled}
+use Rattle.tsn_diff.specs.declared.spread.Wave.{Wave}
+use Rattle.tsn_diff.specs.Limits.{IsArcAmong}
+use Rattle.tsn_diff.specs.Forest.{Labelling, IsForest, Path, last_of}
+use Rattle.tsn_diff.specs.Progress.{KeepsRaised, Closes}
+use Rattle.tsn_diff.specs.Listing.{IsListing}
+use Rattle.tsn_diff.specs.Trail.{IsTrail, put_back_all}
+
+-- where a wave starts: labels that meet some arcs, what was noted before, and one arc more
+pub record Base : Type 0 where
+  pub arcs : List Arc
+  pub arc : Arc
+  pub labels : Labelling
+  pub formers : List Former
+
+-- the arcs with the new one last
+abbrev pub all_arcs : Base → List Arc
+all_arcs base = base.arcs ++ base.arc ∷ []
+
+-- where the wave of an arc starts
+abbrev pub base_of : Labelling → Listing → Trail → Arc → Base
+base_of labels listing trail arc = record { arcs = listing.arcs.items; arc = arc; labels = labels; formers = trail.formers.items }
+
+-- an arc with its place
+pub record IsPlaced (arcs : List Arc) (placed : Placed) : Type 0 where
+  pub place_in : placed.place < length arcs
+  pub arc : arc_at arcs placed.place ≡ placed.arc
+
+-- the arc there closes a chain
+pub record IsClosing (arcs : List Arc) (labels : Labelling) (placed : Placed) : Type 0 where
+  pub there : IsPlaced arcs placed
+  pub closes : Closes arcs labels placed.place
+
+-- the former labels that the wave has noted
+abbrev pub noted_by : Base → Trail → List Former
+noted_by base trail = drop (length base.formers) trail.formers.items
+
+-- what was noted puts the labels back
+pub record IsNoted (base : Base) (labels : Labelling) (trail : Trail) : Type 0 where
+  pub streams : IsTrail (length base.labels.offsets) trail
+  pub before : take (length base.formers) trail.formers.items ≡ base.formers
+  pub back : put_back_all (noted_by base trail) labels ≡ base.labels
+  pub offsets : length labels.offsets ≡ length base.labels.offsets
+  pub last : length labels.last ≡ length base.labels.offsets
+
+abbrev pub standing_of : List Standing → ℕ → Standing
+standing_of standings stream = slice_index_or standings stream Calm
+
+-- the queue, where the stream has a place in it
+abbrev pub queue_with : Standing → List ℕ → ℕ → List ℕ
+queue_with Calm queue stream = queue ++ stream ∷ []
+queue_with Fixed queue stream = queue
+queue_with Waiting queue stream = queue
+queue_with Settled queue stream = queue ++ stream ∷ []
+
+-- the former labels, where the stream's is among them
+abbrev pub formers_with : Standing → List Former → Former → List Former
+formers_with Calm formers former = formers ++ former ∷ []
+formers_with Fixed formers former = formers
+formers_with Waiting formers former = formers
+formers_with Settled formers former = formers
+
+-- no stream was looked at so far
+abbrev pub AreCalm : List Standing → Type 0
+AreCalm standings = (stream : ℕ) → standing_of standings stream ≡ Calm
+
+-- the stream was raised
+abbrev pub IsLifted : Standing → Type 0
+IsLifted Calm = ⊥
+IsLifted Fixed = ⊥
+IsLifted Waiting = Unit {0}
+IsLifted Settled = Unit {0}
+
+-- the streams on the way back from a stream are fixed, and no others
+pub record AreFixed (last : List (Option Step)) (standings : List Standing) (first : ℕ) : Type 0 where
+  pub begins : standing_of standings first ≡ Fixed
+  pub closed : (stream : ℕ) (step : Step) → standing_of standings stream ≡ Fixed → last_of last stream ≡ Some step → standing_of standings step.from ≡ Fixed
+  pub way : (stream : ℕ) → standing_of standings stream ≡ Fixed → (steps : List Step) × Path last first steps stream
+
+-- the stream of a place in the queue
+pub record IsQueued (n : ℕ) (standings : List Standing) (stream : ℕ) : Type 0 where
+  pub stream_in : stream < n
+  pub lifted : IsLifted (standing_of standings stream)
+
+-- labels on the way from those that met the arcs to those that meet the new one too
+pub record IsWave (base : Base) (labels : Labelling) (standings : List Standing) (wave : Wave) : Type 0 where
+  pub among : All (IsArcAmong (length base.labels.offsets)) (all_arcs base)
+  pub met : HoldsAll base.labels.offsets base.arcs
+  pub noted : IsNoted base labels wave.trail
+  pub room : length base.labels.offsets ≤ length standings
+  pub forest : IsForest (all_arcs base) labels
+  pub raised : KeepsRaised base.labels labels
+  pub rises : (stream : ℕ) → offset_of base.labels.offsets stream ≤ offset_of labels.offsets stream
+  pub roots : (stream : ℕ) → last_of labels.last stream ≡ None → offset_of labels.offsets stream ≡ offset_of base.labels.offsets stream
+  pub fixed : AreFixed labels.last standings base.arc.from
+  pub kept : (stream : ℕ) → standing_of standings stream ≡ Fixed → offset_of labels.offsets stream ≡ offset_of base.labels.offsets stream
+  pub lifted : (stream : ℕ) → IsLifted (standing_of standings stream) → Contains (map (λ former. former.stream) (noted_by base wave.trail)) stream
+  pub each : All (λ former. offset_of base.labels.offsets former.stream < offset_of labels.offsets former.stream) (noted_by base wave.trail)
+  pub queued : All (IsQueued (length base.labels.offsets) standings) wave.queue.items
+
+-- a stream whose arcs are to be looked at now
+pub record IsTurn (base : Base) (labels : Labelling) (standings : List Standing) (wave : Wave) (listing : Listing) (stream : ℕ) : Type 0 where
+  pub moves : IsWave base labels standings wave
+  pub listed : IsListing (length base.labels.offsets) listing
+  pub same : listing.arcs.items ≡ base.arcs
+  pub stream_in : stream < length base.labels.offsets
+  pub settled : standing_of standings stream ≡ Settled
+
+-- every stream that waits has a place in the queue
+abbrev pub AreQueued : List Standing → List ℕ → Type 0
+AreQueued standings queue = (stream : ℕ) → standing_of standings stream ≡ Waiting → Contains queue stream
+
+-- the arcs that begin at a stream are met
+abbrev pub MeetsFrom : List Arc → List ℕ → ℕ → Type 0
+MeetsFrom arcs offsets stream = (place : ℕ) → place < length arcs → (arc_at arcs place).from ≡ stream → Holds offsets (arc_at arcs place)
+
+-- what a wave starts with
+pub record IsStart (base : Base) (labels : Labelling) (trail : Trail) (listing : Listing) (arc : Arc) : Type 0 where
+  pub labels_are : base.labels ≡ labels
+  pub arcs_are : listing.arcs.items ≡ base.arcs
+  pub arc_is : base.arc ≡ arc
+  pub formers_are : base.formers ≡ trail.formers.items
+  pub among : All (IsArcAmong (length base.labels.offsets)) (all_arcs base)
+  pub forest : IsForest base.arcs base.labels
+  pub met : HoldsAll base.labels.offsets base.arcs
+  pub listed : IsListing (length base.labels.offsets) listing
+  pub noted : IsTrail (length base.labels.offsets) trail
+
+-- a wave that has ended: every arc is met, and the offsets rose at the streams that were noted
+pub record IsWide (base : Base) (labels : Labelling) (trail : Trail) : Type 0 where
+  pub forest : IsForest (all_arcs base) labels
+  pub raised : KeepsRaised base.labels labels
+  pub met : HoldsAll labels.offsets (all_arcs base)
+  pub each : All (λ former. offset_of base.labels.offsets former.stream < offset_of labels.offsets former.stream) (noted_by base trail)
+
+-- an arc is met, or its first stream waits
+abbrev pub IsSeen : List Arc → Labelling → List Standing → ℕ → Type 0
+IsSeen arcs labels standings place = Holds labels.offsets (arc_at arcs place) ⊎ (standing_of standings (arc_at arcs place).from ≡ Waiting)
+
+-- the wave goes on: no arc is lost from sight, and each raise has added at most one place to the queue
+pub record GoesOn (arcs : List Arc) (old new : Labelling) (before after : List Standing) (queue longer : List ℕ) : Type 0 where
+  pub seen : (place : ℕ) → place < length arcs → IsSeen arcs old before place → IsSeen arcs new after place
+  pub queued : (turn : ℕ) → turn ≤ length queue → AreQueued before (drop turn queue) → AreQueued after (drop turn longer)
+  pub more : length queue ≤ length longer
+  pub raises : length longer + sum old.offsets ≤ length queue + sum new.offsets

@@ -1,0 +1,199 @@
+ghost use Rattle.std.specs.Prelude.{◌≡◌, ◌++◌, ◌∷◌, [], ℕ, ◌<◌, ◌≤◌, IfOk, OnOk, OnErr, IfSome, MatchOption, IsTrue, length, slice_index, true, false};
+ghost use Rattle.tsn_model.specs.Arcs.{arc_at, Holds, HoldsAll};
+ghost use Rattle.tsn_diff.specs.Labels.{labelling_of};
+ghost use Rattle.tsn_diff.specs.Forest.{HasSteps, Rooted, IsForest};
+ghost use Rattle.tsn_diff.specs.Progress.{Closes};
+ghost use Rattle.tsn_diff.specs.Listing.{IsListing};
+ghost use Rattle.tsn_diff.specs.Trail.{IsTrail, former_of};
+ghost use Rattle.tsn_diff.specs.Spread.{Base, queue_with, formers_with, IsPlaced, IsClosing, MeetsFrom, IsNoted, IsWave, IsTurn, IsStart, IsWide, GoesOn, AreCalm, AreFixed, IsLifted, standing_of, all_arcs};
+
+use crate::labels::Labels;
+use crate::listing::{Listing, Placed};
+use crate::solve::MAX_STREAMS;
+use crate::trail::Trail;
+use std::alloc::{AllocError, Global};
+use tsn_model::Arc;
+
+/// How a stream stands while one more arc is taken into account.
+#[derive(Clone, Copy, Debug)]
+pub enum Standing {
+    /// Not raised so far.
+    Calm,
+    /// On the chain of the stream where the new arc begins: an arc that asks to raise it closes a chain.
+    Fixed,
+    /// Raised, and in the queue.
+    Waiting,
+    /// Raised, and the arcs that leave it were looked at since.
+    Settled,
+}
+
+/// What is kept of the raises: how to take them back, and, while one more arc is taken into account, the streams whose arcs wait to be looked at.
+#[derive(Debug, Drop)]
+pub struct Wave {
+    pub trail: Trail,
+    pub queue: Vec<usize>,
+}
+
+impl Wave {
+    /// No raises yet.
+    pub fn new(alloc: Global) -> Wave
+        ensures streams { result.trail.streams.items ≡ [] }
+        ensures formers { result.trail.formers.items ≡ [] }
+    {
+        Wave {
+            trail: Trail {
+                streams: Vec::new(alloc),
+                formers: Vec::new(alloc),
+            },
+            queue: Vec::new(alloc),
+        }
+    }
+
+    /// Raises the last stream of an arc that is not met. True: the arc closes a chain, and nothing is raised.
+    fn raise(
+        &mut self,
+        labels: &mut Labels,
+        standings: &mut [Standing],
+        placed: Placed,
+    ) -> Result<bool, AllocError>
+        ghost base: { Base }
+        requires wave { IsWave base (labelling_of labels.old) standings.old self.old }
+        requires placed { IsPlaced (all_arcs base) placed }
+        ensures noted { IsNoted base (labelling_of labels.new) self.new.trail }
+        ensures wave { OnOk result (IsWave base (labelling_of labels.new) standings.new self.new) }
+        ensures goes_on { OnOk result
+            (GoesOn (all_arcs base) (labelling_of labels.old) (labelling_of labels.new) standings.old standings.new self.old.queue.items self.new.queue.items) }
+        ensures first { standing_of standings.new placed.arc.from
+            ≡ standing_of standings.old placed.arc.from }
+        ensures met { result ≡ Ok false → Holds labels.new.offsets.items placed.arc }
+        ensures closes { result ≡ Ok true
+            → Closes (all_arcs base) (labelling_of labels.new) placed.place }
+    {
+        let arc = placed.arc;
+        let Some(offset) = labels.asked(arc) else {
+            return Ok(false);
+        };
+        let standing = standings[arc.to];
+        if let Standing::Fixed = standing {
+            return Ok(true);
+        }
+        self.enter(labels, standing, arc.to)?;
+        standings[arc.to] = Standing::Waiting;
+        labels.raise(placed.place, arc, offset);
+        Ok(false)
+    }
+
+    /// Gives a stream that is about to be raised a place in the queue, unless it waits, and notes its label, unless that was done.
+    fn enter(
+        &mut self,
+        labels: &Labels,
+        standing: Standing,
+        stream: usize,
+    ) -> Result<(), AllocError>
+        requires count { length labels.now.last.items ≡ length labels.now.offsets.items }
+        requires stream { stream < length labels.now.offsets.items }
+        requires trail { IsTrail (length labels.now.offsets.items) self.old.trail }
+        ensures queue { OnOk result
+            (self.new.queue.items ≡ queue_with standing self.old.queue.items stream) }
+        ensures formers { OnOk result
+            (self.new.trail.formers.items ≡ formers_with standing self.old.trail.formers.items (former_of (labelling_of labels.now) stream)) }
+        ensures trail { IsTrail (length labels.now.offsets.items) self.new.trail }
+        ensures err { OnErr result
+            (self.new.trail.formers.items ≡ self.old.trail.formers.items) }
+    {
+        match standing {
+            Standing::Calm => {
+                self.queue.push(stream)?;
+                self.trail.note(labels, stream)
+            }
+            Standing::Settled => Ok(self.queue.push(stream)?),
+            Standing::Fixed => Ok(()),
+            Standing::Waiting => Ok(()),
+        }
+    }
+
+    /// Raises the last streams of the arcs that leave a stream. `Some`: the arc that closes a chain.
+    fn relax(
+        &mut self,
+        labels: &mut Labels,
+        standings: &mut [Standing],
+        listing: &Listing,
+        stream: usize,
+    ) -> Result<Option<Placed>, AllocError>
+        ghost base: { Base }
+        requires { IsTurn base (labelling_of labels.old) standings.old self.old listing.now stream }
+        ensures noted { IsNoted base (labelling_of labels.new) self.new.trail }
+        ensures wave { OnOk result (IsWave base (labelling_of labels.new) standings.new self.new) }
+        ensures goes_on { OnOk result
+            (GoesOn (all_arcs base) (labelling_of labels.old) (labelling_of labels.new) standings.old standings.new self.old.queue.items self.new.queue.items) }
+        ensures met { result ≡ Ok None → MeetsFrom (all_arcs base) labels.new.offsets.items stream }
+        ensures closing { IfOk result (λ closing. IfSome closing
+            (IsClosing (all_arcs base) (labelling_of labels.new))) }
+    {
+        let leaving = &listing.leaving[stream];
+        for placed in leaving {
+            if self.raise(labels, standings, *placed)? {
+                return Ok(Some(*placed));
+            }
+        }
+        Ok(None)
+    }
+
+    /// Raises the labels until the arc is met too, or an arc closes a chain.
+    pub fn spread(
+        &mut self,
+        labels: &mut Labels,
+        listing: &Listing,
+        arc: Arc,
+    ) -> Result<Option<Placed>, AllocError>
+        ghost base: { Base }
+        requires { IsStart base (labelling_of labels.old) self.old.trail listing.now arc }
+        ensures noted { IsNoted base (labelling_of labels.new) self.new.trail }
+        ensures wide { result ≡ Ok None → IsWide base (labelling_of labels.new) self.new.trail }
+        ensures closing { IfOk result (λ closing. IfSome closing
+            (λ placed. IsForest (all_arcs base) (labelling_of labels.new) × IsClosing (all_arcs base) (labelling_of labels.new) placed)) }
+    {
+        if labels.asked(arc).is_none() {
+            return Ok(None);
+        }
+        let placed = Placed {
+            place: listing.arcs.len(),
+            arc,
+        };
+        let mut standings = [Standing::Calm; MAX_STREAMS];
+        fix_chain(labels, &mut standings, arc.from);
+        self.queue.clear();
+        if self.raise(labels, &mut standings, placed)? {
+            return Ok(Some(placed));
+        }
+        let mut turn = 0;
+        while turn < self.queue.len() {
+            let stream = self.queue[turn];
+            standings[stream] = Standing::Settled;
+            match self.relax(labels, &mut standings, listing, stream)? {
+                Some(closing) => return Ok(Some(closing)),
+                None => turn += 1,
+            }
+        }
+        Ok(None)
+    }
+}
+
+/// Fixes the streams on the chain of a stream.
+fn fix_chain(labels: &Labels, standings: &mut [Standing], mut stream: usize)
+    requires steps { HasSteps (labelling_of labels.now) }
+    requires chains { (stream : ℕ) → Rooted labels.now.last.items stream }
+    requires stream { stream < length labels.now.last.items }
+    requires room { length labels.now.last.items ≤ length standings.old }
+    requires calm { AreCalm standings.old }
+    ensures fixed { AreFixed labels.now.last.items standings.new stream }
+    ensures others { (stream : ℕ) → IsLifted (standing_of standings.new stream) → ⊥ }
+{
+    for _ in 0..labels.last.len() {
+        standings[stream] = Standing::Fixed;
+        let Some(step) = labels.last[stream] else {
+            return;
+        };
+        stream = step.from;
+    }
+}
