@@ -64,6 +64,8 @@ impl ArcStack {
         ensures closed { IfOk result (λ closed. IfSome closed
             (λ chain. Refutes (length self.old.releases) (self.old.arcs ++ arc ∷ []) chain.items)) }
         ensures refused { IfOk result (λ closed. OnSome closed (self.new ≡ self.old)) }
+        ensures solved_before { Solves self.old.releases self.old.arcs self.old.labels }
+        ensures solved { Solves self.new.releases self.new.arcs self.new.labels }
         ensures err { OnErr result (self.new ≡ self.old) }
     {
         let mark = self.wave.trail.formers.len();

@@ -25,3 +25,6 @@ returns-in-Ok-None-clause-raised c =
     let view = rw (← c.self-inside.view_is) at c.self.view_is in
     let none = c.in-Ok-None.field-0-is in
     rw (← view) (RisesAt-pushed _ _ _ _ s c.args.arc (labelling_of c.put_in.new.labels) c.put_in.new.listing c.put_in.new.wave.trail c.put_in.ensures.noted (rw none at c.in-Ok-None.ensures.wide) (rw none at c.in-Ok-None.ensures.arcs) (rw none at c.in-Ok-None.ensures.marks))
+
+pub returns-in-Ok-None-clause-solved : goal.returns-in-Ok-None-clause-solved
+returns-in-Ok-None-clause-solved c = (invariant_of-self c).layered.solves
