@@ -2,7 +2,7 @@
 use Rattle.std.proofs.Common.{◌≡◌, ℕ, ◌≤◌, ◌<◌, pos, List, length, All, sym, ◌∙◌, subst, ⊎_elim, arith}
 use Rattle.std.proofs.lemmas.Bool.{cases_lt}
 use Rattle.std.proofs.lemmas.Int.{ints}
-use Rattle.std.proofs.lemmas.List.{get_or-replicate, get_or_past, get_or_default, length-replicate}
+use Rattle.std.proofs.lemmas.List.{get_or-replicate, get_or_past, get_or_default, length-replicate, ext_get_or}
 use Rattle.tsn_model.specs.declared.Decision.{Decision}
 use Rattle.tsn_model.specs.Network.{Network, IsWellFormed, stream_count}
 use Rattle.tsn_model.specs.Schedule.{offset_of}
@@ -85,3 +85,12 @@ IsRefutation-from network path chain refutes = (
   λ offsets held. refutes.none (λ i. pos (offset_of offsets i)) held,
   λ target. (refutes.cycle.closed, refutes.cycle.positive),
 )
+
+-- a path has one list of least offsets
+pub least_same : (network : Network) (path : List Decision) (first second : List ℕ) → AreLeast network path first → AreLeast network path second → first ≡ second
+least_same network path first second a b =
+    ext_get_or 0 first second (a.count ∙ sym b.count) (λ i below.
+    let within : i < stream_count network = subst (λ n. i < n) a.count below in
+    let low = a.least second b.count b.held i within in
+    let high = b.least first a.count a.held i within in
+    omega arith)

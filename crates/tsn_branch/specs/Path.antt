@@ -1,7 +1,9 @@
 -- Paths of decisions.
-use Rattle.std.specs.Prelude.{◌≢◌, List, All, AllPairs, Contains}
+use Rattle.std.specs.Prelude.{◌≡◌, ◌≢◌, List, All, AllPairs, Contains}
 use Rattle.tsn_model.specs.declared.Triple.{Triple}
+use Rattle.tsn_model.specs.declared.Side.{Side}
 use Rattle.tsn_model.specs.declared.Decision.{Decision}
+use Rattle.tsn_model.specs.Certificate.{decided}
 
 -- no triple is decided twice
 abbrev pub DecidesOnce : List Decision → Type 0
@@ -14,3 +16,7 @@ IsUndecided path triple = All (λ decision. decision.triple ≢ triple) path
 -- each triple that the path decides is one of these
 abbrev pub Fits : List Triple → List Decision → Type 0
 Fits triples path = All (λ decision. Contains triples decision.triple) path
+
+-- the last decision of the path is to this side
+abbrev pub IsLastSide : List Decision → Side → Type 0
+IsLastSide path side = (front : List Decision) × (triple : Triple) × (path ≡ decided front triple side)

@@ -1,20 +1,59 @@
 //! When the streams are done by a list of offsets.
-ghost use Rattle.std.specs.Prelude.{◌≡◌, ◌≤◌, length, All, MatchOption};
+ghost use Rattle.std.specs.Prelude.{◌≡◌, ◌+◌, ◌≤◌, ◌<◌, ◌↔◌, ◌⊎◌, IsTrue, length, All, MatchOption, min};
+ghost use Rattle.std.specs.Option.{option_map_or};
 ghost use Rattle.tsn_model.specs.Network.{stream_count};
+ghost use Rattle.tsn_model.specs.Timing.{span};
 ghost use Rattle.tsn_model.specs.Schedule.{flowspan};
 ghost use Rattle.tsn_branch.specs.Look.{AllFit, IsFirstOverrun, IsFirstLast};
+ghost use Rattle.tsn_branch.specs.Ends.{AreEnds, OthersFit, EndedBefore};
 
 use tsn_timing::Timing;
 
+/// When the streams are done by a list of offsets.
+#[derive(Clone, Copy, Debug)]
+pub enum Ends {
+    /// This stream is the first that isn't done within the cycle.
+    Overrun(usize),
+    /// All streams are; this one is the first that arrives last, at this instant, in nanoseconds.
+    Within { last: usize, end: u64 },
+}
+
+/// When the streams are done. The offsets may be of any size.
+pub fn ends_of(timing: &Timing, offsets: &[u64]) -> Ends
+    requires { length offsets.now ≡ stream_count timing.now }
+    ensures { AreEnds timing.now offsets.now result }
+{
+    if let Some(stream) = first_overrun(timing, offsets) {
+        return Ends::Overrun(stream);
+    }
+    let _cycle = timing.cycle();
+    let (last, end) = last_arrival(timing, offsets);
+    Ends::Within { last, end }
+}
+
+/// The same where only some streams were raised, and before that all were done within the cycle, and `last` was the first
+/// that arrived last, at the instant `end`.
+pub fn ends_after(timing: &Timing, offsets: &[u64], raised: &[usize], last: usize, end: u64) -> Ends
+    requires count { length offsets.now ≡ stream_count timing.now }
+    requires raised { All (λ stream. stream < stream_count timing.now) raised.now }
+    requires before { EndedBefore timing.now raised.now offsets.now last end }
+    ensures { AreEnds timing.now offsets.now result }
+{
+    if let Some(stream) = first_overrun_among(timing, offsets, raised) {
+        return Ends::Overrun(stream);
+    }
+    let _cycle = timing.cycle();
+    let (last, end) = last_arrival_among(timing, offsets, raised, last, end);
+    Ends::Within { last, end }
+}
+
 /// The first stream that isn't done within the cycle. The offsets may be of any size.
-pub fn first_overrun(timing: &Timing, offsets: &[u64]) -> Option<usize>
+fn first_overrun(timing: &Timing, offsets: &[u64]) -> Option<usize>
     requires { length offsets.now ≡ stream_count timing.now }
     ensures { MatchOption result (AllFit timing.now offsets.now) (IsFirstOverrun timing.now offsets.now) }
 {
-    let cycle = timing.cycle();
     for stream in 0..timing.streams() {
-        let offset = offsets[stream];
-        if offset > cycle || offset + timing.span(stream) > cycle {
+        if overruns(timing, stream, offsets[stream]) {
             return Some(stream);
         }
     }
@@ -22,7 +61,7 @@ pub fn first_overrun(timing: &Timing, offsets: &[u64]) -> Option<usize>
 }
 
 /// The first stream that arrives last, and when, in nanoseconds.
-pub fn last_arrival(timing: &Timing, offsets: &[u64]) -> (usize, u64)
+fn last_arrival(timing: &Timing, offsets: &[u64]) -> (usize, u64)
     requires count { length offsets.now ≡ stream_count timing.now }
     requires small { All (λ offset. offset ≤ 1_000_000_000) offsets.now }
     ensures stream { IsFirstLast timing.now offsets.now result.0 }
@@ -39,4 +78,73 @@ pub fn last_arrival(timing: &Timing, offsets: &[u64]) -> (usize, u64)
         }
     }
     (last, end)
+}
+
+/// The first stream that isn't done within the cycle, where only these streams may not be.
+fn first_overrun_among(timing: &Timing, offsets: &[u64], raised: &[usize]) -> Option<usize>
+    requires count { length offsets.now ≡ stream_count timing.now }
+    requires raised { All (λ stream. stream < stream_count timing.now) raised.now }
+    requires others { OthersFit timing.now raised.now offsets.now }
+    ensures { MatchOption result (AllFit timing.now offsets.now) (IsFirstOverrun timing.now offsets.now) }
+{
+    let mut first = None;
+    for &stream in raised {
+        if overruns(timing, stream, offsets[stream]) {
+            first = Some(lesser(first, stream));
+        }
+    }
+    first
+}
+
+/// Whether a stream, put at this offset, isn't done within the cycle.
+fn overruns(timing: &Timing, stream: usize, offset: u64) -> bool
+    requires { stream < stream_count timing.now }
+    ensures { IsTrue result ↔ (timing.now.cycle < offset + span timing.now stream) }
+{
+    let cycle = timing.cycle();
+    offset > cycle || offset + timing.span(stream) > cycle
+}
+
+/// The lesser of two streams, of which the first may be missing.
+fn lesser(first: Option<usize>, stream: usize) -> usize
+    ensures { result ≡ option_map_or (λ other. min other stream) first stream }
+{
+    match first {
+        Some(other) => other.min(stream),
+        None => stream,
+    }
+}
+
+/// The first stream that arrives last, and when, in nanoseconds, after these streams were raised; before that it was `last`,
+/// at the instant `end`.
+fn last_arrival_among(
+    timing: &Timing,
+    offsets: &[u64],
+    raised: &[usize],
+    mut last: usize,
+    mut end: u64,
+) -> (usize, u64)
+    requires count { length offsets.now ≡ stream_count timing.now }
+    requires small { All (λ offset. offset ≤ 1_000_000_000) offsets.now }
+    requires raised { All (λ stream. stream < stream_count timing.now) raised.now }
+    requires before { EndedBefore timing.now raised.now offsets.now last end }
+    ensures stream { IsFirstLast timing.now offsets.now result.0 }
+    ensures instant { result.1 ≡ flowspan timing.now offsets.now }
+{
+    for &stream in raised {
+        let arrival = offsets[stream] + timing.arrival(stream);
+        if !is_later(arrival, stream, end, last) {
+            continue;
+        }
+        last = stream;
+        end = arrival;
+    }
+    (last, end)
+}
+
+/// Whether a stream's arrival makes it the first that arrives last, in place of `last` at the instant `end`.
+fn is_later(arrival: u64, stream: usize, end: u64, last: usize) -> bool
+    ensures { IsTrue result ↔ (end < arrival) ⊎ ((arrival ≡ end) × (stream < last)) }
+{
+    arrival > end || arrival == end && stream < last
 }

@@ -1,16 +1,23 @@
 //! What the least offsets of a path, or a cycle of its arcs, come to.
-ghost use Rattle.std.specs.Prelude.{◌≡◌, ◌≤◌, ◌<◌, List, IfOk, length};
+ghost use Rattle.std.specs.Prelude.{◌≡◌, ◌≤◌, ◌<◌, List, All, IfOk, length};
 ghost use Rattle.tsn_model.specs.declared.Decision.{Decision};
+ghost use Rattle.tsn_model.specs.Network.{stream_count};
+ghost use Rattle.tsn_model.specs.PlainWords.{AreApart};
 ghost use Rattle.tsn_model.specs.Arcs.{arcs_of};
 ghost use Rattle.tsn_conflict.specs.Kept.{AreConflictsOf};
+ghost use Rattle.tsn_conflict.specs.Raised.{OnlyRaisedOverlap};
 ghost use Rattle.tsn_diff.specs.Answers.{Answers, Solves};
 ghost use Rattle.tsn_diff.specs.Forest.{chain_of};
 ghost use Rattle.tsn_branch.specs.Outcome.{outcome_of};
 ghost use Rattle.tsn_branch.specs.Look.{IsLook};
+ghost use Rattle.tsn_branch.specs.Ends.{AreEnds};
+ghost use Rattle.tsn_branch.specs.Descent.{IsFinding, WasSeen, IsSolution, IsPlaced, outcome_found};
+ghost use Rattle.tsn_branch.specs.declared.instants.Ends.TheVariants as ends;
 ghost use Rattle.tsn_branch.specs.Unreleased.{unreleased};
 
-use crate::instants::{first_overrun, last_arrival};
+use crate::instants::{Ends, ends_after, ends_of};
 use crate::outcome::{Leaf, Look};
+use crate::seen::{Finding, Seen};
 use std::alloc::Global;
 use tsn_cert::Chain;
 use tsn_conflict::sharing::Conflicts;
@@ -32,41 +39,134 @@ pub fn judge(
         → IsLook timing.now path target (outcome_of look)) }
 {
     match outcome {
-        Outcome::Least(least) => judge_least(alloc, timing, conflicts, least, target),
+        Outcome::Least(least) => {
+            let finding = judge_least(alloc, timing, conflicts, least, target)?;
+            Ok(look_of(conflicts, finding))
+        }
         Outcome::Positive(cycle) => Ok(Look::Refuted(Leaf::Cycle(Chain::of(alloc, cycle)?))),
     }
 }
 
-/// What the least offsets of a path come to, as a look at the node.
-fn judge_least(
+/// What the least offsets of a path come to.
+pub fn judge_least(
     alloc: Global,
     timing: &Timing,
     conflicts: &Conflicts,
     least: &Least,
     target: u64,
-) -> Result<Look, NoMemory>
+) -> Result<Finding, NoMemory>
     requires conflicts { AreConflictsOf timing.now conflicts.now }
     requires some_path { (path : List Decision) × Solves (unreleased timing.now) (arcs_of timing.now path) least.now }
-    ensures { IfOk result (λ look. (path : List Decision) → Solves (unreleased timing.now) (arcs_of timing.now path) least.now
-        → IsLook timing.now path target (outcome_of look)) }
+    ensures { IfOk result (λ finding. (path : List Decision) → Solves (unreleased timing.now) (arcs_of timing.now path) least.now
+        → IsFinding timing.now path target finding) }
 {
-    let offsets = least.offsets();
-    if let Some(stream) = first_overrun(timing, offsets) {
-        return Ok(Look::Refuted(Leaf::Overrun(stream, chain_to(alloc, least, stream)?)));
+    let ends = ends_of(timing, least.offsets());
+    judge_ends(alloc, timing, conflicts, least, ends, &[], 0, target)
+}
+
+/// What the least offsets of a path come to, which are those of its parent but for the raised streams.
+pub fn judge_raised(
+    alloc: Global,
+    timing: &Timing,
+    conflicts: &Conflicts,
+    least: &Least,
+    raised: &[usize],
+    parent: Seen,
+    target: u64,
+) -> Result<Finding, NoMemory>
+    requires conflicts { AreConflictsOf timing.now conflicts.now }
+    requires some_path { (path : List Decision) × Solves (unreleased timing.now) (arcs_of timing.now path) least.now }
+    requires raised { All (λ stream. stream < stream_count timing.now) raised.now }
+    requires parent { WasSeen timing.now raised.now least.now.offsets parent }
+    ensures { IfOk result (λ finding. (path : List Decision) → Solves (unreleased timing.now) (arcs_of timing.now path) least.now
+        → IsFinding timing.now path target finding) }
+{
+    let ends = ends_after(timing, least.offsets(), raised, parent.last, parent.end);
+    judge_ends(
+        alloc,
+        timing,
+        conflicts,
+        least,
+        ends,
+        raised,
+        parent.place,
+        target,
+    )
+}
+
+/// What the least offsets of a path come to, when the streams are done by these, and where among the triples before `start`
+/// only those with a raised stream can overlap.
+fn judge_ends(
+    alloc: Global,
+    timing: &Timing,
+    conflicts: &Conflicts,
+    least: &Least,
+    ends: Ends,
+    raised: &[usize],
+    start: usize,
+    target: u64,
+) -> Result<Finding, NoMemory>
+    requires conflicts { AreConflictsOf timing.now conflicts.now }
+    requires some_path { (path : List Decision) × Solves (unreleased timing.now) (arcs_of timing.now path) least.now }
+    requires ends { AreEnds timing.now least.now.offsets ends }
+    requires raised { All (λ stream. stream < stream_count timing.now) raised.now }
+    requires start { start ≤ length conflicts.now.triples }
+    requires apart { OnlyRaisedOverlap conflicts.now least.now.offsets raised.now start }
+    ensures { IfOk result (λ finding. (path : List Decision) → Solves (unreleased timing.now) (arcs_of timing.now path) least.now
+        → IsFinding timing.now path target finding) }
+{
+    let (last, end) = match ends {
+        Ends::Overrun(stream) => {
+            let leaf = Leaf::Overrun(stream, chain_to(alloc, least, stream)?);
+            return Ok(Finding::Closed(Look::Refuted(leaf)));
+        }
+        Ends::Within { last, end } => (last, end),
+    };
+    if end >= target {
+        let leaf = Leaf::Late(last, chain_to(alloc, least, last)?);
+        return Ok(Finding::Closed(Look::Pruned { bound: end, leaf }));
     }
-    let (stream, bound) = last_arrival(timing, offsets);
-    if bound >= target {
-        let leaf = Leaf::Late(stream, chain_to(alloc, least, stream)?);
-        return Ok(Look::Pruned { bound, leaf });
+    if let Some(place) = conflicts.first_violated_from(least.offsets(), raised, start) {
+        return Ok(Finding::Split(Seen { place, last, end }));
     }
-    if let Some(triple) = conflicts.first_violated(offsets) {
-        return Ok(Look::Split(triple));
-    }
-    let Ok(valid) = timing.valid(Vec::from_slice(alloc, offsets)?) else {
+    let look = solved(alloc, timing, least, last, end)?;
+    Ok(Finding::Closed(look))
+}
+
+/// The least offsets of a path as its schedule, where no streams overlap.
+fn solved(
+    alloc: Global,
+    timing: &Timing,
+    least: &Least,
+    last: usize,
+    end: u64,
+) -> Result<Look, NoMemory>
+    requires some_path { (path : List Decision) × Solves (unreleased timing.now) (arcs_of timing.now path) least.now }
+    requires ends { AreEnds timing.now least.now.offsets (ends.Within last end) }
+    requires apart { AreApart timing.now least.now.offsets }
+    ensures { IfOk result (λ look. (path : List Decision) → Solves (unreleased timing.now) (arcs_of timing.now path) least.now
+        → IsSolution timing.now path end (outcome_of look)) }
+{
+    let Ok(valid) = timing.valid(Vec::from_slice(alloc, least.offsets())?) else {
         unreachable!();
     };
-    let leaf = Leaf::Late(stream, chain_to(alloc, least, stream)?);
-    Ok(Look::Solved { valid, bound, leaf })
+    let leaf = Leaf::Late(last, chain_to(alloc, least, last)?);
+    Ok(Look::Solved {
+        valid,
+        bound: end,
+        leaf,
+    })
+}
+
+/// A finding as a look.
+pub fn look_of(conflicts: &Conflicts, finding: Finding) -> Look
+    requires { IsPlaced (length conflicts.now.triples) finding }
+    ensures { outcome_of result ≡ outcome_found conflicts.now.triples finding }
+{
+    match finding {
+        Finding::Split(seen) => Look::Split(conflicts.triples()[seen.place]),
+        Finding::Closed(look) => look,
+    }
 }
 
 /// The chain that shows a stream's least offset.

@@ -8,15 +8,18 @@ ghost use Rattle.tsn_branch.specs.Path.{Fits};
 ghost use Rattle.tsn_branch.specs.Look.{IsLook, HasProof, SplitsUndecided, PrunesFrom};
 
 mod arcs;
+pub mod descent;
 mod instants;
 mod judge;
 pub mod node;
 pub mod outcome;
+mod seen;
 
 use crate::arcs::arcs_of;
 use crate::judge::judge;
 use crate::outcome::Look;
 pub use arcs::fits;
+pub use descent::Descent;
 pub use node::Node;
 pub use outcome::Leaf;
 use std::alloc::Global;

@@ -1,7 +1,10 @@
 //! A node of the search, known by its path.
-ghost use Rattle.std.specs.Prelude.{◌≡◌, [], ◌∷◌, ◌++◌, IfOk, OnOk, OnErr};
+ghost use Rattle.std.specs.Prelude.{◌≡◌, ◌-◌, [], ◌∷◌, ◌++◌, List, take, length, IfOk, OnOk, OnErr, MatchOption};
+ghost use Rattle.tsn_model.specs.declared.Decision.{Decision};
+ghost use Rattle.tsn_model.specs.declared.Triple.{Triple};
+ghost use Rattle.tsn_model.specs.declared.Side.TheVariants.{Left, Right};
 ghost use Rattle.tsn_model.specs.Certificate.{decided};
-ghost use Rattle.tsn_branch.specs.Path.{DecidesOnce, IsUndecided};
+ghost use Rattle.tsn_branch.specs.Path.{DecidesOnce, IsUndecided, IsLastSide};
 
 use std::alloc::{AllocError, Global};
 use std::marker::Model;
@@ -58,6 +61,36 @@ impl Node {
             Ok(()) => Ok(()),
             Err(_) => Err(NoMemory),
         }
+    }
+
+    // The side of the last decision.
+    pub(crate) fn last_side(&self) -> Option<Side>
+        ensures { MatchOption result (self.now ≡ []) (IsLastSide self.now) }
+    {
+        match self.path.last() {
+            Some(last) => Some(last.side),
+            None => None,
+        }
+    }
+
+    // Turns the last decision to its right side.
+    pub(crate) fn turn(&mut self)
+        requires { IsLastSide self.old Left }
+        ensures { (front : List Decision) (triple : Triple) → self.old ≡ decided front triple Left → self.new ≡ decided front triple Right }
+    {
+        let last = self.path.len() - 1;
+        let triple = self.path[last].triple;
+        self.path[last] = Decision {
+            triple,
+            side: Side::Right,
+        };
+    }
+
+    // Takes back the last decision.
+    pub(crate) fn pop(&mut self)
+        ensures { self.new ≡ take (length self.old - 1) self.old }
+    {
+        self.path.pop();
     }
 
     /// The same node once more. The error says that there was no memory.

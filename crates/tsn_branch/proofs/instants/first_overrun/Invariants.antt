@@ -7,5 +7,4 @@ abbrev pub invariant-loop-stream : goal.invariant-loop-stream
 invariant-loop-stream l = record {
   fit : (j : ℕ) → j < l.stream → FitsCycle l.timing l.offsets j;
   end : l.stream-end ≡ stream_count l.timing;
-  cycle : l.cycle ≡ l.timing.cycle;
 }

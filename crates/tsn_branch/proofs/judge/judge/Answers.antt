@@ -1,22 +1,35 @@
-use Rattle.std.proofs.Common.{List, ℕ, IfOk, sym, ◌∙◌, subst}
-use Rattle.tsn_model.specs.declared.Decision.{Decision}
+use Rattle.std.proofs.Common.{◌≡◌, ◌≤◌, ◌<◌, List, length, ℕ, All, refl, sym, ap, ◌∙◌, subst, arith}
+use Rattle.tsn_model.specs.declared.Triple.{Triple}
+use Rattle.tsn_model.specs.Schedule.{IsValid, IsFirstOverlap, flowspan}
 use Rattle.tsn_model.specs.Arcs.{arcs_of}
 use Rattle.tsn_model.specs.Certificate.{positive_cycle}
-use Rattle.tsn_diff.specs.declared.solve.Outcome.{Outcome}
+use Rattle.tsn_diff.specs.Forest.{chain_of}
 use Rattle.tsn_diff.specs.Answers.{Answers}
-use Rattle.tsn_branch.specs.declared.outcome.Look.{Look}
-use Rattle.tsn_branch.specs.Outcome.{outcome_of}
-use Rattle.tsn_branch.specs.Look.{IsLook, IsRefutation}
+use Rattle.tsn_conflict.specs.Raised.{OnlyRaisedOverlap}
 use Rattle.tsn_branch.specs.Unreleased.{unreleased}
-use Rattle.tsn_branch.proofs.Leasts.{IsRefutation-from}
+use Rattle.tsn_branch.specs.Ends.{AreEnds}
+use Rattle.tsn_branch.specs.Look.{IsLook, AreLeast, AllFit, IsFirstOverrun, IsFirstLast, IsShownBy, IsRefutation}
+use Rattle.tsn_branch.specs.Descent.{IsPlaced, outcome_found}
+use Rattle.tsn_branch.proofs.Findings.{placed, look_found}
+use Rattle.tsn_branch.proofs.Leasts.{count, AreLeast-from, IsShownBy-from, IsRefutation-from, small_offsets}
 use Rattle.tsn_branch.proofs.judge.judge.Goals as goal
 
-pub returns-in-Least : goal.returns-in-Least
-returns-in-Least c =
+pub look_of-requires : goal.look_of-requires
+look_of-requires c =
     let network = c.args.timing.now in
-    subst (λ (outcome : Outcome). IfOk c.judge_least.result (λ (look : Look). (path : List Decision) → Answers (unreleased network) (arcs_of network path) outcome
-    → IsLook network path c.args.target (outcome_of look)))
-    (sym c.in-Least.is) c.judge_least.ensures
+    let (path, answers) = c.requires.some_path in
+    let solves = subst (Answers (unreleased network) (arcs_of network path)) c.in-Least.is answers in
+    let found = placed network path c.args.target c.in_ok-finding-in-Least.finding (c.in_ok-finding-in-Least.ensures path solves) in
+    subst (λ (ts : List Triple). IsPlaced (length ts) c.in_ok-finding-in-Least.finding) (sym c.requires.conflicts.triples) found
+
+pub returns-in_ok-finding-in-Least : goal.returns-in_ok-finding-in-Least
+returns-in_ok-finding-in-Least c =
+    λ path answers.
+    let network = c.args.timing.now in
+    let solves = subst (Answers (unreleased network) (arcs_of network path)) c.in-Least.is answers in
+    let found = look_found network path c.args.target c.in_ok-finding-in-Least.finding (c.in_ok-finding-in-Least.ensures path solves) in
+    let same = c.look_of.ensures ∙ ap (λ (ts : List Triple). outcome_found ts c.in_ok-finding-in-Least.finding) c.requires.conflicts.triples in
+    subst (IsLook network path c.args.target) (sym same) found
 
 pub returns-in_ok-of-in-Positive : goal.returns-in_ok-of-in-Positive
 returns-in_ok-of-in-Positive c =

@@ -1,0 +1,188 @@
+-- Descents, a step down or up.
+use Rattle.std.proofs.Common.{◌≡◌, ℕ, ◌+◌, ◌-◌, ◌≤◌, ◌<◌, List, [], ◌∷◌, ◌++◌, length, get_or, take, Option, Some, MatchOption, refl, sym, ap, ◌∙◌, subst, arith, inl, inr}
+use Rattle.std.specs.Prelude.{slice_get}
+use Rattle.std.specs.List.{slice_index_or}
+use Rattle.std.proofs.lemmas.Bool.{cases_lt}
+use Rattle.std.proofs.lemmas.List.{get_or_past, get_or_append_left, get_or_default, length-append, length-map, nil_from_length}
+use Rattle.std.proofs.lemmas.Option.{get_or_from_slice_get, slice_get_within}
+use Rattle.tsn_model.specs.declared.Triple.{Triple}
+use Rattle.tsn_model.specs.declared.Side.{Side}
+use Rattle.tsn_model.specs.declared.Side.TheVariants.{Left, Right}
+use Rattle.tsn_model.specs.declared.Decision.{Decision}
+use Rattle.tsn_model.specs.declared.Arc.{Arc}
+use Rattle.tsn_model.specs.Network.{Network, stream_count}
+use Rattle.tsn_model.specs.Schedule.{offset_of}
+use Rattle.tsn_model.specs.Arcs.{arcs_of, arc_of, arc_on, Holds, HoldsAll}
+use Rattle.tsn_model.specs.Certificate.{decided}
+use Rattle.tsn_diff.specs.Answers.{Solves, Refutes}
+use Rattle.tsn_diff.specs.Stack.{Stack, RisesAt}
+use Rattle.tsn_branch.specs.Look.{AreLeast}
+use Rattle.tsn_branch.specs.Ends.{AreRaised}
+use Rattle.tsn_branch.specs.Unreleased.{unreleased}
+use Rattle.tsn_branch.specs.declared.seen.Seen.{Seen}
+use Rattle.tsn_branch.specs.Descent.{Way, IsSeen, WasSeen, AllSeen, Stands, Splits, Leads}
+use Rattle.tsn_branch.proofs.Leasts.{AreLeast-from}
+use Rattle.tsn_branch.proofs.Descents.{by_last, above, arcs-decided, arcs-nil, seen_none, seen_more, seen_above, seen_turned, seen_last, length-decided}
+
+pub stands_root : (network : Network) (stack : Stack) (found : Option Seen) → stack.releases ≡ unreleased network → stack.arcs ≡ [] → Stands network (record { path = []; stack = stack; seen = []; found = found })
+stands_root network stack found none is = record { none_released = none; arcs = is ∙ sym (arcs-nil network); split_above = seen_none network }
+
+pub stands_down : (network : Network) (triple : Triple) (way : Way) (here : Seen) (found : Option Seen) → Splits network triple way → way.found ≡ Some here
+    → Stands network (record { path = decided way.path triple Left; stack = way.stack; seen = way.seen ++ here ∷ []; found = found })
+stands_down network triple way here found splits is =
+    let same : splits.seen_here ≡ here = some_same (sym splits.found ∙ is) in
+    record {
+      none_released = splits.none_released;
+      arcs = splits.arcs ∙ ap (arcs_of network) (sym (above way.path triple Left));
+      split_above = seen_more network way.path way.seen here triple Left splits.split_above (subst (IsSeen network way.path) same splits.is_seen);
+    }
+  where
+    some_same : {a b : Seen} → Some a ≡ Some b → a ≡ b
+    some_same e = cc e
+
+-- the path's arcs but the last, where there is one
+pub stands_back : (network : Network) (path : List Decision) (old new : Stack) (seen : List Seen) (found : Option Seen) → old.releases ≡ unreleased network → old.arcs ≡ arcs_of network path → AllSeen network path seen
+    → (front : List Decision) (triple : Triple) (side : Side) → path ≡ decided front triple side
+    → new.releases ≡ old.releases → ((before : List Arc) (last : Arc) → old.arcs ≡ before ++ last ∷ [] → new.arcs ≡ before)
+    → Stands network (record { path = path; stack = new; seen = seen; found = found })
+stands_back network path old new seen found none is all front triple side whole same popped = record {
+  none_released = same ∙ none;
+  arcs = popped (arcs_of network front) (arc_on network triple side) (is ∙ ap (arcs_of network) whole ∙ arcs-decided network front triple side)
+      ∙ ap (arcs_of network) (sym (ap (λ p. take (length p - 1) p) whole ∙ above front triple side));
+  split_above = all;
+}
+
+-- the streams that the last decision's arc doesn't raise have the offsets of the node above
+front_held : (offsets : List ℕ) (arcs : List Arc) (arc : Arc) → HoldsAll offsets (arcs ++ arc ∷ []) → HoldsAll offsets arcs
+front_held offsets arcs arc held =
+    λ k d below.
+    let more = length-append arcs (arc ∷ []) in
+    subst (Holds offsets) (get_or_append_left arcs (arc ∷ []) d k below) (held k d (omega arith))
+
+-- the arc was put in last, and both labellings solve their arcs
+pub record Puts (arc : Arc) (old new : Stack) : Type 0 where
+  pub arcs : new.arcs ≡ old.arcs ++ arc ∷ []
+  pub rises : RisesAt new.raised old.labels.offsets new.labels.offsets
+  pub solved_before : Solves old.releases old.arcs old.labels
+  pub solved : Solves new.releases new.arcs new.labels
+
+pub was_seen : (network : Network) (front : List Decision) (triple : Triple) (side : Side) (old new : Stack) (last : Seen)
+    → old.releases ≡ unreleased network → new.releases ≡ old.releases → old.arcs ≡ arcs_of network front → Puts (arc_on network triple side) old new → IsSeen network front last
+    → WasSeen network new.raised new.labels.offsets last
+was_seen network front triple side old new last none same is puts seen =
+    let first : Solves (unreleased network) (arcs_of network front) old.labels = subst (λ rs. Solves rs (arcs_of network front) old.labels) none (subst (λ as'. Solves old.releases as' old.labels) is puts.solved_before) in
+    let arcs : new.arcs ≡ arcs_of network (decided front triple side) = puts.arcs ∙ ap (λ as'. as' ++ arc_on network triple side ∷ []) is ∙ sym (arcs-decided network front triple side) in
+    let second : Solves (unreleased network) (arcs_of network (decided front triple side)) new.labels =
+    subst (λ rs. Solves rs (arcs_of network (decided front triple side)) new.labels) (same ∙ none) (subst (λ as'. Solves new.releases as' new.labels) arcs puts.solved) in
+    let before = AreLeast-from network front old.labels first in
+    let now = AreLeast-from network (decided front triple side) new.labels second in
+    record {
+      within = seen.within;
+      before = old.labels.offsets;
+      rose = record {
+        count = before.count ∙ sym now.count;
+        risen = λ i. elim (cases_lt i (stream_count network)) [
+          | inl below ↦ before.least new.labels.offsets now.count
+              (front_held new.labels.offsets (arcs_of network front) (arc_on network triple side) (subst (HoldsAll new.labels.offsets) (arcs-decided network front triple side) now.held)) i below
+          | inr past ↦
+              let none_before = get_or_past old.labels.offsets i 0 (subst (λ n. n ≤ i) (sym before.count) past) in
+              omega arith
+        ];
+        others = λ i never. elim (puts.rises.others i) [ inl same_offset ↦ same_offset | inr has ↦ absurd (never has) ];
+      };
+      was_seen = seen.by_least old.labels.offsets before;
+    }
+
+pub length-arcs : (network : Network) (path : List Decision) → length (arcs_of network path) ≡ length path
+unfolding arcs_of
+length-arcs network path = length-map path (arc_of network)
+
+pub leads_down : (network : Network) (front : List Decision) (triple : Triple) (side : Side) (path : List Decision) (old new : Stack) (seen : List Seen) (found : Option Seen)
+    → path ≡ decided front triple side
+    → old.releases ≡ unreleased network → new.releases ≡ old.releases → old.arcs ≡ arcs_of network (take (length path - 1) path) → Puts (arc_on network triple side) old new → AllSeen network path seen
+    → Leads network (record { path = path; stack = new; seen = seen; found = found })
+leads_down network front triple side path old new seen found whole none same is puts all =
+    let is_front : old.arcs ≡ arcs_of network front = is ∙ ap (arcs_of network) (ap (λ p. take (length p - 1) p) whole ∙ above front triple side) in
+    record {
+      none_released = same ∙ none;
+      arcs = puts.arcs ∙ ap (λ as'. as' ++ arc_on network triple side ∷ []) is_front ∙ sym (ap (arcs_of network) whole ∙ arcs-decided network front triple side);
+      split_above = all;
+      raised = λ last at.
+          let here = seen_last network front triple side seen last (subst (λ p. AllSeen network p seen) whole all) (sym (get_or_from_slice_get seen (length seen - 1) last last at)) in
+          was_seen network front triple side old new last none same is_front puts here;
+    }
+
+-- where no decision is made, the arcs are none
+pub leads_root : (network : Network) (path : List Decision) (stack : Stack) (seen : List Seen) (found : Option Seen) → path ≡ [] → Stands network (record { path = path; stack = stack; seen = seen; found = found })
+    → Leads network (record { path = path; stack = stack; seen = seen; found = found })
+leads_root network path stack seen found is stands = record {
+  none_released = stands.none_released;
+  arcs = stands.arcs ∙ ap (arcs_of network) (ap (λ p. take (length p - 1) p) is ∙ sym is);
+  split_above = stands.split_above;
+  raised = λ last at.
+      let within = slice_get_within seen (length seen - 1) last at in
+      let none = ap length is in
+      let count = stands.split_above.count in
+      absurd (omega arith);
+}
+
+pub stands_root_again : (network : Network) (way : Way) → way.path ≡ [] → Leads network way → Stands network way
+stands_root_again network way is leads = record {
+  none_released = leads.none_released;
+  arcs = leads.arcs ∙ ap (arcs_of network) (is ∙ sym (ap (λ p. take (length p - 1) p) is));
+  split_above = leads.split_above;
+}
+
+-- a decision up: the arc above is taken out too, where there is one
+pub stands_up : (network : Network) (path : List Decision) (old new : Stack) (seen : List Seen) (before after : Option Seen)
+    → Stands network (record { path = path; stack = old; seen = seen; found = before }) → 0 < length old.arcs
+    → new.releases ≡ old.releases → ((before : List Arc) (last : Arc) → old.arcs ≡ before ++ last ∷ [] → new.arcs ≡ before)
+    → Stands network (record { path = take (length path - 1) path; stack = new; seen = take (length seen - 1) seen; found = after })
+stands_up network path old new seen before after stands some same popped =
+    let shorter : List Decision = take (length path - 1) path in
+    let none : Decision = record { triple = record { left = 0; right = 0; link = 0 }; side = Left } in
+    let last : Decision = get_or shorter (length shorter - 1) none in
+    let long = ap length stands.arcs ∙ length-arcs network shorter in
+    let at : last ≡ get_or shorter (length shorter - 1) last = sym (get_or_default shorter (length shorter - 1) last none (omega arith)) in
+    let whole = by_last shorter last (omega arith) at in
+    record {
+      none_released = same ∙ stands.none_released;
+      arcs = popped (arcs_of network (take (length shorter - 1) shorter)) (arc_on network last.triple last.side)
+          (stands.arcs ∙ ap (arcs_of network) whole ∙ arcs-decided network (take (length shorter - 1) shorter) last.triple last.side);
+      split_above = seen_above network path seen stands.split_above;
+    }
+
+pub stands_up_empty : (network : Network) (path : List Decision) (old : Stack) (seen : List Seen) (before after : Option Seen)
+    → Stands network (record { path = path; stack = old; seen = seen; found = before }) → length old.arcs ≡ 0
+    → Stands network (record { path = take (length path - 1) path; stack = old; seen = take (length seen - 1) seen; found = after })
+stands_up_empty network path old seen before after stands none =
+    let shorter : List Decision = take (length path - 1) path in
+    let long = ap length stands.arcs ∙ length-arcs network shorter in
+    let empty : shorter ≡ [] = nil_from_length shorter (omega arith) in
+    record {
+      none_released = stands.none_released;
+      arcs = stands.arcs ∙ ap (arcs_of network) (empty ∙ sym (ap (λ p. take (length p - 1) p) empty));
+      split_above = seen_above network path seen stands.split_above;
+    }
+
+pub stands_turned : (network : Network) (front : List Decision) (triple : Triple) (path turned : List Decision) (stack : Stack) (seen : List Seen) (before after : Option Seen)
+    → path ≡ decided front triple Left → turned ≡ decided front triple Right
+    → Stands network (record { path = path; stack = stack; seen = seen; found = before })
+    → Stands network (record { path = turned; stack = stack; seen = seen; found = after })
+stands_turned network front triple path turned stack seen before after was now stands = record {
+  none_released = stands.none_released;
+  arcs = stands.arcs ∙ ap (arcs_of network) (ap (λ p. take (length p - 1) p) was ∙ above front triple Left ∙ sym (ap (λ p. take (length p - 1) p) now ∙ above front triple Right));
+  split_above = subst (λ p. AllSeen network p seen) (sym now) (seen_turned network front triple Left Right seen (subst (λ p. AllSeen network p seen) was stands.split_above));
+}
+
+pub refutes_down : (network : Network) (front : List Decision) (triple : Triple) (side : Side) (path : List Decision) (old : Stack) (chain : List ℕ)
+    → path ≡ decided front triple side → old.releases ≡ unreleased network → old.arcs ≡ arcs_of network (take (length path - 1) path)
+    → Refutes (length old.releases) (old.arcs ++ arc_on network triple side ∷ []) chain → Refutes (length (unreleased network)) (arcs_of network path) chain
+refutes_down network front triple side path old chain whole none is refutes =
+    let is_front : old.arcs ≡ arcs_of network front = is ∙ ap (arcs_of network) (ap (λ p. take (length p - 1) p) whole ∙ above front triple side) in
+    let all : old.arcs ++ arc_on network triple side ∷ [] ≡ arcs_of network path =
+    ap (λ as'. as' ++ arc_on network triple side ∷ []) is_front ∙ sym (ap (arcs_of network) whole ∙ arcs-decided network front triple side) in
+    subst (λ n. Refutes n (arcs_of network path) chain) (ap length none) (subst (λ as'. Refutes (length old.releases) as' chain) all refutes)
+
+pub of_some : {X : Type 0} (A : Type 0) (B : X → Type 0) (o : Option X) (x : X) → o ≡ Some x → MatchOption o A B → B x
+of_some A B o x is holds = subst (λ p. MatchOption p A B) is holds

@@ -1,0 +1,58 @@
+use Rattle.std.proofs.Common.{◌≡◌, ◌≤◌, ◌<◌, ◌-◌, ℕ, List, [], ◌∷◌, ◌++◌, length, take, refl, sym, ap, ◌∙◌, subst, arith}
+use Rattle.std.proofs.lemmas.Option.{slice_get_within, get_or_from_slice_get}
+use Rattle.tsn_model.specs.declared.Arc.{Arc}
+use Rattle.tsn_model.specs.declared.Decision.{Decision}
+use Rattle.tsn_model.specs.Network.{Network}
+use Rattle.tsn_model.specs.Arcs.{arc_on, arcs_of}
+use Rattle.tsn_model.specs.Certificate.{decided}
+use Rattle.tsn_diff.specs.Answers.{Refutes}
+use Rattle.tsn_diff.specs.Stack.{Stack, RisesAt}
+use Rattle.std.specs.Prelude.{IfNone, IfSome, OnSome}
+use Rattle.tsn_branch.specs.Unreleased.{unreleased}
+use Rattle.tsn_branch.specs.Descent.{Way, Stands}
+use Rattle.tsn_branch.proofs.Descents.{by_last}
+use Rattle.tsn_branch.proofs.Ways.{Puts, leads_down, leads_root, refutes_down}
+use Rattle.tsn_branch.proofs.descent.Descent.lead.Goals as goal
+
+pub returns-in-Some-2-clause-led : goal.returns-in-Some-2-clause-led
+returns-in-Some-2-clause-led c =
+    let network = c.args.timing.now in
+    let path = c.path.result.now in
+    let last = c.in-Some.decision.now in
+    let there = sym c.in-Some.ensures.value in
+    let within = slice_get_within path (length path - 1) last there in
+    let at = sym (get_or_from_slice_get path (length path - 1) last last there) in
+    let whole = by_last path last (omega arith) at in
+    let front : List Decision = take (length path - 1) path in
+    let here : Stands network (record { path = c.self.inside.node; stack = c.self.inside.stack; seen = c.self.inside.seen.items; found = c.self.inside.found }) = subst (Stands network) (sym c.self.view_is) c.requires.stands in
+    let node : c.self.inside.node ≡ decided front last.triple last.side = sym c.path.ensures.value ∙ whole in
+    let arc = c.arc-arc.ensures.value network c.requires.conflicts in
+    let refutes = subst (λ (a : Arc). Refutes (length c.self.inside.stack.releases) (c.self.inside.stack.arcs ++ a ∷ []) c.in-Some-2.chain.items) arc
+    (subst (λ o. IfSome o (λ chain. Refutes (length c.self.inside.stack.releases) (c.self.inside.stack.arcs ++ c.arc-arc.result ∷ []) chain.items)) c.in-Some-2.is c.in_ok-chain.ensures.closed) in
+    let left : c.push.new.self ≡ c.self.inside.stack = subst (λ o. OnSome o (c.push.new.self ≡ c.self.inside.stack)) c.in-Some-2.is c.in_ok-chain.ensures.refused in
+    let there_is = ap (λ (way : Way). way.path) c.self.view_is in (
+      record { none_released = c.push.ensures.releases ∙ here.none_released; arcs = ap (λ (stack : Stack). stack.arcs) left ∙ here.arcs; split_above = here.split_above },
+      subst (λ p. Refutes (length (unreleased network)) (arcs_of network p) c.in-Some-2.chain.items) there_is
+          (refutes_down network front last.triple last.side c.self.inside.node c.self.inside.stack c.in-Some-2.chain.items node here.none_released here.arcs refutes),
+    )
+
+pub returns-clause-led : goal.returns-clause-led
+returns-clause-led c =
+    let network = c.args.timing.now in
+    let path = c.path.result.now in
+    let last = c.in-Some.decision.now in
+    let there = sym c.in-Some.ensures.value in
+    let within = slice_get_within path (length path - 1) last there in
+    let at = sym (get_or_from_slice_get path (length path - 1) last last there) in
+    let whole = by_last path last (omega arith) at in
+    let front : List Decision = take (length path - 1) path in
+    let here : Stands network (record { path = c.self.inside.node; stack = c.self.inside.stack; seen = c.self.inside.seen.items; found = c.self.inside.found }) = subst (Stands network) (sym c.self.view_is) c.requires.stands in
+    let node : c.self.inside.node ≡ decided front last.triple last.side = sym c.path.ensures.value ∙ whole in
+    let arc = c.arc-arc.ensures.value network c.requires.conflicts in
+    let puts = subst (λ (a : Arc). Puts a c.self.inside.stack c.push.new.self) arc (record {
+      arcs = subst (λ o. IfNone o (c.push.new.self.arcs ≡ c.self.inside.stack.arcs ++ c.arc-arc.result ∷ [])) c.in_default-2.is c.in_ok-chain.ensures.arcs;
+      rises = subst (λ o. IfNone o (RisesAt c.push.new.self.raised c.self.inside.stack.labels.offsets c.push.new.self.labels.offsets)) c.in_default-2.is c.in_ok-chain.ensures.raised;
+      solved_before = c.push.ensures.solved_before;
+      solved = c.push.ensures.solved;
+    }) in
+    leads_down network front last.triple last.side c.self.inside.node c.self.inside.stack c.push.new.self c.self.inside.seen.items c.self.inside.found node here.none_released c.push.ensures.releases here.arcs puts here.split_above

@@ -1,0 +1,94 @@
+use Rattle.std.proofs.Common.{◌≡◌, ◌≤◌, ◌<◌, List, length, ℕ, All, refl, sym, ap, ◌∙◌, subst, arith}
+use Rattle.tsn_model.specs.declared.Triple.{Triple}
+use Rattle.tsn_model.specs.Schedule.{IsValid, IsFirstOverlap, flowspan}
+use Rattle.tsn_model.specs.Arcs.{arcs_of, conflicts_of}
+use Rattle.tsn_model.specs.Certificate.{positive_cycle}
+use Rattle.tsn_diff.specs.Forest.{chain_of}
+use Rattle.tsn_diff.specs.Answers.{Answers}
+use Rattle.tsn_conflict.specs.Raised.{OnlyRaisedOverlap, triple_at}
+use Rattle.tsn_branch.specs.Unreleased.{unreleased}
+use Rattle.tsn_branch.specs.Ends.{AreEnds}
+use Rattle.tsn_branch.specs.Look.{AreLeast, AllFit, IsFirstOverrun, IsFirstLast, IsShownBy, IsRefutation}
+use Rattle.tsn_branch.proofs.Leasts.{count, AreLeast-from, IsShownBy-from, IsRefutation-from, small_offsets, least_same}
+use Rattle.tsn_branch.specs.Outcome.{outcome_of}
+use Rattle.tsn_branch.specs.Descent.{IsSeenBy}
+use Rattle.tsn_branch.proofs.Findings.{solution_found}
+use Rattle.tsn_branch.proofs.judge.judge_ends.Goals as goal
+
+pub returns-in-Overrun : goal.returns-in-Overrun
+returns-in-Overrun c =
+    λ path solves.
+    let network = c.args.timing.now in
+    let labels = c.args.least.now in
+    let first : IsFirstOverrun network labels.offsets c.in-Overrun.stream = subst (AreEnds network labels.offsets) c.in-Overrun.is c.requires.ends in (
+      tt,
+      (
+        labels.offsets,
+        AreLeast-from network path labels solves,
+        first,
+        subst (λ (chain : List ℕ). IsShownBy network path labels.offsets c.in-Overrun.stream chain) (sym c.in_ok-chain_to-in-Overrun.ensures)
+            (IsShownBy-from network path labels solves c.in-Overrun.stream first.counted),
+      ),
+    )
+
+pub returns-then-end-target : goal.returns-then-end-target
+returns-then-end-target c =
+    λ path solves.
+    let network = c.args.timing.now in
+    let labels = c.args.least.now in
+    let (fit, last, end) = subst (AreEnds network labels.offsets) c.in-Within.is c.requires.ends in (
+      tt,
+      (
+        labels.offsets,
+        AreLeast-from network path labels solves,
+        fit,
+        end,
+        c.if-end-target.true,
+        (
+          last,
+          subst (λ (chain : List ℕ). IsShownBy network path labels.offsets c.in-Within.last chain) (sym c.in_ok-chain_to.ensures) (IsShownBy-from network path labels solves c.in-Within.last last.counted),
+        ),
+      ),
+    )
+
+pub first_violated_from-requires-clause-small : goal.first_violated_from-requires-clause-small
+first_violated_from-requires-clause-small c =
+    let network = c.args.timing.now in
+    let path = c.requires.some_path in
+    let (fit, last, end) = subst (AreEnds network c.args.least.now.offsets) c.in-Within.is c.requires.ends in
+    subst (All (λ offset. offset ≤ 1000000000)) (sym c.offsets.ensures)
+    (small_offsets network c.args.least.now.offsets c.requires.conflicts.formed (count network path.0 c.args.least.now path.1) fit)
+
+pub first_violated_from-requires-clause-apart_before : goal.first_violated_from-requires-clause-apart_before
+first_violated_from-requires-clause-apart_before c = subst (λ (offsets : List ℕ). OnlyRaisedOverlap c.args.conflicts.now offsets c.args.raised.now c.args.start) (sym c.offsets.ensures) c.requires.apart
+
+pub returns-in-Some : goal.returns-in-Some
+returns-in-Some c =
+    λ path solves.
+    let network = c.args.timing.now in
+    let labels = c.args.least.now in
+    let conflicts = c.requires.conflicts in
+    let ends = subst (AreEnds network labels.offsets) c.in-Within.is c.requires.ends in
+    let (fit, last, end) = ends in
+    let found = c.in-Some.ensures network conflicts in
+    let place = c.in-Some.place in
+    let overlap : IsFirstOverlap network labels.offsets (triple_at (conflicts_of network) place) =
+    subst (λ (ts : List Triple). IsFirstOverlap network labels.offsets (triple_at ts place)) conflicts.triples
+    (subst (λ (offsets : List ℕ). IsFirstOverlap network offsets (triple_at c.args.conflicts.now.triples place)) c.offsets.ensures found.1) in
+    let least = AreLeast-from network path labels solves in (
+      record {
+        within = subst (λ (ts : List Triple). place < length ts) conflicts.triples found.0;
+        by_least = λ offsets other.
+            subst (λ list. IsSeenBy network list (record { place = place; last = c.in-Within.last; end = c.in-Within.end })) (least_same network path labels.offsets offsets least other)
+            (record { ended = record { fit = fit; last_first = last; end_is = end }; overlap = overlap });
+      },
+      (labels.offsets, least, fit, omega (arith, end, c.if-end-target.false), overlap),
+    )
+
+pub returns : goal.returns
+returns c =
+    λ path solves.
+    let network = c.args.timing.now in
+    let labels = c.args.least.now in
+    let (fit, last, end) = subst (AreEnds network labels.offsets) c.in-Within.is c.requires.ends in
+    solution_found network path c.in-Within.end c.args.target (outcome_of c.in_ok-look.look) (omega (arith, c.if-end-target.false)) (c.in_ok-look.ensures path solves)

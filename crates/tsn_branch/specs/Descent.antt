@@ -1,0 +1,108 @@
+-- A way down to a node that is looked at with what is known of its parents.
+--     IsSeenBy, IsSeen      what a split node has by its least offsets
+--     IsFinding            what is found at a node
+--     Stands, Splits       a descent to a node that is to be looked at, or that is to be split
+use Rattle.std.specs.Prelude.{◌≡◌, ℕ, ◌-◌, ◌<◌, List, [], ◌∷◌, length, take, slice_get, slice_index_or, Option, Some}
+use Rattle.tsn_model.specs.declared.Triple.{Triple}
+use Rattle.tsn_model.specs.declared.Decision.{Decision}
+use Rattle.tsn_model.specs.declared.Arc.{Arc}
+use Rattle.tsn_model.specs.Network.{Network}
+use Rattle.tsn_model.specs.Schedule.{IsFirstOverlap, IsValid, flowspan}
+use Rattle.tsn_model.specs.Arcs.{conflicts_of, arcs_of}
+use Rattle.tsn_model.specs.Search.{Outcome, split, solved, pruned, refuted}
+use Rattle.tsn_conflict.specs.Raised.{triple_at}
+use Rattle.tsn_diff.specs.Stack.{Stack}
+use Rattle.tsn_branch.specs.Outcome.{outcome_of}
+use Rattle.tsn_branch.specs.Look.{AreLeast, IsLook, ShowsFlowspan}
+use Rattle.tsn_branch.specs.Ends.{Ended, AreRaised}
+use Rattle.tsn_branch.specs.Unreleased.{unreleased}
+use Rattle.tsn_branch.specs.declared.seen.Seen.{Seen}
+use Rattle.tsn_branch.specs.declared.seen.Finding.{Finding}
+use Rattle.tsn_branch.specs.declared.seen.Finding.TheVariants.{Split, Closed}
+
+-- the way down: the path, the arcs put in, and what the nodes that were split had
+pub record Way : Type 0 where
+  pub path : List Decision
+  pub stack : Stack
+  pub seen : List Seen
+  pub found : Option Seen
+
+-- by these offsets all streams are done within the cycle, the last at that instant, and the triple at that place is the first overlap
+pub record IsSeenBy (network : Network) (offsets : List ℕ) (seen : Seen) : Type 0 where
+  pub ended : Ended network offsets seen.last seen.end
+  pub overlap : IsFirstOverlap network offsets (triple_at (conflicts_of network) seen.place)
+
+-- the same by the least offsets of the path
+pub record IsSeen (network : Network) (path : List Decision) (seen : Seen) : Type 0 where
+  pub within : seen.place < length (conflicts_of network)
+  pub by_least : (offsets : List ℕ) → AreLeast network path offsets → IsSeenBy network offsets seen
+
+-- the same by some list from which these offsets were raised
+pub record WasSeen (network : Network) (raised offsets : List ℕ) (seen : Seen) : Type 0 where
+  pub within : seen.place < length (conflicts_of network)
+  pub before : List ℕ
+  pub rose : AreRaised raised before offsets
+  pub was_seen : IsSeenBy network before seen
+
+-- the outcome ends its path
+abbrev pub Closes : Outcome → Type 0
+Closes (split triple) = ⊥
+Closes (solved offsets bound leaf) = Unit {0}
+Closes (pruned bound leaf) = Unit {0}
+Closes (refuted leaf) = Unit {0}
+
+-- the finding is the look's, with what a split node had
+abbrev pub IsFinding : Network → List Decision → ℕ → Finding → Type 0
+IsFinding network path target (Split seen) = IsSeen network path seen × IsLook network path target (split (triple_at (conflicts_of network) seen.place))
+IsFinding network path target (Closed look) = Closes (outcome_of look) × IsLook network path target (outcome_of look)
+
+-- the triple of a finding is one of the first n
+abbrev pub IsPlaced : ℕ → Finding → Type 0
+IsPlaced n (Split seen) = seen.place < n
+IsPlaced n (Closed look) = Unit {0}
+
+-- the outcome that a finding is
+abbrev pub outcome_found : List Triple → Finding → Outcome
+outcome_found triples (Split seen) = split (triple_at triples seen.place)
+outcome_found triples (Closed look) = outcome_of look
+
+-- the least offsets of the path are a valid schedule of this flowspan
+abbrev pub IsSolution : Network → List Decision → ℕ → Outcome → Type 0
+IsSolution network path end (split triple) = ⊥
+IsSolution network path end (solved offsets bound leaf) = AreLeast network path offsets × IsValid network offsets × (bound ≡ end) × (bound ≡ flowspan network offsets) × ShowsFlowspan network path offsets leaf
+IsSolution network path end (pruned bound leaf) = ⊥
+IsSolution network path end (refuted leaf) = ⊥
+
+-- the nodes above the end of the path were split so
+pub record AllSeen (network : Network) (path : List Decision) (seen : List Seen) : Type 0 where
+  pub count : length seen ≡ length path
+  pub each : (k : ℕ) (d : Seen) → k < length seen → IsSeen network (take k path) (slice_index_or seen k d)
+
+-- the arcs are those of the decisions above the last one
+pub record Stands (network : Network) (way : Way) : Type 0 where
+  pub none_released : way.stack.releases ≡ unreleased network
+  pub arcs : way.stack.arcs ≡ arcs_of network (take (length way.path - 1) way.path)
+  pub split_above : AllSeen network way.path way.seen
+
+-- the arcs are those of the path, whose end is to be split on the triple
+pub record Splits (network : Network) (triple : Triple) (way : Way) : Type 0 where
+  pub none_released : way.stack.releases ≡ unreleased network
+  pub arcs : way.stack.arcs ≡ arcs_of network way.path
+  pub split_above : AllSeen network way.path way.seen
+  pub seen_here : Seen
+  pub found : way.found ≡ Some seen_here
+  pub is_seen : IsSeen network way.path seen_here
+
+-- the arcs are those of the path, and its least offsets are raised from those of the node above
+pub record Leads (network : Network) (way : Way) : Type 0 where
+  pub none_released : way.stack.releases ≡ unreleased network
+  pub arcs : way.stack.arcs ≡ arcs_of network way.path
+  pub split_above : AllSeen network way.path way.seen
+  pub raised : (seen : Seen) → slice_get way.seen (length way.seen - 1) ≡ Some seen → WasSeen network way.stack.raised way.stack.labels.offsets seen
+
+-- after a look: to be split, or as before
+abbrev pub IsAfter : Network → Outcome → Way → Type 0
+IsAfter network (split triple) way = Splits network triple way
+IsAfter network (solved offsets bound leaf) way = Stands network way
+IsAfter network (pruned bound leaf) way = Stands network way
+IsAfter network (refuted leaf) way = Stands network way

@@ -1,0 +1,220 @@
+//! A way down to a node of the search, for looks that go on from what is known of the nodes above.
+ghost use Rattle.std.specs.Prelude.{◌≡◌, ◌-◌, [], ◌∷◌, take, IfOk, OnOk, OnErr, length, MatchBool, MatchOption};
+ghost use Rattle.tsn_model.specs.declared.Side.TheVariants.{Left};
+ghost use Rattle.tsn_model.specs.Network.{Network};
+ghost use Rattle.tsn_model.specs.Places.{pending};
+ghost use Rattle.tsn_model.specs.Arcs.{arcs_of};
+ghost use Rattle.tsn_model.specs.Certificate.{decided};
+ghost use Rattle.tsn_diff.specs.Answers.{Refutes};
+ghost use Rattle.tsn_conflict.specs.Kept.{AreConflictsOf};
+ghost use Rattle.tsn_branch.specs.Outcome.{outcome_of};
+ghost use Rattle.tsn_branch.specs.Path.{Fits, IsUndecided};
+ghost use Rattle.tsn_branch.specs.Look.{IsLook, HasProof, SplitsUndecided, PrunesFrom};
+ghost use Rattle.tsn_branch.specs.Unreleased.{unreleased};
+ghost use Rattle.tsn_branch.specs.Descent.{Stands, Splits, IsAfter, Leads, IsFinding};
+
+use crate::judge::{judge_least, judge_raised};
+use crate::node::Node;
+use crate::outcome::{Leaf, Look};
+use crate::seen::{Finding, Seen};
+use std::alloc::Global;
+use std::marker::Model;
+use tsn_cert::Chain;
+use tsn_conflict::sharing::Conflicts;
+use tsn_diff::{ArcStack, Net};
+use tsn_model::{NoMemory, Side, Triple};
+use tsn_timing::Timing;
+
+/// A node with what is known of the nodes above it: the arcs of their decisions with the least offsets, when the streams are
+/// done by these, and where each was split.
+#[derive(Drop)]
+pub struct Descent {
+    node: Node,
+    stack: ArcStack,
+    seen: Vec<Seen>,
+    found: Option<Seen>,
+}
+
+impl Model for Descent {
+    ghost use Rattle.tsn_branch.specs.Descent.{Way};
+
+    ghost Value = { Way };
+
+    ghost view = { λ d. record { path = d.node; stack = d.stack; seen = d.seen.items; found = d.found } };
+}
+
+impl Descent {
+    /// At the root. The error says that there was no memory.
+    pub fn root(alloc: Global, timing: &Timing) -> Result<Descent, NoMemory>
+        ensures path { IfOk result (λ way. way.path ≡ []) }
+        ensures stands { IfOk result (Stands timing.now) }
+    {
+        let stack = ArcStack::new(alloc, Net::new(timing.streams()))?;
+        Ok(Descent {
+            node: Node::root(alloc),
+            stack,
+            seen: Vec::new(alloc),
+            found: None,
+        })
+    }
+
+    /// The node.
+    pub fn node(&self) -> &Node
+        ensures { result.now ≡ self.now.path }
+    {
+        &self.node
+    }
+
+    /// Looks at the node: what `look` says of it.
+    pub fn look(
+        &mut self,
+        alloc: Global,
+        timing: &Timing,
+        conflicts: &Conflicts,
+        target: u64,
+    ) -> Result<Look, NoMemory>
+        requires conflicts { AreConflictsOf timing.now conflicts.now }
+        requires fits { Fits conflicts.now.triples self.old.path }
+        requires stands { Stands timing.now self.old }
+        ensures path { self.new.path ≡ self.old.path }
+        ensures first_case { IfOk result (λ look. IsLook timing.now self.old.path target (outcome_of look)) }
+        ensures proof { IfOk result (λ look. HasProof timing.now self.old.path (outcome_of look)) }
+        ensures undecided { IfOk result (λ look. SplitsUndecided timing.now self.old.path (outcome_of look)) }
+        ensures met { IfOk result (λ look. PrunesFrom target (outcome_of look)) }
+        ensures after { IfOk result (λ look. IsAfter timing.now (outcome_of look) self.new) }
+        ensures err { OnErr result (Stands timing.now self.new) }
+    {
+        if let Some(cycle) = self.lead(timing, conflicts)? {
+            return Ok(Look::Refuted(Leaf::Cycle(Chain::of(alloc, &cycle)?)));
+        }
+        match self.find(alloc, timing, conflicts, target) {
+            Ok(Finding::Split(seen)) => {
+                self.found = Some(seen);
+                Ok(Look::Split(conflicts.triples()[seen.place]))
+            }
+            Ok(Finding::Closed(look)) => {
+                self.draw_back();
+                Ok(look)
+            }
+            Err(error) => {
+                self.draw_back();
+                Err(error)
+            }
+        }
+    }
+
+    /// Goes down to the left child of a node that is to be split on the triple. The error says that there was no memory; the
+    /// descent is then as it was.
+    pub fn down(&mut self, triple: Triple) -> Result<(), NoMemory>
+        requires splits { (network : Network) × Splits network triple self.old }
+        requires undecided { IsUndecided self.old.path triple }
+        ensures path { OnOk result (self.new.path ≡ decided self.old.path triple Left) }
+        ensures stands { OnOk result ((network : Network) → Splits network triple self.old → Stands network self.new) }
+        ensures err { OnErr result (self.new ≡ self.old) }
+    {
+        let Some(seen) = self.found else {
+            unreachable!();
+        };
+        if self.seen.reserve(1).is_err() {
+            return Err(NoMemory);
+        }
+        self.node.push(triple, Side::Left)?;
+        self.seen.push_reserved(seen);
+        Ok(())
+    }
+
+    /// Goes on to the right side of the last left turn of the path. False where it has none.
+    pub fn next(&mut self) -> bool
+        ensures stands { (network : Network) → Stands network self.old → Stands network self.new }
+        ensures next { MatchBool result
+            (pending self.old.path ≡ self.new.path ∷ pending self.new.path)
+            (pending self.old.path ≡ []) }
+    {
+        while let Some(side) = self.node.last_side() {
+            match side {
+                Side::Left => {
+                    self.node.turn();
+                    return true;
+                }
+                Side::Right => self.up(),
+            }
+        }
+        false
+    }
+
+    // Goes up to the node above.
+    fn up(&mut self)
+        ensures path { self.new.path ≡ take (length self.old.path - 1) self.old.path }
+        ensures stands { (network : Network) → Stands network self.old → Stands network self.new }
+    {
+        self.node.pop();
+        self.seen.pop();
+        let arcs = self.stack.arcs().len();
+        if arcs > 0 {
+            self.stack.pop();
+        }
+    }
+
+    // Puts in the arc of the last decision, where there is one. An answer is a closed chain of positive sum; then, and on an
+    // error, the arc isn't in.
+    fn lead(
+        &mut self,
+        timing: &Timing,
+        conflicts: &Conflicts,
+    ) -> Result<Option<Vec<usize>>, NoMemory>
+        requires conflicts { AreConflictsOf timing.now conflicts.now }
+        requires fits { Fits conflicts.now.triples self.old.path }
+        requires stands { Stands timing.now self.old }
+        ensures path { self.new.path ≡ self.old.path }
+        ensures led { IfOk result (λ found. MatchOption found (Leads timing.now self.new)
+            (λ chain. Stands timing.now self.new × Refutes (length (unreleased timing.now)) (arcs_of timing.now self.old.path) chain.items)) }
+        ensures err { OnErr result (Stands timing.now self.new) }
+    {
+        let Some(decision) = self.node.path().last() else {
+            return Ok(None);
+        };
+        let arc = conflicts.arc(decision.triple, decision.side);
+        if let Some(chain) = self.stack.push(arc)? {
+            return Ok(Some(chain));
+        }
+        Ok(None)
+    }
+
+    // Takes out the arc of the last decision, where there is one.
+    fn draw_back(&mut self)
+        requires { (network : Network) × Leads network self.old }
+        ensures path { self.new.path ≡ self.old.path }
+        ensures stands { (network : Network) → Leads network self.old → Stands network self.new }
+    {
+        let depth = self.node.path().len();
+        if depth > 0 {
+            self.stack.pop();
+        }
+    }
+
+    // What is found at the node by its least offsets.
+    fn find(
+        &self,
+        alloc: Global,
+        timing: &Timing,
+        conflicts: &Conflicts,
+        target: u64,
+    ) -> Result<Finding, NoMemory>
+        requires conflicts { AreConflictsOf timing.now conflicts.now }
+        requires leads { Leads timing.now self.now }
+        ensures { IfOk result (IsFinding timing.now self.now.path target) }
+    {
+        match self.seen.last() {
+            Some(parent) => judge_raised(
+                alloc,
+                timing,
+                conflicts,
+                self.stack.least(),
+                self.stack.raised(),
+                *parent,
+                target,
+            ),
+            None => judge_least(alloc, timing, conflicts, self.stack.least(), target),
+        }
+    }
+}

@@ -1,0 +1,21 @@
+//! What is found at a node.
+
+use crate::outcome::Look;
+
+/// What a node that is to be split has, by the least offsets of its path.
+#[derive(Clone, Copy, Debug)]
+pub struct Seen {
+    /// The place of the first violated triple among the conflicts.
+    pub place: usize,
+    /// The first stream that arrives last.
+    pub last: usize,
+    /// When it does, in nanoseconds.
+    pub end: u64,
+}
+
+/// What is found at a node: where to split it, or what closes it.
+#[derive(Drop)]
+pub enum Finding {
+    Split(Seen),
+    Closed(Look),
+}
