@@ -82,6 +82,7 @@ stopped network limit book lawful search (inr full) some =
     let same = search.same_network in
     record {
       same_network = same;
+      lawful = lawful;
       settled = full;
       some_open = some;
       kept = kept_is (kept_of network book.history) (kept_valid network book.history (subst (λ n. IsLegal n book.history) same lawful.legal));

@@ -1,13 +1,21 @@
--- An open node of a search for a network fits its conflicts.
-use Rattle.std.proofs.Common.{List, Contains, slice_index_or, subst, sym}
+-- An open node of a search for a network fits its conflicts; and where a search goes on from a node that it settled.
+use Rattle.std.proofs.Common.{◌≡◌, ℕ, ◌+◌, List, [], ◌∷◌, ◌++◌, length, Contains, slice_index_or, refl, sym, ap, ◌∙◌, subst, arith}
+use Rattle.std.proofs.lemmas.List.{length-append}
+use Rattle.tsn_model.specs.declared.Triple.{Triple}
+use Rattle.tsn_model.specs.declared.Side.TheVariants.{Left}
 use Rattle.tsn_model.specs.declared.Decision.{Decision}
 use Rattle.tsn_model.specs.Network.{Network}
-use Rattle.tsn_model.specs.Search.{Settlement, open_paths, IsLegal}
+use Rattle.tsn_model.specs.Certificate.{decided}
+use Rattle.tsn_model.specs.Search.{Outcome, split, solved, pruned, refuted, Settlement, children_of, made_paths, open_paths, IsLegal}
 use Rattle.tsn_model.proofs.Conflicts.{conflict_listed}
 use Rattle.tsn_conflict.specs.Kept.{Kept, AreConflictsOf}
-use Rattle.tsn_search_laws.proofs.Histories.{open_is_made}
+use Rattle.tsn_search_laws.specs.Walk.{IsWalk}
+use Rattle.tsn_search_laws.proofs.Histories.{open_is_made, made_paths-snoc}
 use Rattle.tsn_search_laws.proofs.Counting.{made_decides}
+use Rattle.tsn_search_laws.proofs.Walking.{walk_split, walk_leaf, walk_end, walk_waits}
 use Rattle.tsn_branch.specs.Path.{Fits}
+use Rattle.tsn_branch.specs.Descent.{Closes}
+use Rattle.tsn_worker.specs.Search.{HasChildren, IsAfterLeaf}
 
 -- an open node's path decides conflicts alone
 pub open_fits : (network : Network) (kept : Kept) → AreConflictsOf network kept → (history : List Settlement) → IsLegal network history → (path : List Decision) → Contains (open_paths history) path
@@ -15,3 +23,41 @@ pub open_fits : (network : Network) (kept : Kept) → AreConflictsOf network kep
 open_fits network kept of_network history legal path is_open = λ k d below.
     let decides = made_decides network history legal path (open_is_made history path is_open) in
     subst (λ triples. Contains triples (slice_index_or path k d).triple) (sym of_network.triples) (conflict_listed network of_network.formed (slice_index_or path k d).triple (decides.conflicts k d below))
+
+-- ---- where a search goes on
+
+module _ (network : Network) (history now : List Settlement) (settlement : Settlement) (path : List Decision) (place : ℕ) (waiting : List ℕ) where
+  -- after a split its left child is next, and its right child waits
+  pub has_children : (triple : Triple) → now ≡ history ++ settlement ∷ [] → IsLegal network now → IsWalk history path place waiting → settlement.event.path ≡ path → settlement.event.outcome ≡ split triple
+      → HasChildren now (decided path triple Left) waiting
+  unfolding children_of
+  has_children triple is legal walk its_path its_outcome =
+      let made : ℕ = length (made_paths history) in
+      let two : length (children_of settlement.event.path settlement.event.outcome) ≡ 2 = ap (λ outcome. length (children_of settlement.event.path outcome)) its_outcome in
+      let more = ap length (made_paths-snoc history settlement) ∙ length-append (made_paths history) (children_of settlement.event.path settlement.event.outcome) in
+      record {
+        left = made;
+        last = ap (λ h. length (made_paths h)) is ∙ omega arith;
+        walk = subst (λ h. IsWalk h (decided path triple Left) made ((made + 1) ∷ waiting)) (sym is)
+            (walk_split network history settlement path place waiting triple made (subst (IsLegal network) is legal) walk its_path its_outcome refl);
+      }
+
+  no_children : (outcome : Outcome) → Closes outcome → children_of settlement.event.path outcome ≡ []
+  unfolding children_of
+  no_children (split triple) never = absurd never
+  no_children (solved offsets bound leaf) closes = refl
+  no_children (pruned bound leaf) closes = refl
+  no_children (refuted leaf) closes = refl
+
+  -- after a leaf what waits is next
+  pub after_leaf : now ≡ history ++ settlement ∷ [] → IsLegal network now → IsWalk history path place waiting → settlement.event.path ≡ path → Closes settlement.event.outcome → IsAfterLeaf now path waiting
+  after_leaf is legal walk its_path closes =
+      let here = subst (IsLegal network) is legal in
+      let none = no_children settlement.event.outcome closes in
+      record {
+        count = walk_waits history path place waiting walk;
+        none_open = λ nothing. subst (λ h. open_paths h ≡ []) (sym is) (walk_end network history settlement path place waiting here walk its_path none nothing);
+        goes_on = λ next next_place others first turned.
+            subst (λ h. IsWalk h next next_place others) (sym is)
+            (walk_leaf network history settlement path place next next_place others here (subst (IsWalk history path place) first walk) its_path none turned);
+      }

@@ -11,7 +11,7 @@ use Rattle.tsn_cert.specs.declared.plan.Plan.{Plan}
 use Rattle.tsn_cert.specs.declared.plan.Plan.TheVariants as plan
 use Rattle.tsn_cert.specs.declared.cert.Cert.{Cert}
 use Rattle.tsn_check.specs.Faults.{Certifies, IsOptimalPlan}
-use Rattle.tsn_book.specs.Book.{Progress}
+use Rattle.tsn_book.specs.Book.{Progress, IsLawful}
 use Rattle.tsn_worker.specs.declared.answer.Answer.{Answer}
 use Rattle.tsn_worker.specs.declared.answer.Answer.TheVariants.{Optimal, NoSchedule, Stopped}
 
@@ -21,10 +21,11 @@ pub record Shows (network : Network) (limit : ℕ) (plan : Plan) (cert : Cert) (
   pub counted : count ≡ length cert.nodes
   pub within : count ≤ limit
 
--- a search for the network that has settled as many nodes as it may, while a node is open; what it has kept, if anything, is a valid schedule;
+-- a lawful search for the network that has settled as many nodes as it may, while a node is open; what it has kept, if anything, is a valid schedule;
 -- and its limit is less than the nodes of a tree over all conflicts
 pub record IsStopped (network : Network) (limit : ℕ) (book : Progress) : Type 0 where
   pub same_network : book.network ≡ network
+  pub lawful : IsLawful book
   pub settled : length book.history ≡ limit
   pub some_open : 0 < length (open_paths book.history)
   pub kept : MatchOption (kept_of network book.history) (Unit {0}) (IsValid network)

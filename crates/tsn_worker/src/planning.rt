@@ -40,8 +40,8 @@ pub fn plan<R: Threads + Wait + Sync, G: Gate + Sync>(
 {
     let timing = Timing::of(alloc, problem)?;
     let conflicts = conflicts(alloc, &timing)?;
-    let mut book = Book::new(alloc, &timing, workers, limit)?;
-    settle_open(alloc, &timing, &conflicts, gate, limit, &mut book)?;
+    let book = Book::new(alloc, &timing, workers, limit)?;
+    let book = settle_open(alloc, &timing, &conflicts, gate, limit, book)?;
     if book.open_count() > 0 {
         Ok(Answer::Stopped(book))
     } else {

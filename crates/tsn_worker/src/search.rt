@@ -1,16 +1,36 @@
-//! The search by one worker.
-ghost use Rattle.std.specs.Prelude.{◌≡◌, ◌<◌, ◌⊎◌, [], length, Contains, OnOk, ◌+◌};
-ghost use Rattle.tsn_model.specs.Search.{open_paths};
+//! The search by one worker: depth first, a split's left child before its right one.
+ghost use Rattle.std.specs.Prelude.{◌≡◌, ◌<◌, ◌+◌, ◌∷◌, ◌++◌, [], ◌⊎◌, length, reverse, Contains, IfOk, OnOk, MatchBool, MatchOption};
+ghost use Rattle.tsn_model.specs.Network.{Network};
+ghost use Rattle.tsn_model.specs.declared.Side.TheVariants.{Left};
+ghost use Rattle.tsn_model.specs.Certificate.{decided};
+ghost use Rattle.tsn_model.specs.Search.{open_paths, made_paths, best_bound, split};
+ghost use Rattle.tsn_search_laws.specs.Walk.{path_made, IsWalk};
 ghost use Rattle.tsn_conflict.specs.Kept.{AreConflictsOf};
-ghost use Rattle.tsn_worker.specs.Search.{IsSearchOf};
+ghost use Rattle.tsn_branch.specs.Outcome.{outcome_of};
+ghost use Rattle.tsn_branch.specs.Path.{IsUndecided};
+ghost use Rattle.tsn_branch.specs.Look.{HasProof, SplitsUndecided, PrunesFrom};
+ghost use Rattle.tsn_branch.specs.Descent.{Stands, Splits, Closes};
+ghost use Rattle.tsn_book.specs.Book.{IsLawful};
+ghost use Rattle.tsn_worker.specs.Search.{IsSearchOf, IsSearching, HasChildren, IsAfterLeaf};
 
 use crate::gate::Gate;
 use std::alloc::Global;
-use tsn_book::{Book, BookFault, Event};
-use tsn_branch::{Node, look};
+use tsn_book::{Book, BookFault};
+use tsn_branch::Descent;
+use tsn_branch::outcome::Look;
 use tsn_conflict::sharing::Conflicts;
-use tsn_model::NoMemory;
+use tsn_model::{NoMemory, Triple};
 use tsn_timing::Timing;
+
+/// A search that stands at the open node that is first in preorder.
+#[derive(Drop)]
+struct Search {
+    book: Book,
+    descent: Descent,
+    // The node's place in the book, and those of the other open nodes, the next one last.
+    place: usize,
+    waiting: Vec<usize>,
+}
 
 /// Settles the first open node again and again, until none is open or the limit is met.
 pub fn settle_open<G: Gate>(
@@ -19,42 +39,129 @@ pub fn settle_open<G: Gate>(
     conflicts: &Conflicts,
     gate: &G,
     limit: usize,
-    book: &mut Book,
-) -> Result<(), NoMemory>
+    book: Book,
+) -> Result<Book, NoMemory>
     requires conflicts { AreConflictsOf timing.now conflicts.now }
-    requires search { IsSearchOf timing.now limit book.old }
-    ensures search { OnOk result (IsSearchOf timing.now limit book.new) }
-    ensures done { OnOk result ((open_paths book.new.history ≡ []) ⊎ (length book.new.history ≡ limit)) }
+    requires search { IsSearchOf timing.now limit book }
+    requires fresh { book.history ≡ [] }
+    ensures search { IfOk result (IsSearchOf timing.now limit) }
+    ensures done { IfOk result (λ searched. (open_paths searched.history ≡ []) ⊎ (length searched.history ≡ limit)) }
 {
-    'settlements: while book.count() < limit {
-        let Some(node) = book.first_open(alloc)? else {
-            return Ok(());
-        };
-        settle(alloc, timing, conflicts, gate, limit, book, node)?;
+    let descent = Descent::root(alloc, timing)?;
+    let mut search = Search {
+        book,
+        descent,
+        place: 0,
+        waiting: Vec::new(alloc),
+    };
+    'settlements: while search.book.count() < limit {
+        if !search.settle(alloc, timing, conflicts, gate, limit)? {
+            return Ok(search.book);
+        }
     }
-    Ok(())
+    Ok(search.book)
 }
 
-/// Looks at an open node and settles it.
-fn settle<G: Gate>(
-    alloc: Global,
-    timing: &Timing,
-    conflicts: &Conflicts,
-    gate: &G,
-    limit: usize,
-    book: &mut Book,
-    node: Node,
-) -> Result<(), NoMemory>
-    requires conflicts { AreConflictsOf timing.now conflicts.now }
-    requires search { IsSearchOf timing.now limit book.old }
-    requires some_left { length book.old.history < limit }
-    requires node_open { Contains (open_paths book.old.history) node }
-    ensures search { OnOk result (IsSearchOf timing.now limit book.new) }
-    ensures one { OnOk result (length book.new.history ≡ length book.old.history + 1) }
+impl Search {
+    // Looks at the node and settles it. False where nothing is open then.
+    fn settle<G: Gate>(
+        &mut self,
+        alloc: Global,
+        timing: &Timing,
+        conflicts: &Conflicts,
+        gate: &G,
+        limit: usize,
+    ) -> Result<bool, NoMemory>
+        requires conflicts { AreConflictsOf timing.now conflicts.now }
+        requires searching { IsSearching timing.now limit self.old.book self.old.descent self.old.place self.old.waiting.items }
+        requires some_left { length self.old.book.history < limit }
+        ensures searching { IfOk result (λ more. MatchBool more
+            (IsSearching timing.now limit self.new.book self.new.descent self.new.place self.new.waiting.items)
+            (IsSearchOf timing.now limit self.new.book × (open_paths self.new.book.history ≡ []))) }
+        ensures one { OnOk result (length self.new.book.history ≡ length self.old.book.history + 1) }
+    {
+        let look = self
+            .descent
+            .look(alloc, timing, conflicts, self.book.best())?;
+        let split = split_of(&look);
+        gate.pass(0);
+        record(&mut self.book, self.place, look)?;
+        match split {
+            Some(triple) => {
+                self.go_down(triple)?;
+                Ok(true)
+            }
+            None => Ok(self.go_on()),
+        }
+    }
+
+    // Goes down to the left child of the node, which was split last; the right child, at the last place, waits.
+    fn go_down(&mut self, triple: Triple) -> Result<(), NoMemory>
+        requires splits { (network : Network) × Splits network triple self.old.descent }
+        requires undecided { IsUndecided self.old.descent.path triple }
+        requires walk { HasChildren self.old.book.history (decided self.old.descent.path triple Left) (reverse self.old.waiting.items) }
+        ensures book { self.new.book ≡ self.old.book }
+        ensures stands { OnOk result ((network : Network) → Splits network triple self.old.descent → Stands network self.new.descent) }
+        ensures walk { OnOk result (IsWalk self.new.book.history self.new.descent.path self.new.place (reverse self.new.waiting.items)) }
+    {
+        if self.waiting.reserve(1).is_err() {
+            return Err(NoMemory);
+        }
+        self.descent.down(triple)?;
+        let right = self.book.places() - 1;
+        self.waiting.push_reserved(right);
+        self.place = right - 1;
+        Ok(())
+    }
+
+    // Goes on to the next node that waits. False where none does.
+    fn go_on(&mut self) -> bool
+        requires after { IsAfterLeaf self.old.book.history self.old.descent.path (reverse self.old.waiting.items) }
+        ensures book { self.new.book ≡ self.old.book }
+        ensures stands { (network : Network) → Stands network self.old.descent → Stands network self.new.descent }
+        ensures walk { MatchBool result
+            (IsWalk self.new.book.history self.new.descent.path self.new.place (reverse self.new.waiting.items))
+            (open_paths self.new.book.history ≡ []) }
+    {
+        if !self.descent.next() {
+            return false;
+        }
+        let Some(place) = self.waiting.pop() else {
+            unreachable!();
+        };
+        self.place = place;
+        true
+    }
+}
+
+/// The triple of a split.
+fn split_of(look: &Look) -> Option<Triple>
+    ensures { MatchOption result (Closes (outcome_of look.now)) (λ triple. outcome_of look.now ≡ split triple) }
 {
-    let look = look(alloc, timing, conflicts, &node, book.best())?;
-    gate.pass(0);
-    match book.settle(0, Event { node, look }) {
+    match look {
+        Look::Split(triple) => Some(*triple),
+        Look::Solved { .. } => None,
+        Look::Pruned { .. } => None,
+        Look::Refuted(_) => None,
+    }
+}
+
+/// Settles the open node at a place, as a look found it.
+fn record(book: &mut Book, place: usize, look: Look) -> Result<(), NoMemory>
+    requires teller { book.old.tellers ≡ 1 }
+    requires some_left { length book.old.history < book.old.limit }
+    requires place { place < length (made_paths book.old.history) }
+    requires node_open { Contains (open_paths book.old.history) (path_made book.old.history place) }
+    requires proof { HasProof book.old.network (path_made book.old.history place) (outcome_of look) }
+    requires undecided { SplitsUndecided book.old.network (path_made book.old.history place) (outcome_of look) }
+    requires met { PrunesFrom (best_bound book.old.network book.old.history) (outcome_of look) }
+    ensures settled { OnOk result (book.new ≡ record book.old {
+      history = book.old.history
+          ++ record { teller = 0; event = record { path = path_made book.old.history place; outcome = outcome_of look } } ∷ [];
+    }) }
+    ensures lawful { OnOk result (IsLawful book.new) }
+{
+    match book.settle_at(0, place, look) {
         Ok(()) => Ok(()),
         Err((BookFault::Memory, _)) => Err(NoMemory),
         Err((_, _)) => unreachable!(),

@@ -1,0 +1,44 @@
+use Rattle.std.proofs.Common.{◌≡◌, ◌∷◌, ◌++◌, [], ℕ, List, reverse, refl, sym, ap, ◌∙◌, subst, arith}
+use Rattle.tsn_model.specs.declared.Side.TheVariants.{Left}
+use Rattle.tsn_model.specs.declared.Decision.{Decision}
+use Rattle.tsn_model.specs.Certificate.{decided}
+use Rattle.tsn_model.specs.Search.{Settlement}
+use Rattle.tsn_search_laws.specs.Walk.{path_made}
+use Rattle.tsn_search_laws.proofs.Walking.{walk_open}
+use Rattle.tsn_branch.specs.Outcome.{outcome_of}
+use Rattle.tsn_book.specs.Book.{Progress}
+use Rattle.tsn_worker.specs.Search.{HasChildren, IsAfterLeaf}
+use Rattle.tsn_worker.proofs.Settling.{open_fits, has_children, after_leaf}
+use Rattle.tsn_worker.proofs.search.Search.settle.Goals as goal
+
+pub look-requires-clause-fits : goal.look-requires-clause-fits
+look-requires-clause-fits g c =
+    let searching = c.requires.searching in
+    let history = c.args.self.now.book.history in
+    let path = c.args.self.now.descent.path in
+    open_fits c.args.timing.now c.args.conflicts.now c.requires.conflicts history (rw searching.search.same_network at c.best.ensures.lawful.legal) path
+    (walk_open history path c.args.self.now.place (reverse c.args.self.now.waiting.items) searching.walk)
+
+pub go_down-requires-clause-walk : goal.go_down-requires-clause-walk
+go_down-requires-clause-walk g c =
+    let walk = c.requires.searching.walk in
+    let history = c.args.self.now.book.history in
+    let path = c.args.self.now.descent.path in
+    let place = c.args.self.now.place in
+    let waiting = reverse c.args.self.now.waiting.items in
+    let settlement : Settlement = record { teller = 0; event = record { path = path_made history place; outcome = outcome_of c.in_ok-look.look } } in
+    let children = has_children c.record.new.book.network history c.record.new.book.history settlement path place waiting c.in-Some.triple
+    (ap (λ (book : Progress). book.history) c.in_ok-record.ensures.settled) c.in_ok-record.ensures.lawful.legal walk walk.at.is c.in-Some.ensures in
+    subst (λ p. HasChildren c.record.new.book.history (decided p c.in-Some.triple Left) waiting) (sym c.look.ensures.path) children
+
+pub go_on-requires : goal.go_on-requires
+go_on-requires g c =
+    let walk = c.requires.searching.walk in
+    let history = c.args.self.now.book.history in
+    let path = c.args.self.now.descent.path in
+    let place = c.args.self.now.place in
+    let waiting = reverse c.args.self.now.waiting.items in
+    let settlement : Settlement = record { teller = 0; event = record { path = path_made history place; outcome = outcome_of c.in_ok-look.look } } in
+    let after = after_leaf c.record.new.book.network history c.record.new.book.history settlement path place waiting
+    (ap (λ (book : Progress). book.history) c.in_ok-record.ensures.settled) c.in_ok-record.ensures.lawful.legal walk walk.at.is c.in-None.ensures in
+    record { after = subst (λ p. IsAfterLeaf c.record.new.book.history p waiting) (sym c.look.ensures.path) after }
