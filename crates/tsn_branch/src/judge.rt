@@ -1,18 +1,23 @@
 //! What the least offsets of a path, or a cycle of its arcs, come to.
-ghost use Rattle.std.specs.Prelude.{◌≡◌, ◌≤◌, ◌<◌, List, IfOk, length};
+ghost use Rattle.std.specs.Prelude.{◌≡◌, ◌≤◌, ◌<◌, ℕ, List, All, Some, IfOk, length, map, slice_get};
 ghost use Rattle.tsn_model.specs.declared.Decision.{Decision};
+ghost use Rattle.tsn_model.specs.Network.{IsWellFormed};
+ghost use Rattle.tsn_model.specs.Schedule.{flowspan};
 ghost use Rattle.tsn_model.specs.Arcs.{arcs_of};
 ghost use Rattle.tsn_conflict.specs.Kept.{AreConflictsOf};
 ghost use Rattle.tsn_diff.specs.Answers.{Answers, Solves};
 ghost use Rattle.tsn_diff.specs.Forest.{chain_of};
 ghost use Rattle.tsn_branch.specs.Outcome.{outcome_of};
-ghost use Rattle.tsn_branch.specs.Look.{IsLook};
+ghost use Rattle.tsn_branch.specs.Look.{IsLook, AllFit, ShowsLink};
+ghost use Rattle.tsn_branch.specs.Links.{shared_links};
+ghost use Rattle.tsn_branch.specs.Loads.{AreLoadsOf, IsFirstLoad, entry_by};
 ghost use Rattle.tsn_branch.specs.Unreleased.{unreleased};
 
 use crate::instants::{first_overrun, last_arrival};
+use crate::loads::{FirstLoad, Loads, User, first_load};
 use crate::outcome::{Leaf, Look};
 use std::alloc::Global;
-use tsn_cert::Chain;
+use tsn_cert::{Chain, Entries};
 use tsn_conflict::sharing::Conflicts;
 use tsn_diff::{Least, Outcome};
 use tsn_model::NoMemory;
@@ -23,16 +28,18 @@ pub fn judge(
     alloc: Global,
     timing: &Timing,
     conflicts: &Conflicts,
+    loads: &Loads,
     outcome: &Outcome,
     target: u64,
 ) -> Result<Look, NoMemory>
     requires conflicts { AreConflictsOf timing.now conflicts.now }
+    requires loads { AreLoadsOf timing.now loads.now }
     requires some_path { (path : List Decision) × Answers (unreleased timing.now) (arcs_of timing.now path) outcome.now }
     ensures { IfOk result (λ look. (path : List Decision) → Answers (unreleased timing.now) (arcs_of timing.now path) outcome.now
         → IsLook timing.now path target (outcome_of look)) }
 {
     match outcome {
-        Outcome::Least(least) => judge_least(alloc, timing, conflicts, least, target),
+        Outcome::Least(least) => judge_least(alloc, timing, conflicts, loads, least, target),
         Outcome::Positive(cycle) => Ok(Look::Refuted(Leaf::Cycle(Chain::of(alloc, cycle)?))),
     }
 }
@@ -42,10 +49,12 @@ fn judge_least(
     alloc: Global,
     timing: &Timing,
     conflicts: &Conflicts,
+    loads: &Loads,
     least: &Least,
     target: u64,
 ) -> Result<Look, NoMemory>
     requires conflicts { AreConflictsOf timing.now conflicts.now }
+    requires loads { AreLoadsOf timing.now loads.now }
     requires some_path { (path : List Decision) × Solves (unreleased timing.now) (arcs_of timing.now path) least.now }
     ensures { IfOk result (λ look. (path : List Decision) → Solves (unreleased timing.now) (arcs_of timing.now path) least.now
         → IsLook timing.now path target (outcome_of look)) }
@@ -59,6 +68,9 @@ fn judge_least(
         let leaf = Leaf::Late(stream, chain_to(alloc, least, stream)?);
         return Ok(Look::Pruned { bound, leaf });
     }
+    if let Some(found) = first_load(loads, timing, offsets, target) {
+        return judge_load(alloc, timing, loads, least, found);
+    }
     if let Some(triple) = conflicts.first_violated(offsets) {
         return Ok(Look::Split(triple));
     }
@@ -67,6 +79,72 @@ fn judge_least(
     };
     let leaf = Leaf::Late(stream, chain_to(alloc, least, stream)?);
     Ok(Look::Solved { valid, bound, leaf })
+}
+
+/// The look at a node where a link is loaded.
+fn judge_load(
+    alloc: Global,
+    timing: &Timing,
+    loads: &Loads,
+    least: &Least,
+    found: FirstLoad,
+) -> Result<Look, NoMemory>
+    requires formed { IsWellFormed timing.now }
+    requires loads { AreLoadsOf timing.now loads.now }
+    requires some_path { (path : List Decision) × Solves (unreleased timing.now) (arcs_of timing.now path) least.now }
+    requires found { (target : ℕ) × IsFirstLoad timing.now least.now.offsets target found }
+    ensures { IfOk result (λ look. (path : List Decision) (target : ℕ) → Solves (unreleased timing.now) (arcs_of timing.now path) least.now
+        → AllFit timing.now least.now.offsets → flowspan timing.now least.now.offsets < target
+        → IsFirstLoad timing.now least.now.offsets target found → IsLook timing.now path target (outcome_of look)) }
+{
+    match found {
+        FirstLoad::Overload(place) => {
+            let (link, entries) = entries_at(alloc, timing, loads, least, place)?;
+            Ok(Look::Refuted(Leaf::Overload(link, entries)))
+        }
+        FirstLoad::Load(place, bound) => {
+            let (link, entries) = entries_at(alloc, timing, loads, least, place)?;
+            let leaf = Leaf::Load(link, entries);
+            Ok(Look::Pruned { bound, leaf })
+        }
+    }
+}
+
+/// The shared link at this place, and its streams with the chains that show their least offsets.
+fn entries_at(
+    alloc: Global,
+    timing: &Timing,
+    loads: &Loads,
+    least: &Least,
+    place: usize,
+) -> Result<(usize, Entries), NoMemory>
+    requires formed { IsWellFormed timing.now }
+    requires loads { AreLoadsOf timing.now loads.now }
+    requires some_path { (path : List Decision) × Solves (unreleased timing.now) (arcs_of timing.now path) least.now }
+    requires place { place < length (shared_links timing.now) }
+    ensures link { IfOk result (λ leaf. slice_get (shared_links timing.now) place ≡ Some leaf.0) }
+    ensures shown { IfOk result (λ leaf. (path : List Decision) → Solves (unreleased timing.now) (arcs_of timing.now path) least.now
+        → ShowsLink timing.now path least.now.offsets leaf.0 leaf.1) }
+{
+    let _ = timing;
+    let table = &loads.tables()[place];
+    Ok((table.link, entries_of(alloc, least, &table.users)?))
+}
+
+/// Streams, each with the chain that shows its least offset.
+fn entries_of(alloc: Global, least: &Least, users: &[User]) -> Result<Entries, NoMemory>
+    requires some_user { 1 ≤ length users.now }
+    requires few_users { length users.now ≤ 128 }
+    requires streams { All (λ user. user.stream < length least.now.offsets) users.now }
+    requires short { All (λ user. length (chain_of least.now user.stream) ≤ 128) users.now }
+    ensures { IfOk result (λ entries. entries ≡ map (entry_by least.now) users.now) }
+{
+    let mut list = Vec::with_capacity(alloc, users.len())?;
+    for user in users {
+        let entry = (user.stream, chain_to(alloc, least, user.stream)?);
+        list.push(entry).map_err(|_| NoMemory)?;
+    }
+    Ok(Entries::of(list))
 }
 
 /// The chain that shows a stream's least offset.

@@ -1,7 +1,10 @@
-use Rattle.std.proofs.Common.{◌≡◌, List, length, ℕ, sym, ap, ◌∙◌, subst, arith}
+use Rattle.std.proofs.Common.{◌≡◌, List, length, ℕ, All, sym, ap, ◌∙◌, subst, arith}
 use Rattle.tsn_model.specs.Schedule.{IsValid, IsFirstOverlap, flowspan}
 use Rattle.tsn_model.proofs.Validity.{valid_from_parts, violation_refutes}
 use Rattle.tsn_diff.specs.Forest.{chain_of}
+use Rattle.std.proofs.lemmas.Result.{IfOk-weaker}
+use Rattle.tsn_branch.specs.Links.{shared_links, IsUnloaded}
+use Rattle.tsn_branch.specs.Loads.{IsFirstLoad}
 use Rattle.tsn_branch.specs.Look.{AreLeast, AllFit, IsFirstOverrun, IsFirstLast, IsShownBy}
 use Rattle.tsn_branch.proofs.Leasts.{count, AreLeast-from, IsShownBy-from, small_offsets}
 use Rattle.tsn_branch.proofs.judge.judge_least.Goals as goal
@@ -43,6 +46,26 @@ returns-then-bound-target c =
       ),
     )
 
+pub first_load-requires-clause-small : goal.first_load-requires-clause-small
+first_load-requires-clause-small c =
+    let path = c.requires.some_path in
+    small_offsets c.args.timing.now c.offsets-offsets.result.now c.requires.conflicts.formed
+    (ap (λ (offsets : List ℕ). length offsets) c.offsets-offsets.ensures ∙ count c.args.timing.now path.0 c.args.least.now path.1) c.in_default.ensures
+
+pub judge_load-requires-clause-found : goal.judge_load-requires-clause-found
+judge_load-requires-clause-found c =
+    (c.args.target, subst (λ (offsets : List ℕ). IsFirstLoad c.args.timing.now offsets c.args.target c.in-Some-first_load.found) c.offsets-offsets.ensures c.in-Some-first_load.ensures)
+
+pub returns-in-Some-first_load : goal.returns-in-Some-first_load
+returns-in-Some-first_load c =
+    let network = c.args.timing.now in
+    let is = c.last_arrival-stream.ensures.instant ∙ ap (flowspan network) c.offsets-offsets.ensures in
+    let below = c.if-bound-target.false in
+    IfOk-weaker c.judge_load.result _ _
+    (λ look found path solves. found path c.args.target solves (subst (AllFit network) c.offsets-offsets.ensures c.in_default.ensures) (omega arith)
+    (subst (λ (offsets : List ℕ). IsFirstLoad network offsets c.args.target c.in-Some-first_load.found) c.offsets-offsets.ensures c.in-Some-first_load.ensures))
+    c.judge_load.ensures
+
 pub first_violated-requires-clause-small : goal.first_violated-requires-clause-small
 first_violated-requires-clause-small c =
     let path = c.requires.some_path in
@@ -62,6 +85,7 @@ returns-in-Some-first_violated c =
       omega arith,
       subst (λ (offsets : List ℕ). IsFirstOverlap network offsets c.in-Some-first_violated.triple) c.offsets-offsets.ensures
           (c.in-Some-first_violated.ensures network c.requires.conflicts),
+      subst (λ (offsets : List ℕ). All (IsUnloaded network offsets c.args.target) (shared_links network)) c.offsets-offsets.ensures c.in_default-first_load.ensures,
     )
 
 pub unreachable-requires : goal.unreachable-requires
@@ -92,4 +116,5 @@ returns c =
         subst (λ (chain : List ℕ). IsShownBy network path c.in-Ok.valid stream chain) (sym c.in_ok-chain_to-3.ensures)
             (subst (λ (offsets : List ℕ). IsShownBy network path offsets stream (chain_of labels stream)) same (IsShownBy-from network path labels solves stream last.counted)),
       ),
+      subst (λ (offsets : List ℕ). All (IsUnloaded network offsets c.args.target) (shared_links network)) here c.in_default-first_load.ensures,
     )
