@@ -1,9 +1,11 @@
 //! The tree of a search, in an arena. A place is known by its number, and the root has number 0.
-ghost use Rattle.std.specs.Prelude.{◌≡◌, ◌<◌, ◌≤◌, ◌+◌, ◌++◌, false, ◌∷◌, [], ◌↔◌, IsTrue, length, IfOk, MatchResult, OnOk, MatchOption, Any, Contains, vec_len, vec_capacity};
+ghost use Rattle.std.specs.Prelude.{◌≡◌, ◌<◌, ◌≤◌, ◌+◌, ◌++◌, false, ◌∷◌, [], ◌↔◌, IsTrue, List, length, IfOk, MatchResult, OnOk, MatchOption, Any, Contains, vec_len, vec_capacity};
+ghost use Rattle.tsn_model.specs.declared.Decision.{Decision};
 ghost use Rattle.tsn_model.specs.Schedule.{IsConflict};
 ghost use Rattle.tsn_model.specs.Search.{split, made_paths, open_paths, best_bound, IsRight, IsAllowed, IsFirstOpen};
+ghost use Rattle.tsn_search_laws.specs.Replies.{IsPrunedBelow};
 ghost use Rattle.tsn_branch.specs.Outcome.{outcome_of};
-ghost use Rattle.tsn_branch.specs.Look.{HasProof};
+ghost use Rattle.tsn_branch.specs.Look.{HasProof, SplitsUndecided};
 ghost use Rattle.tsn_book.specs.Event.{event_of};
 ghost use Rattle.tsn_book.specs.Book.{IsFault};
 ghost use Rattle.tsn_book.specs.Arena.{IsArena, IsStop, settled_in, path_in, IsOpenPlace, IsLeafOutcome, HasRoom, AreClosed, IsAhead, IsNewLeaf, IsClosing, IsParentClosed, flag_at};
@@ -72,6 +74,15 @@ impl Tree {
             };
             place = child;
         }
+        self.stop_at(place)
+    }
+
+    // What ends a walk at a place.
+    fn stop_at(&self, place: usize) -> Stop
+        requires tree { IsArena self.now }
+        requires place { place < length self.now.origins.items }
+        ensures { IsStop self.now.origins.items self.now.standings.items self.now.events.items (path_in self.now place) result }
+    {
         match self.standings[place] {
             Standing::Open => Stop::Open(place),
             Standing::Split { event, .. } => Stop::Settled(event),
@@ -313,7 +324,51 @@ impl Tree {
             × (length history < limit) × IsAllowed self.now.network history (event_of event.now))
             (λ fault. IsFault self.now.network limit history (event_of event.now) fault) }
     {
-        let place = match self.find(event.node.path()) {
+        let stop = self.find(event.node.path());
+        let place = self.admit(limit, best, stop, &event.look)?;
+        if let Look::Split(triple) = &event.look {
+            if !is_conflict(&self.network, *triple) {
+                return Err(BookFault::NotConflict);
+            }
+            if decides(event.node.path(), *triple) {
+                return Err(BookFault::AlreadyDecided);
+            }
+        }
+        Ok(place)
+    }
+
+    /// Whether what was found at a place may be settled; else the first reason why it may not. The triple of a split isn't
+    /// tested: it's a conflict that the path doesn't decide.
+    pub fn admit_at(
+        &self,
+        limit: usize,
+        best: u64,
+        place: usize,
+        look: &Look,
+    ) -> Result<(), BookFault>
+        requires tree { IsArena self.now }
+        requires place { place < length self.now.origins.items }
+        requires best { best ≡ best_bound self.now.network (settled_in self.now) }
+        requires proof { HasProof self.now.network (path_in self.now place) (outcome_of look.now) }
+        requires undecided { SplitsUndecided self.now.network (path_in self.now place) (outcome_of look.now) }
+        ensures { let history = settled_in self.now in MatchResult result
+            (λ done. (length history < limit) × IsAllowed self.now.network history (record { path = path_in self.now place; outcome = outcome_of look.now }))
+            (λ fault. IsFault self.now.network limit history (record { path = path_in self.now place; outcome = outcome_of look.now }) fault) }
+    {
+        self.admit(limit, best, self.stop_at(place), look)?;
+        Ok(())
+    }
+
+    // The open place where a walk ended, for what is within the limit and not pruned below the best; else the first reason.
+    fn admit(&self, limit: usize, best: u64, stop: Stop, look: &Look) -> Result<usize, BookFault>
+        requires tree { IsArena self.now }
+        requires best { best ≡ best_bound self.now.network (settled_in self.now) }
+        ensures { let history = settled_in self.now in MatchResult result
+            (λ place. (stop ≡ Stop.Open place) × (length history < limit) × ¬ IsPrunedBelow (best_bound self.now.network history) (outcome_of look.now))
+            (λ fault. (path : List Decision) → IsStop self.now.origins.items self.now.standings.items self.now.events.items path stop
+            → IsFault self.now.network limit history (record { path = path; outcome = outcome_of look.now }) fault) }
+    {
+        let place = match stop {
             Stop::Open(place) => place,
             Stop::Settled(number) => return Err(BookFault::NotOpen(Some(number))),
             Stop::Outside => return Err(BookFault::NotOpen(None)),
@@ -321,20 +376,13 @@ impl Tree {
         if self.events.len() >= limit {
             return Err(BookFault::Limit(self.events.len()));
         }
-        match &event.look {
-            Look::Split(triple) => {
-                if !is_conflict(&self.network, *triple) {
-                    return Err(BookFault::NotConflict);
-                }
-                if decides(event.node.path(), *triple) {
-                    return Err(BookFault::AlreadyDecided);
-                }
-            }
+        match look {
             Look::Pruned { bound, .. } => {
                 if *bound < best {
                     return Err(BookFault::NotMet(best));
                 }
             }
+            Look::Split(_) => {}
             Look::Solved { .. } => {}
             Look::Refuted(_) => {}
         }

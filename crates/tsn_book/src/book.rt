@@ -1,11 +1,12 @@
 //! The book of a search, as its callers see it: what was settled so far.
 ghost use Rattle.std.specs.Prelude.{◌≡◌, ◌<◌, ◌≤◌, ◌+◌, ◌++◌, ◌∷◌, [], length, fold, min, replicate, IfOk, IfErr, OnErr, OnOk, MatchOption, Some, None};
 ghost use Rattle.tsn_model.specs.Schedule.{IsValid, flowspan};
-ghost use Rattle.tsn_model.specs.Search.{open_paths, best_bound, kept_of, tally_of, solved_bound, IsFirstOpen};
+ghost use Rattle.tsn_model.specs.Search.{made_paths, open_paths, best_bound, kept_of, tally_of, solved_bound, IsAllowed, IsFirstOpen};
 ghost use Rattle.tsn_branch.specs.Outcome.{outcome_of};
-ghost use Rattle.tsn_branch.specs.Look.{HasProof};
+ghost use Rattle.tsn_branch.specs.Look.{HasProof, SplitsUndecided};
 ghost use Rattle.tsn_book.specs.Event.{event_of};
 ghost use Rattle.tsn_search_laws.specs.Laws.{IsBelowBounds};
+ghost use Rattle.tsn_search_laws.specs.Walk.{path_made};
 ghost use Rattle.tsn_book.specs.Book.{Progress, IsLawful, IsFault, SpellsAccepted, child_count, kept_after, tally_after};
 
 use crate::arena::Tree;
@@ -111,10 +112,70 @@ impl Book {
             Ok(place) => place,
             Err(fault) => return Err((fault, event)),
         };
-        if self.tree.reserve(&mut self.closed).is_err() {
-            return Err((BookFault::Memory, event));
+        let Event { node, look } = event;
+        match self.enter(teller, place, look) {
+            Ok(()) => Ok(()),
+            Err(look) => Err((BookFault::Memory, Event { node, look })),
         }
-        let look = event.look;
+    }
+
+    /// Settles the node at a place, where it may be; else the first reason why not, with what was found. A refusal changes
+    /// nothing. The node's path isn't walked.
+    ///
+    /// What was found has to be right as for `settle`, and a split has to be on a conflict that the path doesn't decide: a
+    /// look at the node gives such.
+    pub fn settle_at(
+        &mut self,
+        teller: usize,
+        place: usize,
+        look: Look,
+    ) -> Result<(), (BookFault, Look)>
+        requires teller { teller < self.old.tellers }
+        requires place { place < length (made_paths self.old.history) }
+        requires proof { HasProof self.old.network (path_made self.old.history place) (outcome_of look) }
+        requires undecided { SplitsUndecided self.old.network (path_made self.old.history place) (outcome_of look) }
+        ensures ok { OnOk result (self.new ≡ record self.old {
+          history = self.old.history
+              ++ record { teller = teller; event = record { path = path_made self.old.history place; outcome = outcome_of look } } ∷ [];
+        }) }
+        ensures lawful { OnOk result (IsLawful self.new) }
+        ensures network { self.new.network ≡ self.old.network }
+        ensures tellers { self.new.tellers ≡ self.old.tellers }
+        ensures limit { self.new.limit ≡ self.old.limit }
+        ensures refused { OnErr result (self.new ≡ self.old) }
+        ensures fault { IfErr result (λ refusal. IsFault self.old.network self.old.limit self.old.history
+            (record { path = path_made self.old.history place; outcome = outcome_of look }) refusal.0) }
+        ensures returned { IfErr result (λ refusal. refusal.1 ≡ look) }
+    {
+        if let Err(fault) = self.tree.admit_at(self.limit, self.best, place, &look) {
+            return Err((fault, look));
+        }
+        match self.enter(teller, place, look) {
+            Ok(()) => Ok(()),
+            Err(look) => Err((BookFault::Memory, look)),
+        }
+    }
+
+    // Settles at a place what may be settled there, where there is memory for it; else gives it back.
+    fn enter(&mut self, teller: usize, place: usize, look: Look) -> Result<(), Look>
+        requires teller { teller < self.old.tellers }
+        requires limit { length self.old.history < self.old.limit }
+        requires place { place < length (made_paths self.old.history) }
+        requires allowed { IsAllowed self.old.network self.old.history (record { path = path_made self.old.history place; outcome = outcome_of look }) }
+        ensures ok { OnOk result (self.new ≡ record self.old {
+          history = self.old.history
+              ++ record { teller = teller; event = record { path = path_made self.old.history place; outcome = outcome_of look } } ∷ [];
+        }) }
+        ensures lawful { OnOk result (IsLawful self.new) }
+        ensures network { self.new.network ≡ self.old.network }
+        ensures tellers { self.new.tellers ≡ self.old.tellers }
+        ensures limit { self.new.limit ≡ self.old.limit }
+        ensures refused { OnErr result (self.new ≡ self.old) }
+        ensures returned { IfErr result (λ back. back ≡ look) }
+    {
+        if self.tree.reserve(&mut self.closed).is_err() {
+            return Err(look);
+        }
         let number = self.tree.events.len();
         self.open_nodes = open_after(self.open_nodes, &look);
         self.kept = kept_after(self.kept, self.best, number, &look);
@@ -122,6 +183,15 @@ impl Book {
         self.tallies[teller] = tally_after(self.tallies[teller], &look);
         self.tree.settle(&mut self.closed, place, teller, look);
         Ok(())
+    }
+
+    /// How many places there are: the root's is 0, and each split makes two more, its Left child's and then its Right
+    /// child's.
+    pub fn places(&self) -> usize
+        ensures places { result ≡ length (made_paths self.now.history) }
+        ensures lawful { IsLawful self.now }
+    {
+        self.tree.origins.len()
     }
 
     /// How many events were settled.

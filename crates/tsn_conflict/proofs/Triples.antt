@@ -12,7 +12,7 @@ use Rattle.tsn_model.specs.Timing.{hop_on}
 use Rattle.tsn_model.specs.Arcs.{is_conflict, triples_of, conflicts_of}
 use Rattle.tsn_conflict.specs.Rows.{triples_with, triples_left}
 
-range_more : (a n : ℕ) → range_with_len a (n + 1) ≡ range_with_len a n ++ (a + n) ∷ []
+pub range_more : (a n : ℕ) → range_with_len a (n + 1) ≡ range_with_len a n ++ (a + n) ∷ []
 range_more a n = sym (map_same (range_with_len a (n + 1))) ∙ map-range_with_len_more (λ x. x) a n (a + n) refl ∙ ap (λ xs. xs ++ (a + n) ∷ []) (map_same (range_with_len a n))
   where
     map_same : (xs : List ℕ) → map (λ x. x) xs ≡ xs

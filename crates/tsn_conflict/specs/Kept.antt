@@ -34,8 +34,3 @@ pub record AreConflictsOf (network : Network) (kept : Kept) : Type 0 where
   pub streams : length kept.uses ≡ stream_count network
   pub uses : kept.uses ≡ uses_of network
   pub triples : kept.triples ≡ conflicts_of network
-
--- it is kept of some network
-pub record IsKept (kept : Kept) : Type 0 where
-  pub network : Network
-  pub of_network : AreConflictsOf network kept

@@ -1,2 +1,4 @@
 pub mod Kept
+pub mod Raised
 pub mod Rows
+pub mod Pairs

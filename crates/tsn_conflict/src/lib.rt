@@ -5,10 +5,14 @@ ghost use Rattle.std.specs.Prelude.{IfOk};
 ghost use Rattle.tsn_conflict.specs.Kept.{AreConflictsOf};
 
 mod listing;
+mod pairs;
+mod places;
 pub mod sharing;
 mod uses;
 
 use crate::listing::triples_of;
+use crate::pairs::pairs_of;
+use crate::places::places_of;
 use crate::sharing::Conflicts;
 use crate::uses::rows_of;
 use std::alloc::Global;
@@ -22,5 +26,12 @@ pub fn conflicts(alloc: Global, timing: &Timing) -> Result<Conflicts, NoMemory>
     let _limit = timing.cycle();
     let rows = rows_of(alloc, timing)?;
     let triples = triples_of(alloc, timing, &rows)?;
-    Ok(Conflicts { rows, triples })
+    let pairs = pairs_of(alloc, &rows, &triples)?;
+    let places = places_of(alloc, &triples, timing.streams())?;
+    Ok(Conflicts {
+        rows,
+        triples,
+        pairs,
+        places,
+    })
 }

@@ -7,7 +7,11 @@ ghost use Rattle.tsn_model.specs.Schedule.{IsFirstOverlap, Overlaps};
 ghost use Rattle.tsn_model.specs.PlainWords.{AreApart};
 ghost use Rattle.tsn_model.specs.Arcs.{arc_between, arc_on};
 ghost use Rattle.tsn_conflict.specs.Kept.{AreConflictsOf};
+ghost use Rattle.tsn_conflict.specs.Raised.{triple_at, OnlyRaisedOverlap};
+ghost use Rattle.tsn_conflict.specs.Pairs.{AreApartBetween, IsApartBefore, IsInUses, IsNextMeeting, Meets, pair_in, places_with};
 
+use crate::pairs::{GREATEST_OFFSET, Pair};
+use crate::places::Places;
 use crate::uses::{Row, Use, has_link, look_up};
 use std::marker::Model;
 use tsn_model::{Arc, Side, Triple};
@@ -17,18 +21,22 @@ use tsn_model::{Arc, Side, Triple};
 pub struct Conflicts {
     pub(crate) rows: Vec<Row>,
     pub(crate) triples: Vec<Triple>,
+    pub(crate) pairs: Vec<Pair>,
+    pub(crate) places: Vec<Places>,
 }
 
 impl Model for Conflicts {
-    ghost use Rattle.tsn_conflict.specs.Kept.{Kept, IsKept};
+    ghost use Rattle.tsn_conflict.specs.Kept.{Kept};
     ghost use Rattle.tsn_conflict.specs.Rows.{uses_in};
+    ghost use Rattle.tsn_conflict.specs.Pairs.{IsTabled, places_in};
 
     ghost Value = { Kept };
 
     ghost view = { λ conflicts. record { uses = uses_in conflicts.rows.items; triples = conflicts.triples.items } };
 
-    ghost invariant = { λ conflicts. IsKept
-        (record { uses = uses_in conflicts.rows.items; triples = conflicts.triples.items }) };
+    ghost invariant = { λ conflicts. IsTabled
+        (record { uses = uses_in conflicts.rows.items; triples = conflicts.triples.items })
+        conflicts.pairs.items (places_in conflicts.places.items) };
 }
 
 impl Conflicts {
@@ -72,12 +80,32 @@ impl Conflicts {
         ensures { (network : Network) → AreConflictsOf network self.now →
             MatchOption result (AreApart network offsets.now) (IsFirstOverlap network offsets.now) }
     {
-        for &triple in self.triples() {
-            if self.overlap(triple, offsets) {
-                return Some(triple);
-            }
+        let place = self.meeting_from(offsets, 0)?;
+        Some(self.triples[place])
+    }
+
+    /// The place of the least triple whose two streams overlap on its link, for an offset of each stream, at most
+    /// 1,000,000,000 ns, where it's known that of the triples before place `start` only those with a raised stream may
+    /// overlap. This reads the raised streams' triples alone before that place, and each triple from it on.
+    pub fn first_violated_from(
+        &self,
+        offsets: &[u64],
+        raised: &[usize],
+        start: usize,
+    ) -> Option<usize>
+        requires count { length offsets.now ≡ length self.now.uses }
+        requires small { All (λ offset. offset ≤ 1_000_000_000) offsets.now }
+        requires raised { All (λ stream. stream < length self.now.uses) raised.now }
+        requires start { start ≤ length self.now.triples }
+        requires apart_before { OnlyRaisedOverlap self.now offsets.now raised.now start }
+        ensures { (network : Network) → AreConflictsOf network self.now → MatchOption result (AreApart network offsets.now)
+            (λ place. (place < length self.now.triples) × IsFirstOverlap network offsets.now (triple_at self.now.triples place)) }
+    {
+        let least = self.raised_meeting(offsets, raised, start);
+        if least < start {
+            return Some(least);
         }
-        None
+        self.meeting_from(offsets, start)
     }
 
     /// The arc of stream `first` before stream `second` on a link that both use.
@@ -99,19 +127,88 @@ impl Conflicts {
         }
     }
 
-    /// Whether the two streams of a triple overlap on its link.
-    fn overlap(&self, triple: Triple, offsets: &[u64]) -> bool
-        requires triple { Contains self.now.triples triple }
+    /// The least place below `end` whose triple has a raised stream and overlaps; `end` where there is none.
+    fn raised_meeting(&self, offsets: &[u64], raised: &[usize], end: usize) -> usize
         requires count { length offsets.now ≡ length self.now.uses }
         requires small { All (λ offset. offset ≤ 1_000_000_000) offsets.now }
-        ensures { (network : Network) → AreConflictsOf network self.now → IsTrue result ↔ Overlaps network offsets.now triple }
+        requires raised { All (λ stream. stream < length self.now.uses) raised.now }
+        requires end { end ≤ length self.now.triples }
+        ensures at_most { result ≤ end }
+        ensures meets { result < end → Meets self.now.uses offsets.now (triple_at self.now.triples result) }
+        ensures apart { All (IsApartBefore self.now offsets.now result) raised.now }
     {
-        let left = self.use_on(triple.left, triple.link);
-        let right = self.use_on(triple.right, triple.link);
-        let first = offsets[triple.left] + left.start;
-        let second = offsets[triple.right] + right.start;
-        first < second + right.occupancy && second < first + left.occupancy
+        let mut least = end;
+        for &stream in raised {
+            least = self.meeting_with(offsets, stream, least);
+        }
+        least
     }
+
+    /// The least place below `end` whose triple has the stream and overlaps; `end` where there is none.
+    fn meeting_with(&self, offsets: &[u64], stream: usize, end: usize) -> usize
+        requires count { length offsets.now ≡ length self.now.uses }
+        requires small { All (λ offset. offset ≤ 1_000_000_000) offsets.now }
+        requires stream { stream < length self.now.uses }
+        requires end { end ≤ length self.now.triples }
+        ensures at_most { result ≤ end }
+        ensures meets { result < end → Meets self.now.uses offsets.now (triple_at self.now.triples result) }
+        ensures apart { IsApartBefore self.now offsets.now result stream }
+    {
+        for &place in self.places_with(stream) {
+            if place >= end {
+                break;
+            }
+            if self.meets(offsets, place) {
+                return place;
+            }
+        }
+        end
+    }
+
+    /// The least place from `start` on whose triple overlaps.
+    fn meeting_from(&self, offsets: &[u64], start: usize) -> Option<usize>
+        requires count { length offsets.now ≡ length self.now.uses }
+        requires small { All (λ offset. offset ≤ 1_000_000_000) offsets.now }
+        ensures { MatchOption result (AreApartBetween self.now offsets.now start (length self.now.triples))
+            (IsNextMeeting self.now offsets.now start) }
+    {
+        for place in start..self.triples.len() {
+            if self.meets(offsets, place) {
+                return Some(place);
+            }
+        }
+        None
+    }
+
+    /// Whether the two streams of the triple at a place overlap on its link.
+    fn meets(&self, offsets: &[u64], place: usize) -> bool
+        requires count { length offsets.now ≡ length self.now.uses }
+        requires small { All (λ offset. offset ≤ 1_000_000_000) offsets.now }
+        requires place { place < length self.now.triples }
+        ensures { IsTrue result ↔ Meets self.now.uses offsets.now (triple_at self.now.triples place) }
+    {
+        let pair = self.pair_at(place);
+        let gap = offsets[pair.left as usize] + GREATEST_OFFSET - offsets[pair.right as usize];
+        u64::from(pair.above) < gap && gap < u64::from(pair.below)
+    }
+
+    /// What the overlap of the triple at a place needs.
+    fn pair_at(&self, place: usize) -> Pair
+        requires { place < length self.now.triples }
+        ensures value { result ≡ pair_in self.now.uses (triple_at self.now.triples place) }
+        ensures within { IsInUses self.now.uses (triple_at self.now.triples place) }
+    {
+        self.pairs[place]
+    }
+
+    /// The places of the triples that have a stream.
+    fn places_with(&self, stream: usize) -> &[usize]
+        requires { stream < length self.now.uses }
+        ensures { result.now ≡ places_with self.now.triples stream }
+    {
+        &self.places[stream].places
+    }
+
     /// When a stream is on a link that it uses.
     fn use_on(&self, stream: usize, link: usize) -> Use
         requires { (network : Network) → AreConflictsOf network self.now → UsesLink network stream link }

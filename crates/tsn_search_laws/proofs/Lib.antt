@@ -11,6 +11,7 @@ pub mod Finished
 pub mod Kept
 pub mod Runs
 pub mod OpenOrder
+pub mod Walking
 pub mod Following
 pub mod Gathering
 pub mod Small

@@ -3,7 +3,7 @@ ghost use Rattle.std.specs.Prelude.{◌≡◌, ◌<◌, IfOk};
 ghost use Rattle.tsn_branch.specs.Outcome.{outcome_of};
 ghost use Rattle.tsn_branch.specs.Look.{HasProof};
 
-use crate::timing::{FAST, TWO, star};
+use crate::networks::{FAST, TWO, star};
 use std::alloc::Global;
 use std::process::Abort;
 use std::test::Fail;

@@ -1,6 +1,6 @@
 //! Looks at nodes of the search.
 
-use crate::timing::{FAST, LOOP, ONE, TWO, star, timing_of};
+use crate::networks::{FAST, LOOP, ONE, TWO, star, timing_of};
 use std::process::Abort;
 use std::test::Fail;
 use tsn_branch::outcome::Look;

@@ -1,4 +1,5 @@
-//! Tests of times, least offsets and certificates. A crate with tests is proved twice, so they stand apart.
+//! Tests of conflicts, of looks at nodes of a search, of its book and of the planner. A crate with tests is proved twice, so
+//! they stand apart.
 #![tactic(auto)]
 
 #[cfg(test)]
@@ -6,12 +7,8 @@ mod book;
 #[cfg(test)]
 mod branch;
 #[cfg(test)]
-mod checking;
+mod networks;
 #[cfg(test)]
-mod least_offsets;
-#[cfg(test)]
-mod replays;
+mod planner;
 #[cfg(test)]
 mod shared_links;
-#[cfg(test)]
-mod timing;

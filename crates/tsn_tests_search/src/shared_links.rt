@@ -1,6 +1,6 @@
 //! The links that streams share, and the arcs of going first on them.
 
-use crate::timing::{FAST, LONG, LOOP, TWO, star, timing_of};
+use crate::networks::{FAST, LONG, LOOP, TWO, star, timing_of};
 use std::alloc::Global;
 use std::process::Abort;
 use std::test::Fail;

@@ -1,39 +1,26 @@
-use Rattle.std.proofs.Common.{◌≡◌, ◌<◌, List, length, get_or, sym, ap, ◌∙◌, subst, arith}
+use Rattle.std.proofs.Common.{◌≡◌, get_or, ap, sym, ◌∙◌, subst, zero-le}
+use Rattle.std.specs.Prelude.{MatchOption}
 use Rattle.std.proofs.lemmas.List.{get_or_default}
-use Rattle.tsn_model.specs.declared.Triple.{Triple}
-use Rattle.tsn_model.specs.Schedule.{Overlaps}
-use Rattle.tsn_model.specs.Arcs.{conflicts_of}
-use Rattle.tsn_conflict.proofs.Order.{all_apart, first_from, apart_more}
+use Rattle.tsn_model.specs.PlainWords.{AreApart}
+use Rattle.tsn_model.specs.Schedule.{IsFirstOverlap}
+use Rattle.tsn_conflict.specs.Kept.{Kept}
+use Rattle.tsn_conflict.specs.Raised.{triple_at}
+use Rattle.tsn_conflict.proofs.Raised.{none_overlaps, first_at}
 use Rattle.tsn_conflict.proofs.sharing.Conflicts.first_violated.Goals as goal
 
-pub returns-then-overlap : goal.returns-then-overlap
-returns-then-overlap c =
+pub returns-in_err-place : goal.returns-in_err-place
+returns-in_err-place c =
     λ network is.
-    let listed = c.triples-triple-items.ensures ∙ is.triples in
-    let n = c.loop-triple.triple-index in
-    let none : Triple = record { left = 0; right = 0; link = 0 } in
-    let triple = get_or c.triples-triple-items.result.now n none in
-    let within : n < length c.triples-triple-items.result.now = c.loop-triple-test.true in
-    let below : n < length (conflicts_of network) = subst (λ (ts : List Triple). n < length ts) listed within in
-    let same : get_or (conflicts_of network) n triple ≡ triple = get_or_default (conflicts_of network) n triple none below ∙ ap (λ (ts : List Triple). get_or ts n none) (sym listed) in
-    let overlaps = (c.overlap.ensures network is).0 c.if-overlap.true in
-    first_from network c.args.offsets.now is.formed n triple below same overlaps (c.loop-triple.invariant.apart network is)
-
-pub loop-triple-preserved : goal.loop-triple-preserved
-loop-triple-preserved c = record {
-  apart = λ network is.
-      let listed = c.triples-triple-items.ensures ∙ is.triples in
-      let n = c.loop-triple.triple-index in
-      let none : Triple = record { left = 0; right = 0; link = 0 } in
-      let same = ap (λ (ts : List Triple). get_or ts n none) listed in
-      apart_more network c.args.offsets.now n none (c.loop-triple.invariant.apart network is)
-      (λ overlaps. let passes = (c.overlap.ensures network is).1 (subst (Overlaps network c.args.offsets.now) (sym same) overlaps) in cc (sym passes ∙ c.if-overlap.false));
-}
+    let none = none_overlaps network c.args.self.now is c.args.offsets.now (λ place below. c.in_err-place.ensures place zero-le below) in
+    subst (λ r. MatchOption r (AreApart network c.args.offsets.now) (IsFirstOverlap network c.args.offsets.now)) (sym c.from_residual.ensures) none
 
 pub returns : goal.returns
 returns c =
     λ network is.
-    let listed = c.triples-triple-items.ensures ∙ is.triples in
-    let past = c.loop-triple-test.false in
-    let long = ap length listed in
-    all_apart network c.args.offsets.now is.formed c.loop-triple.triple-index (omega arith) (c.loop-triple.invariant.apart network is)
+    let kept = c.args.self.now in
+    let found = c.in_ok-place.ensures in
+    let first = first_at network kept is c.args.offsets.now c.in_ok-place.place found.listed found.meets (λ earlier before. found.apart earlier zero-le before) in
+    let read = c.index.result.now in
+    let same : read ≡ triple_at kept.triples c.in_ok-place.place =
+    c.index.ensures ∙ ap (λ (k : Kept). get_or k.triples c.in_ok-place.place read) c.self.view_is ∙ get_or_default kept.triples c.in_ok-place.place read _ found.listed in
+    subst (IsFirstOverlap network c.args.offsets.now) (sym same) first

@@ -16,7 +16,7 @@ const NODES: &str = "node = [
 ";
 
 /// The cables from A and B to the bridge, and the one from there to C.
-pub const FAST: &str = "link = [
+const FAST: &str = "link = [
     {a = 'A', b = 'S', mbps = 1000, prop = 50},
     {a = 'B', b = 'S', mbps = 1000, prop = 50},
     {a = 'S', b = 'C', mbps = 1000, prop = 50},
@@ -32,13 +32,13 @@ const SLOW: &str = "link = [
 ";
 
 /// The timing of a network round one bridge.
-pub fn star(alloc: Global, cycle: u64, cables: &str, streams: &str) -> Result<Timing, Fail> {
+fn star(alloc: Global, cycle: u64, cables: &str, streams: &str) -> Result<Timing, Fail> {
     let text = star_text(alloc, cycle, cables, streams)?;
     timing_of(alloc, text.as_str())
 }
 
 /// The file of a network round one bridge.
-pub fn star_text(alloc: Global, cycle: u64, cables: &str, streams: &str) -> Result<String, Fail> {
+fn star_text(alloc: Global, cycle: u64, cables: &str, streams: &str) -> Result<String, Fail> {
     let mut text = format!(in alloc; "cycle = {cycle}\n")?;
     text.push_str(NODES)?;
     text.push_str(cables)?;
@@ -46,28 +46,28 @@ pub fn star_text(alloc: Global, cycle: u64, cables: &str, streams: &str) -> Resu
     Ok(text)
 }
 
-pub fn timing_of(alloc: Global, text: &str) -> Result<Timing, Fail> {
+fn timing_of(alloc: Global, text: &str) -> Result<Timing, Fail> {
     let problem = read_problem(alloc, text.as_bytes()).map_err(|_| "the network is refused")?;
     Ok(Timing::of(alloc, &problem)?)
 }
 
-pub const ONE: &str = "stream = [{name = 'one', octets = 64, route = ['A', 'S', 'C']}]
+const ONE: &str = "stream = [{name = 'one', octets = 64, route = ['A', 'S', 'C']}]
 ";
 
-pub const TWO: &str = "stream = [
+const TWO: &str = "stream = [
     {name = 'one', octets = 64, route = ['A', 'S', 'C']},
     {name = 'two', octets = 64, route = ['B', 'S', 'C']},
 ]
 ";
 
-pub const LONG: &str = "stream = [
+const LONG: &str = "stream = [
     {name = 'one', octets = 64, route = ['A', 'S', 'C']},
     {name = 'two', octets = 1522, route = ['B', 'S', 'C']},
 ]
 ";
 
 /// Stations A, B and C, bridges S, T, V and U without processing time; the cable from T to V is long.
-pub const LOOP: &str = "cycle = 1000000
+const LOOP: &str = "cycle = 1000000
 node = [
     {name = 'A', kind = 'station'},
     {name = 'B', kind = 'station'},

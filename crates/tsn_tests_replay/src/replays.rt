@@ -2,7 +2,7 @@
 ghost use Rattle.std.specs.Prelude.{◌≤◌, IfOk};
 ghost use Rattle.tsn_model.specs.Schedule.{IsValid};
 
-use crate::timing::{FAST, ONE, TWO, star_text};
+use crate::networks::{FAST, ONE, TWO, star_text};
 use std::alloc::Global;
 use std::process::Abort;
 use std::test::Fail;

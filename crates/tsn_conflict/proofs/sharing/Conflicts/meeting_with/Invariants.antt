@@ -1,0 +1,7 @@
+use Rattle.std.proofs.Common.{ℕ, ◌<◌, get_or}
+use Rattle.tsn_conflict.specs.Raised.{triple_at}
+use Rattle.tsn_conflict.specs.Pairs.{Meets}
+use Rattle.tsn_conflict.proofs.sharing.Conflicts.meeting_with.Given as goal
+
+abbrev pub invariant-loop-place : goal.invariant-loop-place
+invariant-loop-place l = (k : ℕ) → k < l.place-index → Meets l.self.uses l.offsets (triple_at l.self.triples (get_or l.place-items k 0)) → ⊥

@@ -1,0 +1,73 @@
+-- Words of the private contracts: the table of what each triple's overlap needs, and where each stream's triples are.
+use Rattle.std.specs.Prelude.{◌≡◌, ℕ, ◌+◌, ◌-◌, ◌≤◌, ◌<◌, Bool, true, ◌||◌, ◌==◌, List, [], map, filter, length, slice_index_or}
+use Rattle.std.specs.List.{range_with_len}
+use Rattle.tsn_model.specs.declared.Triple.{Triple}
+use Rattle.tsn_model.specs.Network.{Network}
+use Rattle.tsn_model.specs.Schedule.{offset_of}
+use Rattle.tsn_conflict.specs.declared.uses.Use.{Use}
+use Rattle.tsn_conflict.specs.declared.pairs.Pair.{Pair}
+use Rattle.tsn_conflict.specs.declared.places.Places.{Places}
+use Rattle.tsn_conflict.specs.Kept.{Kept, use_in, AreConflictsOf}
+use Rattle.tsn_conflict.specs.Raised.{triple_at}
+
+-- a triple's two uses of its link are kept, and no later or longer than a network's limits allow
+pub record IsInUses (uses : List (List Use)) (triple : Triple) : Type 0 where
+  pub few : length uses ≤ 128
+  pub left_row : triple.left < length uses
+  pub left_link : triple.link < length (slice_index_or uses triple.left [])
+  pub left_early : (use_in uses triple.left triple.link).start ≤ 51584000
+  pub left_short : (use_in uses triple.left triple.link).occupancy ≤ 1233600
+  pub right_row : triple.right < length uses
+  pub right_link : triple.link < length (slice_index_or uses triple.right [])
+  pub right_early : (use_in uses triple.right triple.link).start ≤ 51584000
+  pub right_short : (use_in uses triple.right triple.link).occupancy ≤ 1233600
+
+-- by these offsets each stream of the triple starts on its link before the other one's occupancy ends
+pub record Meets (uses : List (List Use)) (offsets : List ℕ) (triple : Triple) : Type 0 where
+  pub left_begun : offset_of offsets triple.left + (use_in uses triple.left triple.link).start
+      < offset_of offsets triple.right + (use_in uses triple.right triple.link).start + (use_in uses triple.right triple.link).occupancy
+  pub right_begun : offset_of offsets triple.right + (use_in uses triple.right triple.link).start
+      < offset_of offsets triple.left + (use_in uses triple.left triple.link).start + (use_in uses triple.left triple.link).occupancy
+
+-- the streams of a triple, and between which bounds the gap of their offsets lies where they meet
+unfoldable pub pair_in : List (List Use) → Triple → Pair
+pair_in uses triple = record {
+  left = triple.left;
+  right = triple.right;
+  above = 1000000000 + (use_in uses triple.right triple.link).start - ((use_in uses triple.left triple.link).start + (use_in uses triple.left triple.link).occupancy);
+  below = 1000000000 + (use_in uses triple.right triple.link).start + (use_in uses triple.right triple.link).occupancy - (use_in uses triple.left triple.link).start;
+}
+
+-- whether a stream is on either side of a triple
+abbrev pub has_stream : ℕ → Triple → Bool
+has_stream stream triple = (triple.left == stream) || (triple.right == stream)
+
+-- the places of the triples that have a stream, ascending
+unfoldable pub places_with : List Triple → ℕ → List ℕ
+places_with triples stream = filter (λ place. has_stream stream (triple_at triples place)) (range_with_len 0 (length triples))
+
+-- the places that each list holds
+abbrev pub places_in : List Places → List (List ℕ)
+places_in lists = map (λ (list : Places). list.places.items) lists
+
+-- the triples from one place up to another don't meet
+abbrev pub AreApartBetween : Kept → List ℕ → ℕ → ℕ → Type 0
+AreApartBetween kept offsets from end = (place : ℕ) → from ≤ place → place < end → Meets kept.uses offsets (triple_at kept.triples place) → ⊥
+
+-- the triples before a place that have the stream don't meet
+abbrev pub IsApartBefore : Kept → List ℕ → ℕ → ℕ → Type 0
+IsApartBefore kept offsets end stream = (place : ℕ) → place < end → has_stream stream (triple_at kept.triples place) ≡ true → Meets kept.uses offsets (triple_at kept.triples place) → ⊥
+
+-- the triple at the place meets, and none from `from` up to it does
+pub record IsNextMeeting (kept : Kept) (offsets : List ℕ) (from place : ℕ) : Type 0 where
+  pub not_earlier : from ≤ place
+  pub listed : place < length kept.triples
+  pub meets : Meets kept.uses offsets (triple_at kept.triples place)
+  pub apart : AreApartBetween kept offsets from place
+
+-- it is kept of some network, and the tables are those of what is kept
+pub record IsTabled (kept : Kept) (pairs : List Pair) (places : List (List ℕ)) : Type 0 where
+  pub network : Network
+  pub of_network : AreConflictsOf network kept
+  pub pairs_made : pairs ≡ map (pair_in kept.uses) kept.triples
+  pub places_made : places ≡ map (places_with kept.triples) (range_with_len 0 (length kept.uses))

@@ -1,0 +1,7 @@
+//! Tests of times and least offsets. A crate with tests is proved twice, so they stand apart.
+#![tactic(auto)]
+
+#[cfg(test)]
+mod least_offsets;
+#[cfg(test)]
+mod timing;

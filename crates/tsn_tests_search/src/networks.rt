@@ -1,0 +1,84 @@
+//! The networks of these tests.
+
+use std::alloc::Global;
+use std::test::Fail;
+use tsn_net::read_problem;
+use tsn_timing::Timing;
+
+/// Stations A, B and C, and a bridge.
+const NODES: &str = "node = [
+    {name = 'A', kind = 'station'},
+    {name = 'B', kind = 'station'},
+    {name = 'C', kind = 'station'},
+    {name = 'S', kind = 'bridge', proc = 1000},
+]
+";
+
+/// The cables from A and B to the bridge, and the one from there to C.
+pub const FAST: &str = "link = [
+    {a = 'A', b = 'S', mbps = 1000, prop = 50},
+    {a = 'B', b = 'S', mbps = 1000, prop = 50},
+    {a = 'S', b = 'C', mbps = 1000, prop = 50},
+]
+";
+
+/// The timing of a network round one bridge.
+pub fn star(alloc: Global, cycle: u64, cables: &str, streams: &str) -> Result<Timing, Fail> {
+    let text = star_text(alloc, cycle, cables, streams)?;
+    timing_of(alloc, text.as_str())
+}
+
+/// The file of a network round one bridge.
+pub fn star_text(alloc: Global, cycle: u64, cables: &str, streams: &str) -> Result<String, Fail> {
+    let mut text = format!(in alloc; "cycle = {cycle}\n")?;
+    text.push_str(NODES)?;
+    text.push_str(cables)?;
+    text.push_str(streams)?;
+    Ok(text)
+}
+
+pub fn timing_of(alloc: Global, text: &str) -> Result<Timing, Fail> {
+    let problem = read_problem(alloc, text.as_bytes()).map_err(|_| "the network is refused")?;
+    Ok(Timing::of(alloc, &problem)?)
+}
+
+pub const ONE: &str = "stream = [{name = 'one', octets = 64, route = ['A', 'S', 'C']}]
+";
+
+pub const TWO: &str = "stream = [
+    {name = 'one', octets = 64, route = ['A', 'S', 'C']},
+    {name = 'two', octets = 64, route = ['B', 'S', 'C']},
+]
+";
+
+pub const LONG: &str = "stream = [
+    {name = 'one', octets = 64, route = ['A', 'S', 'C']},
+    {name = 'two', octets = 1522, route = ['B', 'S', 'C']},
+]
+";
+
+/// Stations A, B and C, bridges S, T, V and U without processing time; the cable from T to V is long.
+pub const LOOP: &str = "cycle = 1000000
+node = [
+    {name = 'A', kind = 'station'},
+    {name = 'B', kind = 'station'},
+    {name = 'C', kind = 'station'},
+    {name = 'S', kind = 'bridge', proc = 0},
+    {name = 'T', kind = 'bridge', proc = 0},
+    {name = 'V', kind = 'bridge', proc = 0},
+    {name = 'U', kind = 'bridge', proc = 0},
+]
+link = [
+    {a = 'A', b = 'S', mbps = 1000, prop = 0},
+    {a = 'B', b = 'S', mbps = 1000, prop = 0},
+    {a = 'S', b = 'T', mbps = 1000, prop = 0},
+    {a = 'T', b = 'V', mbps = 1000, prop = 768},
+    {a = 'V', b = 'U', mbps = 1000, prop = 0},
+    {a = 'T', b = 'U', mbps = 1000, prop = 0},
+    {a = 'U', b = 'C', mbps = 1000, prop = 0},
+]
+stream = [
+    {name = 'one', octets = 64, route = ['A', 'S', 'T', 'V', 'U', 'C']},
+    {name = 'two', octets = 64, route = ['B', 'S', 'T', 'U', 'C']},
+]
+";
