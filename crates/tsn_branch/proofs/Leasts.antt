@@ -79,9 +79,9 @@ small_offsets network offsets formed count fit k d below =
 
 -- a closed chain of positive sum refutes the path
 pub IsRefutation-from : (network : Network) (path : List Decision) (chain : List ℕ) → diff.Refutes (length (unreleased network)) (arcs_of network path) chain
-    → IsRefutation network path (positive_cycle chain)
+    → (target : ℕ) → IsRefutation network path target (positive_cycle chain)
 unfolding sum_on
-IsRefutation-from network path chain refutes = (
+IsRefutation-from network path chain refutes target = (
   λ offsets held. refutes.none (λ i. pos (offset_of offsets i)) held,
   λ target. (refutes.cycle.closed, refutes.cycle.positive),
 )

@@ -5,3 +5,5 @@ pub mod Descents
 pub mod Ways
 pub mod Raised
 pub mod Findings
+pub mod Loading
+pub mod Shown

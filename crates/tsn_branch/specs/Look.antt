@@ -1,17 +1,19 @@
 -- What a look at a node says.
 --     AreLeast, HasNoOffsets                what the decisions of a path ask of the offsets
 --     IsFirstOverrun, AllFit, IsFirstLast   when the streams are done by these
+--     ShowsLink                             the entries of a link's streams
 --     IsLook                                the first case that holds, and what it holds
 --     HasProof, SplitsUndecided, PrunesFrom what is right of an outcome whatever was settled before
-use Rattle.std.specs.Prelude.{◌≡◌, ℕ, ◌+◌, ◌≤◌, ◌<◌, List, length, pos}
+use Rattle.std.specs.Prelude.{◌≡◌, ℕ, ◌+◌, ◌≤◌, ◌<◌, List, length, map, All, pos, ◌≤ℤ◌, ◌<ℤ◌}
 use Rattle.tsn_model.specs.declared.Decision.{Decision}
 use Rattle.tsn_model.specs.Network.{Network, stream_count}
 use Rattle.tsn_model.specs.Timing.{arrival, span}
 use Rattle.tsn_model.specs.Schedule.{IsValid, flowspan, offset_of, IsConflict, FitsCycle, IsFirstOverlap}
 use Rattle.tsn_model.specs.Arcs.{arcs_of, HoldsAll}
-use Rattle.tsn_model.specs.Certificate.{Leaf, late, overrun, positive_cycle, load, overload, LeadsTo, sum_on, Proves}
+use Rattle.tsn_model.specs.Certificate.{Leaf, late, overrun, positive_cycle, load, overload, Entry, LeadsTo, sum_on, Proves}
 use Rattle.tsn_model.specs.Search.{Outcome, split, solved, pruned, refuted, Refutes}
 use Rattle.tsn_branch.specs.Path.{IsUndecided}
+use Rattle.tsn_branch.specs.Links.{users_of, shared_links, busy_by, load_by, IsUnloaded, IsFirstLoaded}
 
 -- ---- offsets on a path
 
@@ -49,15 +51,25 @@ pub record IsFirstLast (network : Network) (offsets : List ℕ) (i : ℕ) : Type
   pub arrives : offset_of offsets i + arrival network i ≡ flowspan network offsets
   pub sooner_before : (j : ℕ) → j < i → offset_of offsets j + arrival network j < flowspan network offsets
 
+-- ---- links
+
+-- the entries are of all the link's streams, in order, and each one's chain shows its offset
+pub record ShowsLink (network : Network) (path : List Decision) (offsets : List ℕ) (link : ℕ) (entries : List Entry) : Type 0 where
+  pub streams : map (λ entry. entry.stream) entries ≡ users_of network link
+  pub chains : All (λ entry. IsShownBy network path offsets entry.stream entry.chain) entries
+
 -- ---- the cases
 
--- a cycle shows that no offsets hold the path's arcs; or by the least ones a stream overruns the cycle, as its chain shows
-abbrev pub IsRefutation : Network → List Decision → Leaf → Type 0
-IsRefutation network path (late i chain) = ⊥
-IsRefutation network path (overrun i chain) = (offsets : List ℕ) × AreLeast network path offsets × IsFirstOverrun network offsets i × IsShownBy network path offsets i chain
-IsRefutation network path (positive_cycle chain) = HasNoOffsets network path × Refutes network path (positive_cycle chain)
-IsRefutation network path (load link entries) = ⊥
-IsRefutation network path (overload link entries) = ⊥
+-- a cycle shows that no offsets hold the path's arcs; or by the least ones a stream overruns the cycle, as its chain shows;
+-- or by these all streams fit the cycle, the flowspan is below the target, and the first loaded link is busy behind the cycle
+abbrev pub IsRefutation : Network → List Decision → ℕ → Leaf → Type 0
+IsRefutation network path target (late i chain) = ⊥
+IsRefutation network path target (overrun i chain) = (offsets : List ℕ) × AreLeast network path offsets × IsFirstOverrun network offsets i × IsShownBy network path offsets i chain
+IsRefutation network path target (positive_cycle chain) = HasNoOffsets network path × Refutes network path (positive_cycle chain)
+IsRefutation network path target (load link entries) = ⊥
+IsRefutation network path target (overload link entries) =
+    (offsets : List ℕ) × AreLeast network path offsets × AllFit network offsets × (flowspan network offsets < target)
+    × IsFirstLoaded network offsets target link × (pos network.cycle <ℤ busy_by network offsets link) × ShowsLink network path offsets link entries
 
 -- the leaf shows the flowspan of the offsets, by the first stream that arrives then
 abbrev pub ShowsFlowspan : Network → List Decision → List ℕ → Leaf → Type 0
@@ -67,19 +79,33 @@ ShowsFlowspan network path offsets (positive_cycle chain) = ⊥
 ShowsFlowspan network path offsets (load link entries) = ⊥
 ShowsFlowspan network path offsets (overload link entries) = ⊥
 
--- refuted; or by the least offsets all streams fit the cycle, and then pruned where their flowspan is at least the target;
--- else split on the first overlap; and solved where there is none
-abbrev pub IsLook : Network → List Decision → ℕ → Outcome → Type 0
-IsLook network path target (refuted leaf) = IsRefutation network path leaf
-IsLook network path target (pruned bound leaf) =
+-- by the least offsets all streams fit the cycle, and the flowspan is at least the target; or it is not, and the first loaded link
+-- is done within the cycle but asks for a flowspan of at least the target
+abbrev pub IsPruning : Network → List Decision → ℕ → ℕ → Leaf → Type 0
+IsPruning network path target bound (late i chain) =
     (offsets : List ℕ) × AreLeast network path offsets × AllFit network offsets
-    × (bound ≡ flowspan network offsets) × (target ≤ bound) × ShowsFlowspan network path offsets leaf
+    × (bound ≡ flowspan network offsets) × (target ≤ bound) × ShowsFlowspan network path offsets (late i chain)
+IsPruning network path target bound (overrun i chain) = ⊥
+IsPruning network path target bound (positive_cycle chain) = ⊥
+IsPruning network path target bound (load link entries) =
+    (offsets : List ℕ) × AreLeast network path offsets × AllFit network offsets × (flowspan network offsets < target)
+    × IsFirstLoaded network offsets target link × (busy_by network offsets link ≤ℤ pos network.cycle)
+    × (pos bound ≡ load_by network offsets link) × (target ≤ bound) × ShowsLink network path offsets link entries
+IsPruning network path target bound (overload link entries) = ⊥
+
+-- refuted; or by the least offsets all streams fit the cycle, and then pruned where their flowspan is at least the target;
+-- refuted or pruned where a link is loaded; else split on the first overlap; and solved where there is none
+abbrev pub IsLook : Network → List Decision → ℕ → Outcome → Type 0
+IsLook network path target (refuted leaf) = IsRefutation network path target leaf
+IsLook network path target (pruned bound leaf) = IsPruning network path target bound leaf
 IsLook network path target (split triple) =
     (offsets : List ℕ) × AreLeast network path offsets × AllFit network offsets
     × (flowspan network offsets < target) × IsFirstOverlap network offsets triple
+    × All (IsUnloaded network offsets target) (shared_links network)
 IsLook network path target (solved offsets bound leaf) =
     AreLeast network path offsets × IsValid network offsets
     × (bound ≡ flowspan network offsets) × (bound < target) × ShowsFlowspan network path offsets leaf
+    × All (IsUnloaded network offsets target) (shared_links network)
 
 -- ---- what is right of an outcome
 

@@ -9,11 +9,13 @@ ghost use Rattle.tsn_diff.specs.Answers.{Refutes};
 ghost use Rattle.tsn_conflict.specs.Kept.{AreConflictsOf};
 ghost use Rattle.tsn_branch.specs.Outcome.{outcome_of};
 ghost use Rattle.tsn_branch.specs.Path.{Fits, IsUndecided};
+ghost use Rattle.tsn_branch.specs.Loads.{AreLoadsOf};
 ghost use Rattle.tsn_branch.specs.Look.{IsLook, HasProof, SplitsUndecided, PrunesFrom};
 ghost use Rattle.tsn_branch.specs.Unreleased.{unreleased};
 ghost use Rattle.tsn_branch.specs.Descent.{Stands, Splits, IsAfter, Leads, IsFinding};
 
 use crate::judge::{judge_least, judge_raised};
+use crate::loads::Loads;
 use crate::node::Node;
 use crate::outcome::{Leaf, Look};
 use crate::seen::{Finding, Seen};
@@ -71,9 +73,11 @@ impl Descent {
         alloc: Global,
         timing: &Timing,
         conflicts: &Conflicts,
+        loads: &Loads,
         target: u64,
     ) -> Result<Look, NoMemory>
         requires conflicts { AreConflictsOf timing.now conflicts.now }
+        requires loads { AreLoadsOf timing.now loads.now }
         requires fits { Fits conflicts.now.triples self.old.path }
         requires stands { Stands timing.now self.old }
         ensures path { self.new.path ≡ self.old.path }
@@ -87,7 +91,7 @@ impl Descent {
         if let Some(cycle) = self.lead(timing, conflicts)? {
             return Ok(Look::Refuted(Leaf::Cycle(Chain::of(alloc, &cycle)?)));
         }
-        match self.find(alloc, timing, conflicts, target) {
+        match self.find(alloc, timing, conflicts, loads, target) {
             Ok(Finding::Split(seen)) => {
                 self.found = Some(seen);
                 Ok(Look::Split(conflicts.triples()[seen.place]))
@@ -198,9 +202,11 @@ impl Descent {
         alloc: Global,
         timing: &Timing,
         conflicts: &Conflicts,
+        loads: &Loads,
         target: u64,
     ) -> Result<Finding, NoMemory>
         requires conflicts { AreConflictsOf timing.now conflicts.now }
+        requires loads { AreLoadsOf timing.now loads.now }
         requires leads { Leads timing.now self.now }
         ensures { IfOk result (IsFinding timing.now self.now.path target) }
     {
@@ -209,12 +215,13 @@ impl Descent {
                 alloc,
                 timing,
                 conflicts,
+                loads,
                 self.stack.least(),
                 self.stack.raised(),
                 *parent,
                 target,
             ),
-            None => judge_least(alloc, timing, conflicts, self.stack.least(), target),
+            None => judge_least(alloc, timing, conflicts, loads, self.stack.least(), target),
         }
     }
 }

@@ -5,12 +5,14 @@ ghost use Rattle.std.specs.Prelude.{IfOk};
 ghost use Rattle.tsn_conflict.specs.Kept.{AreConflictsOf};
 ghost use Rattle.tsn_branch.specs.Outcome.{outcome_of};
 ghost use Rattle.tsn_branch.specs.Path.{Fits};
+ghost use Rattle.tsn_branch.specs.Loads.{AreLoadsOf};
 ghost use Rattle.tsn_branch.specs.Look.{IsLook, HasProof, SplitsUndecided, PrunesFrom};
 
 mod arcs;
 pub mod descent;
 mod instants;
 mod judge;
+mod loads;
 pub mod node;
 pub mod outcome;
 mod seen;
@@ -20,6 +22,7 @@ use crate::judge::judge;
 use crate::outcome::Look;
 pub use arcs::fits;
 pub use descent::Descent;
+pub use loads::Loads;
 pub use node::Node;
 pub use outcome::Leaf;
 use std::alloc::Global;
@@ -33,18 +36,23 @@ use tsn_timing::Timing;
 /// 1. No offsets hold the arcs of its path: refuted by a cycle of them.
 /// 2. By the least offsets that do, some stream isn't done within the cycle: refuted by the first such stream.
 /// 3. By these the flowspan is at least the target: pruned with that bound, by the first stream that arrives then.
-/// 4. By these no two streams overlap on a link: solved, with that flowspan.
-/// 5. Else the node is to be split on the first triple whose streams overlap.
+/// 4. By these the streams of some shared link are busy on it behind the cycle, which refutes the node, or else for so long
+///    that the flowspan is at least the target, and the node is pruned with that bound. Of the first such link, all streams
+///    in order show it.
+/// 5. By these no two streams overlap on a link: solved, with that flowspan.
+/// 6. Else the node is to be split on the first triple whose streams overlap.
 ///
 /// The target is in nanoseconds. The error says that there was no memory.
 pub fn look(
     alloc: Global,
     timing: &Timing,
     conflicts: &Conflicts,
+    loads: &Loads,
     node: &Node,
     target: u64,
 ) -> Result<Look, NoMemory>
     requires conflicts { AreConflictsOf timing.now conflicts.now }
+    requires loads { AreLoadsOf timing.now loads.now }
     requires fits { Fits conflicts.now.triples node.now }
     ensures first_case { IfOk result (λ look. IsLook timing.now node.now target (outcome_of look)) }
     ensures proof { IfOk result (λ look. HasProof timing.now node.now (outcome_of look)) }
@@ -53,5 +61,5 @@ pub fn look(
 {
     let arcs = arcs_of(alloc, conflicts, node.path())?;
     let outcome = Net::new(timing.streams()).least(alloc, &arcs)?;
-    judge(alloc, timing, conflicts, &outcome, target)
+    judge(alloc, timing, conflicts, loads, &outcome, target)
 }

@@ -1,10 +1,10 @@
 //! What a look at a node finds.
-use tsn_cert::Chain;
+use tsn_cert::{Chain, Entries};
 use tsn_model::Triple;
 use tsn_timing::Valid;
 
 /// Why no valid schedule on a path has a lesser flowspan, or why there is none. A chain names decisions of the path by
-/// their depths. A look doesn't try the load of a link yet: leaves that rest on it will stand here.
+/// their depths.
 #[derive(Debug, Drop)]
 pub enum Leaf {
     /// The stream arrives too late: the chain's sum and its arrival are at least the bound.
@@ -13,6 +13,12 @@ pub enum Leaf {
     Overrun(usize, Chain),
     /// The decisions contradict one another: the chain is closed, and its sum is above 0.
     Cycle(Chain),
+    /// The streams keep the link busy for too long: the entries' least head, their occupancies of the link and their least
+    /// tail are at least the bound.
+    Load(usize, Entries),
+    /// The streams keep the link busy behind the cycle: the entries' least head and their occupancies of the link are above
+    /// the cycle.
+    Overload(usize, Entries),
 }
 
 /// What a look at a node finds.
@@ -49,6 +55,8 @@ impl From<Leaf> for tsn_cert::Node {
             Leaf::Late(stream, chain) => tsn_cert::Node::Late(stream, chain),
             Leaf::Overrun(stream, chain) => tsn_cert::Node::Overrun(stream, chain),
             Leaf::Cycle(chain) => tsn_cert::Node::Cycle(chain),
+            Leaf::Load(link, entries) => tsn_cert::Node::Load(link, entries),
+            Leaf::Overload(link, entries) => tsn_cert::Node::Overload(link, entries),
         }
     }
 }

@@ -12,6 +12,7 @@ use std::alloc::Global;
 use std::sync::Wait;
 use std::thread::Threads;
 use tsn_book::Book;
+use tsn_branch::Loads;
 use tsn_cert::{Offsets, Plan};
 use tsn_conflict::conflicts;
 use tsn_model::NoMemory;
@@ -40,8 +41,9 @@ pub fn plan<R: Threads + Wait + Sync, G: Gate + Sync>(
 {
     let timing = Timing::of(alloc, problem)?;
     let conflicts = conflicts(alloc, &timing)?;
+    let loads = Loads::of(alloc, &timing)?;
     let book = Book::new(alloc, &timing, workers, limit)?;
-    let book = settle_open(alloc, &timing, &conflicts, gate, limit, book)?;
+    let book = settle_open(alloc, &timing, &conflicts, &loads, gate, limit, book)?;
     if book.open_count() > 0 {
         Ok(Answer::Stopped(book))
     } else {

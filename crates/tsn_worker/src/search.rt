@@ -8,6 +8,7 @@ ghost use Rattle.tsn_search_laws.specs.Walk.{path_made, IsWalk};
 ghost use Rattle.tsn_conflict.specs.Kept.{AreConflictsOf};
 ghost use Rattle.tsn_branch.specs.Outcome.{outcome_of};
 ghost use Rattle.tsn_branch.specs.Path.{IsUndecided};
+ghost use Rattle.tsn_branch.specs.Loads.{AreLoadsOf};
 ghost use Rattle.tsn_branch.specs.Look.{HasProof, SplitsUndecided, PrunesFrom};
 ghost use Rattle.tsn_branch.specs.Descent.{Stands, Splits, Closes};
 ghost use Rattle.tsn_book.specs.Book.{IsLawful};
@@ -16,8 +17,8 @@ ghost use Rattle.tsn_worker.specs.Search.{IsSearchOf, IsSearching, HasChildren, 
 use crate::gate::Gate;
 use std::alloc::Global;
 use tsn_book::{Book, BookFault};
-use tsn_branch::Descent;
 use tsn_branch::outcome::Look;
+use tsn_branch::{Descent, Loads};
 use tsn_conflict::sharing::Conflicts;
 use tsn_model::{NoMemory, Triple};
 use tsn_timing::Timing;
@@ -37,11 +38,13 @@ pub fn settle_open<G: Gate>(
     alloc: Global,
     timing: &Timing,
     conflicts: &Conflicts,
+    loads: &Loads,
     gate: &G,
     limit: usize,
     book: Book,
 ) -> Result<Book, NoMemory>
     requires conflicts { AreConflictsOf timing.now conflicts.now }
+    requires loads { AreLoadsOf timing.now loads.now }
     requires search { IsSearchOf timing.now limit book }
     requires fresh { book.history ≡ [] }
     ensures search { IfOk result (IsSearchOf timing.now limit) }
@@ -55,7 +58,7 @@ pub fn settle_open<G: Gate>(
         waiting: Vec::new(alloc),
     };
     'settlements: while search.book.count() < limit {
-        if !search.settle(alloc, timing, conflicts, gate, limit)? {
+        if !search.settle(alloc, timing, conflicts, loads, gate, limit)? {
             return Ok(search.book);
         }
     }
@@ -69,10 +72,12 @@ impl Search {
         alloc: Global,
         timing: &Timing,
         conflicts: &Conflicts,
+        loads: &Loads,
         gate: &G,
         limit: usize,
     ) -> Result<bool, NoMemory>
         requires conflicts { AreConflictsOf timing.now conflicts.now }
+        requires loads { AreLoadsOf timing.now loads.now }
         requires searching { IsSearching timing.now limit self.old.book self.old.descent self.old.place self.old.waiting.items }
         requires some_left { length self.old.book.history < limit }
         ensures searching { IfOk result (λ more. MatchBool more
@@ -82,7 +87,7 @@ impl Search {
     {
         let look = self
             .descent
-            .look(alloc, timing, conflicts, self.book.best())?;
+            .look(alloc, timing, conflicts, loads, self.book.best())?;
         let split = split_of(&look);
         gate.pass(0);
         record(&mut self.book, self.place, look)?;

@@ -36,5 +36,5 @@ returns-in_ok-of-in-Positive c =
     λ path answers.
     let network = c.args.timing.now in
     let refutes = subst (Answers (unreleased network) (arcs_of network path)) c.in-Positive.is answers in
-    subst (λ (chain : List ℕ). IsRefutation network path (positive_cycle chain)) (sym (c.in_ok-of-in-Positive.ensures ∙ c.deref.ensures.value))
-    (IsRefutation-from network path c.in-Positive.cycle.items refutes)
+    subst (λ (chain : List ℕ). IsRefutation network path c.args.target (positive_cycle chain)) (sym (c.in_ok-of-in-Positive.ensures ∙ c.deref.ensures.value))
+    (IsRefutation-from network path c.in-Positive.cycle.items refutes c.args.target)

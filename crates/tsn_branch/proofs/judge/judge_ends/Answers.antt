@@ -7,6 +7,8 @@ use Rattle.tsn_diff.specs.Forest.{chain_of}
 use Rattle.tsn_diff.specs.Answers.{Answers}
 use Rattle.tsn_conflict.specs.Raised.{OnlyRaisedOverlap, triple_at}
 use Rattle.tsn_branch.specs.Unreleased.{unreleased}
+use Rattle.tsn_branch.specs.Links.{shared_links, IsUnloaded}
+use Rattle.tsn_branch.specs.Loads.{IsFirstLoad}
 use Rattle.tsn_branch.specs.Ends.{AreEnds}
 use Rattle.tsn_branch.specs.Look.{AreLeast, AllFit, IsFirstOverrun, IsFirstLast, IsShownBy, IsRefutation}
 use Rattle.tsn_branch.proofs.Leasts.{count, AreLeast-from, IsShownBy-from, IsRefutation-from, small_offsets, least_same}
@@ -51,30 +53,57 @@ returns-then-end-target c =
       ),
     )
 
-pub first_violated_from-requires-clause-small : goal.first_violated_from-requires-clause-small
-first_violated_from-requires-clause-small c =
+pub first_load-requires-clause-count : goal.first_load-requires-clause-count
+first_load-requires-clause-count c =
+    let path = c.requires.some_path in
+    ap (λ (offsets : List ℕ). length offsets) c.offsets.ensures ∙ count c.args.timing.now path.0 c.args.least.now path.1
+
+pub first_load-requires-clause-small : goal.first_load-requires-clause-small
+first_load-requires-clause-small c =
     let network = c.args.timing.now in
     let path = c.requires.some_path in
     let (fit, last, end) = subst (AreEnds network c.args.least.now.offsets) c.in-Within.is c.requires.ends in
     subst (All (λ offset. offset ≤ 1000000000)) (sym c.offsets.ensures)
     (small_offsets network c.args.least.now.offsets c.requires.conflicts.formed (count network path.0 c.args.least.now path.1) fit)
 
-pub first_violated_from-requires-clause-apart_before : goal.first_violated_from-requires-clause-apart_before
-first_violated_from-requires-clause-apart_before c = subst (λ (offsets : List ℕ). OnlyRaisedOverlap c.args.conflicts.now offsets c.args.raised.now c.args.start) (sym c.offsets.ensures) c.requires.apart
+pub judge_load-requires-clause-found : goal.judge_load-requires-clause-found
+judge_load-requires-clause-found c =
+    (c.args.target, subst (λ (offsets : List ℕ). IsFirstLoad c.args.timing.now offsets c.args.target c.in-Some.found) c.offsets.ensures c.in-Some.ensures)
 
 pub returns-in-Some : goal.returns-in-Some
 returns-in-Some c =
+    λ path solves.
+    let network = c.args.timing.now in
+    let offsets = c.args.least.now.offsets in
+    let (fit, last, end) = subst (AreEnds network offsets) c.in-Within.is c.requires.ends in
+    let found = subst (λ (list : List ℕ). IsFirstLoad network list c.args.target c.in-Some.found) c.offsets.ensures c.in-Some.ensures in
+    (c.in_ok-look.ensures.closes, c.in_ok-look.ensures.look path c.args.target solves fit (omega (arith, end, c.if-end-target.false)) found)
+
+pub first_violated_from-requires-clause-small : goal.first_violated_from-requires-clause-small
+first_violated_from-requires-clause-small c =
+    let network = c.args.timing.now in
+    let path = c.requires.some_path in
+    let (fit, last, end) = subst (AreEnds network c.args.least.now.offsets) c.in-Within.is c.requires.ends in
+    subst (All (λ offset. offset ≤ 1000000000)) (sym c.offsets-2.ensures)
+    (small_offsets network c.args.least.now.offsets c.requires.conflicts.formed (count network path.0 c.args.least.now path.1) fit)
+
+pub first_violated_from-requires-clause-apart_before : goal.first_violated_from-requires-clause-apart_before
+first_violated_from-requires-clause-apart_before c = subst (λ (offsets : List ℕ). OnlyRaisedOverlap c.args.conflicts.now offsets c.args.raised.now c.args.start) (sym c.offsets-2.ensures) c.requires.apart
+
+pub returns-in-Some-first_violated_from : goal.returns-in-Some-first_violated_from
+returns-in-Some-first_violated_from c =
     λ path solves.
     let network = c.args.timing.now in
     let labels = c.args.least.now in
     let conflicts = c.requires.conflicts in
     let ends = subst (AreEnds network labels.offsets) c.in-Within.is c.requires.ends in
     let (fit, last, end) = ends in
-    let found = c.in-Some.ensures network conflicts in
-    let place = c.in-Some.place in
+    let found = c.in-Some-first_violated_from.ensures network conflicts in
+    let place = c.in-Some-first_violated_from.place in
     let overlap : IsFirstOverlap network labels.offsets (triple_at (conflicts_of network) place) =
     subst (λ (ts : List Triple). IsFirstOverlap network labels.offsets (triple_at ts place)) conflicts.triples
-    (subst (λ (offsets : List ℕ). IsFirstOverlap network offsets (triple_at c.args.conflicts.now.triples place)) c.offsets.ensures found.1) in
+    (subst (λ (offsets : List ℕ). IsFirstOverlap network offsets (triple_at c.args.conflicts.now.triples place)) c.offsets-2.ensures found.1) in
+    let unloaded = subst (λ (offsets : List ℕ). All (IsUnloaded network offsets c.args.target) (shared_links network)) c.offsets.ensures c.in_default.ensures in
     let least = AreLeast-from network path labels solves in (
       record {
         within = subst (λ (ts : List Triple). place < length ts) conflicts.triples found.0;
@@ -82,7 +111,7 @@ returns-in-Some c =
             subst (λ list. IsSeenBy network list (record { place = place; last = c.in-Within.last; end = c.in-Within.end })) (least_same network path labels.offsets offsets least other)
             (record { ended = record { fit = fit; last_first = last; end_is = end }; overlap = overlap });
       },
-      (labels.offsets, least, fit, omega (arith, end, c.if-end-target.false), overlap),
+      (labels.offsets, least, fit, omega (arith, end, c.if-end-target.false), overlap, unloaded),
     )
 
 pub returns : goal.returns
@@ -91,4 +120,6 @@ returns c =
     let network = c.args.timing.now in
     let labels = c.args.least.now in
     let (fit, last, end) = subst (AreEnds network labels.offsets) c.in-Within.is c.requires.ends in
-    solution_found network path c.in-Within.end c.args.target (outcome_of c.in_ok-look.look) (omega (arith, c.if-end-target.false)) (c.in_ok-look.ensures path solves)
+    let unloaded = subst (λ (offsets : List ℕ). All (IsUnloaded network offsets c.args.target) (shared_links network)) c.offsets.ensures c.in_default.ensures in
+    solution_found network path labels.offsets c.in-Within.end c.args.target (outcome_of c.in_ok-look-2.look) (omega (arith, c.if-end-target.false)) (AreLeast-from network path labels solves) unloaded
+    (c.in_ok-look-2.ensures path solves)

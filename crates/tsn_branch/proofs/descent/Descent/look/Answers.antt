@@ -17,7 +17,7 @@ returns-in-Some-clause-first_case c =
     let network = c.args.timing.now in
     let path = c.args.self.now.path in
     let led = of_some _ _ c.in_ok-cycle.field-0 c.in-Some.cycle c.in-Some.is c.in_ok-cycle.ensures.led in
-    subst (λ (chain : List ℕ). IsRefutation network path (positive_cycle chain)) (sym (c.in_ok-of.ensures ∙ c.deref.ensures.value)) (IsRefutation-from network path c.in-Some.cycle.items led.1)
+    subst (λ (chain : List ℕ). IsRefutation network path c.args.target (positive_cycle chain)) (sym (c.in_ok-of.ensures ∙ c.deref.ensures.value)) (IsRefutation-from network path c.in-Some.cycle.items led.1 c.args.target)
 
 pub returns-in-Some-clause-proof : goal.returns-in-Some-clause-proof
 returns-in-Some-clause-proof c = (returns-in-Some-clause-first_case c).1

@@ -1,0 +1,62 @@
+use Rattle.std.proofs.Common.{◌≡◌, ◌<◌, ℕ, List, length, get_or, map, All, Some, sym, ap, ◌∙◌, subst, arith}
+use Rattle.std.proofs.lemmas.List.{length-map}
+use Rattle.std.proofs.lemmas.Option.{slice_get-get_or}
+use Rattle.tsn_model.specs.Network.{Network, IsWellFormed, stream_count}
+use Rattle.tsn_branch.specs.declared.loads.LinkTable.{LinkTable}
+use Rattle.tsn_branch.specs.Links.{shared_links}
+use Rattle.tsn_branch.specs.Loads.{IsEarly, link_in, shared_link}
+use Rattle.tsn_branch.proofs.Leasts.{count, short}
+use Rattle.tsn_branch.proofs.Loading.{IsMeasured, table_there, table_measured, users_are, link_is}
+use Rattle.tsn_branch.proofs.Shown.{shown_by}
+use Rattle.tsn_branch.proofs.judge.entries_at.Goals as goal
+
+module _ (network : Network) (tables : List LinkTable) (same : map link_in tables ≡ map (shared_link network) (shared_links network)) (place : ℕ) (below : place < length (shared_links network))
+    (table : LinkTable) (is : table ≡ get_or tables place table) where
+  there : link_in table ≡ shared_link network (get_or (shared_links network) place 0)
+  there =
+      (table_there network tables place table same
+      (omega (arith, ap length same, length-map tables link_in, length-map (shared_links network) (shared_link network))) is).1
+
+  measured : IsWellFormed network → IsMeasured network table
+  measured formed = table_measured network formed place table below there
+
+pub entries_of-requires-clause-some_user : goal.entries_of-requires-clause-some_user
+entries_of-requires-clause-some_user c =
+    let found = measured c.args.timing.now c.tables.result.now (c.tables.ensures ∙ c.requires.loads) c.args.place c.requires.place c.index-tables-place.result c.index-tables-place.is c.requires.formed in
+    omega (arith, found.several, ap length c.deref.ensures.value)
+
+pub entries_of-requires-clause-few_users : goal.entries_of-requires-clause-few_users
+entries_of-requires-clause-few_users c =
+    let found = measured c.args.timing.now c.tables.result.now (c.tables.ensures ∙ c.requires.loads) c.args.place c.requires.place c.index-tables-place.result c.index-tables-place.is c.requires.formed in
+    omega (arith, found.few, ap length c.deref.ensures.value)
+
+pub entries_of-requires-clause-streams : goal.entries_of-requires-clause-streams
+entries_of-requires-clause-streams c k d below =
+    let network = c.args.timing.now in
+    let found = measured network c.tables.result.now (c.tables.ensures ∙ c.requires.loads) c.args.place c.requires.place c.index-tables-place.result c.index-tables-place.is c.requires.formed in
+    let early = subst (All (IsEarly (stream_count network))) (sym c.deref.ensures.value) found.early in
+    let path = c.requires.some_path in
+    subst (λ n. (get_or c.deref.result.now k d).stream < n) (sym (count network path.0 c.args.least.now path.1)) (early k d below).counted
+
+pub entries_of-requires-clause-short : goal.entries_of-requires-clause-short
+entries_of-requires-clause-short c k d below =
+    let network = c.args.timing.now in
+    let found = measured network c.tables.result.now (c.tables.ensures ∙ c.requires.loads) c.args.place c.requires.place c.index-tables-place.result c.index-tables-place.is c.requires.formed in
+    let early = subst (All (IsEarly (stream_count network))) (sym c.deref.ensures.value) found.early in
+    let path = c.requires.some_path in
+    short network path.0 c.args.least.now path.1 c.requires.formed (get_or c.deref.result.now k d).stream (early k d below).counted
+
+pub returns-clause-link : goal.returns-clause-link
+returns-clause-link c =
+    let network = c.args.timing.now in
+    let is = there network c.tables.result.now (c.tables.ensures ∙ c.requires.loads) c.args.place c.requires.place c.index-tables-place.result c.index-tables-place.is in
+    let link = get_or (shared_links network) c.args.place 0 in
+    slice_get-get_or (shared_links network) c.args.place 0 c.requires.place ∙ ap Some (sym (link_is network link (link_in c.index-tables-place.result) is))
+
+pub returns-clause-shown : goal.returns-clause-shown
+returns-clause-shown c path solves =
+    let network = c.args.timing.now in
+    let is = there network c.tables.result.now (c.tables.ensures ∙ c.requires.loads) c.args.place c.requires.place c.index-tables-place.result c.index-tables-place.is in
+    let link = get_or (shared_links network) c.args.place 0 in
+    shown_by network path c.args.least.now solves link c.index-tables-place.result.link c.deref.result.now c.in_ok-entries_of.field-0
+    (link_is network link (link_in c.index-tables-place.result) is) (c.deref.ensures.value ∙ users_are network link (link_in c.index-tables-place.result) is) c.in_ok-entries_of.ensures

@@ -1,0 +1,29 @@
+use Rattle.std.proofs.Common.{get_or, pos, ap, ◌∙◌, arith}
+use Rattle.tsn_branch.specs.declared.loads.User.{User}
+use Rattle.tsn_branch.proofs.Loading.{head_first, head_more}
+use Rattle.tsn_branch.proofs.loads.head.Goals as goal
+
+no_user : User
+no_user = record { stream = 0; start = 0 }
+
+pub loop-place-init : goal.loop-place-init
+unfolding no_user
+loop-place-init c =
+    let first = c.requires.users 0 no_user c.requires.some_user in
+    let small = c.requires.small (get_or c.args.users.now 0 no_user).stream 0 first.counted in
+    record {
+      least_so_far = head_first c.args.offsets.now c.args.users.now no_user c.requires.some_user;
+      early = omega (arith, first.early);
+    }
+
+pub loop-place-preserved : goal.loop-place-preserved
+unfolding no_user
+loop-place-preserved c =
+    let below = c.loop-place-test.true in
+    let some = c.loop-place.auto.place in
+    let is = c.min-least.ensures in
+    let early = c.loop-place.invariant.early in
+    record {
+      least_so_far = ap pos is ∙ head_more c.args.offsets.now c.args.users.now c.loop-place.place no_user c.loop-place.least (omega arith) below c.loop-place.invariant.least_so_far;
+      early = omega arith;
+    }

@@ -1,0 +1,178 @@
+//! The links that several streams share, and how busy they are by a list of offsets.
+ghost use Rattle.std.specs.Prelude.{◌≡◌, ◌≤◌, ◌<◌, ◌+◌, ◌*◌, pos, map, length, All, IfOk, OnOk, MatchOption};
+ghost use Rattle.tsn_model.specs.Network.{stream_count};
+ghost use Rattle.tsn_branch.specs.Links.{shared_links, IsUnloaded};
+ghost use Rattle.tsn_branch.specs.Loads.{AreLoadsOf, IsFirstLoad, IsEarly, head_in, link_in, link_with, shared_link, users_upto, shared_upto};
+
+use std::alloc::{AllocError, Global};
+use std::marker::Model;
+use tsn_model::NoMemory;
+use tsn_timing::Timing;
+
+/// A stream on a link, and when its frame starts there, in nanoseconds from its offset.
+#[derive(Clone, Copy, Debug)]
+pub struct User {
+    pub stream: usize,
+    pub start: u64,
+}
+
+/// A link that several streams use, with what doesn't hang on their offsets, in nanoseconds.
+#[derive(Debug, Drop)]
+pub struct LinkTable {
+    pub link: usize,
+    /// The streams, in order.
+    pub users: Vec<User>,
+    /// How long the streams occupy the link, one after another.
+    pub work: u64,
+    /// How long after its occupancy of the link one of the streams arrives at the soonest; below 0 where its gap outlasts
+    /// its arrival.
+    pub tail: i64,
+}
+
+/// The links that two or more streams use, as far as they don't hang on offsets.
+#[derive(Debug, Drop)]
+pub struct Loads {
+    tables: Vec<LinkTable>,
+}
+
+impl Model for Loads {
+    ghost use Rattle.std.specs.Prelude.{List, map};
+    ghost use Rattle.tsn_branch.specs.Loads.{SharedLink, link_in};
+
+    ghost Value = { List SharedLink };
+
+    ghost view = { λ loads. map link_in loads.tables.items };
+}
+
+/// The first link that is loaded, by its place among those that are shared.
+#[derive(Clone, Copy, Debug)]
+pub enum FirstLoad {
+    /// Its streams are busy on it behind the cycle.
+    Overload(usize),
+    /// Its streams are busy on it for so long that no flowspan is below the bound, in nanoseconds.
+    Load(usize, u64),
+}
+
+impl Loads {
+    /// The shared links of a network. The error says that there was no memory.
+    pub fn of(alloc: Global, timing: &Timing) -> Result<Loads, NoMemory>
+        ensures { IfOk result (AreLoadsOf timing.now) }
+    {
+        let mut tables = Vec::new(alloc);
+        for link in 0..timing.links() {
+            push_shared(alloc, &mut tables, timing, link)?;
+        }
+        Ok(Loads { tables })
+    }
+
+    /// The tables of the shared links, in order.
+    pub(crate) fn tables(&self) -> &[LinkTable]
+        ensures { map link_in result.now ≡ self.now }
+    {
+        &self.tables
+    }
+}
+
+/// Adds the table of the next link if it is shared.
+fn push_shared(
+    alloc: Global,
+    tables: &mut Vec<LinkTable>,
+    timing: &Timing,
+    link: usize,
+) -> Result<(), AllocError>
+    requires link { link < length timing.now.links }
+    requires upto { map link_in tables.old.items ≡ map (shared_link timing.now) (shared_upto timing.now link) }
+    ensures { OnOk result (map link_in tables.new.items ≡ map (shared_link timing.now) (shared_upto timing.now (link + 1))) }
+{
+    let table = table_of(alloc, timing, link)?;
+    if table.users.len() < 2 {
+        return Ok(());
+    }
+    Ok(tables.push(table)?)
+}
+
+/// The table of a link that any number of streams use.
+fn table_of(alloc: Global, timing: &Timing, link: usize) -> Result<LinkTable, AllocError>
+    requires { link < length timing.now.links }
+    ensures { IfOk result (λ table. link_in table ≡ shared_link timing.now link) }
+{
+    let mut table = LinkTable {
+        link,
+        users: Vec::new(alloc),
+        work: 0,
+        tail: 0,
+    };
+    for stream in 0..timing.streams() {
+        table.take(timing, stream)?;
+    }
+    Ok(table)
+}
+
+impl LinkTable {
+    /// Takes the next stream in, if it uses the link.
+    fn take(&mut self, timing: &Timing, stream: usize) -> Result<(), AllocError>
+        requires stream { stream < stream_count timing.now }
+        requires few { stream < 128 }
+        requires upto { link_in self.old ≡ link_with timing.now self.old.link (users_upto timing.now self.old.link stream) }
+        requires short { self.old.work ≤ 1_233_600 * stream }
+        ensures upto { OnOk result (link_in self.new
+            ≡ link_with timing.now self.old.link (users_upto timing.now self.old.link (stream + 1))) }
+        ensures short { OnOk result (self.new.work ≤ 1_233_600 * (stream + 1)) }
+    {
+        let Some(hop) = timing.hop_on(stream, self.link) else {
+            return Ok(());
+        };
+        let start = timing.start(stream, hop);
+        let work = timing.occ(stream, hop);
+        let tail = timing.arrival(stream) as i64 - (start + work) as i64;
+        let least = if self.users.is_empty() {
+            tail
+        } else {
+            self.tail.min(tail)
+        };
+        self.users.push(User { stream, start })?;
+        self.work += work;
+        self.tail = least;
+        Ok(())
+    }
+}
+
+/// The earliest instant at which one of the users starts by the offsets, in nanoseconds.
+fn head(users: &[User], offsets: &[u64]) -> u64
+    requires some_user { 1 ≤ length users.now }
+    requires users { All (IsEarly (length offsets.now)) users.now }
+    requires small { All (λ offset. offset ≤ 1_000_000_000) offsets.now }
+    ensures value { pos result ≡ head_in offsets.now users.now }
+    ensures bound { result ≤ 1_051_584_000 }
+{
+    let first = users[0];
+    let mut least = offsets[first.stream] + first.start;
+    for place in 1..users.len() {
+        let user = users[place];
+        least = least.min(offsets[user.stream] + user.start);
+    }
+    least
+}
+
+/// The first link that is loaded by the offsets: its streams are busy on it behind the cycle, or else for so long that no
+/// flowspan is below the target.
+pub fn first_load(loads: &Loads, timing: &Timing, offsets: &[u64], target: u64) -> Option<FirstLoad>
+    requires loads { AreLoadsOf timing.now loads.now }
+    requires count { length offsets.now ≡ stream_count timing.now }
+    requires small { All (λ offset. offset ≤ 1_000_000_000) offsets.now }
+    ensures { MatchOption result (All (IsUnloaded timing.now offsets.now target) (shared_links timing.now))
+        (IsFirstLoad timing.now offsets.now target) }
+{
+    let cycle = timing.cycle();
+    for (place, table) in loads.tables().iter().enumerate() {
+        let busy = head(&table.users, offsets) + table.work;
+        if busy > cycle {
+            return Some(FirstLoad::Overload(place));
+        }
+        let bound = busy as i64 + table.tail;
+        if bound >= 0 && bound as u64 >= target {
+            return Some(FirstLoad::Load(place, bound as u64));
+        }
+    }
+    None
+}
