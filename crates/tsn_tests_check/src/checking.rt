@@ -112,6 +112,8 @@ fn faults_have_numbers(rt: HostRuntime) {
         (CheckFault::NotConflict(7), 5, Some(7)),
         (CheckFault::ChainBroken(7), 6, Some(7)),
         (CheckFault::BoundTooLow(7), 7, Some(7)),
+        (CheckFault::StreamRepeated(7), 8, Some(7)),
+        (CheckFault::NotOnLink(7), 9, Some(7)),
         (CheckFault::Memory, 10, None),
     ] {
         assert_eq!(rt; fault.number(), number);
@@ -173,6 +175,47 @@ fn nodes_are_judged_in_order(rt: HostRuntime) -> Result<(), Fail> {
         (
             "[\"branch\",0,1,4],[\"late\",1,[0,0]],[\"late\",0,[0]]",
             Err(CheckFault::ChainBroken(1)),
+        ),
+        // Both streams are on link 4 from 1626 on, for 1344 ns, and arrive 46 ns before they leave it; the order is free.
+        ("[\"load\",4,[[0,[]],[1,[]]]]", OPTIMAL),
+        ("[\"load\",4,[[1,[]],[0,[]]]]", OPTIMAL),
+        ("[\"load\",4,[[0,[]]]]", Err(CheckFault::BoundTooLow(0))),
+        (
+            "[\"overload\",4,[[0,[]],[1,[]]]]",
+            Err(CheckFault::BoundTooLow(0)),
+        ),
+        // Below a decision one stream alone does, with its chain.
+        (
+            "[\"branch\",0,1,4],[\"load\",4,[[1,[0]]]],[\"load\",4,[[1,[]],[0,[0]]]]",
+            OPTIMAL,
+        ),
+        (
+            "[\"branch\",0,1,4],[\"load\",4,[[1,[0]],[0,[0]]]],[\"late\",0,[0]]",
+            Err(CheckFault::ChainBroken(1)),
+        ),
+        (
+            "[\"load\",4,[[0,[]],[0,[]]]]",
+            Err(CheckFault::StreamRepeated(0)),
+        ),
+        // Stream 1 doesn't use link 0, neither uses link 99, and there is no stream 2.
+        (
+            "[\"load\",0,[[0,[]],[1,[]]]]",
+            Err(CheckFault::NotOnLink(0)),
+        ),
+        ("[\"overload\",99,[[0,[]]]]", Err(CheckFault::NotOnLink(0))),
+        ("[\"overload\",4,[[2,[]]]]", Err(CheckFault::NotOnLink(0))),
+        // The first entry that is wrong is told; of one entry, first the link, then the stream, then the chain.
+        (
+            "[\"load\",4,[[0,[0]],[0,[]],[2,[]]]]",
+            Err(CheckFault::ChainBroken(0)),
+        ),
+        (
+            "[\"load\",4,[[0,[]],[0,[0]],[2,[]]]]",
+            Err(CheckFault::StreamRepeated(0)),
+        ),
+        (
+            "[\"load\",0,[[0,[]],[1,[0]]]]",
+            Err(CheckFault::NotOnLink(0)),
         ),
         // A conflict may be branched on again; where its sides contradict each other they close a chain of 1344.
         (
@@ -264,9 +307,12 @@ fn bounds_hold_to_the_nanosecond(rt: HostRuntime) -> Result<(), Fail> {
     let alloc = rt.alloc();
     let both = "[\"branch\",0,1,4],[\"overrun\",1,[0]],[\"overrun\",0,[0]]";
     let one = "[\"overrun\",0,[]]";
+    let link = "[\"overload\",4,[[0,[]],[1,[]]]]";
     for (cycle, network, nodes, answer) in [
         (2969, TWO, both, NO_SCHEDULE),
         (2970, TWO, both, Err(CheckFault::BoundTooLow(1))),
+        (2969, TWO, link, NO_SCHEDULE),
+        (2970, TWO, link, Err(CheckFault::BoundTooLow(0))),
         (2297, ONE, one, NO_SCHEDULE),
         (2298, ONE, one, Err(CheckFault::BoundTooLow(0))),
     ] {
@@ -285,6 +331,15 @@ fn bounds_hold_to_the_nanosecond(rt: HostRuntime) -> Result<(), Fail> {
         2252,
     )?;
     assert_eq!(rt; least, OPTIMAL);
+    let problem = problem_of(alloc, 1_000_000, TWO)?;
+    let above = checked(
+        alloc,
+        &problem,
+        "{\"flowspan\":2925,\"offsets\":[0,673]}",
+        "[\"load\",4,[[0,[]],[1,[]]]]",
+        2925,
+    )?;
+    assert_eq!(rt; above, Err(CheckFault::BoundTooLow(0)));
     Ok(())
 }
 

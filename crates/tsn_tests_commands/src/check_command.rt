@@ -105,6 +105,9 @@ certificate refused K4 node 3~{"flowspan":2924,"offsets":[0,672]}~{"format":1,"n
 certificate refused K5 node 0~{"flowspan":2924,"offsets":[0,672]}~{"format":1,"nodes":[["branch",0,1,2],["late",1,[0]],["late",0,[0]]],"target":2924}
 certificate refused K6 node 0~{"flowspan":2924,"offsets":[0,672]}~{"format":1,"nodes":[["late",128,[]]],"target":2924}
 certificate refused K7 node 0~{"flowspan":2924,"offsets":[0,672]}~{"format":1,"nodes":[["late",1,[]]],"target":2924}
+certificate refused K8 node 0~{"flowspan":2924,"offsets":[0,672]}~{"format":1,"nodes":[["load",4,[[0,[]],[0,[]]]]],"target":2924}
+certificate refused K9 node 0~{"flowspan":2924,"offsets":[0,672]}~{"format":1,"nodes":[["load",0,[[0,[]],[1,[]]]]],"target":2924}
+accepted optimal 2924~{"flowspan":2924,"offsets":[0,672]}~{"format":1,"nodes":[["load",4,[[0,[]],[1,[]]]]],"target":2924}
 certificate refused K2~{"flowspan":2923,"offsets":[0,672]}~{"format":1,"nodes":[["branch",0,1,4],["late",1,[0]],["late",0,[0]]],"target":2924}
 certificate refused K1~{"flowspan":2924,"offsets":[0,671]}~{"format":1,"nodes":[["branch",0,1,4],["late",1,[0]],["late",0,[0]]],"target":2924}
 certificate refused K2~{"flowspan":2924,"offsets":[0,672]}~{"format":1,"nodes":[["branch",0,1,4],["late",1,[0]],["late",0,[0]]],"target":2923}
@@ -118,7 +121,7 @@ refused plan C3~{"flowspan":2924,"offsets":[0,2000000001]}~{}
 refused cert C1~{"flowspan":2924,"offsets":[0,672]}~{"format":1,"nodes":[["late",0,
 refused cert C1~{"flowspan":0,"offsets":[]}~
 refused cert C2~{"flowspan":2924,"offsets":[0,672]}~{"format":3,"nodes":[],"target":2924}
-refused cert C2~{"flowspan":2924,"offsets":[0,672]}~{"format":1,"nodes":[["load",4,[[0,[]],[0,[]]]]],"target":2924}
+refused cert C2~{"flowspan":2924,"offsets":[0,672]}~{"format":1,"nodes":[["load",4,[]]],"target":2924}
 refused cert C3~{"flowspan":2924,"offsets":[0,672]}~{"format":1,"nodes":[],"target":2000000001}"#;
 
 #[test]
@@ -134,7 +137,9 @@ fn takes_a_network_without_schedule(rt: HostRuntime) -> Result<(), Fail> {
     let alloc = rt.alloc();
     let network = format!(in alloc; "cycle = 2969{TWO}")?;
     let table =
-        r#"accepted no schedule~{"flowspan":null,"offsets":null}~{"format":1,"nodes":[["branch",0,1,4],["overrun",1,[0]],["overrun",0,[0]]],"target":2970}"#;
+        r#"accepted no schedule~{"flowspan":null,"offsets":null}~{"format":1,"nodes":[["branch",0,1,4],["overrun",1,[0]],["overrun",0,[0]]],"target":2970}
+accepted no schedule~{"flowspan":null,"offsets":null}~{"format":1,"nodes":[["overload",4,[[0,[]],[1,[]]]]],"target":2970}
+certificate refused K7 node 0~{"flowspan":null,"offsets":null}~{"format":1,"nodes":[["overload",4,[[1,[]]]]],"target":2970}"#;
     holds(&rt, alloc, network.as_str(), table)
 }
 

@@ -76,7 +76,7 @@ const TWO_PLAN: &str = "{\"flowspan\":2924,\"offsets\":[0,672]}\n";
 const TWO_CERT: &str =
     "{\"format\":1,\"nodes\":[[\"branch\",0,1,4],[\"late\",1,[0]],[\"late\",0,[0]]],\"target\":2924}\n";
 
-/// The run ends with this status and line, and with these files.
+/// The run ends with this status and line, and with these files; a certificate told as `..` may be any that is accepted.
 fn ends<R: Abort + AllocGlobal + Threads + Wait + Sync>(
     rt: &R,
     network: &str,
@@ -107,7 +107,9 @@ fn ends<R: Abort + AllocGlobal + Threads + Wait + Sync>(
     assert_eq!(rt; found, status, "{line}");
     says(rt, &sink, line)?;
     says(rt, &plan_sink, plan)?;
-    says(rt, &cert_sink, cert)?;
+    if cert != ".." {
+        says(rt, &cert_sink, cert)?;
+    }
     if status == 5 {
         return Ok(());
     }
@@ -174,7 +176,7 @@ fn plans_two_streams(rt: HostRuntime) -> Result<(), Fail> {
         row,
     )?;
     let row =
-        r#"no schedule settled 3~{"flowspan":null,"offsets":null}~{"format":1,"nodes":[["branch",0,1,4],["overrun",1,[0]],["overrun",0,[0]]],"target":2970}"#;
+        r#"no schedule settled 1~{"flowspan":null,"offsets":null}~{"format":1,"nodes":[["overload",4,[[0,[]],[1,[]]]]],"target":2970}"#;
     ends(
         &rt,
         &network(rt.alloc(), 2969, 1000, SECOND)?,
@@ -246,7 +248,7 @@ fn plans_over_a_slow_link(rt: HostRuntime) -> Result<(), Fail> {
         row,
     )?;
     let row =
-        r#"no schedule settled 3~{"flowspan":null,"offsets":null}~{"format":1,"nodes":[["branch",0,1,4],["overrun",1,[0]],["overrun",0,[0]]],"target":15066}"#;
+        r#"no schedule settled 1~{"flowspan":null,"offsets":null}~{"format":1,"nodes":[["overload",4,[[0,[]],[1,[]]]]],"target":15066}"#;
     ends(
         &rt,
         &network(rt.alloc(), 15_065, 100, SECOND)?,
@@ -254,6 +256,64 @@ fn plans_over_a_slow_link(rt: HostRuntime) -> Result<(), Fail> {
         4,
         row,
     )
+}
+
+/// Stations A0 to A9 and C round one bridge, and a stream of 64 octets from each of the ten to C.
+fn star_of_ten(alloc: Global, cycle: u64) -> Result<String, AllocError> {
+    let mut nodes = String::new(alloc);
+    let mut cables = String::new(alloc);
+    let mut streams = String::new(alloc);
+    for i in 0..10u64 {
+        nodes.push_str(format!(in alloc; "{{name = 'A{i}', kind = 'station'}}, ")?.as_str())?;
+        cables.push_str(format!(in alloc;
+            "{{a = 'A{i}', b = 'S', mbps = 1000, prop = 50}}, "
+        )?.as_str())?;
+        streams.push_str(format!(in alloc;
+            "{{name = 's{i}', octets = 64, route = ['A{i}', 'S', 'C']}}, "
+        )?.as_str())?;
+    }
+    format!(in alloc;
+        "cycle = {cycle}
+node = [{nodes}{{name = 'C', kind = 'station'}}, {{name = 'S', kind = 'bridge', proc = 1000}}]
+link = [{cables}{{a = 'S', b = 'C', mbps = 1000, prop = 50}}]
+stream = [{streams}]
+"
+    )
+}
+
+/// On the link to C the ten frames need 6720 ns from 1626 on, and arrive 46 ns before they leave it.
+#[test]
+fn plans_a_star_of_ten(rt: HostRuntime) -> Result<(), Fail> {
+    let alloc = rt.alloc();
+    let row =
+        r#"optimal 8300 settled 91~{"flowspan":8300,"offsets":[0,672,1344,2016,2688,3360,4032,4704,5376,6048]}~.."#;
+    ends(&rt, &star_of_ten(alloc, 1_000_000)?, STEPS, 0, row)?;
+    ends(&rt, &star_of_ten(alloc, 8_346)?, 91, 0, row)?;
+    let row =
+        r#"no schedule settled 1~{"flowspan":null,"offsets":null}~{"format":1,"nodes":[["overload",20,[[0,[]],[1,[]],[2,[]],[3,[]],[4,[]],[5,[]],[6,[]],[7,[]],[8,[]],[9,[]]]]],"target":8346}"#;
+    ends(&rt, &star_of_ten(alloc, 8_345)?, STEPS, 4, row)
+}
+
+/// One leaf shows the ten streams' plan.
+#[test]
+fn one_leaf_shows_a_star_of_ten(rt: HostRuntime) -> Result<(), Fail> {
+    let alloc = rt.alloc();
+    let network = star_of_ten(alloc, 1_000_000)?;
+    let mut source = MemorySource::new(network.as_bytes(), 100, NEVER);
+    let mut plan = MemorySource::new(
+        r#"{"flowspan":8300,"offsets":[0,672,1344,2016,2688,3360,4032,4704,5376,6048]}"#.as_bytes(),
+        100,
+        NEVER,
+    );
+    let mut cert = MemorySource::new(
+        r#"{"format":1,"nodes":[["load",20,[[0,[]],[1,[]],[2,[]],[3,[]],[4,[]],[5,[]],[6,[]],[7,[]],[8,[]],[9,[]]]]],"target":8300}"#.as_bytes(),
+        100,
+        NEVER,
+    );
+    let mut sink = MemorySink::new(alloc, 100, NEVER);
+    let status = check_run(alloc, &mut source, &mut plan, &mut cert, &mut sink);
+    assert_eq!(rt; status, 0);
+    says(&rt, &sink, "accepted optimal 8300")
 }
 
 /// Each write of a byte fails once in turn: of the plan, of the certificate, and of the line. What was written before stays,

@@ -3,7 +3,7 @@ use std::alloc::Global;
 use std::process::Abort;
 use std::test::Fail;
 use tsn_cert::{
-    Cert, Chain, FileFault, Node, Nodes, Offsets, Plan, cert_from_json, cert_to_json,
+    Cert, Chain, Entries, FileFault, Node, Nodes, Offsets, Plan, cert_from_json, cert_to_json,
     plan_from_json, plan_to_json,
 };
 use tsn_model::Triple;
@@ -166,6 +166,10 @@ fn certificates_are_read_and_printed(rt: HostRuntime) -> Result<(), Fail> {
         "{\"format\":1,\"nodes\":[[\"branch\",0,1,4],[\"late\",1,[0]]],\"target\":2924}\n",
         "{\"format\":1,\"nodes\":[[\"branch\",0,1,4],[\"late\",1,[0]],[\"late\",0,[0]],[\"late\",0,[0]]],\"target\":2924}\n",
         "{\"format\":1,\"nodes\":[[\"branch\",0,1,4],[\"branch\",0,1,12],[\"late\",0,[]],[\"cycle\",[0,1]],[\"late\",0,[]]],\"target\":3648}\n",
+        "{\"format\":1,\"nodes\":[[\"overload\",4,[[0,[]],[1,[]]]]],\"target\":2970}\n",
+        "{\"format\":1,\"nodes\":[[\"load\",20,[[0,[]],[1,[]],[2,[]],[3,[]],[4,[]],[5,[]],[6,[]],[7,[]],[8,[]],[9,[]]]]],\"target\":8300}\n",
+        "{\"format\":1,\"nodes\":[[\"load\",4,[[0,[]],[0,[]]]]],\"target\":2924}\n",
+        "{\"format\":1,\"nodes\":[[\"load\",4294967295,[[4294967295,[4294967295,0]]]]],\"target\":0}\n",
         "{\"format\":1,\"nodes\":[],\"target\":0}\n",
         "{\"format\":1,\"nodes\":[[\"branch\",4294967295,0,0]],\"target\":2000000000}\n",
     ] {
@@ -259,8 +263,24 @@ fn nodes_are_refused(rt: HostRuntime) -> Result<(), Fail> {
         ("[\"branch\",0,0,4]", 0),
         ("[\"branch\",0,1]", 2),
         ("[\"branch\",0,1,4,[]]", 2),
-        ("[\"load\",4,[[0,[]],[1,[]]]]", 2),
-        ("[\"overload\",4,[[0,[]],[1,[]]]]", 2),
+        // Whether the streams differ and use the link is for the check to judge too.
+        ("[\"load\",4,[[0,[]],[1,[]]]]", 0),
+        ("[\"overload\",4,[[0,[]],[0,[]]]]", 0),
+        ("[\"load\",4294967296,[[0,[]]]]", 3),
+        ("[\"load\",4,[[4294967296,[]]]]", 3),
+        ("[\"load\",4,[[0,[]],[1,[4294967296]]]]", 3),
+        ("[\"overload\",4294967296,[[0,[]]]]", 3),
+        ("[\"load\",4294967296,[]]", 2),
+        ("[\"load\",4,[]]", 2),
+        ("[\"load\",4]", 2),
+        ("[\"load\",4,[[0,[]]],0]", 2),
+        ("[\"load\",[[0,[]]],4]", 2),
+        ("[\"load\",4,0]", 2),
+        ("[\"load\",4,[0,[]]]", 2),
+        ("[\"load\",4,[[0]]]", 2),
+        ("[\"load\",4,[[0,[],0]]]", 2),
+        ("[\"load\",4,[[[],0]]]", 2),
+        ("[\"overload\",4,[[0,0]]]", 2),
         ("[]", 2),
         ("[0]", 2),
         ("{}", 2),
@@ -327,6 +347,60 @@ fn chains_have_at_most_128_depths(rt: HostRuntime) -> Result<(), Fail> {
             );
         }
     }
+    Ok(())
+}
+
+#[test]
+fn links_have_at_most_128_entries(rt: HostRuntime) -> Result<(), Fail> {
+    let alloc = rt.alloc();
+    for (others, target, number) in [
+        (127, 2924, 0),
+        (128, 2924, 2),
+        (127, 2000000001u64, 3),
+        (128, 2000000001, 2),
+    ] {
+        let entries = repeated(alloc, "[0,[]],", others)?;
+        for word in ["load", "overload"] {
+            let file = format!(in alloc;
+                "{{\"format\":1,\"nodes\":[[\"{word}\",4,[{entries}[1,[0]]]]],\"target\":{target}}}"
+            )?;
+            assert_eq!(rt;
+                cert_number(alloc, file.as_bytes()),
+                number,
+                "{others} {word}"
+            );
+        }
+    }
+    Ok(())
+}
+
+#[test]
+fn entries_are_made_and_given_back(rt: HostRuntime) -> Result<(), Fail> {
+    let alloc = rt.alloc();
+    let mut list = Vec::new(alloc);
+    list.push((3, Chain::of(alloc, &[])?))?;
+    list.push((5, Chain::of(alloc, &[1, 0])?))?;
+    assert_eq!(rt; list.len(), 2);
+    let entries = Entries::of(list);
+    match entries.list() {
+        [(first, none), (second, two)] => {
+            assert!(rt; *first == 3 && none.depths().is_empty());
+            assert!(rt; *second == 5 && two.depths() == [1, 0].as_slice());
+        }
+        _ => assert!(rt; false, "other entries were made"),
+    }
+    let list = entries.into_list();
+    assert_eq!(rt; list.len(), 2);
+    let mut nodes = Vec::new(alloc);
+    nodes.push(Node::Load(7, Entries::of(list)))?;
+    let cert = Cert {
+        target: 9,
+        nodes: Nodes::of(nodes),
+    };
+    assert_eq!(rt;
+        cert_to_json(alloc, &cert)?.as_str(),
+        "{\"format\":1,\"nodes\":[[\"load\",7,[[3,[]],[5,[1,0]]]]],\"target\":9}\n"
+    );
     Ok(())
 }
 

@@ -9,7 +9,7 @@ use std::process::Abort;
 use std::test::Fail;
 use tsn_book::{Book, BookFault, Event};
 use tsn_branch::outcome::Look;
-use tsn_branch::{Node, Side, Triple, fits, look};
+use tsn_branch::{Loads, Node, Side, Triple, fits, look};
 use tsn_cert::cert_to_json;
 use tsn_conflict::conflicts;
 use tsn_timing::Timing;
@@ -97,7 +97,8 @@ fn event_of<R: Abort + AllocGlobal>(
 {
     let shared = conflicts(rt.alloc(), timing)?;
     assert!(rt; fits(&shared, node));
-    let look = look(rt.alloc(), timing, &shared, node, target)?;
+    let loads = Loads::of(rt.alloc(), timing)?;
+    let look = look(rt.alloc(), timing, &shared, &loads, node, target)?;
     Ok(Event {
         node: node.copy()?,
         look,

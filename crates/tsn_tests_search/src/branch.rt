@@ -1,10 +1,10 @@
 //! Looks at nodes of the search.
 
-use crate::networks::{FAST, LOOP, ONE, TWO, star, timing_of};
+use crate::networks::{FAST, LINE, LOOP, ONE, TWO, star, timing_of};
 use std::process::Abort;
 use std::test::Fail;
 use tsn_branch::outcome::Look;
-use tsn_branch::{Node, Side, Triple, fits, look};
+use tsn_branch::{Loads, Node, Side, Triple, fits, look};
 use tsn_conflict::conflicts;
 use tsn_timing::Timing;
 
@@ -28,8 +28,9 @@ fn found<R: Abort + AllocGlobal>(
 ) -> Result<String, Fail> {
     let alloc = rt.alloc();
     let shared = conflicts(alloc, timing)?;
+    let loads = Loads::of(alloc, timing)?;
     assert!(rt; fits(&shared, node));
-    Ok(match look(alloc, timing, &shared, node, target)? {
+    Ok(match look(alloc, timing, &shared, &loads, node, target)? {
         Look::Split(triple) => {
             format!(in alloc; "split {} {} {}", triple.left, triple.right, triple.link)?
         }
@@ -78,6 +79,53 @@ fn splits_solves_and_prunes(rt: HostRuntime) -> Result<(), Fail> {
         (&right, 2_924, "pruned 2924 Late(0, Chain { depths: [0] })"),
     ] {
         expect_look(&rt, &timing, node, target, answer)?;
+    }
+    Ok(())
+}
+
+#[test]
+fn loads_of_shared_links_prune_and_refute(rt: HostRuntime) -> Result<(), Fail> {
+    let alloc = rt.alloc();
+    let entries = "Entries { list: [(0, Chain { depths: [] }), (1, Chain { depths: [] })] }";
+    // Both streams start on link 4 at 1626, occupy it for 1344 ns together, and arrive 46 ns before their occupancy ends.
+    let pruned = format!(in alloc; "pruned 2924 Load(4, {entries})")?;
+    let refuted = format!(in alloc; "refuted Overload(4, {entries})")?;
+    for (cycle, target, answer) in [
+        (1_000_000, 2_925, "split 0 1 4"),
+        (1_000_000, 2_924, pruned.as_str()),
+        (1_000_000, 2_253, pruned.as_str()),
+        (2_970, 2_971, "split 0 1 4"),
+        (2_970, 2_924, pruned.as_str()),
+        // An overload goes before a load, and a flowspan that is the target before both.
+        (2_969, 2_970, refuted.as_str()),
+        (2_969, 2_924, refuted.as_str()),
+        (2_969, 2_252, "pruned 2252 Late(0, Chain { depths: [] })"),
+    ] {
+        let timing = star(alloc, cycle, FAST, TWO)?;
+        expect_look(&rt, &timing, &Node::root(alloc), target, answer)?;
+    }
+    Ok(())
+}
+
+/// On link 4 both streams are busy from 576 to 1920, and on link 6 from 1152 to 2496; either asks for a flowspan of 2400.
+#[test]
+fn the_first_loaded_link_is_taken(rt: HostRuntime) -> Result<(), Fail> {
+    let alloc = rt.alloc();
+    let entries = "Entries { list: [(0, Chain { depths: [] }), (1, Chain { depths: [] })] }";
+    let pruned = format!(in alloc; "pruned 2400 Load(4, {entries})")?;
+    let first = format!(in alloc; "refuted Overload(4, {entries})")?;
+    let second = format!(in alloc; "refuted Overload(6, {entries})")?;
+    for (cycle, target, answer) in [
+        (2_496, 2_400, pruned.as_str()),
+        (2_496, 2_401, "split 0 1 4"),
+        (2_495, 2_401, second.as_str()),
+        // A load of the first link goes before an overload of the second one.
+        (2_495, 2_400, pruned.as_str()),
+        (1_919, 2_400, first.as_str()),
+    ] {
+        let text = format!(in alloc; "cycle = {cycle}\n{LINE}")?;
+        let timing = timing_of(alloc, text.as_str())?;
+        expect_look(&rt, &timing, &Node::root(alloc), target, answer)?;
     }
     Ok(())
 }

@@ -82,3 +82,24 @@ stream = [
     {name = 'two', octets = 64, route = ['B', 'S', 'T', 'U', 'C']},
 ]
 ";
+
+/// Stations A, B and C, and bridges S and T in a line, without delays but those of the frames. Two streams share the links
+/// from S to T and from there to C.
+pub const LINE: &str = "node = [
+    {name = 'A', kind = 'station'},
+    {name = 'B', kind = 'station'},
+    {name = 'C', kind = 'station'},
+    {name = 'S', kind = 'bridge', proc = 0},
+    {name = 'T', kind = 'bridge', proc = 0},
+]
+link = [
+    {a = 'A', b = 'S', mbps = 1000, prop = 0},
+    {a = 'B', b = 'S', mbps = 1000, prop = 0},
+    {a = 'S', b = 'T', mbps = 1000, prop = 0},
+    {a = 'T', b = 'C', mbps = 1000, prop = 0},
+]
+stream = [
+    {name = 'one', octets = 64, route = ['A', 'S', 'T', 'C']},
+    {name = 'two', octets = 64, route = ['B', 'S', 'T', 'C']},
+]
+";
