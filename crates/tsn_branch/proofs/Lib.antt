@@ -7,3 +7,4 @@ pub mod Raised
 pub mod Findings
 pub mod Loading
 pub mod Shown
+pub mod Calm

@@ -1,8 +1,9 @@
 -- What is kept of a network for the load of its links.
 --     SharedLink, shared_link     a link that two or more streams use
 --     AreLoadsOf                  what is kept is that of a network
+--     IsCalm                      a link that one of its users shows not to be loaded
 --     IsFirstLoad                 the first link that is loaded by a list of offsets, and how
-use Rattle.std.specs.Prelude.{◌≡◌, ℕ, ◌+◌, ◌≤◌, ◌<◌, nat_le, List, map, take, filter, length, is_some, sum_by, slice_get, Some, All, ℤ, pos, ◌-ℤ◌, ◌≤ℤ◌, ◌<ℤ◌}
+use Rattle.std.specs.Prelude.{◌≡◌, ℕ, ◌+◌, ◌≤◌, ◌<◌, nat_le, List, map, take, filter, length, is_some, sum_by, slice_get, Some, All, Contains, ℤ, pos, ◌+ℤ◌, ◌-ℤ◌, ◌≤ℤ◌, ◌<ℤ◌}
 use Rattle.std.specs.List.{range_with_len}
 use Rattle.tsn_model.specs.Network.{Network}
 use Rattle.tsn_model.specs.Timing.{occupancy, arrival, hop_on, start_on}
@@ -66,6 +67,13 @@ entry_by labels user = record { stream = user.stream; chain = chain_of labels us
 -- the earliest instant at which one of the users starts by the offsets
 abbrev pub head_in : List ℕ → List User → ℤ
 head_in offsets users = least (map (λ user. pos (offset_of offsets user.stream + user.start)) users)
+
+-- one of the link's users, put at its offset, starts there so early that the link isn't loaded
+pub record IsCalm (offsets : List ℕ) (cycle target : ℕ) (link : SharedLink) : Type 0 where
+  pub user : User
+  pub there : Contains link.users user
+  pub done : offset_of offsets user.stream + user.start + link.work ≤ cycle
+  pub sooner : (pos (offset_of offsets user.stream + user.start + link.work) +ℤ link.tail) <ℤ pos target
 
 -- the shared link at this place is loaded, and none before it is
 pub record IsLoadedAt (network : Network) (offsets : List ℕ) (target place link : ℕ) : Type 0 where

@@ -1,8 +1,8 @@
 //! The links that several streams share, and how busy they are by a list of offsets.
-ghost use Rattle.std.specs.Prelude.{◌≡◌, ◌≤◌, ◌<◌, ◌+◌, ◌*◌, pos, map, length, All, IfOk, OnOk, MatchOption};
+ghost use Rattle.std.specs.Prelude.{◌≡◌, ◌≤◌, ◌<◌, ◌+◌, ◌*◌, ◌+ℤ◌, ◌≤ℤ◌, pos, map, length, All, IsTrue, IfOk, OnOk, MatchOption};
 ghost use Rattle.tsn_model.specs.Network.{stream_count};
 ghost use Rattle.tsn_branch.specs.Links.{shared_links, IsUnloaded};
-ghost use Rattle.tsn_branch.specs.Loads.{AreLoadsOf, IsFirstLoad, IsEarly, head_in, link_in, link_with, shared_link, users_upto, shared_upto};
+ghost use Rattle.tsn_branch.specs.Loads.{AreLoadsOf, IsFirstLoad, IsCalm, IsEarly, head_in, link_in, link_with, shared_link, users_upto, shared_upto};
 
 use std::alloc::{AllocError, Global};
 use std::marker::Model;
@@ -154,6 +154,32 @@ fn head(users: &[User], offsets: &[u64]) -> u64
     least
 }
 
+/// Whether one of the link's streams starts there so early that the link isn't loaded. Most links have one, so that few heads
+/// are worked out.
+fn is_calm(table: &LinkTable, offsets: &[u64], cycle: u64, target: u64) -> bool
+    requires users { All (IsEarly (length offsets.now)) table.now.users.items }
+    requires small { All (λ offset. offset ≤ 1_000_000_000) offsets.now }
+    requires short_work { table.now.work ≤ 157_900_800 }
+    requires low_tail { pos 0 ≤ℤ (table.now.tail +ℤ pos 60_000_000) }
+    requires high_tail { table.now.tail ≤ℤ pos 60_000_000 }
+    ensures { IsTrue result → IsCalm offsets.now cycle target (link_in table.now) }
+{
+    for user in &table.users {
+        let busy = offsets[user.stream] + user.start + table.work;
+        if cycle < busy {
+            continue;
+        }
+        let bound = busy as i64 + table.tail;
+        if bound < 0 {
+            return true;
+        }
+        if (bound as u64) < target {
+            return true;
+        }
+    }
+    false
+}
+
 /// The first link that is loaded by the offsets: its streams are busy on it behind the cycle, or else for so long that no
 /// flowspan is below the target.
 pub fn first_load(loads: &Loads, timing: &Timing, offsets: &[u64], target: u64) -> Option<FirstLoad>
@@ -165,6 +191,9 @@ pub fn first_load(loads: &Loads, timing: &Timing, offsets: &[u64], target: u64) 
 {
     let cycle = timing.cycle();
     for (place, table) in loads.tables().iter().enumerate() {
+        if is_calm(table, offsets, cycle, target) {
+            continue;
+        }
         let busy = head(&table.users, offsets) + table.work;
         if busy > cycle {
             return Some(FirstLoad::Overload(place));

@@ -4,10 +4,36 @@ use Rattle.std.proofs.lemmas.List.{take_all, length-map}
 use Rattle.std.proofs.lemmas.Option.{slice_get-get_or}
 use Rattle.tsn_model.specs.Network.{stream_count}
 use Rattle.tsn_branch.specs.Links.{shared_links, load_by, IsUnloaded}
-use Rattle.tsn_branch.specs.Loads.{IsEarly, link_in, shared_link}
+use Rattle.tsn_branch.specs.Loads.{IsCalm, IsEarly, link_in, shared_link}
 use Rattle.tsn_branch.proofs.Loading.{table_there, table_measured, table_busy, table_load, unloaded_more}
+use Rattle.tsn_branch.proofs.Calm.{calm_more}
 use Rattle.tsn_branch.proofs.loads.first_load.Goals as goal
 use Rattle.tsn_branch.proofs.loads.first_load.Goals.{else-bound-ge0-via-then-bound-ge0+else-bound-target, else-bound-ge0-via-else-bound-ge0}
+
+pub is_calm-requires-clause-users : goal.is_calm-requires-clause-users
+is_calm-requires-clause-users c =
+    let network = c.args.timing.now in
+    let there = table_there network c.tables-table-items.result.now c.loop-place.place c.table-item.result (c.tables-table-items.ensures ∙ c.requires.loads) c.loop-place-test.true c.table-item.is in
+    let measured = table_measured network c.cycle-cycle.ensures.well_formed c.loop-place.place c.table-item.result there.0 there.1 in
+    subst (λ n. All (IsEarly n) c.table-item.result.users.items) (sym c.requires.count) measured.early
+
+pub is_calm-requires-clause-short_work : goal.is_calm-requires-clause-short_work
+is_calm-requires-clause-short_work c =
+    let network = c.args.timing.now in
+    let there = table_there network c.tables-table-items.result.now c.loop-place.place c.table-item.result (c.tables-table-items.ensures ∙ c.requires.loads) c.loop-place-test.true c.table-item.is in
+    (table_measured network c.cycle-cycle.ensures.well_formed c.loop-place.place c.table-item.result there.0 there.1).short_work
+
+pub is_calm-requires-clause-low_tail : goal.is_calm-requires-clause-low_tail
+is_calm-requires-clause-low_tail c =
+    let network = c.args.timing.now in
+    let there = table_there network c.tables-table-items.result.now c.loop-place.place c.table-item.result (c.tables-table-items.ensures ∙ c.requires.loads) c.loop-place-test.true c.table-item.is in
+    (table_measured network c.cycle-cycle.ensures.well_formed c.loop-place.place c.table-item.result there.0 there.1).low_tail
+
+pub is_calm-requires-clause-high_tail : goal.is_calm-requires-clause-high_tail
+is_calm-requires-clause-high_tail c =
+    let network = c.args.timing.now in
+    let there = table_there network c.tables-table-items.result.now c.loop-place.place c.table-item.result (c.tables-table-items.ensures ∙ c.requires.loads) c.loop-place-test.true c.table-item.is in
+    (table_measured network c.cycle-cycle.ensures.well_formed c.loop-place.place c.table-item.result there.0 there.1).high_tail
 
 pub head-requires-clause-some_user : goal.head-requires-clause-some_user
 head-requires-clause-some_user c =
@@ -105,6 +131,17 @@ loop-place-preserved c =
           c.loop-place.invariant.unloaded;
       cycle = cycle;
       short = short;
+    }
+
+pub loop-place-preserved-then-is_calm : goal.loop-place-preserved-then-is_calm
+loop-place-preserved-then-is_calm c =
+    let network = c.args.timing.now in
+    let there = table_there network c.tables-table-items.result.now c.loop-place.place c.table-item.result (c.tables-table-items.ensures ∙ c.requires.loads) c.loop-place-test.true c.table-item.is in
+    let calm = subst (λ cycle. IsCalm c.args.offsets.now cycle c.args.target (link_in c.table-item.result)) c.loop-place.invariant.cycle (c.is_calm.ensures c.if-is_calm.true) in
+    record {
+      unloaded = calm_more network c.args.offsets.now c.args.target c.loop-place.place (link_in c.table-item.result) there.0 there.1 calm c.loop-place.invariant.unloaded;
+      cycle = c.loop-place.invariant.cycle;
+      short = c.loop-place.invariant.short;
     }
 
 pub returns : goal.returns
