@@ -1,4 +1,4 @@
-ghost use Rattle.std.specs.Prelude.{◌≡◌, ◌++◌, ℕ, ◌<◌, List, [], ◌∷◌, All, IfOk, IfNone, IfSome, OnErr, OnOk, OnSome, MatchOption, length};
+ghost use Rattle.std.specs.Prelude.{◌≡◌, ◌++◌, ℕ, ◌<◌, List, [], ◌∷◌, All, IfOk, IfNone, IfSome, IsTrue, ◌↔◌, OnErr, OnSome, length};
 ghost use Rattle.tsn_model.specs.declared.Arc.{Arc};
 ghost use Rattle.tsn_diff.specs.Limits.{IsArcAmong};
 ghost use Rattle.tsn_diff.specs.Answers.{Solves, Refutes};
@@ -9,7 +9,7 @@ ghost use Rattle.tsn_diff.specs.Stack.{RisesAt, KeepsOthers};
 
 use crate::labels::Labels;
 use crate::listing::Listing;
-use crate::solve::{Least, Net};
+use crate::solve::{Least, Net, is_among};
 use crate::spread::Wave;
 use std::alloc::{AllocError, Global};
 use std::marker::Model;
@@ -51,6 +51,13 @@ impl ArcStack {
             listing,
             wave,
         })
+    }
+
+    /// Whether `push` takes this arc: its streams are there, and its weight is within the limit.
+    pub fn takes(&self, arc: &Arc) -> bool
+        ensures { IsTrue result ↔ IsArcAmong (length self.now.releases) arc.now }
+    {
+        is_among(arc, self.net.streams())
     }
 
     /// Puts one more arc last. `None`: it is in. `Some`: no offsets meet all of the arcs, as this closed chain of positive sum shows, in whose places the arc is the last one; it isn't in. The error says that there was no memory.

@@ -1,8 +1,6 @@
 use Rattle.std.proofs.Common.{◌≡◌, Ok, length, ap, ◌∙◌, arith}
-use Rattle.std.proofs.lemmas.Bool.{true≢false}
 use Rattle.tsn_diff.proofs.Fixes.{AreCalm-replicate}
 use Rattle.tsn_diff.proofs.Forests.{all_small, HasSteps-from_forest, offsets_small}
-use Rattle.tsn_diff.proofs.Cases.{by_option}
 use Rattle.tsn_diff.proofs.Turns.{start_among, stream_in, IsWide-start, IsWave-start, IsPlaced-new, seen_first, IsTurn-settled, seen_then, queued_then, turn_smaller, IsWide-end}
 use Rattle.tsn_diff.proofs.spread.Wave.spread.Goals as goal
 
@@ -11,11 +9,8 @@ asked-requires-clause-small g c =
     let forest = rw c.requires.labels_are at c.requires.forest in
     all_small forest (start_among g.base _ c.args.self.now c.args.listing.now c.args.arc c.requires)
 
-pub returns-then-is_none-clause-wide : goal.returns-then-is_none-clause-wide
-returns-then-is_none-clause-wide g c =
-    λ e. by_option c.asked.result
-    (λ none. IsWide-start g.base _ c.args.self.now c.args.listing.now c.args.arc c.requires (rw none at c.asked.ensures))
-    (λ x some. absurd (true≢false (rw (some, c.if-is_none.true) at c.is_none.ensures)))
+pub returns-in_default-clause-wide : goal.returns-in_default-clause-wide
+returns-in_default-clause-wide g c = λ e. IsWide-start g.base _ c.args.self.now c.args.listing.now c.args.arc c.requires c.in_default.ensures
 
 pub fix_chain-requires-clause-steps : goal.fix_chain-requires-clause-steps
 fix_chain-requires-clause-steps g c = rw (← c.requires.labels_are) (HasSteps-from_forest c.requires.forest)
@@ -36,7 +31,7 @@ fix_chain-requires-clause-calm g c = AreCalm-replicate 128
 
 pub raise-requires : goal.raise-requires
 raise-requires g c =
-    (IsWave-start g.base _ (record { trail = c.args.self.now.trail; queue = c.clear.new.self }) c.args.listing.now c.args.arc c.requires c.fix_chain.new.standings (omega (arith, c.requires.forest.few, c.fix_chain.auto.standings)) c.fix_chain.ensures.fixed c.fix_chain.ensures.others c.clear.ensures.items, IsPlaced-new g.base _ (record { trail = c.args.self.now.trail; queue = c.clear.new.self }) c.args.listing.now c.args.arc c.requires c.len.result (c.len.ensures ∙ c.args.listing.now.arcs.ok.0))
+    (IsWave-start g.base _ (record { trail = c.args.self.now.trail; queue = c.clear.new.self }) c.args.listing.now c.args.arc c.requires c.fix_chain.new.standings (omega (arith, c.requires.forest.few, c.fix_chain.auto.standings)) c.fix_chain.ensures.fixed c.fix_chain.ensures.others c.clear.ensures.items, (IsPlaced-new g.base _ (record { trail = c.args.self.now.trail; queue = c.clear.new.self }) c.args.listing.now c.args.arc c.requires c.len.result (c.len.ensures ∙ c.args.listing.now.arcs.ok.0), c.in-Some.ensures))
 
 pub loop-turn-init : goal.loop-turn-init
 loop-turn-init g c = record {
