@@ -60,7 +60,9 @@ impl ArcStack {
         is_among(arc, self.net.streams())
     }
 
-    /// Puts one more arc last. `None`: it is in. `Some`: no offsets meet all of the arcs, as this closed chain of positive sum shows, in whose places the arc is the last one; it isn't in. The error says that there was no memory.
+    /// Puts one more arc last. `None`: it is in. `Some`: no offsets meet all of the arcs, as this closed chain of positive
+    /// sum shows, whose places count the arc as the last one; it isn't in. The error says that there was no memory.
+    /// Where the arc isn't in, all is as before.
     pub fn push(&mut self, arc: Arc) -> Result<Option<Vec<usize>>, NoMemory>
         requires { IsArcAmong (length self.old.releases) arc }
         ensures releases { self.new.releases ≡ self.old.releases }
@@ -88,7 +90,7 @@ impl ArcStack {
         }
     }
 
-    /// Takes the last arc out, and the offsets that it raised fall back.
+    /// Takes the last arc out. Only offsets that it raised fall back.
     pub fn pop(&mut self)
         requires { 0 < length self.old.arcs }
         ensures releases { self.new.releases ≡ self.old.releases }
@@ -115,7 +117,7 @@ impl ArcStack {
         &self.least
     }
 
-    /// The streams whose offsets the last arc raised, each once.
+    /// The streams whose offsets the last arc raised, none where there is no arc.
     pub fn raised(&self) -> &[usize]
         ensures value { result.now ≡ self.now.raised }
         ensures below { All (λ stream. stream < length self.now.releases) self.now.raised }
