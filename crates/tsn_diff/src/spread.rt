@@ -2,10 +2,10 @@ ghost use Rattle.std.specs.Prelude.{◌≡◌, ◌++◌, ◌∷◌, [], ℕ, ◌
 ghost use Rattle.tsn_model.specs.Arcs.{arc_at, Holds, HoldsAll};
 ghost use Rattle.tsn_diff.specs.Labels.{labelling_of};
 ghost use Rattle.tsn_diff.specs.Forest.{HasSteps, Rooted, IsForest};
-ghost use Rattle.tsn_diff.specs.Progress.{IsAsked, Closes};
+ghost use Rattle.tsn_diff.specs.Progress.{Closes};
 ghost use Rattle.tsn_diff.specs.Listing.{IsListing};
 ghost use Rattle.tsn_diff.specs.Trail.{IsTrail, former_of};
-ghost use Rattle.tsn_diff.specs.Spread.{Base, queue_with, formers_with, IsPlaced, IsClosing, MeetsFrom, IsNoted, IsWave, IsTurn, IsStart, IsWide, GoesOn, AreCalm, AreFixed, IsLifted, standing_of, all_arcs};
+ghost use Rattle.tsn_diff.specs.Spread.{Base, queue_with, formers_with, IsClosing, IsRise, MeetsFrom, IsNoted, IsWave, IsTurn, IsStart, IsWide, GoesOn, AreCalm, AreFixed, IsLifted, standing_of, all_arcs};
 
 use crate::labels::Labels;
 use crate::listing::{Listing, Placed};
@@ -58,9 +58,7 @@ impl Wave {
         offset: u64,
     ) -> Result<bool, AllocError>
         ghost base: { Base }
-        requires wave { IsWave base (labelling_of labels.old) standings.old self.old }
-        requires placed { IsPlaced (all_arcs base) placed }
-        requires asked { IsAsked labels.old.offsets.items placed.arc offset }
+        requires { IsRise base (labelling_of labels.old) standings.old self.old placed offset }
         ensures noted { IsNoted base (labelling_of labels.new) self.new.trail }
         ensures wave { OnOk result (IsWave base (labelling_of labels.new) standings.new self.new) }
         ensures goes_on { OnOk result

@@ -7,9 +7,9 @@ pub returns-in-Fixed-clause-closes : goal.returns-in-Fixed-clause-closes
 returns-in-Fixed-clause-closes g c =
     let labels = labelling_of c.args.labels.now in
     let placed = c.args.placed in
-    let w = c.requires.0 in
-    let p = c.requires.1.0 in
-    let asked = c.requires.1.1 in
+    let w = c.requires.moves in
+    let p = c.requires.there in
+    let asked = c.requires.asked in
     λ e. closes g.base labels c.args.standings.now c.args.self.now w placed.place p.place_in (unmet_asked g.base labels placed c.args.offset p asked) (rw p.arc c.in-Fixed.is)
 
 pub returns : goal.returns
@@ -19,9 +19,9 @@ returns g c =
     let placed = c.args.placed in
     let wave = c.args.self.now in
     let next = c.enter.new.self in
-    let w = c.requires.0 in
-    let p = c.requires.1.0 in
-    let asked = c.requires.1.1 in
+    let w = c.requires.moves in
+    let p = c.requires.there in
+    let asked = c.requires.asked in
     let loose = rw (← p.arc) at c.in_default.not-Fixed in
     let raises = Raises-asked g.base labels standings wave placed c.args.offset w p asked loose in
     let queue = rw (← p.arc) at c.in_ok-enter.ensures.queue in

@@ -30,7 +30,11 @@ asked-requires-clause-small g c = let w = c.loop-placed.invariant.wave in all_sm
 pub raise-requires : goal.raise-requires
 raise-requires g c =
     let items = leaving_is _ c.args.listing.now g.base.arcs c.args.stream c.index-leaving.result.now _ c.requires.listed c.requires.same c.requires.stream_in c.deref-placed-items.ensures.value c.index-leaving.ensures in
-    (c.loop-placed.invariant.wave, ((placed_among g.base c.args.stream _ items c.loop-placed.placed-index _ c.loop-placed-test.true).0, c.in-Some.ensures))
+    record {
+      moves = c.loop-placed.invariant.wave;
+      there = (placed_among g.base c.args.stream _ items c.loop-placed.placed-index _ c.loop-placed-test.true).0;
+      asked = c.in-Some.ensures;
+    }
 
 pub returns-then-branch-clause-goes_on : goal.returns-then-branch-clause-goes_on
 returns-then-branch-clause-goes_on g c =

@@ -1,4 +1,5 @@
 use Rattle.std.proofs.Common.{◌≡◌, Ok, length, ap, ◌∙◌, arith}
+use Rattle.tsn_diff.specs.declared.spread.Wave.{Wave}
 use Rattle.tsn_diff.proofs.Fixes.{AreCalm-replicate}
 use Rattle.tsn_diff.proofs.Forests.{all_small, HasSteps-from_forest, offsets_small}
 use Rattle.tsn_diff.proofs.Turns.{start_among, stream_in, IsWide-start, IsWave-start, IsPlaced-new, seen_first, IsTurn-settled, seen_then, queued_then, turn_smaller, IsWide-end}
@@ -31,16 +32,24 @@ fix_chain-requires-clause-calm g c = AreCalm-replicate 128
 
 pub raise-requires : goal.raise-requires
 raise-requires g c =
-    (IsWave-start g.base _ (record { trail = c.args.self.now.trail; queue = c.clear.new.self }) c.args.listing.now c.args.arc c.requires c.fix_chain.new.standings (omega (arith, c.requires.forest.few, c.fix_chain.auto.standings)) c.fix_chain.ensures.fixed c.fix_chain.ensures.others c.clear.ensures.items, (IsPlaced-new g.base _ (record { trail = c.args.self.now.trail; queue = c.clear.new.self }) c.args.listing.now c.args.arc c.requires c.len.result (c.len.ensures ∙ c.args.listing.now.arcs.ok.0), c.in-Some.ensures))
+    let wave : Wave = record { trail = c.args.self.now.trail; queue = c.clear.new.self } in
+    record {
+      moves = IsWave-start g.base _ wave c.args.listing.now c.args.arc c.requires c.fix_chain.new.standings (omega (arith, c.requires.forest.few, c.fix_chain.auto.standings)) c.fix_chain.ensures.fixed c.fix_chain.ensures.others c.clear.ensures.items;
+      there = IsPlaced-new g.base _ wave c.args.listing.now c.args.arc c.requires c.len.result (c.len.ensures ∙ c.args.listing.now.arcs.ok.0);
+      asked = c.in-Some.ensures;
+    }
 
 pub loop-turn-init : goal.loop-turn-init
-loop-turn-init g c = record {
-  wave = c.in_ok-raise.ensures.wave;
-  seen = seen_first g.base _ _ c.fix_chain.new.standings c.raise.new.standings (record { trail = c.args.self.now.trail; queue = c.clear.new.self }) c.raise.new.self.queue.items (IsWave-start g.base _ (record { trail = c.args.self.now.trail; queue = c.clear.new.self }) c.args.listing.now c.args.arc c.requires c.fix_chain.new.standings (omega (arith, c.requires.forest.few, c.fix_chain.auto.standings)) c.fix_chain.ensures.fixed c.fix_chain.ensures.others c.clear.ensures.items) c.requires.labels_are c.in_ok-raise.ensures.goes_on
-      (rw c.requires.arc_is (c.in_ok-raise.ensures.met (ap Ok c.if-branch.false)));
-  queued = c.in_ok-raise.ensures.goes_on.queued 0 (omega arith) (λ i waits. absurd (rw waits at (c.fix_chain.ensures.others i) tt));
-  turn_in = omega arith;
-}
+loop-turn-init g c =
+    let wave : Wave = record { trail = c.args.self.now.trail; queue = c.clear.new.self } in
+    let moves = IsWave-start g.base _ wave c.args.listing.now c.args.arc c.requires c.fix_chain.new.standings (omega (arith, c.requires.forest.few, c.fix_chain.auto.standings)) c.fix_chain.ensures.fixed c.fix_chain.ensures.others c.clear.ensures.items in
+    let goes_on = c.in_ok-raise.ensures.goes_on in
+    record {
+      wave = c.in_ok-raise.ensures.wave;
+      seen = seen_first g.base _ _ c.fix_chain.new.standings c.raise.new.standings wave c.raise.new.self.queue.items moves c.requires.labels_are goes_on (rw c.requires.arc_is (c.in_ok-raise.ensures.met (ap Ok c.if-branch.false)));
+      queued = goes_on.queued 0 (omega arith) (λ i waits. absurd (rw waits at (c.fix_chain.ensures.others i) tt));
+      turn_in = omega arith;
+    }
 
 pub relax-requires : goal.relax-requires
 relax-requires g c =
