@@ -55,7 +55,7 @@ raised_labels arcs labels place value =
     record { offsets = set labels.offsets (arc_at arcs place).to value; last = set labels.last (arc_at arcs place).to (Some (record { place = place; from = (arc_at arcs place).from })) }
 
 module _ (arcs : List Arc) (labels : Labelling) (place value : ℕ) (r : Raises arcs labels place value) where
-  pub to_in : (arc_at arcs place).to < length labels.last
+  to_in : (arc_at arcs place).to < length labels.last
   to_in = omega (arith, r.forest.count, r.among.to_below)
 
   pub unlike : (arc_at arcs place).from ≢ (arc_at arcs place).to

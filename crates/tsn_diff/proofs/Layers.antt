@@ -12,15 +12,6 @@ use Rattle.tsn_diff.specs.Trail.{IsTrail, put_back_all}
 use Rattle.tsn_diff.specs.Stack.{IsLayered, last_mark}
 use Rattle.tsn_diff.proofs.Trails.{put_back_all-append}
 
-pub IsLayered-none : (releases : List ℕ) (labels : Labelling) → Solves releases [] labels → IsLayered releases labels [] [] []
-IsLayered-none releases labels solves = record {
-  solves = solves;
-  count = refl;
-  marks_in = λ k l. absurd (omega arith);
-  rising = λ j k m l. absurd (omega arith);
-  below = λ k l. absurd (omega arith);
-}
-
 module _ (releases : List ℕ) (labels : Labelling) (arcs : List Arc) (marks : List ℕ) (formers : List Former) (s : IsLayered releases labels arcs marks formers) where
   module _ (arc : Arc) (new : Labelling) (more : List Former) (before : take (length formers) more ≡ formers) (back : put_back_all (drop (length formers) more) new ≡ labels) where
     abbrev mark : ℕ

@@ -11,7 +11,7 @@ use Rattle.tsn_diff.specs.Spread.{IsPlaced}
 use Rattle.tsn_diff.proofs.Cases.{by_bool}
 
 -- a list without its last element
-pub take_front : {X : Type 0} (xs : List X) (y : X) → take (length (xs ++ y ∷ []) - 1) (xs ++ y ∷ []) ≡ xs
+take_front : {X : Type 0} (xs : List X) (y : X) → take (length (xs ++ y ∷ []) - 1) (xs ++ y ∷ []) ≡ xs
 take_front xs y = take_at xs (y ∷ []) _ (omega (arith, length_push xs y))
 
 -- what holds of each element holds of the last one
@@ -32,14 +32,14 @@ leaving_from-push place (a ∷ arcs) arc stream =
     (λ no. rw (no, more') refl)
 
 -- it is last among those of its stream
-pub arcs_leaving-same : (arcs : List Arc) (arc : Arc) → arcs_leaving (arcs ++ arc ∷ []) arc.from ≡ arcs_leaving arcs arc.from ++ record { place = length arcs; arc = arc } ∷ []
+arcs_leaving-same : (arcs : List Arc) (arc : Arc) → arcs_leaving (arcs ++ arc ∷ []) arc.from ≡ arcs_leaving arcs arc.from ++ record { place = length arcs; arc = arc } ∷ []
 arcs_leaving-same arcs arc =
     let e : 0 + length arcs ≡ length arcs = omega arith in
     let more = rw (eq-eqb arc.from arc.from refl, e) at (leaving_from-push 0 arcs arc arc.from) in
     more
 
 -- and not among those of another
-pub arcs_leaving-other : (arcs : List Arc) (arc : Arc) (stream : ℕ) → stream ≢ arc.from → arcs_leaving (arcs ++ arc ∷ []) stream ≡ arcs_leaving arcs stream
+arcs_leaving-other : (arcs : List Arc) (arc : Arc) (stream : ℕ) → stream ≢ arc.from → arcs_leaving (arcs ++ arc ∷ []) stream ≡ arcs_leaving arcs stream
 arcs_leaving-other arcs arc stream unlike =
     let more = rw (ne_eqb arc.from stream (λ e. unlike (sym e))) at (leaving_from-push 0 arcs arc stream) in
     more ∙ append-nil (arcs_leaving arcs stream)

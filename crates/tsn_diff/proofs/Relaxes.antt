@@ -1,5 +1,5 @@
 -- The arcs that leave a settled stream, looked at one after another.
-use Rattle.std.proofs.Common.{◌≡◌, ℕ, ◌<◌, ◌≤◌, List, [], ◌∷◌, length, get_or, All, sym, ap, ◌∙◌, inl, ⊎_elim, arith, length-append}
+use Rattle.std.proofs.Common.{pos, ◌≡◌, ℕ, ◌<◌, ◌≤◌, List, [], ◌∷◌, length, get_or, All, sym, ap, ◌∙◌, inl, ⊎_elim, arith, length-append}
 use Rattle.std.proofs.lemmas.Bool.{cases_lt}
 use Rattle.tsn_model.specs.declared.Arc.{Arc}
 use Rattle.tsn_model.specs.Arcs.{arc_at, Holds}
@@ -8,6 +8,7 @@ use Rattle.tsn_diff.specs.declared.spread.Standing.{Standing}
 use Rattle.tsn_diff.specs.declared.spread.Standing.TheVariants.{Waiting, Settled}
 use Rattle.tsn_diff.specs.declared.spread.Wave.{Wave}
 use Rattle.tsn_diff.specs.Forest.{Labelling}
+use Rattle.tsn_diff.specs.Limits.{IsArcAmong}
 use Rattle.tsn_diff.specs.Listing.{arcs_leaving}
 use Rattle.tsn_diff.specs.Spread.{Base, all_arcs, IsPlaced, MeetsFrom, standing_of, IsWave, GoesOn}
 use Rattle.tsn_diff.proofs.Listings.{arcs_leaving-placed, arcs_leaving-all}
@@ -19,6 +20,11 @@ placed_among base stream items is k default l =
     let among : All (λ (p : Placed). IsPlaced base.arcs p × (p.arc.from ≡ stream)) items = rw is (arcs_leaving-placed base.arcs stream) in
     let here = among k default l in
     (record { place_in = omega (arith, here.0.place_in, length-append base.arcs (base.arc ∷ [])); arc = arc_at-old base (get_or items k default).place here.0.place_in ∙ here.0.arc }, here.1)
+
+-- and joins two of the streams
+pub among_placed : (base : Base) (labels : Labelling) (standings : List Standing) (wave : Wave) (p : Placed) → IsWave base labels standings wave → IsPlaced (all_arcs base) p → IsArcAmong (length labels.offsets) p.arc
+among_placed base labels standings wave p w there =
+    rw (← there.arc, w.noted.offsets) (w.among p.place (record { from = 0; to = 0; weight = pos 0 }) there.place_in)
 
 -- one that is met stays so while the stream is settled
 pub met_still : (base : Base) (labels new : Labelling) (standings after : List Standing) (queue longer : List ℕ) (stream : ℕ) (p : Placed) → GoesOn (all_arcs base) labels new standings after queue longer → standing_of after stream ≡ Settled → IsPlaced (all_arcs base) p × (p.arc.from ≡ stream) → Holds labels.offsets p.arc → Holds new.offsets p.arc

@@ -18,7 +18,7 @@ use Rattle.tsn_diff.proofs.Cases.{by_bool}
 use Rattle.tsn_diff.proofs.Paths.{Path-append, Path-steps_back, length-path_any}
 
 -- a way back that is short enough is found by the test
-pub passes_along : {last : List (Option Step)} {i v : ℕ} {ss : List Step} (n : ℕ) → Path last i ss v → length ss < n → passes_within n last v i ≡ true
+passes_along : {last : List (Option Step)} {i v : ℕ} {ss : List Step} (n : ℕ) → Path last i ss v → length ss < n → passes_within n last v i ≡ true
 passes_along zero p l = absurd (omega arith)
 passes_along {i = i} (suc n) here l = rw (eq-eqb i i refl) refl
 passes_along {last} {i} {v} (suc n) (back {step = s} h p) l =

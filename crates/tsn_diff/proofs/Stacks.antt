@@ -18,7 +18,7 @@ use Rattle.tsn_diff.proofs.Solutions.{Solves-from_forest}
 use Rattle.tsn_diff.proofs.Trails.{put_back_others}
 
 -- the streams that were noted from a mark on
-pub streams_from : (n mark : ℕ) (trail : Trail) → IsTrail n trail → drop mark trail.streams.items ≡ map (λ (f : Former). f.stream) (drop mark trail.formers.items)
+streams_from : (n mark : ℕ) (trail : Trail) → IsTrail n trail → drop mark trail.streams.items ≡ map (λ (f : Former). f.stream) (drop mark trail.formers.items)
 streams_from n mark trail t = ap (λ (xs : List ℕ). drop mark xs) t.streams ∙ drop-map (λ (f : Former). f.stream) mark trail.formers.items
 
 -- what is put back changes no other offsets
@@ -82,12 +82,3 @@ module _ (releases : List ℕ) (labels : Labelling) (listing : Listing) (trail :
 
     pub KeepsOthers-popped : KeepsOthers (drop (last_mark listing.marks.items) trail.streams.items) labels.offsets new.offsets
     KeepsOthers-popped = rw back (KeepsOthers-back (length releases) (last_mark listing.marks.items) labels trail s.noted)
-
-  -- what has the same lists is the same stack
-  pub IsStack-same : (new : Labelling) (same : Listing) (again : Trail) → new ≡ labels → same.arcs.items ≡ listing.arcs.items → same.marks.items ≡ listing.marks.items → IsListing (length releases) same → again.formers.items ≡ trail.formers.items → IsTrail (length releases) again → IsStack releases new same again
-  IsStack-same new same again e arcs marks listed formers noted = record {
-    among = rw arcs s.among;
-    layered = rw (e, arcs, marks, formers) s.layered;
-    listed = listed;
-    noted = noted;
-  }

@@ -1,4 +1,4 @@
-use Rattle.std.proofs.Common.{◌≡◌, ◌≢◌, ℕ, ◌⊎◌, List, [], ◌∷◌, ◌++◌, length, map, All, slice_index, Contains, refl, sym, ap, ◌∙◌, inl, inr, ⊎_elim, arith, length-set, get_or-set_other, Option}
+use Rattle.std.proofs.Common.{◌≡◌, ◌≢◌, ℕ, ◌⊎◌, List, [], ◌∷◌, ◌++◌, map, All, slice_index, Contains, refl, sym, ap, ◌∙◌, inl, inr, ⊎_elim, arith, get_or-set_other, Option}
 use Rattle.std.proofs.lemmas.Bool.{cases_eq}
 use Rattle.std.proofs.lemmas.List.{set-set, set_comm, set-get_or}
 use Rattle.std.proofs.lemmas.List.Elements.{All-nil, All-cons, All-contains, All-map, Contains-append_right}
@@ -9,16 +9,12 @@ use Rattle.tsn_diff.specs.Forest.{Labelling, last_of}
 use Rattle.tsn_diff.specs.Trail.{put_back, put_back_all}
 
 -- labels are the same where their lists are
-pub same_labels : {a b : List ℕ} {c d : List (Option Step)} → a ≡ b → c ≡ d → ◌≡◌ {A = Labelling} (record { offsets = a; last = c }) (record { offsets = b; last = d })
+same_labels : {a b : List ℕ} {c d : List (Option Step)} → a ≡ b → c ≡ d → ◌≡◌ {A = Labelling} (record { offsets = a; last = c }) (record { offsets = b; last = d })
 same_labels e f = rw (e, f) refl
 
 pub put_back_all-append : (us vs : List Former) (labels : Labelling) → put_back_all (us ++ vs) labels ≡ put_back_all us (put_back_all vs labels)
 put_back_all-append [] vs labels = refl
 put_back_all-append (u ∷ us) vs labels = ap (put_back u) (put_back_all-append us vs labels)
-
-pub length-put_back_all : (us : List Former) (labels : Labelling) → length (put_back_all us labels).offsets ≡ length labels.offsets
-length-put_back_all [] labels = refl
-length-put_back_all (u ∷ us) labels = length-set (put_back_all us labels).offsets u.stream u.offset ∙ length-put_back_all us labels
 
 -- the label that was noted undoes what was written over it
 pub put_back_noted : (labels : Labelling) (w : Former) → put_back (record { stream = w.stream; offset = slice_index labels.offsets w.stream; last = last_of labels.last w.stream }) (put_back w labels) ≡ labels

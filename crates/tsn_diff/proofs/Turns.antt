@@ -34,10 +34,10 @@ module _ (base : Base) (labels : Labelling) (wave : Wave) (listing : Listing) (a
       let below = (rw arc_is at here).from_below in
       omega (arith, below, start.forest.count, ap (λ (l : Labelling). length l.last) start.labels_are)
 
-  pub none_noted : noted_by base wave.trail ≡ []
+  none_noted : noted_by base wave.trail ≡ []
   none_noted = drop_all (length base.formers) wave.trail.formers.items (rw start.formers_are (omega arith))
 
-  pub IsNoted-start : IsNoted base labels wave.trail
+  IsNoted-start : IsNoted base labels wave.trail
   IsNoted-start = record {
     streams = start.noted;
     before = rw (← start.formers_are) (take_all (length base.formers) base.formers (omega arith));

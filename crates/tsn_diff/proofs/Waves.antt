@@ -22,7 +22,7 @@ use Rattle.tsn_diff.proofs.Forests.{Raises, raised_labels, unlike, offset_same, 
 use Rattle.tsn_diff.proofs.Spreads.{aside}
 use Rattle.tsn_diff.proofs.Trails.{put_back_all-append, put_back_noted, put_back_again}
 
-pub by_standing : {P : Type 0} (s : Standing) → (s ≡ Calm → P) → (s ≡ Fixed → P) → (s ≡ Waiting → P) → (s ≡ Settled → P) → P
+by_standing : {P : Type 0} (s : Standing) → (s ≡ Calm → P) → (s ≡ Fixed → P) → (s ≡ Waiting → P) → (s ≡ Settled → P) → P
 by_standing {P} s calm fixed waiting settled =
     (elim s as (λ v. (v ≡ Calm → P) → (v ≡ Fixed → P) → (v ≡ Waiting → P) → (v ≡ Settled → P) → P) [
       | Calm ↦ λ a b c d. a refl
@@ -32,7 +32,7 @@ by_standing {P} s calm fixed waiting settled =
     ]) calm fixed waiting settled
 
 -- no more was noted than there is
-pub marked : (base : Base) (labels : Labelling) (wave : Wave) → IsNoted base labels wave.trail → length base.formers ≤ length wave.trail.formers.items
+marked : (base : Base) (labels : Labelling) (wave : Wave) → IsNoted base labels wave.trail → length base.formers ≤ length wave.trail.formers.items
 marked base labels wave n = omega (arith, ap length n.before, length-take (length base.formers) wave.trail.formers.items)
 
 module _ (base : Base) (labels : Labelling) (standings : List Standing) (wave next : Wave) (place value : ℕ) (w : IsWave base labels standings wave) (r : Raises (all_arcs base) labels place value) (loose : standing_of standings (arc_at (all_arcs base) place).to ≡ Fixed → ⊥)

@@ -13,7 +13,7 @@ use Rattle.tsn_diff.specs.declared.spread.Standing.TheVariants.{Calm, Fixed, Wai
 use Rattle.tsn_diff.specs.declared.spread.Wave.{Wave}
 use Rattle.tsn_diff.specs.Limits.{IsArcAmong}
 use Rattle.tsn_diff.specs.Forest.{Labelling, IsForest, Path, last_of}
-use Rattle.tsn_diff.specs.Progress.{KeepsRaised, Closes}
+use Rattle.tsn_diff.specs.Progress.{KeepsRaised, IsAsked, Closes}
 use Rattle.tsn_diff.specs.Listing.{IsListing}
 use Rattle.tsn_diff.specs.Trail.{IsTrail, put_back_all}
 
@@ -54,6 +54,7 @@ pub record IsNoted (base : Base) (labels : Labelling) (trail : Trail) : Type 0 w
   pub offsets : length labels.offsets ≡ length base.labels.offsets
   pub last : length labels.last ≡ length base.labels.offsets
 
+-- how a stream stands; those past the end are calm
 abbrev pub standing_of : List Standing → ℕ → Standing
 standing_of standings stream = slice_index_or standings stream Calm
 
@@ -82,7 +83,7 @@ IsLifted Fixed = ⊥
 IsLifted Waiting = Unit {0}
 IsLifted Settled = Unit {0}
 
--- the streams on the way back from a stream are fixed, and no others
+-- exactly the streams on the way back from a stream are fixed
 pub record AreFixed (last : List (Option Step)) (standings : List Standing) (first : ℕ) : Type 0 where
   pub begins : standing_of standings first ≡ Fixed
   pub closed : (stream : ℕ) (step : Step) → standing_of standings stream ≡ Fixed → last_of last stream ≡ Some step → standing_of standings step.from ≡ Fixed
@@ -108,6 +109,12 @@ pub record IsWave (base : Base) (labels : Labelling) (standings : List Standing)
   pub lifted : (stream : ℕ) → IsLifted (standing_of standings stream) → Contains (map (λ former. former.stream) (noted_by base wave.trail)) stream
   pub each : All (λ former. offset_of base.labels.offsets former.stream < offset_of labels.offsets former.stream) (noted_by base wave.trail)
   pub queued : All (IsQueued (length base.labels.offsets) standings) wave.queue.items
+
+-- an arc of all arcs that asks for more than its last stream has
+pub record IsRise (base : Base) (labels : Labelling) (standings : List Standing) (wave : Wave) (placed : Placed) (offset : ℕ) : Type 0 where
+  pub moves : IsWave base labels standings wave
+  pub there : IsPlaced (all_arcs base) placed
+  pub asked : IsAsked labels.offsets placed.arc offset
 
 -- a stream whose arcs are to be looked at now
 pub record IsTurn (base : Base) (labels : Labelling) (standings : List Standing) (wave : Wave) (listing : Listing) (stream : ℕ) : Type 0 where

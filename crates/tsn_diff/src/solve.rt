@@ -187,7 +187,7 @@ impl Least {
 }
 
 /// Whether the arc joins two of the first `streams` streams, by a weight within the limit.
-fn is_among(arc: &Arc, streams: usize) -> bool
+pub(crate) fn is_among(arc: &Arc, streams: usize) -> bool
     ensures { IsTrue result ↔ IsArcAmong streams arc.now }
 {
     arc.from < streams && arc.to < streams && -MAX_WEIGHT <= arc.weight && arc.weight <= MAX_WEIGHT

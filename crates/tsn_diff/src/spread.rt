@@ -5,7 +5,7 @@ ghost use Rattle.tsn_diff.specs.Forest.{HasSteps, Rooted, IsForest};
 ghost use Rattle.tsn_diff.specs.Progress.{Closes};
 ghost use Rattle.tsn_diff.specs.Listing.{IsListing};
 ghost use Rattle.tsn_diff.specs.Trail.{IsTrail, former_of};
-ghost use Rattle.tsn_diff.specs.Spread.{Base, queue_with, formers_with, IsPlaced, IsClosing, MeetsFrom, IsNoted, IsWave, IsTurn, IsStart, IsWide, GoesOn, AreCalm, AreFixed, IsLifted, standing_of, all_arcs};
+ghost use Rattle.tsn_diff.specs.Spread.{Base, queue_with, formers_with, IsClosing, IsRise, MeetsFrom, IsNoted, IsWave, IsTurn, IsStart, IsWide, GoesOn, AreCalm, AreFixed, IsLifted, standing_of, all_arcs};
 
 use crate::labels::Labels;
 use crate::listing::{Listing, Placed};
@@ -49,16 +49,16 @@ impl Wave {
         }
     }
 
-    /// Raises the last stream of an arc that is not met. True: the arc closes a chain, and nothing is raised.
+    /// Raises the last stream of an arc to the offset that the arc asks for. True: the arc closes a chain, and nothing is raised.
     fn raise(
         &mut self,
         labels: &mut Labels,
         standings: &mut [Standing],
         placed: Placed,
+        offset: u64,
     ) -> Result<bool, AllocError>
         ghost base: { Base }
-        requires wave { IsWave base (labelling_of labels.old) standings.old self.old }
-        requires placed { IsPlaced (all_arcs base) placed }
+        requires { IsRise base (labelling_of labels.old) standings.old self.old placed offset }
         ensures noted { IsNoted base (labelling_of labels.new) self.new.trail }
         ensures wave { OnOk result (IsWave base (labelling_of labels.new) standings.new self.new) }
         ensures goes_on { OnOk result
@@ -70,9 +70,6 @@ impl Wave {
             → Closes (all_arcs base) (labelling_of labels.new) placed.place }
     {
         let arc = placed.arc;
-        let Some(offset) = labels.asked(arc) else {
-            return Ok(false);
-        };
         let standing = standings[arc.to];
         if let Standing::Fixed = standing {
             return Ok(true);
@@ -132,7 +129,10 @@ impl Wave {
     {
         let leaving = &listing.leaving[stream];
         for placed in leaving {
-            if self.raise(labels, standings, *placed)? {
+            let Some(offset) = labels.asked(placed.arc) else {
+                continue;
+            };
+            if self.raise(labels, standings, *placed, offset)? {
                 return Ok(Some(*placed));
             }
         }
@@ -153,9 +153,9 @@ impl Wave {
         ensures closing { IfOk result (λ closing. IfSome closing
             (λ placed. IsForest (all_arcs base) (labelling_of labels.new) × IsClosing (all_arcs base) (labelling_of labels.new) placed)) }
     {
-        if labels.asked(arc).is_none() {
+        let Some(offset) = labels.asked(arc) else {
             return Ok(None);
-        }
+        };
         let placed = Placed {
             place: listing.arcs.len(),
             arc,
@@ -163,7 +163,7 @@ impl Wave {
         let mut standings = [Standing::Calm; MAX_STREAMS];
         fix_chain(labels, &mut standings, arc.from);
         self.queue.clear();
-        if self.raise(labels, &mut standings, placed)? {
+        if self.raise(labels, &mut standings, placed, offset)? {
             return Ok(Some(placed));
         }
         let mut turn = 0;

@@ -1,4 +1,4 @@
-ghost use Rattle.std.specs.Prelude.{◌≡◌, ◌++◌, ℕ, ◌<◌, List, [], ◌∷◌, All, IfOk, IfNone, IfSome, OnErr, OnOk, OnSome, MatchOption, length};
+ghost use Rattle.std.specs.Prelude.{◌≡◌, ◌++◌, ℕ, ◌<◌, List, [], ◌∷◌, All, IfOk, IfNone, IfSome, IsTrue, ◌↔◌, OnErr, OnSome, length};
 ghost use Rattle.tsn_model.specs.declared.Arc.{Arc};
 ghost use Rattle.tsn_diff.specs.Limits.{IsArcAmong};
 ghost use Rattle.tsn_diff.specs.Answers.{Solves, Refutes};
@@ -9,7 +9,7 @@ ghost use Rattle.tsn_diff.specs.Stack.{RisesAt, KeepsOthers};
 
 use crate::labels::Labels;
 use crate::listing::Listing;
-use crate::solve::{Least, Net};
+use crate::solve::{Least, Net, is_among};
 use crate::spread::Wave;
 use std::alloc::{AllocError, Global};
 use std::marker::Model;
@@ -53,7 +53,16 @@ impl ArcStack {
         })
     }
 
-    /// Puts one more arc last. `None`: it is in. `Some`: no offsets meet all of the arcs, as this closed chain of positive sum shows, in whose places the arc is the last one; it isn't in. The error says that there was no memory.
+    /// Whether `push` takes this arc: its streams are there, and its weight is within the limit.
+    pub fn takes(&self, arc: &Arc) -> bool
+        ensures { IsTrue result ↔ IsArcAmong (length self.now.releases) arc.now }
+    {
+        is_among(arc, self.net.streams())
+    }
+
+    /// Puts one more arc last. `None`: it is in. `Some`: no offsets meet all of the arcs, as this closed chain of positive
+    /// sum shows, whose places count the arc as the last one; it isn't in. The error says that there was no memory.
+    /// Where the arc isn't in, all is as before.
     pub fn push(&mut self, arc: Arc) -> Result<Option<Vec<usize>>, NoMemory>
         requires { IsArcAmong (length self.old.releases) arc }
         ensures releases { self.new.releases ≡ self.old.releases }
@@ -83,7 +92,7 @@ impl ArcStack {
         }
     }
 
-    /// Takes the last arc out, and the offsets that it raised fall back.
+    /// Takes the last arc out. Only offsets that it raised fall back.
     pub fn pop(&mut self)
         requires { 0 < length self.old.arcs }
         ensures releases { self.new.releases ≡ self.old.releases }
@@ -110,7 +119,7 @@ impl ArcStack {
         &self.least
     }
 
-    /// The streams whose offsets the last arc raised, each once.
+    /// The streams whose offsets the last arc raised, none where there is no arc.
     pub fn raised(&self) -> &[usize]
         ensures value { result.now ≡ self.now.raised }
         ensures below { All (λ stream. stream < length self.now.releases) self.now.raised }

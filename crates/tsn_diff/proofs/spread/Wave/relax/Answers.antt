@@ -7,7 +7,8 @@ use Rattle.tsn_diff.specs.Spread.{all_arcs, standing_of}
 use Rattle.tsn_diff.specs.declared.spread.Standing.TheVariants.{Settled}
 use Rattle.tsn_diff.proofs.Listings.{leaving_is}
 use Rattle.tsn_diff.proofs.Waves.{GoesOn-same, GoesOn-then}
-use Rattle.tsn_diff.proofs.Relaxes.{placed_among, met_still, MeetsFrom-leaving}
+use Rattle.tsn_diff.proofs.Forests.{all_small}
+use Rattle.tsn_diff.proofs.Relaxes.{placed_among, among_placed, met_still, MeetsFrom-leaving}
 use Rattle.tsn_diff.proofs.spread.Wave.relax.Goals as goal
 
 pub loop-placed-init : goal.loop-placed-init
@@ -18,10 +19,22 @@ loop-placed-init g c = record {
   met = λ k d l. absurd (omega arith);
 }
 
+pub asked-requires-clause-arc : goal.asked-requires-clause-arc
+asked-requires-clause-arc g c =
+    let items = leaving_is _ c.args.listing.now g.base.arcs c.args.stream c.index-leaving.result.now _ c.requires.listed c.requires.same c.requires.stream_in c.deref-placed-items.ensures.value c.index-leaving.ensures in
+    among_placed g.base (labelling_of c.loop-placed.labels) c.loop-placed.standings c.loop-placed.self _ c.loop-placed.invariant.wave (placed_among g.base c.args.stream _ items c.loop-placed.placed-index _ c.loop-placed-test.true).0
+
+pub asked-requires-clause-small : goal.asked-requires-clause-small
+asked-requires-clause-small g c = let w = c.loop-placed.invariant.wave in all_small w.forest (rw w.noted.offsets w.among)
+
 pub raise-requires : goal.raise-requires
 raise-requires g c =
     let items = leaving_is _ c.args.listing.now g.base.arcs c.args.stream c.index-leaving.result.now _ c.requires.listed c.requires.same c.requires.stream_in c.deref-placed-items.ensures.value c.index-leaving.ensures in
-    (c.loop-placed.invariant.wave, (placed_among g.base c.args.stream _ items c.loop-placed.placed-index _ c.loop-placed-test.true).0)
+    record {
+      moves = c.loop-placed.invariant.wave;
+      there = (placed_among g.base c.args.stream _ items c.loop-placed.placed-index _ c.loop-placed-test.true).0;
+      asked = c.in-Some.ensures;
+    }
 
 pub returns-then-branch-clause-goes_on : goal.returns-then-branch-clause-goes_on
 returns-then-branch-clause-goes_on g c =

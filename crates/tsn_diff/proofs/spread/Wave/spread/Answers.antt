@@ -1,8 +1,7 @@
 use Rattle.std.proofs.Common.{◌≡◌, Ok, length, ap, ◌∙◌, arith}
-use Rattle.std.proofs.lemmas.Bool.{true≢false}
+use Rattle.tsn_diff.specs.declared.spread.Wave.{Wave}
 use Rattle.tsn_diff.proofs.Fixes.{AreCalm-replicate}
 use Rattle.tsn_diff.proofs.Forests.{all_small, HasSteps-from_forest, offsets_small}
-use Rattle.tsn_diff.proofs.Cases.{by_option}
 use Rattle.tsn_diff.proofs.Turns.{start_among, stream_in, IsWide-start, IsWave-start, IsPlaced-new, seen_first, IsTurn-settled, seen_then, queued_then, turn_smaller, IsWide-end}
 use Rattle.tsn_diff.proofs.spread.Wave.spread.Goals as goal
 
@@ -11,11 +10,8 @@ asked-requires-clause-small g c =
     let forest = rw c.requires.labels_are at c.requires.forest in
     all_small forest (start_among g.base _ c.args.self.now c.args.listing.now c.args.arc c.requires)
 
-pub returns-then-is_none-clause-wide : goal.returns-then-is_none-clause-wide
-returns-then-is_none-clause-wide g c =
-    λ e. by_option c.asked.result
-    (λ none. IsWide-start g.base _ c.args.self.now c.args.listing.now c.args.arc c.requires (rw none at c.asked.ensures))
-    (λ x some. absurd (true≢false (rw (some, c.if-is_none.true) at c.is_none.ensures)))
+pub returns-in_default-clause-wide : goal.returns-in_default-clause-wide
+returns-in_default-clause-wide g c = λ e. IsWide-start g.base _ c.args.self.now c.args.listing.now c.args.arc c.requires c.in_default.ensures
 
 pub fix_chain-requires-clause-steps : goal.fix_chain-requires-clause-steps
 fix_chain-requires-clause-steps g c = rw (← c.requires.labels_are) (HasSteps-from_forest c.requires.forest)
@@ -36,16 +32,24 @@ fix_chain-requires-clause-calm g c = AreCalm-replicate 128
 
 pub raise-requires : goal.raise-requires
 raise-requires g c =
-    (IsWave-start g.base _ (record { trail = c.args.self.now.trail; queue = c.clear.new.self }) c.args.listing.now c.args.arc c.requires c.fix_chain.new.standings (omega (arith, c.requires.forest.few, c.fix_chain.auto.standings)) c.fix_chain.ensures.fixed c.fix_chain.ensures.others c.clear.ensures.items, IsPlaced-new g.base _ (record { trail = c.args.self.now.trail; queue = c.clear.new.self }) c.args.listing.now c.args.arc c.requires c.len.result (c.len.ensures ∙ c.args.listing.now.arcs.ok.0))
+    let wave : Wave = record { trail = c.args.self.now.trail; queue = c.clear.new.self } in
+    record {
+      moves = IsWave-start g.base _ wave c.args.listing.now c.args.arc c.requires c.fix_chain.new.standings (omega (arith, c.requires.forest.few, c.fix_chain.auto.standings)) c.fix_chain.ensures.fixed c.fix_chain.ensures.others c.clear.ensures.items;
+      there = IsPlaced-new g.base _ wave c.args.listing.now c.args.arc c.requires c.len.result (c.len.ensures ∙ c.args.listing.now.arcs.ok.0);
+      asked = c.in-Some.ensures;
+    }
 
 pub loop-turn-init : goal.loop-turn-init
-loop-turn-init g c = record {
-  wave = c.in_ok-raise.ensures.wave;
-  seen = seen_first g.base _ _ c.fix_chain.new.standings c.raise.new.standings (record { trail = c.args.self.now.trail; queue = c.clear.new.self }) c.raise.new.self.queue.items (IsWave-start g.base _ (record { trail = c.args.self.now.trail; queue = c.clear.new.self }) c.args.listing.now c.args.arc c.requires c.fix_chain.new.standings (omega (arith, c.requires.forest.few, c.fix_chain.auto.standings)) c.fix_chain.ensures.fixed c.fix_chain.ensures.others c.clear.ensures.items) c.requires.labels_are c.in_ok-raise.ensures.goes_on
-      (rw c.requires.arc_is (c.in_ok-raise.ensures.met (ap Ok c.if-branch.false)));
-  queued = c.in_ok-raise.ensures.goes_on.queued 0 (omega arith) (λ i waits. absurd (rw waits at (c.fix_chain.ensures.others i) tt));
-  turn_in = omega arith;
-}
+loop-turn-init g c =
+    let wave : Wave = record { trail = c.args.self.now.trail; queue = c.clear.new.self } in
+    let moves = IsWave-start g.base _ wave c.args.listing.now c.args.arc c.requires c.fix_chain.new.standings (omega (arith, c.requires.forest.few, c.fix_chain.auto.standings)) c.fix_chain.ensures.fixed c.fix_chain.ensures.others c.clear.ensures.items in
+    let goes_on = c.in_ok-raise.ensures.goes_on in
+    record {
+      wave = c.in_ok-raise.ensures.wave;
+      seen = seen_first g.base _ _ c.fix_chain.new.standings c.raise.new.standings wave c.raise.new.self.queue.items moves c.requires.labels_are goes_on (rw c.requires.arc_is (c.in_ok-raise.ensures.met (ap Ok c.if-branch.false)));
+      queued = goes_on.queued 0 (omega arith) (λ i waits. absurd (rw waits at (c.fix_chain.ensures.others i) tt));
+      turn_in = omega arith;
+    }
 
 pub relax-requires : goal.relax-requires
 relax-requires g c =
