@@ -40,7 +40,7 @@ def main():
     steps = int(sys.argv[1]) if len(sys.argv) > 1 else 1_000_000
     build()
     print("network    line                            seconds   nodes/s  us/node  memory MB")
-    for name in ("star", "line", "random-20", "random-40"):
+    for name in ("star", "line", "random-20", "random-40", "random-128"):
         runs = [plan(name, steps) for _ in range(3)]
         line, taken, memory = runs[0][0], min(run[1] for run in runs), max(run[2] for run in runs)
         settled = int(line.split()[-1])

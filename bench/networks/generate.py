@@ -3,7 +3,7 @@
 
 - star: ten streams of 64 octets from ten stations to one.
 - line: six bridges in a line, two stations at each, twenty streams of several lengths.
-- random-20, random-40: so many streams of several lengths between stations at bridges that are joined at random, each on
+- random-20, random-40, random-128: so many streams of several lengths between stations at bridges that are joined at random, each on
   a shortest route.
 """
 
@@ -86,3 +86,4 @@ star()
 line()
 at_random(20, 6, 200_000)
 at_random(40, 8, 300_000)
+at_random(128, 16, 1_000_000)
