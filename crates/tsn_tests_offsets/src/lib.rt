@@ -2,6 +2,8 @@
 #![tactic(auto)]
 
 #[cfg(test)]
+mod arc_stack;
+#[cfg(test)]
 mod least_offsets;
 #[cfg(test)]
 mod timing;
