@@ -1,5 +1,5 @@
 -- A link that one of its users shows not to be loaded.
-use Rattle.std.proofs.Common.{◌≡◌, ℕ, ◌+◌, ◌≤◌, ◌<◌, List, All, Contains, length, map, take, ℤ, pos, ◌+ℤ◌, ◌≤ℤ◌, ◌<ℤ◌, sym, subst, arith}
+use Rattle.std.proofs.Common.{◌≡◌, ℕ, ◌+◌, ◌<◌, List, All, length, map, take, pos, ◌≤ℤ◌, arith}
 use Rattle.std.specs.List.{slice_index_or}
 use Rattle.std.proofs.lemmas.Int.{ints}
 use Rattle.std.proofs.lemmas.List.Elements.{All-more, All-contains}
@@ -8,9 +8,9 @@ use Rattle.tsn_model.specs.Schedule.{offset_of}
 use Rattle.tsn_model.specs.Certificate.{least}
 use Rattle.tsn_model.proofs.Soundness.{least-le}
 use Rattle.tsn_model.proofs.Lists.{All-unmap}
-use Rattle.tsn_branch.specs.Links.{shared_links, work_on, tail_on, head_by, busy_by, load_by, IsUnloaded}
+use Rattle.tsn_branch.specs.Links.{shared_links, busy_by, load_by, IsUnloaded}
 use Rattle.tsn_branch.specs.declared.loads.User.{User}
-use Rattle.tsn_branch.specs.Loads.{SharedLink, IsCalm, shared_link, head_in}
+use Rattle.tsn_branch.specs.Loads.{SharedLink, IsCalm, shared_link}
 use Rattle.tsn_branch.proofs.Loading.{head_is, work_is, tail_is}
 
 pub calm_unloaded : (network : Network) (offsets : List ℕ) (target link : ℕ) (found : SharedLink) → found ≡ shared_link network link → IsCalm offsets network.cycle target found → IsUnloaded network offsets target link

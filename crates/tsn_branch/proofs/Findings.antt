@@ -1,12 +1,9 @@
 -- Findings as looks.
-use Rattle.std.proofs.Common.{◌≡◌, ℕ, ◌<◌, List, All, length, sym, ap, ◌∙◌, subst, arith, refl}
-use Rattle.tsn_model.specs.declared.Triple.{Triple}
+use Rattle.std.proofs.Common.{ℕ, ◌<◌, List, All, length, subst, arith}
 use Rattle.tsn_model.specs.declared.Decision.{Decision}
 use Rattle.tsn_model.specs.Network.{Network}
 use Rattle.tsn_model.specs.Arcs.{conflicts_of}
 use Rattle.tsn_model.specs.Search.{Outcome, split, solved, pruned, refuted}
-use Rattle.tsn_conflict.specs.Raised.{triple_at}
-use Rattle.tsn_branch.specs.Outcome.{outcome_of}
 use Rattle.tsn_branch.specs.Links.{shared_links, IsUnloaded}
 use Rattle.tsn_branch.specs.Look.{AreLeast, IsLook}
 use Rattle.tsn_branch.proofs.Leasts.{least_same}

@@ -5,10 +5,10 @@ use Rattle.std.proofs.lemmas.Bool.{cases_lt, cases_order}
 use Rattle.std.proofs.lemmas.List.{get_or-set_same, get_or-set_other, get_or_default, length-set, ext_get_or}
 use Rattle.tsn_model.specs.Network.{Network, stream_count}
 use Rattle.tsn_model.specs.Timing.{arrival, span}
-use Rattle.tsn_model.specs.Schedule.{flowspan, offset_of, FitsCycle}
-use Rattle.tsn_branch.specs.Look.{AllFit, IsFirstOverrun, IsFirstLast}
-use Rattle.tsn_branch.specs.Ends.{AreRaised, EndedBefore, OthersFit}
-use Rattle.tsn_branch.proofs.Arrivals.{IsLastSoFar, flowspan_is, IsFirstLast-from}
+use Rattle.tsn_model.specs.Schedule.{offset_of, FitsCycle}
+use Rattle.tsn_branch.specs.Look.{AllFit, IsFirstOverrun}
+use Rattle.tsn_branch.specs.Ends.{EndedBefore, OthersFit}
+use Rattle.tsn_branch.proofs.Arrivals.{IsLastSoFar}
 use Rattle.tsn_model.proofs.Schedules.{arrival-le-flowspan}
 
 -- the stream at a place of the list

@@ -1,7 +1,5 @@
 -- Descents, a step down or up.
-use Rattle.std.proofs.Common.{◌≡◌, ℕ, ◌+◌, ◌-◌, ◌≤◌, ◌<◌, List, [], ◌∷◌, ◌++◌, length, get_or, take, Option, Some, MatchOption, refl, sym, ap, ◌∙◌, subst, arith, inl, inr}
-use Rattle.std.specs.Prelude.{slice_get}
-use Rattle.std.specs.List.{slice_index_or}
+use Rattle.std.proofs.Common.{◌≡◌, ℕ, ◌-◌, ◌≤◌, ◌<◌, List, [], ◌∷◌, ◌++◌, length, get_or, take, Option, Some, MatchOption, sym, ap, ◌∙◌, subst, arith, inl, inr}
 use Rattle.std.proofs.lemmas.Bool.{cases_lt}
 use Rattle.std.proofs.lemmas.List.{get_or_past, get_or_append_left, get_or_default, length-append, length-map, nil_from_length}
 use Rattle.std.proofs.lemmas.Option.{get_or_from_slice_get, slice_get_within}
@@ -11,18 +9,15 @@ use Rattle.tsn_model.specs.declared.Side.TheVariants.{Left, Right}
 use Rattle.tsn_model.specs.declared.Decision.{Decision}
 use Rattle.tsn_model.specs.declared.Arc.{Arc}
 use Rattle.tsn_model.specs.Network.{Network, stream_count}
-use Rattle.tsn_model.specs.Schedule.{offset_of}
 use Rattle.tsn_model.specs.Arcs.{arcs_of, arc_of, arc_on, Holds, HoldsAll}
 use Rattle.tsn_model.specs.Certificate.{decided}
 use Rattle.tsn_diff.specs.Answers.{Solves, Refutes}
 use Rattle.tsn_diff.specs.Stack.{Stack, RisesAt}
-use Rattle.tsn_branch.specs.Look.{AreLeast}
-use Rattle.tsn_branch.specs.Ends.{AreRaised}
 use Rattle.tsn_branch.specs.Unreleased.{unreleased}
 use Rattle.tsn_branch.specs.declared.seen.Seen.{Seen}
 use Rattle.tsn_branch.specs.Descent.{Way, IsSeen, WasSeen, AllSeen, Stands, Splits, Leads}
 use Rattle.tsn_branch.proofs.Leasts.{AreLeast-from}
-use Rattle.tsn_branch.proofs.Descents.{by_last, above, arcs-decided, arcs-nil, seen_none, seen_more, seen_above, seen_turned, seen_last, length-decided}
+use Rattle.tsn_branch.proofs.Descents.{by_last, above, arcs-decided, arcs-nil, seen_none, seen_more, seen_above, seen_turned, seen_last}
 
 pub stands_root : (network : Network) (stack : Stack) (found : Option Seen) → stack.releases ≡ unreleased network → stack.arcs ≡ [] → Stands network (record { path = []; stack = stack; seen = []; found = found })
 stands_root network stack found none is = record { none_released = none; arcs = is ∙ sym (arcs-nil network); split_above = seen_none network }

@@ -2,10 +2,9 @@
 --     IsSeenBy, IsSeen      what a split node has by its least offsets
 --     IsFinding            what is found at a node
 --     Stands, Splits       a descent to a node that is to be looked at, or that is to be split
-use Rattle.std.specs.Prelude.{◌≡◌, ℕ, ◌-◌, ◌<◌, List, [], ◌∷◌, length, take, slice_get, slice_index_or, Option, Some}
+use Rattle.std.specs.Prelude.{◌≡◌, ℕ, ◌-◌, ◌<◌, List, length, take, slice_get, slice_index_or, Option, Some}
 use Rattle.tsn_model.specs.declared.Triple.{Triple}
 use Rattle.tsn_model.specs.declared.Decision.{Decision}
-use Rattle.tsn_model.specs.declared.Arc.{Arc}
 use Rattle.tsn_model.specs.Network.{Network}
 use Rattle.tsn_model.specs.Schedule.{IsFirstOverlap, IsValid, flowspan}
 use Rattle.tsn_model.specs.Arcs.{conflicts_of, arcs_of}

@@ -1,6 +1,5 @@
-use Rattle.std.proofs.Common.{◌≡◌, ◌+◌, ◌<◌, ◌≤◌, ◌⊎◌, ℕ, get_or, length, sym, ap, subst, refl, ◌∙◌, arith, inl, inr}
+use Rattle.std.proofs.Common.{◌≡◌, ◌+◌, ◌<◌, ◌≤◌, ◌⊎◌, ℕ, sym, ap, refl, ◌∙◌, inl, inr}
 use Rattle.std.proofs.lemmas.Bool.{cases_lt}
-use Rattle.tsn_model.specs.Timing.{arrival}
 use Rattle.tsn_model.specs.Schedule.{offset_of}
 use Rattle.tsn_branch.proofs.Arrivals.{flowspan_is, IsFirstLast-from}
 use Rattle.tsn_branch.proofs.Raised.{raised_at, last-before, last-kept, last-taken, last-all}

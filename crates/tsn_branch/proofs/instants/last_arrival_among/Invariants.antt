@@ -1,4 +1,3 @@
-use Rattle.std.proofs.Common.{◌≡◌}
 use Rattle.tsn_branch.proofs.Raised.{IsLastAmong}
 use Rattle.tsn_branch.proofs.instants.last_arrival_among.Given as goal
 

@@ -1,17 +1,13 @@
-use Rattle.std.proofs.Common.{◌≡◌, ◌≤◌, ◌<◌, List, length, ℕ, All, refl, sym, ap, ◌∙◌, subst, arith}
+use Rattle.std.proofs.Common.{List, length, ℕ, sym, ap, ◌∙◌, subst}
 use Rattle.tsn_model.specs.declared.Triple.{Triple}
-use Rattle.tsn_model.specs.Schedule.{IsValid, IsFirstOverlap, flowspan}
 use Rattle.tsn_model.specs.Arcs.{arcs_of}
 use Rattle.tsn_model.specs.Certificate.{positive_cycle}
-use Rattle.tsn_diff.specs.Forest.{chain_of}
 use Rattle.tsn_diff.specs.Answers.{Answers}
-use Rattle.tsn_conflict.specs.Raised.{OnlyRaisedOverlap}
 use Rattle.tsn_branch.specs.Unreleased.{unreleased}
-use Rattle.tsn_branch.specs.Ends.{AreEnds}
-use Rattle.tsn_branch.specs.Look.{IsLook, AreLeast, AllFit, IsFirstOverrun, IsFirstLast, IsShownBy, IsRefutation}
+use Rattle.tsn_branch.specs.Look.{IsLook, IsRefutation}
 use Rattle.tsn_branch.specs.Descent.{IsPlaced, outcome_found}
 use Rattle.tsn_branch.proofs.Findings.{placed, look_found}
-use Rattle.tsn_branch.proofs.Leasts.{count, AreLeast-from, IsShownBy-from, IsRefutation-from, small_offsets}
+use Rattle.tsn_branch.proofs.Leasts.{IsRefutation-from}
 use Rattle.tsn_branch.proofs.judge.judge.Goals as goal
 
 pub look_of-requires : goal.look_of-requires

@@ -1,17 +1,13 @@
-use Rattle.std.proofs.Common.{◌≡◌, ◌≤◌, ◌<◌, List, length, ℕ, All, refl, sym, ap, ◌∙◌, subst, arith}
+use Rattle.std.proofs.Common.{◌≤◌, ◌<◌, List, length, ℕ, All, sym, ap, ◌∙◌, subst, arith}
 use Rattle.tsn_model.specs.declared.Triple.{Triple}
-use Rattle.tsn_model.specs.Schedule.{IsValid, IsFirstOverlap, flowspan}
-use Rattle.tsn_model.specs.Arcs.{arcs_of, conflicts_of}
-use Rattle.tsn_model.specs.Certificate.{positive_cycle}
-use Rattle.tsn_diff.specs.Forest.{chain_of}
-use Rattle.tsn_diff.specs.Answers.{Answers}
+use Rattle.tsn_model.specs.Schedule.{IsFirstOverlap}
+use Rattle.tsn_model.specs.Arcs.{conflicts_of}
 use Rattle.tsn_conflict.specs.Raised.{OnlyRaisedOverlap, triple_at}
-use Rattle.tsn_branch.specs.Unreleased.{unreleased}
 use Rattle.tsn_branch.specs.Links.{shared_links, IsUnloaded}
 use Rattle.tsn_branch.specs.Loads.{IsFirstLoad}
 use Rattle.tsn_branch.specs.Ends.{AreEnds}
-use Rattle.tsn_branch.specs.Look.{AreLeast, AllFit, IsFirstOverrun, IsFirstLast, IsShownBy, IsRefutation}
-use Rattle.tsn_branch.proofs.Leasts.{count, AreLeast-from, IsShownBy-from, IsRefutation-from, small_offsets, least_same}
+use Rattle.tsn_branch.specs.Look.{IsFirstOverrun, IsShownBy}
+use Rattle.tsn_branch.proofs.Leasts.{count, AreLeast-from, IsShownBy-from, small_offsets, least_same}
 use Rattle.tsn_branch.specs.Outcome.{outcome_of}
 use Rattle.tsn_branch.specs.Descent.{IsSeenBy}
 use Rattle.tsn_branch.proofs.Findings.{solution_found}

@@ -1,16 +1,8 @@
-use Rattle.std.proofs.Common.{◌≡◌, ◌≤◌, ◌<◌, List, length, ℕ, All, refl, sym, ap, ◌∙◌, subst, arith}
-use Rattle.tsn_model.specs.Schedule.{IsValid, IsFirstOverlap, flowspan}
-use Rattle.tsn_model.specs.Arcs.{arcs_of}
-use Rattle.tsn_model.specs.Certificate.{positive_cycle}
-use Rattle.tsn_diff.specs.Forest.{chain_of}
-use Rattle.tsn_diff.specs.Answers.{Answers}
+use Rattle.std.proofs.Common.{◌<◌, List, length, sym, subst}
+use Rattle.tsn_model.specs.Schedule.{IsFirstOverlap}
 use Rattle.tsn_conflict.specs.Raised.{triple_at}
 use Rattle.tsn_conflict.proofs.Raised.{premise_from_parent}
 use Rattle.tsn_model.specs.declared.Triple.{Triple}
-use Rattle.tsn_branch.specs.Unreleased.{unreleased}
-use Rattle.tsn_branch.specs.Ends.{AreEnds}
-use Rattle.tsn_branch.specs.Look.{AreLeast, AllFit, IsFirstOverrun, IsFirstLast, IsShownBy, IsRefutation}
-use Rattle.tsn_branch.proofs.Leasts.{count, AreLeast-from, IsShownBy-from, IsRefutation-from, small_offsets}
 use Rattle.tsn_branch.proofs.judge.judge_raised.Goals as goal
 
 pub judge_ends-requires-clause-apart : goal.judge_ends-requires-clause-apart

@@ -1,14 +1,8 @@
-use Rattle.std.proofs.Common.{◌≡◌, ◌≤◌, ◌<◌, List, length, ℕ, All, refl, sym, ap, ◌∙◌, subst, arith}
-use Rattle.tsn_model.specs.Schedule.{IsValid, IsFirstOverlap, flowspan}
-use Rattle.tsn_model.specs.Arcs.{arcs_of}
-use Rattle.tsn_model.specs.Certificate.{positive_cycle}
+use Rattle.std.proofs.Common.{◌≡◌, List, ℕ, refl, sym, ap, ◌∙◌, subst}
+use Rattle.tsn_model.specs.Schedule.{flowspan}
 use Rattle.tsn_diff.specs.Forest.{chain_of}
-use Rattle.tsn_diff.specs.Answers.{Answers}
-use Rattle.tsn_conflict.specs.Raised.{OnlyRaisedOverlap}
-use Rattle.tsn_branch.specs.Unreleased.{unreleased}
-use Rattle.tsn_branch.specs.Ends.{AreEnds}
-use Rattle.tsn_branch.specs.Look.{AreLeast, AllFit, IsFirstOverrun, IsFirstLast, IsShownBy, IsRefutation}
-use Rattle.tsn_branch.proofs.Leasts.{count, AreLeast-from, IsShownBy-from, IsRefutation-from, small_offsets}
+use Rattle.tsn_branch.specs.Look.{AreLeast, IsFirstLast, IsShownBy}
+use Rattle.tsn_branch.proofs.Leasts.{AreLeast-from, IsShownBy-from}
 use Rattle.tsn_branch.proofs.judge.solved.Goals as goal
 
 pub returns : goal.returns

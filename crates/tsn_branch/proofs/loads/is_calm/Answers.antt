@@ -1,4 +1,4 @@
-use Rattle.std.proofs.Common.{◌≡◌, ◌+◌, ◌≤◌, ◌<◌, ℕ, ℤ, List, All, Contains, pos, ◌+ℤ◌, ◌<ℤ◌, get_or, to_z, of_z, w64, arith, refl, sym, subst, length}
+use Rattle.std.proofs.Common.{◌≡◌, ◌+◌, ◌<◌, ℕ, List, All, Contains, pos, ◌+ℤ◌, get_or, to_z, of_z, w64, arith, sym, subst, length}
 use Rattle.std.proofs.lemmas.Int.{ints}
 use Rattle.std.proofs.lemmas.List.{get_or_default}
 use Rattle.tsn_model.specs.Schedule.{offset_of}

@@ -1,4 +1,4 @@
-use Rattle.std.proofs.Common.{◌≡◌, ◌∷◌, ◌++◌, [], ℕ, List, reverse, refl, sym, ap, ◌∙◌, subst, arith}
+use Rattle.std.proofs.Common.{◌≡◌, [], reverse, sym, ap, subst}
 use Rattle.tsn_search_laws.specs.Walk.{IsWalk}
 use Rattle.tsn_search_laws.proofs.Walking.{walk_root}
 use Rattle.tsn_worker.proofs.search.settle_open.Goals as goal

@@ -1,9 +1,8 @@
-use Rattle.std.proofs.Common.{◌≡◌, ◌≤◌, ◌<◌, ◌-◌, ℕ, List, length, take, get_or, refl, sym, ap, ◌∙◌, subst, arith}
+use Rattle.std.proofs.Common.{◌<◌, ◌-◌, List, length, take, get_or, sym, ap, ◌∙◌, subst, arith}
 use Rattle.tsn_model.specs.declared.Side.TheVariants.{Left}
 use Rattle.tsn_model.specs.declared.Decision.{Decision}
-use Rattle.tsn_model.specs.Network.{Network}
 use Rattle.std.proofs.lemmas.List.{get_or_default}
-use Rattle.tsn_branch.specs.Descent.{Stands, Leads}
+use Rattle.tsn_branch.specs.Descent.{Leads}
 use Rattle.tsn_branch.proofs.Descents.{by_last}
 use Rattle.tsn_branch.proofs.Ways.{stands_back, length-arcs}
 use Rattle.tsn_branch.proofs.descent.Descent.draw_back.Goals as goal

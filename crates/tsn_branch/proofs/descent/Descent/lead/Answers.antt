@@ -1,9 +1,8 @@
-use Rattle.std.proofs.Common.{◌≡◌, ◌≤◌, ◌<◌, ◌-◌, ℕ, List, [], ◌∷◌, ◌++◌, length, take, refl, sym, ap, ◌∙◌, subst, arith}
+use Rattle.std.proofs.Common.{◌≡◌, ◌-◌, List, [], ◌∷◌, ◌++◌, length, take, sym, ap, ◌∙◌, subst, arith}
 use Rattle.std.proofs.lemmas.Option.{slice_get_within, get_or_from_slice_get}
 use Rattle.tsn_model.specs.declared.Arc.{Arc}
 use Rattle.tsn_model.specs.declared.Decision.{Decision}
-use Rattle.tsn_model.specs.Network.{Network}
-use Rattle.tsn_model.specs.Arcs.{arc_on, arcs_of}
+use Rattle.tsn_model.specs.Arcs.{arcs_of}
 use Rattle.tsn_model.specs.Certificate.{decided}
 use Rattle.tsn_diff.specs.Answers.{Refutes}
 use Rattle.tsn_diff.specs.Stack.{Stack, RisesAt}
@@ -11,7 +10,7 @@ use Rattle.std.specs.Prelude.{IfNone, IfSome, OnSome}
 use Rattle.tsn_branch.specs.Unreleased.{unreleased}
 use Rattle.tsn_branch.specs.Descent.{Way, Stands}
 use Rattle.tsn_branch.proofs.Descents.{by_last}
-use Rattle.tsn_branch.proofs.Ways.{Puts, leads_down, leads_root, refutes_down}
+use Rattle.tsn_branch.proofs.Ways.{Puts, leads_down, refutes_down}
 use Rattle.tsn_branch.proofs.descent.Descent.lead.Goals as goal
 
 pub returns-in-Some-2-clause-led : goal.returns-in-Some-2-clause-led

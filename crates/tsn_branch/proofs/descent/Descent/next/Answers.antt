@@ -1,21 +1,11 @@
-use Rattle.std.proofs.Common.{◌≡◌, ◌≤◌, ◌<◌, ◌+◌, ◌-◌, ◌++◌, ◌∷◌, [], ℕ, List, Option, Some, None, length, take, get_or, refl, sym, ap, ◌∙◌, subst, arith}
-use Rattle.std.specs.List.{slice_index_or}
-use Rattle.tsn_model.specs.declared.Triple.{Triple}
-use Rattle.tsn_model.specs.declared.Side.{Side}
+use Rattle.std.proofs.Common.{◌≡◌, ◌<◌, ◌-◌, ◌∷◌, [], length, take, sym, ap, ◌∙◌, subst, arith}
 use Rattle.tsn_model.specs.declared.Side.TheVariants.{Left, Right}
-use Rattle.tsn_model.specs.declared.Decision.{Decision}
-use Rattle.tsn_model.specs.declared.Arc.{Arc}
-use Rattle.tsn_model.specs.Network.{Network}
-use Rattle.tsn_model.specs.Arcs.{arcs_of, arc_on}
 use Rattle.tsn_model.specs.Certificate.{decided}
 use Rattle.tsn_model.specs.Places.{pending}
 use Rattle.tsn_model.proofs.Places.{pending-nil, pending-left, pending-right}
-use Rattle.tsn_diff.specs.Stack.{Stack}
-use Rattle.tsn_branch.specs.Unreleased.{unreleased}
-use Rattle.tsn_branch.specs.declared.seen.Seen.{Seen}
-use Rattle.tsn_branch.specs.Descent.{Way, IsSeen, AllSeen, Stands, Splits, Leads}
-use Rattle.tsn_branch.proofs.Descents.{by_last, above, arcs-decided, seen_above, seen_turned, length-decided}
-use Rattle.tsn_branch.proofs.Ways.{stands_root, stands_down, stands_back, stands_up, stands_up_empty, stands_turned, leads_down, leads_root, stands_root_again}
+use Rattle.tsn_branch.specs.Descent.{Way, Stands}
+use Rattle.tsn_branch.proofs.Descents.{above, length-decided}
+use Rattle.tsn_branch.proofs.Ways.{stands_turned}
 use Rattle.tsn_branch.proofs.descent.Descent.next.Goals as goal
 
 pub returns-in-Left-clause-stands : goal.returns-in-Left-clause-stands

@@ -1,7 +1,4 @@
-use Rattle.std.proofs.Common.{◌≡◌, ◌≤◌, ◌<◌, ◌-◌, ℕ, List, length, take, refl, sym, ap, ◌∙◌, subst, arith, vec_len}
-use Rattle.tsn_model.specs.declared.Decision.{Decision}
-use Rattle.tsn_model.specs.Network.{Network}
-use Rattle.tsn_branch.specs.declared.seen.Seen.{Seen}
+use Rattle.std.proofs.Common.{◌≡◌, ◌-◌, length, take, sym, ap, ◌∙◌, subst, arith}
 use Rattle.tsn_branch.specs.Descent.{Stands}
 use Rattle.tsn_branch.proofs.Ways.{stands_up, stands_up_empty}
 use Rattle.tsn_branch.proofs.descent.Descent.up.Goals as goal

@@ -1,4 +1,4 @@
-use Rattle.std.proofs.Common.{◌≡◌, ℕ, ◌-◌, ◌∙◌, ◌<◌, Some, sym, ap, take, length, get_or, arith}
+use Rattle.std.proofs.Common.{◌-◌, ◌∙◌, ◌<◌, sym, take, length, arith}
 use Rattle.std.proofs.lemmas.Option.{slice_get_within, get_or_from_slice_get}
 use Rattle.tsn_branch.proofs.Descents.{by_last}
 use Rattle.tsn_branch.proofs.node.Node.last_side.Goals as goal

@@ -1,4 +1,4 @@
-use Rattle.std.proofs.Common.{◌≡◌, ℕ, ◌-◌, ◌+◌, ◌∙◌, ◌≤◌, ◌<◌, List, sym, ap, length, arith, vec_len, slice_index_or}
+use Rattle.std.proofs.Common.{◌≡◌, ◌-◌, ◌∙◌, ◌≤◌, List, ap, length, arith, slice_index_or}
 use Rattle.std.specs.Prelude.{slice_set}
 use Rattle.tsn_model.specs.declared.Triple.{Triple}
 use Rattle.tsn_model.specs.declared.Decision.{Decision}

@@ -1,6 +1,5 @@
-use Rattle.std.proofs.Common.{◌≡◌, ◌∷◌, ◌++◌, [], ℕ, List, reverse, refl, sym, ap, ◌∙◌, subst, arith}
+use Rattle.std.proofs.Common.{reverse, sym, ap, subst}
 use Rattle.tsn_model.specs.declared.Side.TheVariants.{Left}
-use Rattle.tsn_model.specs.declared.Decision.{Decision}
 use Rattle.tsn_model.specs.Certificate.{decided}
 use Rattle.tsn_model.specs.Search.{Settlement}
 use Rattle.tsn_search_laws.specs.Walk.{path_made}
