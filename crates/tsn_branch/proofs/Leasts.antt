@@ -1,71 +1,73 @@
 -- What the least offsets of a path's arcs say of the path.
-use Rattle.std.proofs.Common.{◌≡◌, ℕ, ◌≤◌, ◌<◌, pos, List, length, All, sym, ◌∙◌, subst, ⊎_elim, arith}
-use Rattle.std.proofs.lemmas.Bool.{cases_lt}
+use Rattle.std.proofs.Common.{◌≡◌, ℕ, ◌≤◌, ◌<◌, pos, List, length, get_or, All, sym, ◌∙◌, subst, arith}
 use Rattle.std.proofs.lemmas.Int.{ints}
-use Rattle.std.proofs.lemmas.List.{get_or-replicate, get_or_past, get_or_default, length-replicate, ext_get_or}
+use Rattle.std.proofs.lemmas.List.{get_or_default, length-map, ext_get_or}
+use Rattle.std.proofs.Math.ListN.{get_or-map}
 use Rattle.tsn_model.specs.declared.Decision.{Decision}
-use Rattle.tsn_model.specs.Network.{Network, IsWellFormed, stream_count}
-use Rattle.tsn_model.specs.Schedule.{offset_of}
+use Rattle.tsn_model.specs.Network.{Network, Stream, IsWellFormed, stream_count, no_stream, stream_at, release_of}
+use Rattle.tsn_model.specs.declared.Violation.{Violation}
+use Rattle.tsn_model.specs.Schedule.{offset_of, IsValid, AreApart, IsFirstViolation}
+use Rattle.tsn_model.proofs.Validity.{valid_from_parts, violation_refutes}
 use Rattle.tsn_model.specs.Arcs.{arcs_of, HoldsAll, start_of}
 use Rattle.tsn_model.specs.Certificate.{sum_on, positive_cycle}
-use Rattle.tsn_diff.specs.Offsets.{Meets, release_of}
+use Rattle.tsn_diff.specs.Offsets.{Meets}
 use Rattle.tsn_diff.specs.Forest.{Labelling, chain_of}
 use Rattle.tsn_diff.specs.Answers as diff
 use Rattle.tsn_diff.specs.Answers.{Answers, Solves}
 use Rattle.tsn_diff.specs.declared.solve.Outcome.{Outcome}
 use Rattle.tsn_model.specs.declared.Arc.{Arc}
-use Rattle.tsn_branch.specs.Unreleased.{unreleased}
-use Rattle.tsn_branch.specs.Look.{AreLeast, IsShownBy, AllFit, IsRefutation}
+use Rattle.tsn_branch.specs.Releases.{releases_of}
+use Rattle.tsn_branch.specs.Look.{AreReleased, AreLeast, IsShownBy, AllFit, IsRefutation}
 
--- no release is above 0
-none_released : (network : Network) (i : ℕ) → release_of (unreleased network) i ≡ 0
-none_released network i =
-    ⊎_elim (λ (below : i < stream_count network). get_or-replicate (stream_count network) i 0 0 below)
-    (λ (past : stream_count network ≤ i). get_or_past (unreleased network) i 0 (rw length-replicate past)) (cases_lt i (stream_count network))
+-- the release at a place is the stream's
+pub released_at : (network : Network) (i : ℕ) → get_or (releases_of network) i 0 ≡ release_of network i
+unfolding release_of stream_at
+released_at network i = get_or-map (λ (stream : Stream). stream.release) network.streams i no_stream
 
-pub length-unreleased : (network : Network) → length (unreleased network) ≡ stream_count network
-length-unreleased network = length-replicate (stream_count network) 0
+pub length-releases : (network : Network) → length (releases_of network) ≡ stream_count network
+length-releases network = length-map network.streams (λ (stream : Stream). stream.release)
 
 -- what arcs come to, said of the path that they are of
-pub answers_on : (network : Network) (path : List Decision) (releases : List ℕ) (arcs : List Arc) (outcome : Outcome) → releases ≡ unreleased network → arcs ≡ arcs_of network path
-    → Answers releases arcs outcome → Answers (unreleased network) (arcs_of network path) outcome
+pub answers_on : (network : Network) (path : List Decision) (releases : List ℕ) (arcs : List Arc) (outcome : Outcome) → releases ≡ releases_of network → arcs ≡ arcs_of network path
+    → Answers releases arcs outcome → Answers (releases_of network) (arcs_of network path) outcome
 answers_on network path releases arcs outcome none same answers =
     subst (λ rs. Answers rs (arcs_of network path) outcome) none (subst (λ as'. Answers releases as' outcome) same answers)
 
-module _ (network : Network) (path : List Decision) (labels : Labelling) (solves : Solves (unreleased network) (arcs_of network path) labels) where
+module _ (network : Network) (path : List Decision) (labels : Labelling) (solves : Solves (releases_of network) (arcs_of network path) labels) where
   pub count : length labels.offsets ≡ stream_count network
-  count = solves.least.meets.count ∙ length-unreleased network
+  count = solves.least.meets.count ∙ length-releases network
 
-  meets_from : (other : List ℕ) → length other ≡ stream_count network → HoldsAll other (arcs_of network path) → Meets (unreleased network) (arcs_of network path) other
-  meets_from other long held = record {
-    count = long ∙ sym (length-unreleased network);
-    released = λ i below. let none = none_released network i in omega arith;
+  meets_from : (other : List ℕ) → length other ≡ stream_count network → AreReleased network other → HoldsAll other (arcs_of network path) → Meets (releases_of network) (arcs_of network path) other
+  meets_from other long released held = record {
+    count = long ∙ sym (length-releases network);
+    released = λ i below. let same = released_at network i in let late = released i (rw (sym (length-releases network)) below) in omega arith;
     met = held;
   }
 
   pub AreLeast-from : AreLeast network path labels.offsets
   AreLeast-from = record {
     count = count;
+    released = λ i below. let same = released_at network i in let late = solves.least.meets.released i (rw (length-releases network) below) in omega arith;
     held = solves.least.meets.met;
-    least = λ other long held i below. solves.least.least other (meets_from other long held) i (rw (length-unreleased network) below);
+    least = λ other long released held i below. solves.least.least other (meets_from other long released held) i (rw (length-releases network) below);
   }
 
   pub IsShownBy-from : (i : ℕ) → i < stream_count network → IsShownBy network path labels.offsets i (chain_of labels i)
   unfolding sum_on
   IsShownBy-from i below =
-      let shows = solves.chains i (rw (length-unreleased network) below) in
+      let shows = solves.chains i (rw (length-releases network) below) in
       let sum = shows.sum in
-      let none = none_released network (start_of (arcs_of network path) (chain_of labels i) i) in
+      let release = released_at network (start_of (arcs_of network path) (chain_of labels i) i) in
       record {
         leads = record { stream = below; chain_to = shows.leads };
-        sum = omega (arith, ints, sum, none);
+        sum = omega (arith, ints, sum, release);
       }
 
   pub short : IsWellFormed network → (i : ℕ) → i < stream_count network → length (chain_of labels i) ≤ 128
   short formed i below =
-      let shows = solves.chains i (rw (length-unreleased network) below) in
+      let shows = solves.chains i (rw (length-releases network) below) in
       let shorter = shows.short in
-      let long = length-unreleased network in
+      let long = length-releases network in
       let few = formed.few_streams in
       omega arith
 
@@ -73,14 +75,13 @@ module _ (network : Network) (path : List Decision) (labels : Labelling) (solves
 pub small_offsets : (network : Network) (offsets : List ℕ) → IsWellFormed network → length offsets ≡ stream_count network → AllFit network offsets → All (λ offset. offset ≤ 1000000000) offsets
 small_offsets network offsets formed count fit k d below =
     let same = get_or_default offsets k d 0 below in
-    let fits = fit k (omega arith) in
+    let fits = (fit k (omega arith)).0 in
     let cycle = formed.short_cycle in
     omega arith
 
 -- a closed chain of positive sum refutes the path
-pub IsRefutation-from : (network : Network) (path : List Decision) (chain : List ℕ) → diff.Refutes (length (unreleased network)) (arcs_of network path) chain
+pub IsRefutation-from : (network : Network) (path : List Decision) (chain : List ℕ) → diff.Refutes (length (releases_of network)) (arcs_of network path) chain
     → (target : ℕ) → IsRefutation network path target (positive_cycle chain)
-unfolding sum_on
 IsRefutation-from network path chain refutes target = (
   λ offsets held. refutes.none (λ i. pos (offset_of offsets i)) held,
   λ target. (refutes.cycle.closed, refutes.cycle.positive),
@@ -91,6 +92,14 @@ pub least_same : (network : Network) (path : List Decision) (first second : List
 least_same network path first second a b =
     ext_get_or 0 first second (a.count ∙ sym b.count) (λ i below.
     let within : i < stream_count network = subst (λ n. i < n) a.count below in
-    let low = a.least second b.count b.held i within in
-    let high = b.least first a.count a.held i within in
+    let low = a.least second b.count b.released b.held i within in
+    let high = b.least first a.count a.released a.held i within in
     omega arith)
+
+-- the least offsets are a valid schedule where all streams are done in time and none overlap, so they have no violation
+pub no_violation : (network : Network) (path : List Decision) (labels : Labelling) → Solves (releases_of network) (arcs_of network path) labels → AllFit network labels.offsets → AreApart network labels.offsets
+    → (offsets : List ℕ) → offsets ≡ labels.offsets → (violation : Violation) → IsFirstViolation network offsets violation → ⊥
+no_violation network path labels solves fit apart offsets same violation first =
+    let least = AreLeast-from network path labels solves in
+    let valid = valid_from_parts network labels.offsets least.count (λ i below. (fit i below).0) apart least.released (λ i below. (fit i below).1) in
+    violation_refutes network offsets violation first (subst (IsValid network) (sym same) valid)

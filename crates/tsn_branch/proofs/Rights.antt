@@ -1,5 +1,5 @@
 -- What a look finds is right whatever was settled before.
-use Rattle.std.proofs.Common.{◌≡◌, ◌≢◌, ℕ, ◌≤◌, List, sym, subst, arith}
+use Rattle.std.proofs.Common.{◌≡◌, ◌≢◌, ℕ, ◌≤◌, List, sym, subst, arith, inl, inr}
 use Rattle.std.proofs.lemmas.Int.{ints}
 use Rattle.std.proofs.lemmas.List.Elements.{All-weaker}
 use Rattle.tsn_model.specs.declared.Triple.{Triple}
@@ -9,7 +9,7 @@ use Rattle.tsn_model.specs.declared.Decision.{Decision}
 use Rattle.tsn_model.specs.Network.{Network}
 use Rattle.tsn_model.specs.Schedule.{flowspan, Overlaps}
 use Rattle.tsn_model.specs.Arcs.{arc_between, arc_on, arc_of, arcs_of, Holds, HoldsAll}
-use Rattle.tsn_model.specs.Certificate.{Leaf, late, overrun, positive_cycle, load, overload, late_bound, Proves}
+use Rattle.tsn_model.specs.Certificate.{Leaf, late, overrun, positive_cycle, load, overload, late_bound, Overruns, Proves}
 use Rattle.tsn_model.specs.Search.{Outcome, split, solved, pruned, refuted, Refutes}
 use Rattle.tsn_model.proofs.Lists.{All-unmap}
 use Rattle.tsn_branch.specs.Path.{IsUndecided}
@@ -59,9 +59,9 @@ prunes network path target bound (overload link entries) never = absurd never
 refutes : (network : Network) (path : List Decision) (target : ℕ) (leaf : Leaf) → IsRefutation network path target leaf → Refutes network path leaf
 refutes network path target (late i chain) never = absurd never
 refutes network path target (overrun i chain) (offsets, least, first, shown) =
-    let past = first.past in
     let sum = shown.sum in
-    λ any. (shown.leads, omega (arith, ints, past, sum))
+    let overruns : Overruns network path i chain = elim first.past [ inl past ↦ inl (omega (arith, ints, past, sum)) | inr too_late ↦ inr (omega (arith, ints, too_late, sum)) ] in
+    λ any. (shown.leads, overruns)
 refutes network path target (positive_cycle chain) (none, proof) = proof
 refutes network path target (load link entries) never = absurd never
 refutes network path target (overload link entries) (offsets, least, fit, below, first, past, shows) =

@@ -20,7 +20,7 @@ use Rattle.tsn_diff.specs.Forest.{Labelling, chain_of}
 use Rattle.tsn_diff.specs.Answers.{Solves}
 use Rattle.tsn_branch.specs.declared.loads.User.{User}
 use Rattle.tsn_branch.specs.Loads.{user_on, entry_by}
-use Rattle.tsn_branch.specs.Unreleased.{unreleased}
+use Rattle.tsn_branch.specs.Releases.{releases_of}
 use Rattle.tsn_branch.proofs.Leasts.{IsShownBy-from}
 
 users_differ : (network : Network) (link : ℕ) → AllPairs (λ i j. i ≢ j) (users_of network link)
@@ -88,7 +88,7 @@ module _ (network : Network) (path : List Decision) (offsets : List ℕ) (link :
       λ k. busy_shown entries shows k +ℤ tail k
 
 -- the streams of a link with the chains of the least offsets show it
-module _ (network : Network) (path : List Decision) (labels : Labelling) (solves : Solves (unreleased network) (arcs_of network path) labels) (link : ℕ) where
+module _ (network : Network) (path : List Decision) (labels : Labelling) (solves : Solves (releases_of network) (arcs_of network path) labels) (link : ℕ) where
   streams_back : (streams : List ℕ) → map (λ (entry : Entry). entry.stream) (map (entry_by labels) (map (user_on network link) streams)) ≡ streams
   streams_back [] = refl
   streams_back (i ∷ streams) = ap (λ is. i ∷ is) (streams_back streams)

@@ -13,21 +13,21 @@ use Rattle.tsn_model.specs.Arcs.{arcs_of, arc_of, arc_on, Holds, HoldsAll}
 use Rattle.tsn_model.specs.Certificate.{decided}
 use Rattle.tsn_diff.specs.Answers.{Solves, Refutes}
 use Rattle.tsn_diff.specs.Stack.{Stack, RisesAt}
-use Rattle.tsn_branch.specs.Unreleased.{unreleased}
+use Rattle.tsn_branch.specs.Releases.{releases_of}
 use Rattle.tsn_branch.specs.declared.seen.Seen.{Seen}
 use Rattle.tsn_branch.specs.Descent.{Way, IsSeen, WasSeen, AllSeen, Stands, Splits, Leads}
 use Rattle.tsn_branch.proofs.Leasts.{AreLeast-from}
 use Rattle.tsn_branch.proofs.Descents.{by_last, above, arcs-decided, arcs-nil, seen_none, seen_more, seen_above, seen_turned, seen_last}
 
-pub stands_root : (network : Network) (stack : Stack) (found : Option Seen) → stack.releases ≡ unreleased network → stack.arcs ≡ [] → Stands network (record { path = []; stack = stack; seen = []; found = found })
-stands_root network stack found none is = record { none_released = none; arcs = is ∙ sym (arcs-nil network); split_above = seen_none network }
+pub stands_root : (network : Network) (stack : Stack) (found : Option Seen) → stack.releases ≡ releases_of network → stack.arcs ≡ [] → Stands network (record { path = []; stack = stack; seen = []; found = found })
+stands_root network stack found none is = record { releases = none; arcs = is ∙ sym (arcs-nil network); split_above = seen_none network }
 
 pub stands_down : (network : Network) (triple : Triple) (way : Way) (here : Seen) (found : Option Seen) → Splits network triple way → way.found ≡ Some here
     → Stands network (record { path = decided way.path triple Left; stack = way.stack; seen = way.seen ++ here ∷ []; found = found })
 stands_down network triple way here found splits is =
     let same : splits.seen_here ≡ here = some_same (sym splits.found ∙ is) in
     record {
-      none_released = splits.none_released;
+      releases = splits.releases;
       arcs = splits.arcs ∙ ap (arcs_of network) (sym (above way.path triple Left));
       split_above = seen_more network way.path way.seen here triple Left splits.split_above (subst (IsSeen network way.path) same splits.is_seen);
     }
@@ -36,12 +36,12 @@ stands_down network triple way here found splits is =
     some_same e = cc e
 
 -- the path's arcs but the last, where there is one
-pub stands_back : (network : Network) (path : List Decision) (old new : Stack) (seen : List Seen) (found : Option Seen) → old.releases ≡ unreleased network → old.arcs ≡ arcs_of network path → AllSeen network path seen
+pub stands_back : (network : Network) (path : List Decision) (old new : Stack) (seen : List Seen) (found : Option Seen) → old.releases ≡ releases_of network → old.arcs ≡ arcs_of network path → AllSeen network path seen
     → (front : List Decision) (triple : Triple) (side : Side) → path ≡ decided front triple side
     → new.releases ≡ old.releases → ((before : List Arc) (last : Arc) → old.arcs ≡ before ++ last ∷ [] → new.arcs ≡ before)
     → Stands network (record { path = path; stack = new; seen = seen; found = found })
 stands_back network path old new seen found none is all front triple side whole same popped = record {
-  none_released = same ∙ none;
+  releases = same ∙ none;
   arcs = popped (arcs_of network front) (arc_on network triple side) (is ∙ ap (arcs_of network) whole ∙ arcs-decided network front triple side)
       ∙ ap (arcs_of network) (sym (ap (λ p. take (length p - 1) p) whole ∙ above front triple side));
   split_above = all;
@@ -62,12 +62,12 @@ pub record Puts (arc : Arc) (old new : Stack) : Type 0 where
   pub solved : Solves new.releases new.arcs new.labels
 
 pub was_seen : (network : Network) (front : List Decision) (triple : Triple) (side : Side) (old new : Stack) (last : Seen)
-    → old.releases ≡ unreleased network → new.releases ≡ old.releases → old.arcs ≡ arcs_of network front → Puts (arc_on network triple side) old new → IsSeen network front last
+    → old.releases ≡ releases_of network → new.releases ≡ old.releases → old.arcs ≡ arcs_of network front → Puts (arc_on network triple side) old new → IsSeen network front last
     → WasSeen network new.raised new.labels.offsets last
 was_seen network front triple side old new last none same is puts seen =
-    let first : Solves (unreleased network) (arcs_of network front) old.labels = subst (λ rs. Solves rs (arcs_of network front) old.labels) none (subst (λ as'. Solves old.releases as' old.labels) is puts.solved_before) in
+    let first : Solves (releases_of network) (arcs_of network front) old.labels = subst (λ rs. Solves rs (arcs_of network front) old.labels) none (subst (λ as'. Solves old.releases as' old.labels) is puts.solved_before) in
     let arcs : new.arcs ≡ arcs_of network (decided front triple side) = puts.arcs ∙ ap (λ as'. as' ++ arc_on network triple side ∷ []) is ∙ sym (arcs-decided network front triple side) in
-    let second : Solves (unreleased network) (arcs_of network (decided front triple side)) new.labels =
+    let second : Solves (releases_of network) (arcs_of network (decided front triple side)) new.labels =
     subst (λ rs. Solves rs (arcs_of network (decided front triple side)) new.labels) (same ∙ none) (subst (λ as'. Solves new.releases as' new.labels) arcs puts.solved) in
     let before = AreLeast-from network front old.labels first in
     let now = AreLeast-from network (decided front triple side) new.labels second in
@@ -77,7 +77,7 @@ was_seen network front triple side old new last none same is puts seen =
       rose = record {
         count = before.count ∙ sym now.count;
         risen = λ i. elim (cases_lt i (stream_count network)) [
-          | inl below ↦ before.least new.labels.offsets now.count
+          | inl below ↦ before.least new.labels.offsets now.count now.released
               (front_held new.labels.offsets (arcs_of network front) (arc_on network triple side) (subst (HoldsAll new.labels.offsets) (arcs-decided network front triple side) now.held)) i below
           | inr past ↦
               let none_before = get_or_past old.labels.offsets i 0 (subst (λ n. n ≤ i) (sym before.count) past) in
@@ -94,12 +94,12 @@ length-arcs network path = length-map path (arc_of network)
 
 pub leads_down : (network : Network) (front : List Decision) (triple : Triple) (side : Side) (path : List Decision) (old new : Stack) (seen : List Seen) (found : Option Seen)
     → path ≡ decided front triple side
-    → old.releases ≡ unreleased network → new.releases ≡ old.releases → old.arcs ≡ arcs_of network (take (length path - 1) path) → Puts (arc_on network triple side) old new → AllSeen network path seen
+    → old.releases ≡ releases_of network → new.releases ≡ old.releases → old.arcs ≡ arcs_of network (take (length path - 1) path) → Puts (arc_on network triple side) old new → AllSeen network path seen
     → Leads network (record { path = path; stack = new; seen = seen; found = found })
 leads_down network front triple side path old new seen found whole none same is puts all =
     let is_front : old.arcs ≡ arcs_of network front = is ∙ ap (arcs_of network) (ap (λ p. take (length p - 1) p) whole ∙ above front triple side) in
     record {
-      none_released = same ∙ none;
+      releases = same ∙ none;
       arcs = puts.arcs ∙ ap (λ as'. as' ++ arc_on network triple side ∷ []) is_front ∙ sym (ap (arcs_of network) whole ∙ arcs-decided network front triple side);
       split_above = all;
       raised = λ last at.
@@ -111,7 +111,7 @@ leads_down network front triple side path old new seen found whole none same is 
 pub leads_root : (network : Network) (path : List Decision) (stack : Stack) (seen : List Seen) (found : Option Seen) → path ≡ [] → Stands network (record { path = path; stack = stack; seen = seen; found = found })
     → Leads network (record { path = path; stack = stack; seen = seen; found = found })
 leads_root network path stack seen found is stands = record {
-  none_released = stands.none_released;
+  releases = stands.releases;
   arcs = stands.arcs ∙ ap (arcs_of network) (ap (λ p. take (length p - 1) p) is ∙ sym is);
   split_above = stands.split_above;
   raised = λ last at.
@@ -123,7 +123,7 @@ leads_root network path stack seen found is stands = record {
 
 pub stands_root_again : (network : Network) (way : Way) → way.path ≡ [] → Leads network way → Stands network way
 stands_root_again network way is leads = record {
-  none_released = leads.none_released;
+  releases = leads.releases;
   arcs = leads.arcs ∙ ap (arcs_of network) (is ∙ sym (ap (λ p. take (length p - 1) p) is));
   split_above = leads.split_above;
 }
@@ -141,7 +141,7 @@ stands_up network path old new seen before after stands some same popped =
     let at : last ≡ get_or shorter (length shorter - 1) last = sym (get_or_default shorter (length shorter - 1) last none (omega arith)) in
     let whole = by_last shorter last (omega arith) at in
     record {
-      none_released = same ∙ stands.none_released;
+      releases = same ∙ stands.releases;
       arcs = popped (arcs_of network (take (length shorter - 1) shorter)) (arc_on network last.triple last.side)
           (stands.arcs ∙ ap (arcs_of network) whole ∙ arcs-decided network (take (length shorter - 1) shorter) last.triple last.side);
       split_above = seen_above network path seen stands.split_above;
@@ -155,7 +155,7 @@ stands_up_empty network path old seen before after stands none =
     let long = ap length stands.arcs ∙ length-arcs network shorter in
     let empty : shorter ≡ [] = nil_from_length shorter (omega arith) in
     record {
-      none_released = stands.none_released;
+      releases = stands.releases;
       arcs = stands.arcs ∙ ap (arcs_of network) (empty ∙ sym (ap (λ p. take (length p - 1) p) empty));
       split_above = seen_above network path seen stands.split_above;
     }
@@ -165,14 +165,14 @@ pub stands_turned : (network : Network) (front : List Decision) (triple : Triple
     → Stands network (record { path = path; stack = stack; seen = seen; found = before })
     → Stands network (record { path = turned; stack = stack; seen = seen; found = after })
 stands_turned network front triple path turned stack seen before after was now stands = record {
-  none_released = stands.none_released;
+  releases = stands.releases;
   arcs = stands.arcs ∙ ap (arcs_of network) (ap (λ p. take (length p - 1) p) was ∙ above front triple Left ∙ sym (ap (λ p. take (length p - 1) p) now ∙ above front triple Right));
   split_above = subst (λ p. AllSeen network p seen) (sym now) (seen_turned network front triple Left Right seen (subst (λ p. AllSeen network p seen) was stands.split_above));
 }
 
 pub refutes_down : (network : Network) (front : List Decision) (triple : Triple) (side : Side) (path : List Decision) (old : Stack) (chain : List ℕ)
-    → path ≡ decided front triple side → old.releases ≡ unreleased network → old.arcs ≡ arcs_of network (take (length path - 1) path)
-    → Refutes (length old.releases) (old.arcs ++ arc_on network triple side ∷ []) chain → Refutes (length (unreleased network)) (arcs_of network path) chain
+    → path ≡ decided front triple side → old.releases ≡ releases_of network → old.arcs ≡ arcs_of network (take (length path - 1) path)
+    → Refutes (length old.releases) (old.arcs ++ arc_on network triple side ∷ []) chain → Refutes (length (releases_of network)) (arcs_of network path) chain
 refutes_down network front triple side path old chain whole none is refutes =
     let is_front : old.arcs ≡ arcs_of network front = is ∙ ap (arcs_of network) (ap (λ p. take (length p - 1) p) whole ∙ above front triple side) in
     let all : old.arcs ++ arc_on network triple side ∷ [] ≡ arcs_of network path =

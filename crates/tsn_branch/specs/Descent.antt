@@ -14,7 +14,7 @@ use Rattle.tsn_diff.specs.Stack.{Stack}
 use Rattle.tsn_branch.specs.Outcome.{outcome_of}
 use Rattle.tsn_branch.specs.Look.{AreLeast, IsLook, ShowsFlowspan}
 use Rattle.tsn_branch.specs.Ends.{Ended, AreRaised}
-use Rattle.tsn_branch.specs.Unreleased.{unreleased}
+use Rattle.tsn_branch.specs.Releases.{releases_of}
 use Rattle.tsn_branch.specs.declared.seen.Seen.{Seen}
 use Rattle.tsn_branch.specs.declared.seen.Finding.{Finding}
 use Rattle.tsn_branch.specs.declared.seen.Finding.TheVariants.{Split, Closed}
@@ -79,13 +79,13 @@ pub record AllSeen (network : Network) (path : List Decision) (seen : List Seen)
 
 -- the arcs are those of the decisions above the last one
 pub record Stands (network : Network) (way : Way) : Type 0 where
-  pub none_released : way.stack.releases ≡ unreleased network
+  pub releases : way.stack.releases ≡ releases_of network
   pub arcs : way.stack.arcs ≡ arcs_of network (take (length way.path - 1) way.path)
   pub split_above : AllSeen network way.path way.seen
 
 -- the arcs are those of the path, whose end is to be split on the triple
 pub record Splits (network : Network) (triple : Triple) (way : Way) : Type 0 where
-  pub none_released : way.stack.releases ≡ unreleased network
+  pub releases : way.stack.releases ≡ releases_of network
   pub arcs : way.stack.arcs ≡ arcs_of network way.path
   pub split_above : AllSeen network way.path way.seen
   pub seen_here : Seen
@@ -94,7 +94,7 @@ pub record Splits (network : Network) (triple : Triple) (way : Way) : Type 0 whe
 
 -- the arcs are those of the path, and its least offsets are raised from those of the node above
 pub record Leads (network : Network) (way : Way) : Type 0 where
-  pub none_released : way.stack.releases ≡ unreleased network
+  pub releases : way.stack.releases ≡ releases_of network
   pub arcs : way.stack.arcs ≡ arcs_of network way.path
   pub split_above : AllSeen network way.path way.seen
   pub raised : (seen : Seen) → slice_get way.seen (length way.seen - 1) ≡ Some seen → WasSeen network way.stack.raised way.stack.labels.offsets seen

@@ -4,6 +4,6 @@ pub mod Outcome
 pub mod Links
 pub mod Loads
 pub mod Look
-pub mod Unreleased
+pub mod Releases
 pub mod Ends
 pub mod Descent

@@ -1,14 +1,14 @@
 -- What a look at a node says.
 --     AreLeast, HasNoOffsets                what the decisions of a path ask of the offsets
---     IsFirstOverrun, AllFit, IsFirstLast   when the streams are done by these
+--     IsDone, IsFirstOverrun, AllFit, IsFirstLast   when the streams are done by these
 --     ShowsLink                             the entries of a link's streams
 --     IsLook                                the first case that holds, and what it holds
 --     HasProof, SplitsUndecided, PrunesFrom what is right of an outcome whatever was settled before
-use Rattle.std.specs.Prelude.{◌≡◌, ℕ, ◌+◌, ◌≤◌, ◌<◌, List, length, map, All, pos, ◌≤ℤ◌, ◌<ℤ◌}
+use Rattle.std.specs.Prelude.{◌≡◌, ℕ, ◌+◌, ◌≤◌, ◌<◌, ◌⊎◌, List, length, map, All, pos, ◌≤ℤ◌, ◌<ℤ◌}
 use Rattle.tsn_model.specs.declared.Decision.{Decision}
-use Rattle.tsn_model.specs.Network.{Network, stream_count}
+use Rattle.tsn_model.specs.Network.{Network, stream_count, latest_of}
 use Rattle.tsn_model.specs.Timing.{arrival, span}
-use Rattle.tsn_model.specs.Schedule.{IsValid, flowspan, offset_of, IsConflict, FitsCycle, IsFirstOverlap}
+use Rattle.tsn_model.specs.Schedule.{IsValid, flowspan, offset_of, IsConflict, FitsCycle, IsReleased, IsInTime, IsFirstOverlap}
 use Rattle.tsn_model.specs.Arcs.{arcs_of, HoldsAll}
 use Rattle.tsn_model.specs.Certificate.{Leaf, late, overrun, positive_cycle, load, overload, Entry, LeadsTo, sum_on, Proves}
 use Rattle.tsn_model.specs.Search.{Outcome, split, solved, pruned, refuted, Refutes}
@@ -21,29 +21,42 @@ use Rattle.tsn_branch.specs.Links.{users_of, shared_links, busy_by, load_by, IsU
 abbrev pub HasNoOffsets : Network → List Decision → Type 0
 HasNoOffsets network path = (offsets : List ℕ) → HoldsAll offsets (arcs_of network path) → ⊥
 
--- the least offsets, one a stream, that hold the path's arcs: each is at most that of every other such list
+-- each stream starts no sooner than its release
+abbrev pub AreReleased : Network → List ℕ → Type 0
+AreReleased network offsets = (i : ℕ) → i < stream_count network → IsReleased network offsets i
+
+-- the least offsets, one a stream and none before its release, that hold the path's arcs: each is at most that of every other such list
 pub record AreLeast (network : Network) (path : List Decision) (offsets : List ℕ) : Type 0 where
   pub count : length offsets ≡ stream_count network
+  pub released : AreReleased network offsets
   pub held : HoldsAll offsets (arcs_of network path)
-  pub least : (other : List ℕ) → length other ≡ stream_count network → HoldsAll other (arcs_of network path)
+  pub least : (other : List ℕ) → length other ≡ stream_count network → AreReleased network other → HoldsAll other (arcs_of network path)
       → (i : ℕ) → i < stream_count network → offset_of offsets i ≤ offset_of other i
 
 -- the chain leads to stream i, and its sum is the stream's offset
 pub record IsShownBy (network : Network) (path : List Decision) (offsets : List ℕ) (i : ℕ) (chain : List ℕ) : Type 0 where
   pub leads : LeadsTo network path chain i
-  pub sum : sum_on network path chain ≡ pos (offset_of offsets i)
+  pub sum : sum_on network path chain i ≡ pos (offset_of offsets i)
 
 -- ---- when streams are done
 
--- the first stream that, put at its offset, isn't done within the cycle
+-- stream i, put at its offset, is done within the cycle and arrives by its latest instant
+abbrev pub IsDone : Network → List ℕ → ℕ → Type 0
+IsDone network offsets i = FitsCycle network offsets i × IsInTime network offsets i
+
+-- or it isn't
+abbrev pub IsOverdue : Network → List ℕ → ℕ → Type 0
+IsOverdue network offsets i = (network.cycle < offset_of offsets i + span network i) ⊎ (latest_of network i < offset_of offsets i + arrival network i)
+
+-- the first stream that isn't
 pub record IsFirstOverrun (network : Network) (offsets : List ℕ) (i : ℕ) : Type 0 where
   pub counted : i < stream_count network
-  pub past : network.cycle < offset_of offsets i + span network i
-  pub fit_before : (j : ℕ) → j < i → FitsCycle network offsets j
+  pub past : IsOverdue network offsets i
+  pub done_before : (j : ℕ) → j < i → IsDone network offsets j
 
--- each stream, put at its offset, is done within the cycle
+-- each stream is
 abbrev pub AllFit : Network → List ℕ → Type 0
-AllFit network offsets = (i : ℕ) → i < stream_count network → FitsCycle network offsets i
+AllFit network offsets = (i : ℕ) → i < stream_count network → IsDone network offsets i
 
 -- the first stream that arrives at the flowspan
 pub record IsFirstLast (network : Network) (offsets : List ℕ) (i : ℕ) : Type 0 where
@@ -60,7 +73,7 @@ pub record ShowsLink (network : Network) (path : List Decision) (offsets : List 
 
 -- ---- the cases
 
--- a cycle shows that no offsets hold the path's arcs; or by the least ones a stream overruns the cycle, as its chain shows;
+-- a cycle shows that no offsets hold the path's arcs; or by the least ones a stream isn't done in time, as its chain shows;
 -- or by these all streams fit the cycle, the flowspan is below the target, and the first loaded link is busy behind the cycle
 abbrev pub IsRefutation : Network → List Decision → ℕ → Leaf → Type 0
 IsRefutation network path target (late i chain) = ⊥
@@ -79,7 +92,7 @@ ShowsFlowspan network path offsets (positive_cycle chain) = ⊥
 ShowsFlowspan network path offsets (load link entries) = ⊥
 ShowsFlowspan network path offsets (overload link entries) = ⊥
 
--- by the least offsets all streams fit the cycle, and the flowspan is at least the target; or it is not, and the first loaded link
+-- by the least offsets all streams are done in time, and the flowspan is at least the target; or it is not, and the first loaded link
 -- is done within the cycle but asks for a flowspan of at least the target
 abbrev pub IsPruning : Network → List Decision → ℕ → ℕ → Leaf → Type 0
 IsPruning network path target bound (late i chain) =
@@ -93,7 +106,7 @@ IsPruning network path target bound (load link entries) =
     × (pos bound ≡ load_by network offsets link) × (target ≤ bound) × ShowsLink network path offsets link entries
 IsPruning network path target bound (overload link entries) = ⊥
 
--- refuted; or by the least offsets all streams fit the cycle, and then pruned where their flowspan is at least the target;
+-- refuted; or by the least offsets all streams are done in time, and then pruned where their flowspan is at least the target;
 -- refuted or pruned where a link is loaded; else split on the first overlap; and solved where there is none
 abbrev pub IsLook : Network → List Decision → ℕ → Outcome → Type 0
 IsLook network path target (refuted leaf) = IsRefutation network path target leaf

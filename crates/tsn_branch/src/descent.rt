@@ -11,9 +11,10 @@ ghost use Rattle.tsn_branch.specs.Outcome.{outcome_of};
 ghost use Rattle.tsn_branch.specs.Path.{Fits, IsUndecided};
 ghost use Rattle.tsn_branch.specs.Loads.{AreLoadsOf};
 ghost use Rattle.tsn_branch.specs.Look.{IsLook, HasProof, SplitsUndecided, PrunesFrom};
-ghost use Rattle.tsn_branch.specs.Unreleased.{unreleased};
+ghost use Rattle.tsn_branch.specs.Releases.{releases_of};
 ghost use Rattle.tsn_branch.specs.Descent.{Stands, Splits, IsAfter, Leads, IsFinding};
 
+use crate::arcs::net_of;
 use crate::judge::{judge_least, judge_raised};
 use crate::loads::Loads;
 use crate::node::Node;
@@ -23,7 +24,7 @@ use std::alloc::Global;
 use std::marker::Model;
 use tsn_cert::Chain;
 use tsn_conflict::sharing::Conflicts;
-use tsn_diff::{ArcStack, Net};
+use tsn_diff::ArcStack;
 use tsn_model::{NoMemory, Side, Triple};
 use tsn_timing::Timing;
 
@@ -51,7 +52,7 @@ impl Descent {
         ensures path { IfOk result (λ way. way.path ≡ []) }
         ensures stands { IfOk result (Stands timing.now) }
     {
-        let stack = ArcStack::new(alloc, Net::new(timing.streams()))?;
+        let stack = ArcStack::new(alloc, net_of(alloc, timing)?)?;
         Ok(Descent {
             node: Node::root(alloc),
             stack,
@@ -171,7 +172,7 @@ impl Descent {
         requires stands { Stands timing.now self.old }
         ensures path { self.new.path ≡ self.old.path }
         ensures led { IfOk result (λ found. MatchOption found (Leads timing.now self.new)
-            (λ chain. Stands timing.now self.new × Refutes (length (unreleased timing.now)) (arcs_of timing.now self.old.path) chain.items)) }
+            (λ chain. Stands timing.now self.new × Refutes (length (releases_of timing.now)) (arcs_of timing.now self.old.path) chain.items)) }
         ensures err { OnErr result (Stands timing.now self.new) }
     {
         let Some(decision) = self.node.path().last() else {

@@ -1,10 +1,9 @@
 //! When the streams are done by a list of offsets.
-ghost use Rattle.std.specs.Prelude.{◌≡◌, ◌+◌, ◌≤◌, ◌<◌, ◌↔◌, ◌⊎◌, IsTrue, length, All, MatchOption, min};
+ghost use Rattle.std.specs.Prelude.{◌≡◌, ◌+◌, ◌≤◌, ◌<◌, ◌↔◌, ◌⊎◌, IsTrue, length, All, MatchBool, MatchOption, min};
 ghost use Rattle.std.specs.Option.{option_map_or};
 ghost use Rattle.tsn_model.specs.Network.{stream_count};
-ghost use Rattle.tsn_model.specs.Timing.{span};
 ghost use Rattle.tsn_model.specs.Schedule.{flowspan};
-ghost use Rattle.tsn_branch.specs.Look.{AllFit, IsFirstOverrun, IsFirstLast};
+ghost use Rattle.tsn_branch.specs.Look.{IsDone, IsOverdue, AllFit, IsFirstOverrun, IsFirstLast};
 ghost use Rattle.tsn_branch.specs.Ends.{AreEnds, OthersFit, EndedBefore};
 
 use tsn_timing::Timing;
@@ -12,7 +11,7 @@ use tsn_timing::Timing;
 /// When the streams are done by a list of offsets.
 #[derive(Clone, Copy, Debug)]
 pub enum Ends {
-    /// This stream is the first that isn't done within the cycle.
+    /// This stream is the first that isn't done within the cycle, or arrives after its latest instant.
     Overrun(usize),
     /// All streams are; this one is the first that arrives last, at this instant, in nanoseconds.
     Within { last: usize, end: u64 },
@@ -31,7 +30,7 @@ pub fn ends_of(timing: &Timing, offsets: &[u64]) -> Ends
     Ends::Within { last, end }
 }
 
-/// The same where only some streams were raised, and before that all were done within the cycle, and `last` was the first
+/// The same where only some streams were raised, and before that all were done in time, and `last` was the first
 /// that arrived last, at the instant `end`.
 pub fn ends_after(timing: &Timing, offsets: &[u64], raised: &[usize], last: usize, end: u64) -> Ends
     requires count { length offsets.now ≡ stream_count timing.now }
@@ -47,13 +46,13 @@ pub fn ends_after(timing: &Timing, offsets: &[u64], raised: &[usize], last: usiz
     Ends::Within { last, end }
 }
 
-/// The first stream that isn't done within the cycle. The offsets may be of any size.
+/// The first stream that isn't done within the cycle, or arrives after its latest instant. The offsets may be of any size.
 fn first_overrun(timing: &Timing, offsets: &[u64]) -> Option<usize>
     requires { length offsets.now ≡ stream_count timing.now }
     ensures { MatchOption result (AllFit timing.now offsets.now) (IsFirstOverrun timing.now offsets.now) }
 {
     for stream in 0..timing.streams() {
-        if overruns(timing, stream, offsets[stream]) {
+        if overruns(timing, offsets, stream) {
             return Some(stream);
         }
     }
@@ -80,7 +79,7 @@ fn last_arrival(timing: &Timing, offsets: &[u64]) -> (usize, u64)
     (last, end)
 }
 
-/// The first stream that isn't done within the cycle, where only these streams may not be.
+/// The same where only these streams may not be done in time.
 fn first_overrun_among(timing: &Timing, offsets: &[u64], raised: &[usize]) -> Option<usize>
     requires count { length offsets.now ≡ stream_count timing.now }
     requires raised { All (λ stream. stream < stream_count timing.now) raised.now }
@@ -89,20 +88,24 @@ fn first_overrun_among(timing: &Timing, offsets: &[u64], raised: &[usize]) -> Op
 {
     let mut first = None;
     for &stream in raised {
-        if overruns(timing, stream, offsets[stream]) {
+        if overruns(timing, offsets, stream) {
             first = Some(lesser(first, stream));
         }
     }
     first
 }
 
-/// Whether a stream, put at this offset, isn't done within the cycle.
-fn overruns(timing: &Timing, stream: usize, offset: u64) -> bool
-    requires { stream < stream_count timing.now }
-    ensures { IsTrue result ↔ (timing.now.cycle < offset + span timing.now stream) }
+/// Whether a stream, put at its offset, isn't done within the cycle, or arrives after its latest instant.
+fn overruns(timing: &Timing, offsets: &[u64], stream: usize) -> bool
+    requires stream { stream < stream_count timing.now }
+    requires count { length offsets.now ≡ stream_count timing.now }
+    ensures { MatchBool result (IsOverdue timing.now offsets.now stream) (IsDone timing.now offsets.now stream) }
 {
     let cycle = timing.cycle();
-    offset > cycle || offset + timing.span(stream) > cycle
+    let offset = offsets[stream];
+    offset > cycle
+        || offset + timing.span(stream) > cycle
+        || offset + timing.arrival(stream) > timing.latest(stream)
 }
 
 /// The lesser of two streams, of which the first may be missing.

@@ -2,8 +2,7 @@
 ghost use Rattle.std.specs.Prelude.{◌≡◌, ◌≤◌, ◌<◌, ℕ, List, All, Some, IfOk, length, map, slice_get};
 ghost use Rattle.tsn_model.specs.declared.Decision.{Decision};
 ghost use Rattle.tsn_model.specs.Network.{IsWellFormed, stream_count};
-ghost use Rattle.tsn_model.specs.Schedule.{flowspan};
-ghost use Rattle.tsn_model.specs.PlainWords.{AreApart};
+ghost use Rattle.tsn_model.specs.Schedule.{flowspan, AreApart};
 ghost use Rattle.tsn_model.specs.Arcs.{arcs_of};
 ghost use Rattle.tsn_conflict.specs.Kept.{AreConflictsOf};
 ghost use Rattle.tsn_conflict.specs.Raised.{OnlyRaisedOverlap};
@@ -16,7 +15,7 @@ ghost use Rattle.tsn_branch.specs.Loads.{AreLoadsOf, IsFirstLoad, entry_by};
 ghost use Rattle.tsn_branch.specs.Ends.{AreEnds};
 ghost use Rattle.tsn_branch.specs.Descent.{Closes, IsFinding, WasSeen, IsSolution, IsPlaced, outcome_found};
 ghost use Rattle.tsn_branch.specs.declared.instants.Ends.TheVariants as ends;
-ghost use Rattle.tsn_branch.specs.Unreleased.{unreleased};
+ghost use Rattle.tsn_branch.specs.Releases.{releases_of};
 
 use crate::instants::{Ends, ends_after, ends_of};
 use crate::loads::{FirstLoad, Loads, User, first_load};
@@ -40,8 +39,8 @@ pub fn judge(
 ) -> Result<Look, NoMemory>
     requires conflicts { AreConflictsOf timing.now conflicts.now }
     requires loads { AreLoadsOf timing.now loads.now }
-    requires some_path { (path : List Decision) × Answers (unreleased timing.now) (arcs_of timing.now path) outcome.now }
-    ensures { IfOk result (λ look. (path : List Decision) → Answers (unreleased timing.now) (arcs_of timing.now path) outcome.now
+    requires some_path { (path : List Decision) × Answers (releases_of timing.now) (arcs_of timing.now path) outcome.now }
+    ensures { IfOk result (λ look. (path : List Decision) → Answers (releases_of timing.now) (arcs_of timing.now path) outcome.now
         → IsLook timing.now path target (outcome_of look)) }
 {
     match outcome {
@@ -64,8 +63,8 @@ pub fn judge_least(
 ) -> Result<Finding, NoMemory>
     requires conflicts { AreConflictsOf timing.now conflicts.now }
     requires loads { AreLoadsOf timing.now loads.now }
-    requires some_path { (path : List Decision) × Solves (unreleased timing.now) (arcs_of timing.now path) least.now }
-    ensures { IfOk result (λ finding. (path : List Decision) → Solves (unreleased timing.now) (arcs_of timing.now path) least.now
+    requires some_path { (path : List Decision) × Solves (releases_of timing.now) (arcs_of timing.now path) least.now }
+    ensures { IfOk result (λ finding. (path : List Decision) → Solves (releases_of timing.now) (arcs_of timing.now path) least.now
         → IsFinding timing.now path target finding) }
 {
     let ends = ends_of(timing, least.offsets());
@@ -85,10 +84,10 @@ pub fn judge_raised(
 ) -> Result<Finding, NoMemory>
     requires conflicts { AreConflictsOf timing.now conflicts.now }
     requires loads { AreLoadsOf timing.now loads.now }
-    requires some_path { (path : List Decision) × Solves (unreleased timing.now) (arcs_of timing.now path) least.now }
+    requires some_path { (path : List Decision) × Solves (releases_of timing.now) (arcs_of timing.now path) least.now }
     requires raised { All (λ stream. stream < stream_count timing.now) raised.now }
     requires parent { WasSeen timing.now raised.now least.now.offsets parent }
-    ensures { IfOk result (λ finding. (path : List Decision) → Solves (unreleased timing.now) (arcs_of timing.now path) least.now
+    ensures { IfOk result (λ finding. (path : List Decision) → Solves (releases_of timing.now) (arcs_of timing.now path) least.now
         → IsFinding timing.now path target finding) }
 {
     let ends = ends_after(timing, least.offsets(), raised, parent.last, parent.end);
@@ -120,12 +119,12 @@ fn judge_ends(
 ) -> Result<Finding, NoMemory>
     requires conflicts { AreConflictsOf timing.now conflicts.now }
     requires loads { AreLoadsOf timing.now loads.now }
-    requires some_path { (path : List Decision) × Solves (unreleased timing.now) (arcs_of timing.now path) least.now }
+    requires some_path { (path : List Decision) × Solves (releases_of timing.now) (arcs_of timing.now path) least.now }
     requires ends { AreEnds timing.now least.now.offsets ends }
     requires raised { All (λ stream. stream < stream_count timing.now) raised.now }
     requires start { start ≤ length conflicts.now.triples }
     requires apart { OnlyRaisedOverlap conflicts.now least.now.offsets raised.now start }
-    ensures { IfOk result (λ finding. (path : List Decision) → Solves (unreleased timing.now) (arcs_of timing.now path) least.now
+    ensures { IfOk result (λ finding. (path : List Decision) → Solves (releases_of timing.now) (arcs_of timing.now path) least.now
         → IsFinding timing.now path target finding) }
 {
     let (last, end) = match ends {
@@ -158,10 +157,10 @@ fn solved(
     last: usize,
     end: u64,
 ) -> Result<Look, NoMemory>
-    requires some_path { (path : List Decision) × Solves (unreleased timing.now) (arcs_of timing.now path) least.now }
+    requires some_path { (path : List Decision) × Solves (releases_of timing.now) (arcs_of timing.now path) least.now }
     requires ends { AreEnds timing.now least.now.offsets (ends.Within last end) }
     requires apart { AreApart timing.now least.now.offsets }
-    ensures { IfOk result (λ look. (path : List Decision) → Solves (unreleased timing.now) (arcs_of timing.now path) least.now
+    ensures { IfOk result (λ look. (path : List Decision) → Solves (releases_of timing.now) (arcs_of timing.now path) least.now
         → IsSolution timing.now path end (outcome_of look)) }
 {
     let Ok(valid) = timing.valid(Vec::from_slice(alloc, least.offsets())?) else {
@@ -196,9 +195,9 @@ fn judge_load(
 ) -> Result<Look, NoMemory>
     requires formed { IsWellFormed timing.now }
     requires loads { AreLoadsOf timing.now loads.now }
-    requires some_path { (path : List Decision) × Solves (unreleased timing.now) (arcs_of timing.now path) least.now }
+    requires some_path { (path : List Decision) × Solves (releases_of timing.now) (arcs_of timing.now path) least.now }
     requires found { (target : ℕ) × IsFirstLoad timing.now least.now.offsets target found }
-    ensures look { IfOk result (λ look. (path : List Decision) (target : ℕ) → Solves (unreleased timing.now) (arcs_of timing.now path) least.now
+    ensures look { IfOk result (λ look. (path : List Decision) (target : ℕ) → Solves (releases_of timing.now) (arcs_of timing.now path) least.now
         → AllFit timing.now least.now.offsets → flowspan timing.now least.now.offsets < target
         → IsFirstLoad timing.now least.now.offsets target found → IsLook timing.now path target (outcome_of look)) }
     ensures closes { IfOk result (λ look. Closes (outcome_of look)) }
@@ -226,10 +225,10 @@ fn entries_at(
 ) -> Result<(usize, Entries), NoMemory>
     requires formed { IsWellFormed timing.now }
     requires loads { AreLoadsOf timing.now loads.now }
-    requires some_path { (path : List Decision) × Solves (unreleased timing.now) (arcs_of timing.now path) least.now }
+    requires some_path { (path : List Decision) × Solves (releases_of timing.now) (arcs_of timing.now path) least.now }
     requires place { place < length (shared_links timing.now) }
     ensures link { IfOk result (λ leaf. slice_get (shared_links timing.now) place ≡ Some leaf.0) }
-    ensures shown { IfOk result (λ leaf. (path : List Decision) → Solves (unreleased timing.now) (arcs_of timing.now path) least.now
+    ensures shown { IfOk result (λ leaf. (path : List Decision) → Solves (releases_of timing.now) (arcs_of timing.now path) least.now
         → ShowsLink timing.now path least.now.offsets leaf.0 leaf.1) }
 {
     let _ = timing;

@@ -17,7 +17,7 @@ pub mod node;
 pub mod outcome;
 mod seen;
 
-use crate::arcs::arcs_of;
+use crate::arcs::{arcs_of, net_of};
 use crate::judge::judge;
 use crate::outcome::Look;
 pub use arcs::fits;
@@ -27,14 +27,14 @@ pub use node::Node;
 pub use outcome::Leaf;
 use std::alloc::Global;
 use tsn_conflict::sharing::Conflicts;
-use tsn_diff::Net;
 pub use tsn_model::{Decision, NoMemory, Side, Triple};
 use tsn_timing::Timing;
 
 /// Looks at a node: the first of these cases that holds.
 ///
 /// 1. No offsets hold the arcs of its path: refuted by a cycle of them.
-/// 2. By the least offsets that do, some stream isn't done within the cycle: refuted by the first such stream.
+/// 2. By the least offsets that do and put no stream before its release, some stream isn't done within the cycle, or
+///    arrives after its latest instant: refuted by the first such stream.
 /// 3. By these the flowspan is at least the target: pruned with that bound, by the first stream that arrives then.
 /// 4. By these the streams of some shared link are busy on it behind the cycle, which refutes the node, or else for so long
 ///    that the flowspan is at least the target, and the node is pruned with that bound. Of the first such link, all streams
@@ -60,6 +60,6 @@ pub fn look(
     ensures met { IfOk result (λ look. PrunesFrom target (outcome_of look)) }
 {
     let arcs = arcs_of(alloc, conflicts, node.path())?;
-    let outcome = Net::new(timing.streams()).least(alloc, &arcs)?;
+    let outcome = net_of(alloc, timing)?.least(alloc, &arcs)?;
     judge(alloc, timing, conflicts, loads, &outcome, target)
 }

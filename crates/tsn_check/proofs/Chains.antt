@@ -5,7 +5,8 @@ use Rattle.std.proofs.lemmas.List.{drop_more, get_or-map, length-map}
 use Rattle.std.proofs.lemmas.List.Elements.{All-cons, All-head, All-tail}
 use Rattle.std.proofs.Math.ListN.{drop_of_length-le}
 use Rattle.tsn_model.specs.declared.Arc.{Arc}
-use Rattle.tsn_model.specs.Network.{Network}
+use Rattle.tsn_model.specs.declared.Side.TheVariants.{Left}
+use Rattle.tsn_model.specs.Network.{Network, stream_count, release_of}
 use Rattle.tsn_model.specs.Certificate.{sum_on}
 use Rattle.tsn_model.specs.Arcs.{arcs_of, arc_at, Leads, start_of, chain_sum, IsChainTo, IsClosedChain}
 use Rattle.tsn_check.specs.declared.path.Turn.{Turn}
@@ -127,6 +128,10 @@ arcs-turns network (turn ∷ turns) right =
     let rest = arcs-turns network turns (All-tail (IsTurn network) turn turns right) in
     λ i. first i ∷ rest i
 
+-- what stands for a turn past the last one
+no_turn : Turn
+no_turn = record { decision = record { triple = record { left = 0; right = 0; link = 0 }; side = Left }; arc = record { from = 0; to = 0; weight = pos 0 } }
+
 module _ (network : Network) (turns : List Turn) (depths chain : List ℕ) where
   pub chain_to : (i : ℕ) → AreTurns network turns → depths ≡ chain → IsChainTo (arcs turns) depths i → IsChainTo (arcs_of network (decisions turns)) chain i
   chain_to i right same is_chain = let path = arcs-turns network turns right in let P : List Arc → List ℕ → Type 0 = λ xs ds. IsChainTo xs ds i in subst (P (arcs_of network (decisions turns))) same (subst (λ xs. P xs depths) path is_chain)
@@ -140,6 +145,28 @@ module _ (network : Network) (turns : List Turn) (depths chain : List ℕ) where
   pub closed_back : AreTurns network turns → depths ≡ chain → IsClosedChain (arcs_of network (decisions turns)) chain → IsClosedChain (arcs turns) depths
   closed_back right same closed = let path = arcs-turns network turns right in subst (IsClosedChain (arcs turns)) (sym same) (subst (λ xs. IsClosedChain xs chain) (sym path) closed)
 
-  pub sum_same : AreTurns network turns → depths ≡ chain → chain_sum (arcs turns) depths ≡ sum_on network (decisions turns) chain
-  unfolding sum_on
+  pub sum_same : AreTurns network turns → depths ≡ chain → chain_sum (arcs turns) depths ≡ chain_sum (arcs_of network (decisions turns)) chain
   sum_same right same = let path = arcs-turns network turns right in ap (chain_sum (arcs turns)) same ∙ ap (λ xs. chain_sum xs chain) path
+
+  -- with the release of the stream where the chain begins
+  pub sum_from : (i start : ℕ) (sum : ℤ) → AreTurns network turns → depths ≡ chain → start ≡ start_of (arcs turns) depths i → sum ≡ chain_sum (arcs turns) depths
+      → pos (release_of network start) +ℤ sum ≡ sum_on network (decisions turns) chain i
+  unfolding sum_on
+  sum_from i start sum right same begins adds =
+      let path = arcs-turns network turns right in
+      let start_same : start ≡ start_of (arcs_of network (decisions turns)) chain i = begins ∙ (λ k. start_of (path k) (same k) i) in
+      let all_same : sum ≡ chain_sum (arcs_of network (decisions turns)) chain = adds ∙ sum_same right same in
+      λ k. pos (release_of network (start_same k)) +ℤ all_same k
+
+  -- a chain to a stream of the network begins at one
+  pub start_counted : (i : ℕ) → AreTurns network turns → i < stream_count network → All (λ place. place < length (arcs turns)) depths → start_of (arcs turns) depths i < stream_count network
+  start_counted i right counted places = begins depths places
+    where
+      begins : (places_in : List ℕ) → All (λ place. place < length (arcs turns)) places_in → start_of (arcs turns) places_in i < stream_count network
+      begins [] all = counted
+      begins (place ∷ rest) all =
+          let none : Turn = no_turn in
+          let below : place < length turns = let on_path = All-head (λ p. p < length (arcs turns)) place rest all in omega (arith, length-arcs turns) in
+          let same : (arc_at (arcs turns) place).from ≡ (get_or turns place none).arc.from = ap (λ (arc : Arc). arc.from) (arc_at-arcs turns place none below) in
+          let from = (right place none below).begins in
+          omega arith

@@ -78,8 +78,8 @@ module _ (network : Network) (path : List Decision) (link : ℕ) where
   -- ---- what entries come to
 
   -- one entry
-  pub one_load : (entry : Entry) (found : LinkLoad) (sum : ℤ) (begin work end : ℕ) → sum ≡ sum_on network path entry.chain → begin ≡ start_on network entry.stream link
-      → work ≡ occupancy network entry.stream link → end ≡ arrival network entry.stream → pos 0 ≤ℤ (sum +ℤ pos 12800000000) → sum ≤ℤ pos 12800000000
+  pub one_load : (entry : Entry) (found : LinkLoad) (sum : ℤ) (begin work end : ℕ) → sum ≡ sum_on network path entry.chain entry.stream → begin ≡ start_on network entry.stream link
+      → work ≡ occupancy network entry.stream link → end ≡ arrival network entry.stream → pos 0 ≤ℤ (sum +ℤ pos 12800000000) → sum ≤ℤ pos 13800000000
       → begin ≤ 51584000 → work ≤ 1233600 → end ≤ 60000000
       → found.head ≡ sum +ℤ pos begin → found.work ≡ work → found.tail ≡ pos end -ℤ pos (begin + work) → IsLoad network path link (entry ∷ []) found
   unfolding least head_of tail_of

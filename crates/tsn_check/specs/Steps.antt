@@ -24,12 +24,12 @@ abbrev pub Judges : Network → ℕ → List Decision → Node → Result Unit N
 Judges network target path node (Ok _) = IsNodeRight network target path node
 Judges network target path node (Err fault) = HasFault network target path node fault
 
--- the sum of a chain of the path to a stream
+-- the sum of a chain of the path to a stream, which begins with a release
 pub record IsSumTo (network : Network) (path : List Decision) (chain : List ℕ) (i : ℕ) (sum : ℤ) : Type 0 where
   pub leads : LeadsTo network path chain i
-  pub adds : sum ≡ sum_on network path chain
+  pub adds : sum ≡ sum_on network path chain i
   pub low : pos 0 ≤ℤ (sum +ℤ pos 12800000000)
-  pub high : sum ≤ℤ pos 12800000000
+  pub high : sum ≤ℤ pos 13800000000
 
 -- the sum is told, or that the chain isn't one to the stream
 abbrev pub FindsSum : Network → List Decision → List ℕ → ℕ → Result ℤ NodeFault → Type 0

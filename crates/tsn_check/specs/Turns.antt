@@ -3,10 +3,10 @@
 --     IsTurnOf                         a decision of one of the conflicts that are kept
 --     IsWalk                           a chain that was walked back from its end
 --     places_at                        the open places, told by the path
-use Rattle.std.specs.Prelude.{◌≡◌, ℕ, List, [], ◌∷◌, map, Bool, if◌then◌else◌, All, Contains, pos, ◌+ℤ◌, ◌≤ℤ◌}
+use Rattle.std.specs.Prelude.{◌≡◌, ℕ, ◌<◌, List, [], ◌∷◌, map, Bool, if◌then◌else◌, All, Contains, pos, ◌+ℤ◌, ◌≤ℤ◌}
 use Rattle.tsn_model.specs.declared.Arc.{Arc}
 use Rattle.tsn_model.specs.declared.Decision.{Decision}
-use Rattle.tsn_model.specs.Network.{Network}
+use Rattle.tsn_model.specs.Network.{Network, stream_count}
 use Rattle.tsn_model.specs.Arcs.{arc_of, IsChainTo, start_of, chain_sum}
 use Rattle.tsn_model.specs.Places.{pending}
 use Rattle.tsn_conflict.specs.Kept.{Kept, AreConflictsOf}
@@ -21,9 +21,10 @@ pub record IsSmall (arc : Arc) : Type 0 where
 abbrev pub IsSmallTurn : Turn → Type 0
 IsSmallTurn turn = IsSmall turn.arc
 
--- a decision with its arc
+-- a decision with its arc, which begins at a stream of the network
 pub record IsTurn (network : Network) (turn : Turn) : Type 0 where
   pub same_arc : turn.arc ≡ arc_of network turn.decision
+  pub begins : turn.arc.from < stream_count network
   pub small : IsSmall turn.arc
 
 abbrev pub AreTurns : Network → List Turn → Type 0

@@ -10,7 +10,8 @@ use crate::path::Turn;
 use tsn_cert::Chain;
 use tsn_timing::Timing;
 
-/// The sum of a chain to a stream of the network, in nanoseconds.
+/// The sum of a chain to a stream of the network, in nanoseconds: the release of the stream where the chain begins, and
+/// the chain's weights.
 pub fn sum_to(
     timing: &Timing,
     path: &[Turn],
@@ -26,7 +27,7 @@ pub fn sum_to(
     let Some(walk) = walk_back(path, chain.depths(), stream) else {
         return Err(NodeFault::ChainBroken);
     };
-    Ok(walk.sum)
+    Ok(timing.release(walk.start) as i64 + walk.sum)
 }
 
 /// The stream arrives at the target or after it.
@@ -49,7 +50,7 @@ pub fn judge_late(
     }
 }
 
-/// The stream ends behind the cycle.
+/// The stream ends behind the cycle, or arrives after its latest instant.
 pub fn judge_overrun(
     timing: &Timing,
     path: &[Turn],
@@ -60,7 +61,8 @@ pub fn judge_overrun(
     ensures { (target : ℕ) → Judges timing.now target (decisions path.now) (leaf_node (overrun stream chain.now)) result }
 {
     let sum = sum_to(timing, path, stream, chain)?;
-    if sum + timing.span(stream) as i64 > timing.cycle() as i64 {
+    let past_cycle = sum + timing.span(stream) as i64 > timing.cycle() as i64;
+    if past_cycle || sum + timing.arrival(stream) as i64 > timing.latest(stream) as i64 {
         Ok(())
     } else {
         Err(NodeFault::BoundTooLow)

@@ -1,7 +1,7 @@
 -- What `valid` answers.
 use Rattle.std.specs.Prelude.{◌⊎◌, ℕ, List, [], ◌∷◌, ◌++◌, codes, decimal}
 use Rattle.tsn_model.specs.declared.Violation.{Violation}
-use Rattle.tsn_model.specs.declared.Violation.TheVariants.{WrongCount, PastCycle, Overlap}
+use Rattle.tsn_model.specs.declared.Violation.TheVariants.{WrongCount, PastCycle, Overlap, Early, TooLate}
 use Rattle.tsn_model.specs.Network.{Network}
 use Rattle.tsn_model.specs.Schedule.{IsValid, IsFirstViolation, flowspan}
 use Rattle.tsn_net.specs.declared.fault.NetFault.{NetFault}
@@ -19,6 +19,8 @@ abbrev pub violation_text : Violation → List ℕ
 violation_text WrongCount = codes "V1"
 violation_text (PastCycle stream) = codes "V2 stream " ++ decimal stream
 violation_text (Overlap triple) = codes "V3 " ++ decimal triple.left ++ codes " " ++ decimal triple.right ++ codes " " ++ decimal triple.link
+violation_text (Early stream) = codes "V4 stream " ++ decimal stream
+violation_text (TooLate stream) = codes "V5 stream " ++ decimal stream
 
 -- the offsets are a valid schedule
 abbrev pub Accepts : Network → List ℕ → Output → Type 0

@@ -105,7 +105,7 @@ fn judgement(alloc: Global, timing: &Timing, offsets: &[u64]) -> Result<Answer, 
     Ok(Answer { status, text })
 }
 
-/// A violation, printed with its number: `V1`, `V2 stream 0`, `V3 0 1 4`.
+/// A violation, printed with its number: `V1`, `V2 stream 0`, `V3 0 1 4`, `V4 stream 0`.
 #[derive(Clone, Copy)]
 struct Reason(Violation);
 
@@ -121,6 +121,8 @@ impl fmt::Display for Reason {
             Violation::Overlap(Triple { left, right, link }) => {
                 write!(f, "V3 {left} {right} {link}")
             }
+            Violation::Early(stream) => write!(f, "V4 stream {stream}"),
+            Violation::TooLate(stream) => write!(f, "V5 stream {stream}"),
         }
     }
 }

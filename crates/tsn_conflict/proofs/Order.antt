@@ -4,8 +4,7 @@ use Rattle.std.proofs.lemmas.Bool.{cases_lt, cases_order}
 use Rattle.std.proofs.lemmas.List.{get_or_default}
 use Rattle.tsn_model.specs.declared.Triple.{Triple}
 use Rattle.tsn_model.specs.Network.{Network, IsWellFormed}
-use Rattle.tsn_model.specs.Schedule.{IsFirstOverlap, Overlaps, TripleBefore}
-use Rattle.tsn_model.specs.PlainWords.{AreApart}
+use Rattle.tsn_model.specs.Schedule.{IsFirstOverlap, Overlaps, TripleBefore, AreApart}
 use Rattle.tsn_model.specs.Arcs.{conflicts_of}
 use Rattle.tsn_model.proofs.Conflicts.{conflict_listed, listed_conflict, conflicts_ordered}
 

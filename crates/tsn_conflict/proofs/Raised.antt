@@ -5,8 +5,7 @@ use Rattle.std.proofs.lemmas.List.{get_or_default}
 use Rattle.std.proofs.lemmas.List.Elements.{All-contains}
 use Rattle.tsn_model.specs.declared.Triple.{Triple}
 use Rattle.tsn_model.specs.Network.{Network}
-use Rattle.tsn_model.specs.Schedule.{IsFirstOverlap, Overlaps, TripleBefore, offset_of}
-use Rattle.tsn_model.specs.PlainWords.{AreApart}
+use Rattle.tsn_model.specs.Schedule.{IsFirstOverlap, Overlaps, TripleBefore, offset_of, AreApart}
 use Rattle.tsn_model.specs.Arcs.{conflicts_of}
 use Rattle.tsn_model.proofs.Conflicts.{conflicts_ordered}
 use Rattle.tsn_conflict.specs.Kept.{Kept, AreConflictsOf}

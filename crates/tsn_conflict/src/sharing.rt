@@ -3,8 +3,7 @@ ghost use Rattle.std.specs.Prelude.{◌≡◌, ◌≤◌, ◌<◌, ◌↔◌, �
 ghost use Rattle.std.proofs.Common.{neg_ℤ};
 ghost use Rattle.tsn_model.specs.Network.{Network, stream_count};
 ghost use Rattle.tsn_model.specs.Timing.{occupancy, UsesLink, start_on};
-ghost use Rattle.tsn_model.specs.Schedule.{IsFirstOverlap, Overlaps};
-ghost use Rattle.tsn_model.specs.PlainWords.{AreApart};
+ghost use Rattle.tsn_model.specs.Schedule.{IsFirstOverlap, Overlaps, AreApart};
 ghost use Rattle.tsn_model.specs.Arcs.{arc_between, arc_on};
 ghost use Rattle.tsn_conflict.specs.Kept.{AreConflictsOf};
 ghost use Rattle.tsn_conflict.specs.Raised.{triple_at, OnlyRaisedOverlap};

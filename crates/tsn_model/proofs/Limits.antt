@@ -1,19 +1,31 @@
 -- How large the numbers of a network within its limits are.
-use Rattle.std.proofs.Common.{ℕ, ◌+◌, ◌*◌, ◌≤◌, ◌<◌, [], length, take, All, arith, mul-le-mul, mul-pos, length-take}
+use Rattle.std.proofs.Common.{ℕ, ◌+◌, ◌*◌, ◌≤◌, ◌<◌, length, take, All, arith, mul-le-mul, mul-pos, length-take}
 use Rattle.std.proofs.lemmas.List.Sums.{sum_by-le}
 use Rattle.std.proofs.lemmas.List.Elements.{All-take, All-weaker}
-use Rattle.tsn_model.specs.Network.{Network, IsWellFormed, IsLink, IsStream, stream_count, stream_at, octets_of, route_of, hop_count, link_at, proc_at}
+use Rattle.tsn_model.specs.Network.{Network, IsWellFormed, IsLink, IsStream, stream_count, no_stream, stream_at, octets_of, route_of, release_of, latest_of, hop_count, link_at, proc_at}
 use Rattle.tsn_model.proofs.Routes.{rate-pos}
 use Rattle.tsn_model.specs.Timing.{occupancy, transfer, hop_delay, start}
 
 module _ (network : Network) (formed : IsWellFormed network) where
   stream_formed : (i : ℕ) → i < stream_count network → IsStream network (stream_at network i)
   unfolding stream_at
-  stream_formed i below = formed.streams i (record { octets = 0; route = [] }) below
+  stream_formed i below = formed.streams i no_stream below
 
   pub octets-le : (i : ℕ) → i < stream_count network → octets_of network i ≤ 1522
   unfolding octets_of
   octets-le i below = (stream_formed i below).not_long
+
+  pub release-le : (i : ℕ) → i < stream_count network → release_of network i ≤ 1000000000
+  unfolding release_of
+  release-le i below = (stream_formed i below).release
+
+  pub latest-pos : (i : ℕ) → i < stream_count network → 1 ≤ latest_of network i
+  unfolding latest_of
+  latest-pos i below = (stream_formed i below).some_latest
+
+  pub latest-le : (i : ℕ) → i < stream_count network → latest_of network i ≤ 1000000000
+  unfolding latest_of
+  latest-le i below = (stream_formed i below).latest
 
   pub hops-le : (i : ℕ) → i < stream_count network → hop_count network i ≤ 16
   unfolding route_of

@@ -7,7 +7,7 @@ use Rattle.std.specs.List.{position_or_len}
 use Rattle.std.proofs.lemmas.Bool.{cases_lt, cases_eq, cases_order, cond-true}
 use Rattle.std.proofs.lemmas.List.Elements.{All-contains, Contains-append_cases}
 use Rattle.std.proofs.lemmas.List.Sums.{position_or_len_is}
-use Rattle.tsn_model.specs.Network.{Network, IsWellFormed, IsRoute, stream_count, stream_at, octets_of, route_of, hop_count, route_link, link_at, nodes_along}
+use Rattle.tsn_model.specs.Network.{Network, IsWellFormed, IsRoute, stream_count, no_stream, stream_at, octets_of, route_of, hop_count, route_link, link_at, nodes_along}
 use Rattle.tsn_model.specs.Timing.{occupancy, transfer, hop_delay, start, hop_end, hop_on, UsesLink, start_on}
 use Rattle.tsn_model.specs.Schedule.{IsValid, offset_of, Occupies}
 use Rattle.tsn_model.specs.Gates.{IsOctetAt, InWindow, InGuard, IsWanted, guard_of}
@@ -78,7 +78,7 @@ same_cycle a b size s t s_below t_below same = elim (cases_order a b) [
 module _ (network : Network) (formed : IsWellFormed network) (i : ℕ) (counted : i < stream_count network) where
   route_formed : IsRoute network (route_of network i)
   unfolding route_of stream_at
-  route_formed = (formed.streams i (record { octets = 0; route = [] }) counted).route
+  route_formed = (formed.streams i no_stream counted).route
 
   links_differ : (j k : ℕ) → j < k → k < hop_count network i → route_link network i j ≡ route_link network i k → ⊥
   unfolding nodes_along

@@ -63,6 +63,10 @@ pub enum Violation {
     WrongCount,
     PastCycle(usize),
     Overlap(Triple),
+    /// This stream starts before its release.
+    Early(usize),
+    /// This stream arrives after its latest instant.
+    TooLate(usize),
 }
 
 /// An entry of a gate control list: bit i of the octet opens (1) or closes (0) the gate of traffic class i, for so many nanoseconds.

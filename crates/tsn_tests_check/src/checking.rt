@@ -302,6 +302,80 @@ fn plans_are_judged_first(rt: HostRuntime) -> Result<(), Fail> {
     Ok(())
 }
 
+/// The two streams round one bridge, each with these keys more.
+fn timed(alloc: Global, one: &str, two: &str) -> Result<String, Fail> {
+    let (cables, _) = TWO.split_once("stream").ok_or("no streams")?;
+    Ok(format!(in alloc; "{cables}stream = [
+    {{name = 'one', octets = 64, route = ['A', 'S', 'C']{one}}},
+    {{name = 'two', octets = 64, route = ['B', 'S', 'C']{two}}},
+]
+")?)
+}
+
+#[test]
+fn chains_begin_with_releases(rt: HostRuntime) -> Result<(), Fail> {
+    let alloc = rt.alloc();
+    let released = timed(alloc, ", release = 672", "")?;
+    let problem = problem_of(alloc, 1_000_000, released.as_str())?;
+    let plan = "{\"flowspan\":2924,\"offsets\":[672,0]}";
+    for (nodes, answer) in [
+        ("[\"late\",0,[]]", OPTIMAL),
+        ("[\"late\",1,[]]", Err(CheckFault::BoundTooLow(0))),
+        (TREE, OPTIMAL),
+        ("[\"load\",4,[[0,[]]]]", OPTIMAL),
+        ("[\"load\",4,[[1,[]]]]", Err(CheckFault::BoundTooLow(0))),
+    ] {
+        let answered = checked(alloc, &problem, plan, nodes, 2924)?;
+        assert_eq!(rt; answered, answer, "{nodes}");
+    }
+    let early = checked(alloc, &problem, PLAN, TREE, 2924)?;
+    assert_eq!(rt; early, Err(CheckFault::PlanInvalid));
+    Ok(())
+}
+
+/// A closed chain's sum is its weights alone.
+#[test]
+fn cycles_begin_with_no_release(rt: HostRuntime) -> Result<(), Fail> {
+    let alloc = rt.alloc();
+    let (cables, _) = LOOP.split_once("stream").ok_or("no streams")?;
+    let text = format!(in alloc; "{cables}stream = [
+    {{name = 'one', octets = 64, route = ['A', 'S', 'T', 'V', 'U', 'C'], release = 5}},
+    {{name = 'two', octets = 64, route = ['B', 'S', 'T', 'U', 'C']}},
+]
+")?;
+    let problem = problem_of(alloc, 1_000_000, text.as_str())?;
+    let plan = "{\"flowspan\":3653,\"offsets\":[5,677]}";
+    let nodes = "[\"branch\",0,1,4],[\"branch\",0,1,12],[\"late\",0,[]],[\"cycle\",[0,1]],[\"late\",0,[]]";
+    let answered = checked(alloc, &problem, plan, nodes, 3653)?;
+    assert_eq!(rt; answered, Err(CheckFault::BoundTooLow(3)));
+    Ok(())
+}
+
+#[test]
+fn overruns_pass_latest_instants(rt: HostRuntime) -> Result<(), Fail> {
+    let alloc = rt.alloc();
+    let first = "[\"overrun\",0,[]]";
+    let second = "[\"overrun\",1,[]]";
+    for (keys, nodes, answer) in [
+        (", latest = 2251", second, NO_SCHEDULE),
+        (", latest = 2251", first, Err(CheckFault::BoundTooLow(0))),
+        (", latest = 2252", second, Err(CheckFault::BoundTooLow(0))),
+        (", release = 1, latest = 2252", second, NO_SCHEDULE),
+    ] {
+        let hurried = timed(alloc, "", keys)?;
+        let problem = problem_of(alloc, 1_000_000, hurried.as_str())?;
+        let answered = checked(alloc, &problem, NO_PLAN, nodes, 1_000_001)?;
+        assert_eq!(rt; answered, answer, "{keys} {nodes}");
+    }
+    let hurried = timed(alloc, "", ", latest = 2252")?;
+    let problem = problem_of(alloc, 1_000_000, hurried.as_str())?;
+    let plan = "{\"flowspan\":2924,\"offsets\":[672,0]}";
+    let nodes = "[\"branch\",0,1,4],[\"overrun\",1,[0]],[\"late\",0,[0]]";
+    let answered = checked(alloc, &problem, plan, nodes, 2924)?;
+    assert_eq!(rt; answered, OPTIMAL);
+    Ok(())
+}
+
 #[test]
 fn bounds_hold_to_the_nanosecond(rt: HostRuntime) -> Result<(), Fail> {
     let alloc = rt.alloc();

@@ -68,6 +68,17 @@ fn network(alloc: Global, cycle: u64, mbps: u64, second: &str) -> Result<String,
     format!(in alloc; "cycle = {cycle}{HEAD}{mbps}{TAIL}{second}]\n")
 }
 
+/// The network of one bridge with two streams of 64 octets, each with these keys more.
+fn timed(alloc: Global, one: &str, two: &str) -> Result<String, AllocError> {
+    format!(in alloc; "cycle = 1000000{HEAD}1000, prop = 50}},
+]
+stream = [
+    {{name = 'one', octets = 64, route = ['A', 'S', 'C']{one}}},
+    {{name = 'two', octets = 64, route = ['B', 'S', 'C']{two}}},
+]
+")
+}
+
 /// The most nodes that a run settles where the words don't say.
 const STEPS: usize = 1_000_000;
 
@@ -148,6 +159,32 @@ fn plans_one_stream(rt: HostRuntime) -> Result<(), Fail> {
     let row =
         r#"no schedule settled 1~{"flowspan":null,"offsets":null}~{"format":1,"nodes":[["overrun",0,[]]],"target":2298}"#;
     ends(&rt, &network(rt.alloc(), 2297, 1000, "")?, STEPS, 4, row)
+}
+
+#[test]
+fn plans_with_releases_and_latest_instants(rt: HostRuntime) -> Result<(), Fail> {
+    let alloc = rt.alloc();
+    let row =
+        r#"optimal 2924 settled 1~{"flowspan":2924,"offsets":[672,0]}~{"format":1,"nodes":[["late",0,[]]],"target":2924}"#;
+    ends(&rt, &timed(alloc, ", release = 672", "")?, STEPS, 0, row)?;
+    let row =
+        r#"optimal 2924 settled 3~{"flowspan":2924,"offsets":[672,0]}~{"format":1,"nodes":[["branch",0,1,4],["overrun",1,[0]],["late",0,[0]]],"target":2924}"#;
+    ends(&rt, &timed(alloc, "", ", latest = 2252")?, STEPS, 0, row)?;
+    let row =
+        r#"no schedule settled 1~{"flowspan":null,"offsets":null}~{"format":1,"nodes":[["overrun",1,[]]],"target":1000001}"#;
+    ends(&rt, &timed(alloc, "", ", latest = 2251")?, STEPS, 4, row)?;
+    let row = r#"no schedule settled 3~{"flowspan":null,"offsets":null}~.."#;
+    let hurried = timed(alloc, ", latest = 2923", ", latest = 2923")?;
+    ends(&rt, &hurried, STEPS, 4, row)
+}
+
+#[test]
+fn plans_with_keys_that_ask_for_nothing(rt: HostRuntime) -> Result<(), Fail> {
+    let alloc = rt.alloc();
+    let row =
+        r#"optimal 2924 settled 3~{"flowspan":2924,"offsets":[0,672]}~{"format":1,"nodes":[["branch",0,1,4],["late",1,[0]],["late",0,[0]]],"target":2924}"#;
+    let keys = ", release = 0, latest = 1000000000";
+    ends(&rt, &timed(alloc, keys, keys)?, STEPS, 0, row)
 }
 
 #[test]

@@ -43,6 +43,22 @@ stream = [
 ]
 "#;
 
+/// The first stream may not start before 672.
+const RELEASED: &str = r#"
+stream = [
+    { name = "one", octets = 64, route = ["A", "S", "C"], release = 672 },
+    { name = "two", octets = 64, route = ["B", "S", "C"] },
+]
+"#;
+
+/// The second stream has to arrive by 2252.
+const HURRIED: &str = r#"
+stream = [
+    { name = "one", octets = 64, route = ["A", "S", "C"] },
+    { name = "two", octets = 64, route = ["B", "S", "C"], latest = 2252 },
+]
+"#;
+
 const SHORT_AND_LONG: &str = r#"
 stream = [
     { name = "one", octets = 64, route = ["A", "S", "C"] },
@@ -98,6 +114,25 @@ fn judges_offsets(rt: HostRuntime) -> Result<(), Fail> {
     ends(&rt, alloc, &other, &[0, 0], 0, "valid flowspan 25580\n");
     let opposite = network(alloc, 1_000_000, GIGABIT, OPPOSITE)?;
     ends(&rt, alloc, &opposite, &[0, 0], 0, "valid flowspan 2252\n");
+    Ok(())
+}
+
+#[test]
+fn judges_releases_and_latest_instants(rt: HostRuntime) -> Result<(), Fail> {
+    let alloc = rt.alloc();
+    let released = network(alloc, 1_000_000, GIGABIT, RELEASED)?;
+    let line = "valid flowspan 2924\n";
+    ends(&rt, alloc, &released, &[672, 0], 0, line);
+    let early = "not valid V4 stream 0\n";
+    ends(&rt, alloc, &released, &[0, 672], 6, early);
+    ends(&rt, alloc, &released, &[671, 1343], 6, early);
+    let overlap = "not valid V3 0 1 4\n";
+    ends(&rt, alloc, &released, &[0, 671], 6, overlap);
+    let hurried = network(alloc, 1_000_000, GIGABIT, HURRIED)?;
+    ends(&rt, alloc, &hurried, &[672, 0], 0, line);
+    let late = "not valid V5 stream 1\n";
+    ends(&rt, alloc, &hurried, &[0, 672], 6, late);
+    ends(&rt, alloc, &hurried, &[673, 1], 6, late);
     Ok(())
 }
 

@@ -281,7 +281,9 @@ N3 stream 1~['B', 'S', 'C']=>{}
 N3 stream 2~['B', 'S', 'C']},=>['B', 'S', 'C']}, 3
 N3 top~cycle = 1000000=>cycle.length = 1000000
 N3 node 0~name = 'A'=>name.first = 'A'
-N3 stream 0~'one', octets = 64=>'one', octets.count = 64";
+N3 stream 0~'one', octets = 64=>'one', octets.count = 64
+N3 stream 0~'one', octets = 64=>'one', octets = 64, release = 'x'
+N3 stream 1~'two', octets = 64=>'two', octets = 64, latest = 1.0";
 
 #[test]
 fn wrong_kinds(rt: HostRuntime) -> Result<(), Fail> {
@@ -350,7 +352,15 @@ ok~proc = 1000=>proc = 0
 ok~proc = 1000=>proc = 1000000
 ok~prop = 50=>prop = 0
 ok~prop = 50=>prop = 1000000
-ok~octets = 64=>octets = 1522";
+ok~octets = 64=>octets = 1522
+N5 stream 0~'one', octets = 64=>'one', octets = 64, release = -1
+N5 stream 1~'two', octets = 64=>'two', octets = 64, release = 1000000001
+N5 stream 0~'one', octets = 64=>'one', octets = 64, latest = 0
+N5 stream 0~'one', octets = 64=>'one', octets = 64, latest = -1
+N5 stream 1~'two', octets = 64=>'two', octets = 64, latest = 1000000001
+ok~'one', octets = 64=>'one', octets = 64, release = 0, latest = 1
+ok~'one', octets = 64=>'one', octets = 64, release = 1000000000, latest = 1000000000
+ok~'one', octets = 64=>'one', octets = 64, release = 3, latest = 2";
 
 #[test]
 fn limits_of_numbers(rt: HostRuntime) -> Result<(), Fail> {

@@ -225,6 +225,45 @@ fn judges_offsets(rt: HostRuntime) -> Result<(), Fail> {
     Ok(())
 }
 
+/// Two streams, the first from 700 on, the second to arrive by 3000.
+const TIMED: &str = "stream = [
+    {name = 'one', octets = 64, route = ['A', 'S', 'C'], release = 700},
+    {name = 'two', octets = 64, route = ['B', 'S', 'C'], latest = 3000},
+]
+";
+
+const fn early(stream: usize) -> Validity {
+    Validity::Refused(Violation::Early(stream))
+}
+
+const fn too_late(stream: usize) -> Validity {
+    Validity::Refused(Violation::TooLate(stream))
+}
+
+#[test]
+fn judges_releases_and_latest_instants(rt: HostRuntime) -> Result<(), Fail> {
+    let alloc = rt.alloc();
+    let timed = star(alloc, 1_000_000, FAST, TIMED)?;
+    assert!(rt; timed.streams() == 2);
+    assert_eq!(rt; timed.release(0), 700);
+    assert_eq!(rt; timed.release(1), 0);
+    assert_eq!(rt; timed.latest(0), 1_000_000);
+    assert_eq!(rt; timed.latest(1), 3000);
+    for (offsets, validity) in [
+        ([700, 0].as_slice(), Validity::Valid),
+        (&[699, 0], early(0)),
+        (&[1420, 748], Validity::Valid),
+        (&[1421, 749], too_late(1)),
+        (&[699, 1371], early(0)),
+        (&[0, 0], overlap(0, 1, 4)),
+        (&[0, 997_703], past_cycle(1)),
+        (&[0], TOO_MANY),
+    ] {
+        judges(&rt, alloc, &timed, offsets, validity)?;
+    }
+    Ok(())
+}
+
 /// The flowspan, by the plain program too.
 fn finishes(rt: &impl Abort, timing: &Timing, offsets: &[u64], flowspan: u64) {
     let cycle = timing.cycle();

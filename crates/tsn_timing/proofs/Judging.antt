@@ -3,8 +3,8 @@ use Rattle.std.proofs.Common.{◌≡◌, ◌≤◌, ◌<◌, ℕ, ◌+◌, min, 
 use Rattle.std.proofs.lemmas.Bool.{cases_lt}
 use Rattle.tsn_model.specs.declared.Triple.{Triple}
 use Rattle.tsn_model.specs.Network.{Network, stream_count, hop_count, route_link}
-use Rattle.tsn_model.specs.Schedule.{IsFirstOverlap}
-use Rattle.tsn_model.specs.PlainWords.{AreApart, IsOverlap}
+use Rattle.tsn_model.specs.Schedule.{AreApart, IsFirstOverlap}
+use Rattle.tsn_model.specs.PlainWords.{IsOverlap}
 use Rattle.tsn_timing.specs.Judgement.{IsOverlapOf, ArePairApart, IsLeastOverlap, HasNoOverlap, IsFirstOverlapOf}
 use Rattle.tsn_model.proofs.Routes.{use_of}
 

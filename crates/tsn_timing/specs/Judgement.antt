@@ -1,11 +1,11 @@
 -- What is said of a list of offsets.
 --     Judges                                       the judgement of a list
---     IsFirstPastCycle, IsLeastOverlap, ..         its parts, by stream and by pair of streams
+--     IsFirstPastCycle, IsFirstEarly, IsFirstTooLate, IsLeastOverlap, ..         its parts, by stream and by pair of streams
 use Rattle.std.specs.Prelude.{◌≡◌, ℕ, ◌+◌, ◌≤◌, ◌<◌, List}
 use Rattle.tsn_model.specs.declared.Triple.{Triple}
-use Rattle.tsn_model.specs.Network.{Network, stream_count}
-use Rattle.tsn_model.specs.Timing.{span}
-use Rattle.tsn_model.specs.Schedule.{IsValid, IsFirstViolation, FitsCycle, offset_of}
+use Rattle.tsn_model.specs.Network.{Network, stream_count, release_of, latest_of}
+use Rattle.tsn_model.specs.Timing.{arrival, span}
+use Rattle.tsn_model.specs.Schedule.{IsValid, IsFirstViolation, FitsCycle, IsReleased, IsInTime, offset_of}
 use Rattle.tsn_model.specs.PlainWords.{IsOverlap}
 use Rattle.tsn_timing.specs.declared.timing.Validity.{Validity}
 use Rattle.tsn_timing.specs.declared.timing.Validity.TheVariants.{Valid, Refused}
@@ -20,6 +20,18 @@ pub record IsFirstPastCycle (network : Network) (offsets : List ℕ) (i : ℕ) :
   pub counted : i < stream_count network
   pub past : network.cycle < offset_of offsets i + span network i
   pub fit_before : (j : ℕ) → j < i → FitsCycle network offsets j
+
+-- the first stream that starts before its release
+pub record IsFirstEarly (network : Network) (offsets : List ℕ) (i : ℕ) : Type 0 where
+  pub counted : i < stream_count network
+  pub early : offset_of offsets i < release_of network i
+  pub released_before : (j : ℕ) → j < i → IsReleased network offsets j
+
+-- the first stream that arrives after its latest instant
+pub record IsFirstTooLate (network : Network) (offsets : List ℕ) (i : ℕ) : Type 0 where
+  pub counted : i < stream_count network
+  pub late : latest_of network i < offset_of offsets i + arrival network i
+  pub in_time_before : (j : ℕ) → j < i → IsInTime network offsets j
 
 -- the streams overlap on the link
 abbrev pub IsOverlapOf : Network → List ℕ → ℕ → ℕ → ℕ → Type 0

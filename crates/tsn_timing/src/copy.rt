@@ -48,7 +48,12 @@ fn streams_of(alloc: Global, problem: &Problem) -> Result<Vec<PlainStream>, Allo
     let mut streams = Vec::new(alloc);
     for stream in 0..problem.streams() {
         let route = route_of(alloc, problem, stream)?;
-        streams.push(PlainStream::new(problem.octets(stream), route))?;
+        streams.push(PlainStream::new(
+            problem.octets(stream),
+            route,
+            problem.release(stream),
+            problem.latest(stream),
+        ))?;
     }
     Ok(streams)
 }

@@ -39,11 +39,11 @@ impl Model for Timing {
 }
 
 impl Timing {
-    ghost use Rattle.tsn_model.specs.Network.{IsWellFormed, stream_count, hop_count, route_link, link_at};
+    ghost use Rattle.tsn_model.specs.Network.{IsWellFormed, stream_count, hop_count, route_link, link_at, release_of, latest_of};
     ghost use Rattle.tsn_model.specs.Timing.{occupancy, start, arrival, span, hop_on};
-    ghost use Rattle.tsn_model.specs.Schedule.{IsValid, IsFirstViolation, IsFirstOverlap, FitsCycle, flowspan};
-    ghost use Rattle.tsn_model.specs.PlainWords.{AreApart, IsOverlap};
-    ghost use Rattle.tsn_timing.specs.Judgement.{Judges, IsFirstPastCycle, HasNoOverlap, IsFirstOverlapOf, ArePairApart, IsLeastOverlap};
+    ghost use Rattle.tsn_model.specs.Schedule.{IsValid, IsFirstViolation, IsFirstOverlap, FitsCycle, AreApart, IsReleased, IsInTime, flowspan};
+    ghost use Rattle.tsn_model.specs.PlainWords.{IsOverlap};
+    ghost use Rattle.tsn_timing.specs.Judgement.{Judges, IsFirstPastCycle, IsFirstEarly, IsFirstTooLate, HasNoOverlap, IsFirstOverlapOf, ArePairApart, IsLeastOverlap};
 
     /// The timing of a problem.
     pub fn of(alloc: Global, problem: &Problem) -> Result<Timing, NoMemory>
@@ -93,6 +93,25 @@ impl Timing {
         ensures few { result ≤ 128 }
     {
         self.network.streams()
+    }
+
+    /// The least offset that a stream may have, in nanoseconds.
+    pub fn release(&self, stream: usize) -> u64
+        requires { stream < stream_count self.now }
+        ensures value { result ≡ release_of self.now stream }
+        ensures bound { result ≤ 1_000_000_000 }
+    {
+        self.network.release(stream)
+    }
+
+    /// The instant, counted from the cycle's start, by which a stream has to arrive.
+    pub fn latest(&self, stream: usize) -> u64
+        requires { stream < stream_count self.now }
+        ensures value { result ≡ latest_of self.now stream }
+        ensures some { 1 ≤ result }
+        ensures bound { result ≤ 1_000_000_000 }
+    {
+        self.network.latest(stream)
     }
 
     /// How many hops a stream's route has.
@@ -163,7 +182,8 @@ impl Timing {
     }
 
     /// Whether the offsets are a valid schedule, and if not, the first reason: their count, then the first stream that
-    /// isn't done within the cycle, then the first overlap. The offsets may be of any size and number.
+    /// isn't done within the cycle, then the first overlap, then the first stream before its release, then the first that
+    /// arrives after its latest instant. The offsets may be of any size and number.
     pub fn validity(&self, offsets: &[u64]) -> Validity
         ensures { Judges self.now offsets.now result }
     {
@@ -173,8 +193,14 @@ impl Timing {
         if let Some(stream) = self.first_past_cycle(offsets) {
             return Validity::Refused(Violation::PastCycle(stream));
         }
-        match self.first_overlap(offsets) {
-            Some(triple) => Validity::Refused(Violation::Overlap(triple)),
+        if let Some(triple) = self.first_overlap(offsets) {
+            return Validity::Refused(Violation::Overlap(triple));
+        }
+        if let Some(stream) = self.first_early(offsets) {
+            return Validity::Refused(Violation::Early(stream));
+        }
+        match self.first_too_late(offsets) {
+            Some(stream) => Validity::Refused(Violation::TooLate(stream)),
             None => Validity::Valid,
         }
     }
@@ -228,6 +254,38 @@ impl Timing {
         for stream in 0..self.streams() {
             let offset = offsets[stream];
             if offset > cycle || offset + self.span(stream) > cycle {
+                return Some(stream);
+            }
+        }
+        None
+    }
+
+    /// The first stream that, put at its offset, starts before its release.
+    fn first_early(&self, offsets: &[u64]) -> Option<usize>
+        requires { length offsets.now ≡ stream_count self.now }
+        ensures { MatchOption result
+            ((i : ℕ) → i < stream_count self.now → IsReleased self.now offsets.now i)
+            (λ i. IsFirstEarly self.now offsets.now i) }
+    {
+        for stream in 0..self.streams() {
+            if offsets[stream] < self.release(stream) {
+                return Some(stream);
+            }
+        }
+        None
+    }
+
+    /// The first stream that, put at its offset, arrives after its latest instant.
+    fn first_too_late(&self, offsets: &[u64]) -> Option<usize>
+        requires count { length offsets.now ≡ stream_count self.now }
+        requires small { All (λ offset. offset ≤ self.now.cycle) offsets.now }
+        ensures { MatchOption result
+            ((i : ℕ) → i < stream_count self.now → IsInTime self.now offsets.now i)
+            (λ i. IsFirstTooLate self.now offsets.now i) }
+    {
+        let _ = &self.network;
+        for stream in 0..self.streams() {
+            if offsets[stream] + self.arrival(stream) > self.latest(stream) {
                 return Some(stream);
             }
         }

@@ -1,9 +1,8 @@
-use Rattle.std.proofs.Common.{◌≡◌, replicate, ap, ◌∙◌}
+use Rattle.std.proofs.Common.{◌≡◌, ap, ◌∙◌}
 use Rattle.std.proofs.lemmas.Result.{IfOk-weaker}
 use Rattle.tsn_model.specs.Arcs.{arcs_of}
 use Rattle.tsn_branch.specs.declared.outcome.Look.{Look}
 use Rattle.tsn_branch.specs.Outcome.{outcome_of}
-use Rattle.tsn_branch.specs.Unreleased.{unreleased}
 use Rattle.tsn_branch.proofs.Leasts.{answers_on}
 use Rattle.tsn_branch.proofs.Rights.{HasProof-from, SplitsUndecided-from, PrunesFrom-from}
 use Rattle.tsn_branch.proofs.look.Goals as goal
@@ -11,19 +10,17 @@ use Rattle.tsn_branch.proofs.look.Goals as goal
 pub judge-requires-clause-some_path : goal.judge-requires-clause-some_path
 judge-requires-clause-some_path c =
     let network = c.args.timing.now in
-    let releases : c.new.result ≡ unreleased network = c.new.ensures ∙ ap (λ n. replicate n 0) c.streams.ensures.value in
     let arcs : c.deref.result.now ≡ arcs_of network c.args.node.now =
     c.deref.ensures.value ∙ c.in_ok-arcs.ensures.value network c.requires.conflicts ∙ ap (arcs_of network) c.path.ensures.value in
-    (c.args.node.now, answers_on network c.args.node.now c.new.result c.deref.result.now c.in_ok-outcome.outcome releases arcs c.in_ok-outcome.ensures)
+    (c.args.node.now, answers_on network c.args.node.now c.in_ok-net_of.field-0 c.deref.result.now c.in_ok-outcome.outcome c.in_ok-net_of.ensures arcs c.in_ok-outcome.ensures)
 
 pub returns-clause-first_case : goal.returns-clause-first_case
 returns-clause-first_case c =
     let network = c.args.timing.now in
-    let releases : c.new.result ≡ unreleased network = c.new.ensures ∙ ap (λ n. replicate n 0) c.streams.ensures.value in
     let arcs : c.deref.result.now ≡ arcs_of network c.args.node.now =
     c.deref.ensures.value ∙ c.in_ok-arcs.ensures.value network c.requires.conflicts ∙ ap (arcs_of network) c.path.ensures.value in
     IfOk-weaker c.judge.result _ _
-    (λ look found. found c.args.node.now (answers_on network c.args.node.now c.new.result c.deref.result.now c.in_ok-outcome.outcome releases arcs c.in_ok-outcome.ensures))
+    (λ look found. found c.args.node.now (answers_on network c.args.node.now c.in_ok-net_of.field-0 c.deref.result.now c.in_ok-outcome.outcome c.in_ok-net_of.ensures arcs c.in_ok-outcome.ensures))
     c.judge.ensures
 
 pub returns-clause-proof : goal.returns-clause-proof

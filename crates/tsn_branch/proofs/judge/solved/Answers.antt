@@ -2,7 +2,7 @@ use Rattle.std.proofs.Common.{◌≡◌, List, ℕ, refl, sym, ap, ◌∙◌, su
 use Rattle.tsn_model.specs.Schedule.{flowspan}
 use Rattle.tsn_diff.specs.Forest.{chain_of}
 use Rattle.tsn_branch.specs.Look.{AreLeast, IsFirstLast, IsShownBy}
-use Rattle.tsn_branch.proofs.Leasts.{AreLeast-from, IsShownBy-from}
+use Rattle.tsn_branch.proofs.Leasts.{AreLeast-from, IsShownBy-from, no_violation}
 use Rattle.tsn_branch.proofs.judge.solved.Goals as goal
 
 pub returns : goal.returns
@@ -22,3 +22,10 @@ returns c =
             (subst (λ (offsets : List ℕ). IsShownBy network path offsets c.args.last (chain_of labels c.args.last)) same (IsShownBy-from network path labels solves c.args.last last.counted)),
       ),
     )
+
+pub unreachable-requires : goal.unreachable-requires
+unreachable-requires c =
+    let (path, solves) = c.requires.some_path in
+    let (fit, last, end) = c.requires.ends in
+    no_violation c.args.timing.now path c.args.least.now solves fit c.requires.apart c.in_ok-from_slice.field-0.items (c.in_ok-from_slice.ensures.items ∙ c.offsets.ensures)
+    c.in_default.field-0.0 c.in_default.ensures.refused

@@ -27,5 +27,5 @@ returns-then-depth-gt0-clause-stands c =
     let some = c.if-depth-gt0.true in
     let within : 0 < length path = omega arith in
     let whole = by_last path last within (sym (get_or_default path (length path - 1) last none (omega arith))) in
-    stands_back network path c.self.inside.stack c.pop.new.self c.self.inside.seen.items c.self.inside.found leads.none_released leads.arcs leads.split_above (take (length path - 1) path) last.triple last.side whole
+    stands_back network path c.self.inside.stack c.pop.new.self c.self.inside.seen.items c.self.inside.found leads.releases leads.arcs leads.split_above (take (length path - 1) path) last.triple last.side whole
     c.pop.ensures.releases c.pop.ensures.arcs

@@ -7,7 +7,7 @@ use Rattle.tsn_model.specs.Certificate.{decided}
 use Rattle.tsn_diff.specs.Answers.{Refutes}
 use Rattle.tsn_diff.specs.Stack.{Stack, RisesAt}
 use Rattle.std.specs.Prelude.{IfNone, IfSome, OnSome}
-use Rattle.tsn_branch.specs.Unreleased.{unreleased}
+use Rattle.tsn_branch.specs.Releases.{releases_of}
 use Rattle.tsn_branch.specs.Descent.{Way, Stands}
 use Rattle.tsn_branch.proofs.Descents.{by_last}
 use Rattle.tsn_branch.proofs.Ways.{Puts, leads_down, refutes_down}
@@ -30,9 +30,9 @@ returns-in-Some-2-clause-led c =
     (subst (λ o. IfSome o (λ chain. Refutes (length c.self.inside.stack.releases) (c.self.inside.stack.arcs ++ c.arc-arc.result ∷ []) chain.items)) c.in-Some-2.is c.in_ok-chain.ensures.closed) in
     let left : c.push.new.self ≡ c.self.inside.stack = subst (λ o. OnSome o (c.push.new.self ≡ c.self.inside.stack)) c.in-Some-2.is c.in_ok-chain.ensures.refused in
     let there_is = ap (λ (way : Way). way.path) c.self.view_is in (
-      record { none_released = c.push.ensures.releases ∙ here.none_released; arcs = ap (λ (stack : Stack). stack.arcs) left ∙ here.arcs; split_above = here.split_above },
-      subst (λ p. Refutes (length (unreleased network)) (arcs_of network p) c.in-Some-2.chain.items) there_is
-          (refutes_down network front last.triple last.side c.self.inside.node c.self.inside.stack c.in-Some-2.chain.items node here.none_released here.arcs refutes),
+      record { releases = c.push.ensures.releases ∙ here.releases; arcs = ap (λ (stack : Stack). stack.arcs) left ∙ here.arcs; split_above = here.split_above },
+      subst (λ p. Refutes (length (releases_of network)) (arcs_of network p) c.in-Some-2.chain.items) there_is
+          (refutes_down network front last.triple last.side c.self.inside.node c.self.inside.stack c.in-Some-2.chain.items node here.releases here.arcs refutes),
     )
 
 pub returns-clause-led : goal.returns-clause-led
@@ -54,4 +54,4 @@ returns-clause-led c =
       solved_before = c.push.ensures.solved_before;
       solved = c.push.ensures.solved;
     }) in
-    leads_down network front last.triple last.side c.self.inside.node c.self.inside.stack c.push.new.self c.self.inside.seen.items c.self.inside.found node here.none_released c.push.ensures.releases here.arcs puts here.split_above
+    leads_down network front last.triple last.side c.self.inside.node c.self.inside.stack c.push.new.self c.self.inside.seen.items c.self.inside.found node here.releases c.push.ensures.releases here.arcs puts here.split_above

@@ -1,8 +1,7 @@
 use Rattle.std.proofs.Common.{◌≡◌, get_or, ap, sym, ◌∙◌, subst, zero-le}
 use Rattle.std.specs.Prelude.{MatchOption}
 use Rattle.std.proofs.lemmas.List.{get_or_default}
-use Rattle.tsn_model.specs.PlainWords.{AreApart}
-use Rattle.tsn_model.specs.Schedule.{IsFirstOverlap}
+use Rattle.tsn_model.specs.Schedule.{IsFirstOverlap, AreApart}
 use Rattle.tsn_conflict.specs.Kept.{Kept}
 use Rattle.tsn_conflict.specs.Raised.{triple_at}
 use Rattle.tsn_conflict.proofs.Raised.{none_overlaps, first_at}

@@ -2,8 +2,7 @@ use Rattle.std.proofs.Common.{◌<◌, ℕ, Option, Some, None, inl, inr, List, 
 use Rattle.std.specs.Prelude.{MatchOption}
 use Rattle.std.proofs.lemmas.Bool.{cases_lt}
 use Rattle.tsn_model.specs.Network.{Network}
-use Rattle.tsn_model.specs.PlainWords.{AreApart}
-use Rattle.tsn_model.specs.Schedule.{IsFirstOverlap}
+use Rattle.tsn_model.specs.Schedule.{IsFirstOverlap, AreApart}
 use Rattle.tsn_conflict.specs.Kept.{Kept, AreConflictsOf}
 use Rattle.tsn_conflict.specs.Raised.{triple_at}
 use Rattle.tsn_conflict.specs.Pairs.{Meets, AreApartBetween, IsNextMeeting}

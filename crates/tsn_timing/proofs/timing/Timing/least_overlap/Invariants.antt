@@ -1,6 +1,5 @@
-use Rattle.std.proofs.Common.{◌≡◌, ◌≤◌, ◌<◌, ℕ, MatchOption}
-use Rattle.tsn_model.specs.Network.{hop_count, route_link}
-use Rattle.tsn_timing.specs.Judgement.{IsOverlapOf}
+use Rattle.std.proofs.Common.{◌≡◌}
+use Rattle.tsn_model.specs.Network.{hop_count}
 use Rattle.tsn_timing.proofs.Judging.{IsLeastSoFar}
 use Rattle.tsn_timing.proofs.timing.Timing.least_overlap.Given as goal
 

@@ -6,4 +6,4 @@ use Rattle.tsn_timing.proofs.timing.Timing.validity.Goals as goal
 pub returns-in-None : goal.returns-in-None
 returns-in-None c =
     let count : length c.args.offsets.now ≡ stream_count c.args.self.now = c.if-offsets-streams.false ∙ c.streams.ensures.value in
-    valid_from_parts c.args.self.now c.args.offsets.now count c.in_default.ensures c.in-None.ensures
+    valid_from_parts c.args.self.now c.args.offsets.now count c.in_default.ensures c.in_default-first_overlap.ensures c.in_default-first_early.ensures c.in-None.ensures
