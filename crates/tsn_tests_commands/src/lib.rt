@@ -1,15 +1,12 @@
-//! Tests of the commands and of their words. A crate with tests is proved twice, so they stand apart.
+//! Tests of calls behind the commands that no row of words and files makes. A crate with tests is proved twice, so they stand
+//! apart.
 #![tactic(auto)]
 
 #[cfg(test)]
-mod check_command;
+mod arguments;
 #[cfg(test)]
-mod command_words;
+mod devices;
 #[cfg(test)]
-mod gates;
+mod gate_lists;
 #[cfg(test)]
-mod plan_command;
-#[cfg(test)]
-mod replay_command;
-#[cfg(test)]
-mod valid_command;
+mod inputs;

@@ -1,0 +1,35 @@
+//! What no words of a command line ask for: offsets above their greatest, none at all, and no word.
+
+use crate::inputs::NETWORK;
+use std::process::Abort;
+use tsn_cli::memory::{MemorySink, MemorySource, NEVER};
+use tsn_cli::valid_run;
+use tsn_words::{WordsFault, words_from};
+
+/// The run ends with this line and status 6.
+fn rejects<R: Abort + AllocGlobal>(rt: &R, offsets: &[u64], line: &str) {
+    let alloc = rt.alloc();
+    let mut source = MemorySource::new(NETWORK.as_bytes(), 100, NEVER);
+    let mut sink = MemorySink::new(alloc, 3, NEVER);
+    let status = valid_run(alloc, &mut source, offsets, &mut sink);
+    assert_eq!(rt; status, 6, "{line}");
+    assert!(rt; sink.bytes.as_slice() == line.as_bytes(), "{line}");
+}
+
+#[test]
+fn judges_offsets_of_any_size(rt: HostRuntime) {
+    rejects(&rt, &[], "not valid V1\n");
+    rejects(&rt, &[0, u64::MAX], "not valid V2 stream 1\n");
+    rejects(&rt, &[u64::MAX, u64::MAX], "not valid V2 stream 0\n");
+}
+
+#[test]
+fn refuses_no_word_at_all(rt: HostRuntime) {
+    match words_from(rt.alloc(), &[]) {
+        Err(WordsFault::Refused(text)) => {
+            assert!(rt; text.as_str().contains("requires a subcommand"), "{text}")
+        }
+        Err(fault) => assert!(rt; false, "{fault}"),
+        Ok(_) => assert!(rt; false, "no word is taken"),
+    }
+}

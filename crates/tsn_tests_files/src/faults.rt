@@ -1,0 +1,71 @@
+//! The numbers of faults, and the check of a plan alone.
+
+use crate::network::NET;
+use std::test::Fail;
+use tsn_cert::{FileFault, plan_from_json};
+use tsn_check::{CheckFault, check_plan};
+use tsn_net::read_problem;
+use tsn_timing::Timing;
+
+#[test]
+fn faults_of_files_have_numbers(rt: HostRuntime) {
+    assert_eq!(rt; FileFault::NotJson.number(), 1);
+    assert_eq!(rt; FileFault::WrongShape.number(), 2);
+    assert_eq!(rt; FileFault::NumberTooLarge.number(), 3);
+    assert_eq!(rt; FileFault::Memory.number(), 4);
+}
+
+#[test]
+fn faults_of_the_check_have_numbers(rt: HostRuntime) {
+    for (fault, number, node) in [
+        (CheckFault::PlanInvalid, 1, None),
+        (CheckFault::FlowspanWrong, 2, None),
+        (CheckFault::TreeUnfinished(7), 3, Some(7)),
+        (CheckFault::TreeTooLong(7), 4, Some(7)),
+        (CheckFault::NotConflict(7), 5, Some(7)),
+        (CheckFault::ChainBroken(7), 6, Some(7)),
+        (CheckFault::BoundTooLow(7), 7, Some(7)),
+        (CheckFault::StreamRepeated(7), 8, Some(7)),
+        (CheckFault::NotOnLink(7), 9, Some(7)),
+        (CheckFault::Memory, 10, None),
+    ] {
+        assert_eq!(rt; fault.number(), number);
+        assert_eq!(rt; fault.node(), node);
+    }
+}
+
+#[test]
+fn plans_alone_are_checked(rt: HostRuntime) -> Result<(), Fail> {
+    let alloc = rt.alloc();
+    let problem = read_problem(alloc, NET.as_bytes())?;
+    let timing = Timing::of(alloc, &problem)?;
+    for (text, fault) in [
+        (
+            "{\"flowspan\":null,\"offsets\":null}",
+            CheckFault::PlanInvalid,
+        ),
+        (
+            "{\"flowspan\":2923,\"offsets\":[0,671]}",
+            CheckFault::PlanInvalid,
+        ),
+        (
+            "{\"flowspan\":2924,\"offsets\":[0]}",
+            CheckFault::PlanInvalid,
+        ),
+        (
+            "{\"flowspan\":2923,\"offsets\":[0,672]}",
+            CheckFault::FlowspanWrong,
+        ),
+    ] {
+        let plan = plan_from_json(alloc, text.as_bytes())?;
+        match check_plan(alloc, &timing, &plan) {
+            Ok(_) => assert!(rt; false, "{text} is taken"),
+            Err(found) => assert_eq!(rt; found, fault, "{text}"),
+        }
+    }
+    let text = "{\"flowspan\":2924,\"offsets\":[0,672]}";
+    let plan = plan_from_json(alloc, text.as_bytes())?;
+    let valid = check_plan(alloc, &timing, &plan)?;
+    assert!(rt; valid.offsets() == [0, 672].as_slice());
+    Ok(())
+}
