@@ -142,7 +142,7 @@ impl<'a, R: Files + Print + AllocGlobal + Threads + Wait + Sync> Session<'a, R> 
     fn end(&mut self) -> Result<()> {
         ensure!(
             self.has_run || self.part != Part::Row,
-            "a row without a command"
+            "the row that ends here runs no command"
         );
         self.end_command()
     }
@@ -150,10 +150,10 @@ impl<'a, R: Files + Print + AllocGlobal + Threads + Wait + Sync> Session<'a, R> 
     fn end_command(&mut self) -> Result<()> {
         ensure!(
             self.outcome.is_none(),
-            "the last command's end isn't compared"
+            "nothing compares the end of the command before this"
         );
         if let Some(name) = self.folder.first_new() {
-            bail!("the file {name} is written, and isn't compared");
+            bail!("nothing compares the file {name}, which is written before this");
         }
         Ok(())
     }
