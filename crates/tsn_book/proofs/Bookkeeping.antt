@@ -1,8 +1,8 @@
 -- What a book keeps beside its places, after one more settlement.
-use Rattle.std.proofs.Common.{◌≡◌, ◌≢◌, ℕ, zero, suc, ◌+◌, ◌≤◌, ◌<◌, min, List, [], ◌∷◌, ◌++◌, length, get_or, set, fold, filter, All, Bool, false, not, refl, sym, ap, ◌∙◌, subst, arith, inl, inr, Option, Some, None}
-use Rattle.std.specs.Prelude.{replicate, ◌==◌, MatchOption}
+use Rattle.std.proofs.Common.{◌≡◌, ◌≢◌, ℕ, zero, suc, ◌+◌, ◌≤◌, ◌<◌, min, List, [], ◌∷◌, ◌++◌, length, get_or, set, fold, filter, All, Contains, Bool, true, false, not, ◌||◌, ◌&&◌, refl, sym, ap, ◌∙◌, subst, arith, inl, inr, Option, Some, None}
+use Rattle.std.specs.Prelude.{replicate, ◌==◌, nat_eq, nat_lt, MatchOption}
 use Rattle.std.specs.List.{slice_index_or, flat_map}
-use Rattle.std.proofs.lemmas.Bool.{cases_lt, cases_eq, cond-true, cond-false, lt-ltb, le-ltb}
+use Rattle.std.proofs.lemmas.Bool.{cases_lt, cases_eq, cond-true, cond-false, lt-ltb, le-ltb, eq-eqb, ne_eqb}
 use Rattle.std.proofs.lemmas.List.{length-append, length-set, length-map, get_or-set_same, get_or-set_other, get_or-replicate, length-replicate}
 use Rattle.std.proofs.Math.ListN.{get_or-map}
 use Rattle.std.proofs.lemmas.List.Sums.{fold-append}
@@ -12,32 +12,33 @@ use Rattle.std.proofs.lemmas.Option.{get_or_from_slice_get}
 use Rattle.tsn_model.specs.declared.Decision.{Decision}
 use Rattle.tsn_model.specs.Network.{Network, IsWellFormed}
 use Rattle.tsn_model.specs.Arcs.{conflicts_of}
-use Rattle.tsn_model.specs.Schedule.{IsValid, flowspan, target_of}
+use Rattle.tsn_model.specs.Schedule.{IsValid, flowspan, target_of, earlier, first_of}
 use Rattle.tsn_search_laws.specs.Laws.{IsBelowBounds}
-use Rattle.tsn_search_laws.proofs.Kept.{kept_valid, kept_target}
-use Rattle.tsn_search_laws.proofs.Finished.{best_is_below}
+use Rattle.tsn_search_laws.proofs.Kept.{kept_valid, kept_target, solved-le-cycle}
+use Rattle.tsn_search_laws.proofs.Finished.{legal_beginning}
+use Rattle.tsn_search_laws.proofs.Bounds.{best_is_below, solved_among, settlement_right}
 use Rattle.tsn_model.proofs.Conflicts.{conflict_listed}
 use Rattle.tsn_search_laws.proofs.Counting.{length-legal, length-legal_open}
 use Rattle.tsn_model.specs.Certificate.{Leaf}
-use Rattle.tsn_model.specs.Search.{Outcome, split, solved, pruned, refuted, Settlement, children_of, made_paths, open_paths, is_settled, solved_bound, pruned_bound, solved_bounds, pruned_bounds, settled_by, least_or_none, best_bound, kept_of, tally_of, IsAllowed, IsLegal}
-use Rattle.tsn_search_laws.proofs.Lists.{flat_map-snoc, length-Without}
+use Rattle.tsn_model.specs.Search.{Outcome, split, solved, pruned, tied, refuted, Settlement, children_of, made_paths, open_paths, is_settled, solved_bound, pruned_bound, solved_bounds, pruned_bounds, settled_by, least_or_none, best_bound, solutions, kept_of, tally_of, IsRight, IsAllowed, IsLegal}
+use Rattle.tsn_search_laws.proofs.Lists.{flat_map-snoc, length-Without, Contains-here, Contains-right}
 use Rattle.tsn_search_laws.proofs.Histories.{legal_snoc, open_paths-snoc, open_but, open_but-Without}
-use Rattle.tsn_search_laws.proofs.Following.{settled_by-this, settled_by-another, kept_lower_after, kept_same_after}
+use Rattle.tsn_search_laws.proofs.Following.{settled_by-this, settled_by-another, kept_lower_after, kept_even_after, kept_same_after}
 use Rattle.tsn_book.specs.declared.arena.Origin.{Origin}
 use Rattle.tsn_book.specs.declared.arena.Standing.{Standing}
 use Rattle.tsn_book.specs.declared.arena.Standing.TheVariants.{Open}
 use Rattle.tsn_book.specs.declared.arena.Settled.{Settled}
 use Rattle.tsn_branch.specs.Outcome.{outcome_of}
 use Rattle.tsn_book.specs.Arena.{paths_of, settlement_of, history_of, IsEvent, IsTree, AreClosed, ClosedAt}
-use Rattle.tsn_book.specs.Book.{child_count, kept_after, tally_after, IsKept, IsSummary, IsBook, IsLawful}
+use Rattle.tsn_book.specs.Book.{child_count, is_better, before_kept, kept_after, tally_after, IsKept, IsSummary, IsBook, IsLawful}
 use Rattle.tsn_book.proofs.Growing.{event_stays, event_new}
-use Rattle.tsn_book.proofs.Places.{length-paths_of}
+use Rattle.tsn_book.proofs.Places.{length-paths_of, event_among}
 use Rattle.tsn_book.proofs.Asking.{length-history_of}
 
 -- ---- an empty book
 
 pub empty_summary : (network : Network) (cycle tellers : ℕ) → cycle ≡ network.cycle → IsSummary network [] 1 (cycle + 1) None (replicate tellers (0, cycle + 1, cycle + 1))
-unfolding open_paths made_paths is_settled best_bound least_or_none solved_bounds kept_of tally_of settled_by pruned_bounds
+unfolding open_paths made_paths is_settled best_bound least_or_none solved_bounds kept_of first_of solutions tally_of settled_by pruned_bounds
 empty_summary network cycle tellers same =
     record {
       counted = refl;
@@ -55,8 +56,9 @@ empty_summary network cycle tellers same =
 pub children_counted : (path : List Decision) (outcome : Outcome) → length (children_of path outcome) ≡ child_count outcome
 unfolding children_of
 children_counted path (split triple) = refl
-children_counted path (solved offsets bound leaf) = refl
+children_counted path (solved offsets bound leaf chains) = refl
 children_counted path (pruned bound leaf) = refl
+children_counted path (tied bound leaf chains) = refl
 children_counted path (refuted leaf) = refl
 
 -- the open path is replaced by its children
@@ -108,33 +110,85 @@ tally_of_other network k history settlement other =
 pub kept_stays : (network : Network) (history : List Settlement) (settlement : Settlement) (kept : Option ℕ) → kept_of network (history ++ settlement ∷ []) ≡ kept_of network history → IsKept network history kept → IsKept network (history ++ settlement ∷ []) kept
 kept_stays network history settlement None same is = same ∙ is
 kept_stays network history settlement (Some number) same is =
-    (is.0, is.1, is.2, is.3, event_stays history settlement number is.0 (solved is.1 is.2 is.3) is.4, same ∙ is.5)
+    (is.0, is.1, is.2, is.3, is.4, event_stays history settlement number is.0 (solved is.1 is.2 is.3 is.4) is.5, same ∙ is.6)
+
+kept_grows_solved : (network : Network) (history : List Settlement) (teller : ℕ) (path : List Decision) (offsets : List ℕ) (bound : ℕ) (leaf : Leaf) (chains : List (List ℕ)) (kept : Option ℕ) (number : ℕ) → number ≡ length history
+    → let settlement : Settlement = record { teller = teller; event = record { path = path; outcome = solved offsets bound leaf chains } } in
+    kept_of network (history ++ settlement ∷ []) ≡ Some offsets → IsKept network (history ++ settlement ∷ []) (Some number)
+kept_grows_solved network history teller path offsets bound leaf chains kept number next now =
+    (path, offsets, bound, leaf, chains, event_new history teller path (solved offsets bound leaf chains) number next, now)
+
+-- a solved leaf of the same flowspan is kept where it comes before what was kept
+kept_even : (network : Network) (history : List Settlement) (teller : ℕ) (path : List Decision) (offsets : List ℕ) (bound : ℕ) (leaf : Leaf) (chains : List (List ℕ)) (kept : Option ℕ) (number : ℕ) → number ≡ length history
+    → bound ≡ best_bound network history → (first : Option (List ℕ)) → kept_of network history ≡ first → (first ≡ None → ⊥)
+    → let settlement : Settlement = record { teller = teller; event = record { path = path; outcome = solved offsets bound leaf chains } } in
+    IsKept network history kept → (better : Bool) → before_kept first offsets ≡ better → IsKept network (history ++ settlement ∷ []) (kept_after better kept number)
+unfolding before_kept earlier
+kept_even network history teller path offsets bound leaf chains kept number next same None first some is better test = absurd (some refl)
+kept_even network history teller path offsets bound leaf chains kept number next same (Some before) first some is true test =
+    let settlement : Settlement = record { teller = teller; event = record { path = path; outcome = solved offsets bound leaf chains } } in
+    kept_grows_solved network history teller path offsets bound leaf chains kept number next
+    ((kept_even_after network history settlement offsets bound leaf chains refl same).1 before first ∙ ap Some (cond-true _ offsets before test))
+kept_even network history teller path offsets bound leaf chains kept number next same (Some before) first some is false test =
+    let settlement : Settlement = record { teller = teller; event = record { path = path; outcome = solved offsets bound leaf chains } } in
+    kept_stays network history settlement kept
+    ((kept_even_after network history settlement offsets bound leaf chains refl same).1 before first ∙ ap Some (cond-false _ offsets before test) ∙ sym first) is
+
+own_bound : (offsets : List ℕ) (bound : ℕ) (leaf : Leaf) (chains : List (List ℕ)) → Contains (solved_bound (solved offsets bound leaf chains)) bound
+unfolding solved_bound
+own_bound offsets bound leaf chains = Contains-here bound []
+
+-- with a solved leaf of that flowspan to come something is kept
+some_kept : (network : Network) (history : List Settlement) (settlement : Settlement) (offsets : List ℕ) (bound : ℕ) (leaf : Leaf) (chains : List (List ℕ)) → IsLegal network (history ++ settlement ∷ [])
+    → settlement.event.outcome ≡ solved offsets bound leaf chains → bound ≡ best_bound network history → (first : Option (List ℕ)) → kept_of network history ≡ first → first ≡ None → ⊥
+unfolding target_of
+some_kept network history settlement offsets bound leaf chains legal is same first was none =
+    let before = legal_beginning network history (settlement ∷ []) legal in
+    let past : best_bound network history ≡ network.cycle + 1 = sym (kept_target network history before) ∙ ap (target_of network) (was ∙ none) in
+    let low = solved-le-cycle network (history ++ settlement ∷ []) legal bound
+    (solved_among (history ++ settlement ∷ []) settlement bound (Contains-right settlement history (settlement ∷ []) (Contains-here settlement []))
+    (subst (λ o. Contains (solved_bound o) bound) (sym is) (own_bound offsets bound leaf chains))) in
+    omega (arith, past, same, low)
 
 pub kept_grows : (network : Network) (history : List Settlement) (teller : ℕ) (path : List Decision) (outcome : Outcome) (kept : Option ℕ) (best number : ℕ) → best ≡ best_bound network history → number ≡ length history
     → let settlement : Settlement = record { teller = teller; event = record { path = path; outcome = outcome } } in
-    IsLegal network (history ++ settlement ∷ []) → IsKept network history kept → IsKept network (history ++ settlement ∷ []) (kept_after kept best number outcome)
+    IsLegal network (history ++ settlement ∷ []) → IsKept network history kept → IsKept network (history ++ settlement ∷ []) (kept_after (is_better (kept_of network history) best outcome) kept number)
 unfolding solved_bound
 kept_grows network history teller path (split triple) kept best number lowest next legal is =
     let settlement : Settlement = record { teller = teller; event = record { path = path; outcome = split triple } } in
-    kept_stays network history settlement kept (kept_same_after network history settlement legal (All-nil (λ bound. best_bound network history ≤ bound))).1 is
+    kept_stays network history settlement kept (kept_same_after network history settlement (All-nil (λ bound. best_bound network history < bound))).1 is
 kept_grows network history teller path (pruned bound leaf) kept best number lowest next legal is =
     let settlement : Settlement = record { teller = teller; event = record { path = path; outcome = pruned bound leaf } } in
-    kept_stays network history settlement kept (kept_same_after network history settlement legal (All-nil (λ bound. best_bound network history ≤ bound))).1 is
+    kept_stays network history settlement kept (kept_same_after network history settlement (All-nil (λ bound. best_bound network history < bound))).1 is
+kept_grows network history teller path (tied bound leaf chains) kept best number lowest next legal is =
+    let settlement : Settlement = record { teller = teller; event = record { path = path; outcome = tied bound leaf chains } } in
+    kept_stays network history settlement kept (kept_same_after network history settlement (All-nil (λ bound. best_bound network history < bound))).1 is
 kept_grows network history teller path (refuted leaf) kept best number lowest next legal is =
     let settlement : Settlement = record { teller = teller; event = record { path = path; outcome = refuted leaf } } in
-    kept_stays network history settlement kept (kept_same_after network history settlement legal (All-nil (λ bound. best_bound network history ≤ bound))).1 is
-kept_grows network history teller path (solved offsets bound leaf) kept best number lowest next legal is =
-    let settlement : Settlement = record { teller = teller; event = record { path = path; outcome = solved offsets bound leaf } } in
+    kept_stays network history settlement kept (kept_same_after network history settlement (All-nil (λ bound. best_bound network history < bound))).1 is
+kept_grows network history teller path (solved offsets bound leaf chains) kept best number lowest next legal is =
+    let settlement : Settlement = record { teller = teller; event = record { path = path; outcome = solved offsets bound leaf chains } } in
+    let before : Bool = before_kept (kept_of network history) offsets in
+    let result : Bool → Type 0 = λ better. IsKept network (history ++ settlement ∷ []) (kept_after better kept number) in
     elim (cases_lt bound best) [
       | inl less ↦
           let lower : bound < best_bound network history = omega (arith, less, lowest) in
-          subst (IsKept network (history ++ settlement ∷ [])) (sym (cond-true _ (Some number) kept (lt-ltb bound best less)))
-          (path, offsets, bound, leaf, event_new history teller path (solved offsets bound leaf) number next, (kept_lower_after network history settlement legal offsets bound leaf refl lower).1)
-      | inr more ↦
-          let high : best_bound network history ≤ bound = omega (arith, more, lowest) in
-          subst (IsKept network (history ++ settlement ∷ [])) (sym (cond-false _ (Some number) kept (le-ltb bound best more)))
-          (kept_stays network history settlement kept
-          (kept_same_after network history settlement legal (All-cons (λ b. best_bound network history ≤ b) bound [] high (All-nil (λ b. best_bound network history ≤ b)))).1 is)
+          subst (λ b. result (b || (nat_eq bound best && before))) (sym (lt-ltb bound best less))
+          (kept_grows_solved network history teller path offsets bound leaf chains kept number next (kept_lower_after network history settlement offsets bound leaf chains refl lower).1)
+      | inr more ↦ elim (cases_eq bound best) [
+        | inl even ↦
+            let same : bound ≡ best_bound network history = even ∙ lowest in
+            subst (λ b. result (b || (nat_eq bound best && before))) (sym (le-ltb bound best more))
+            (subst (λ b. result (b && before)) (sym (eq-eqb bound best even))
+            (kept_even network history teller path offsets bound leaf chains kept number next same (kept_of network history) refl
+            (some_kept network history settlement offsets bound leaf chains legal refl same (kept_of network history) refl) is before refl))
+        | inr other ↦
+            let high : best_bound network history < bound = omega (arith, more, other, lowest) in
+            subst (λ b. result (b || (nat_eq bound best && before))) (sym (le-ltb bound best more))
+            (subst (λ b. result (b && before)) (sym (ne_eqb bound best other))
+            (kept_stays network history settlement kept
+            (kept_same_after network history settlement (All-cons (λ b. best_bound network history < b) bound [] high (All-nil (λ b. best_bound network history < b)))).1 is))
+      ]
     ]
 
 -- ---- all of it
@@ -144,7 +198,7 @@ pub summary_grows : (network : Network) (history : List Settlement) (teller : �
     → let settlement : Settlement = record { teller = teller; event = record { path = path; outcome = outcome } } in
     IsAllowed network history settlement.event → teller < length tallies
     → (new_count new_best : ℕ) (new_kept : Option ℕ) (new_tally : ℕ × ℕ × ℕ) (number : ℕ) → number ≡ length history → new_count + 1 ≡ open_count + child_count outcome
-    → new_best ≡ fold min best (solved_bound outcome) → new_kept ≡ kept_after kept best number outcome → new_tally ≡ tally_after (slice_index_or tallies teller (0, 0, 0)) outcome
+    → new_best ≡ fold min best (solved_bound outcome) → new_kept ≡ kept_after (is_better (kept_of network history) best outcome) kept number → new_tally ≡ tally_after (slice_index_or tallies teller (0, 0, 0)) outcome
     → IsSummary network (history ++ settlement ∷ []) new_count new_best new_kept (set tallies teller new_tally)
 summary_grows network history teller path outcome legal open_count best kept tallies before allowed is_teller new_count new_best new_kept new_tally number next opened lowered keeping tallying =
     let settlement : Settlement = record { teller = teller; event = record { path = path; outcome = outcome } } in
@@ -184,23 +238,24 @@ stored_outcome origins events number path outcome is read there =
 
 -- the kept event is stored, solved, with the offsets that are kept
 pub kept_is_stored : (network : Network) (origins : List Origin) (events : List Settled) (number : ℕ) → IsKept network (history_of origins events) (Some number)
-    → (number < length events) × ((read : Settled) → read ≡ get_or events number read → (offsets : List ℕ) × (bound : ℕ) × (leaf : Leaf) × (outcome_of read.look ≡ solved offsets bound leaf) × (kept_of network (history_of origins events) ≡ Some offsets))
+    → (number < length events) × ((read : Settled) → read ≡ get_or events number read → (offsets : List ℕ) × (bound : ℕ) × (leaf : Leaf) × (chains : List (List ℕ)) × (outcome_of read.look ≡ solved offsets bound leaf chains) × (kept_of network (history_of origins events) ≡ Some offsets))
 kept_is_stored network origins events number is =
-    let below : number < length events = omega (arith, is.4.within, length-history_of origins events) in (
+    let below : number < length events = omega (arith, is.5.within, length-history_of origins events) in (
       below,
       λ read there.
-          (is.1, is.2, is.3, (stored_outcome origins events number is.0 (solved is.1 is.2 is.3) is.4 read there).1, is.5),
+          (is.1, is.2, is.3, is.4, (stored_outcome origins events number is.0 (solved is.1 is.2 is.3 is.4) is.5 read there).1, is.6),
     )
 
 -- two solved outcomes that are equal have the same offsets, and no other outcome is a solved one
 abbrev pub HasOffsets : List ℕ → Outcome → Type 0
 HasOffsets offsets (split triple) = ⊥
-HasOffsets offsets (solved others bound leaf) = offsets ≡ others
+HasOffsets offsets (solved others bound leaf chains) = offsets ≡ others
 HasOffsets offsets (pruned bound leaf) = ⊥
+HasOffsets offsets (tied bound leaf chains) = ⊥
 HasOffsets offsets (refuted leaf) = ⊥
 
-pub stored_offsets : (offsets : List ℕ) (bound : ℕ) (leaf : Leaf) (outcome : Outcome) → outcome ≡ solved offsets bound leaf → HasOffsets offsets outcome
-stored_offsets offsets bound leaf outcome same = subst (HasOffsets offsets) (sym same) refl
+pub stored_offsets : (offsets : List ℕ) (bound : ℕ) (leaf : Leaf) (chains : List (List ℕ)) (outcome : Outcome) → outcome ≡ solved offsets bound leaf chains → HasOffsets offsets outcome
+stored_offsets offsets bound leaf chains outcome same = subst (HasOffsets offsets) (sym same) refl
 
 -- no more pass a test than there are
 length-filter-le : {X : Type 0} (p : X → Bool) (xs : List X) → length (filter p xs) ≤ length xs
@@ -261,7 +316,7 @@ pub book_grows : (network : Network) (origins : List Origin) (standings : List S
     → (network' : Network) (origins' : List Origin) (standings' : List Standing) (events' : List Settled) (flags' : List Bool) → network' ≡ network → IsTree network' origins' standings' events' → AreClosed standings' flags'
     → history_of origins' events' ≡ history_of origins events ++ record { teller = teller; event = record { path = path; outcome = outcome } } ∷ []
     → (new_count new_best : ℕ) (new_kept : Option ℕ) (new_tally : ℕ × ℕ × ℕ) (number : ℕ) → number ≡ length events → new_count + 1 ≡ open_count + child_count outcome
-    → new_best ≡ fold min best (solved_bound outcome) → new_kept ≡ kept_after kept best number outcome → new_tally ≡ tally_after (slice_index_or tallies teller (0, 0, 0)) outcome
+    → new_best ≡ fold min best (solved_bound outcome) → new_kept ≡ kept_after (is_better (kept_of network (history_of origins events)) best outcome) kept number → new_tally ≡ tally_after (slice_index_or tallies teller (0, 0, 0)) outcome
     → IsBook network' origins' standings' events' flags' limit new_count new_best new_kept (set tallies teller new_tally)
 book_grows network origins standings events flags limit open_count best kept tallies before teller path outcome is_teller below allowed network' origins' standings' events' flags' same_network tree' closed' longer new_count new_best new_kept new_tally number next opened lowered keeping tallying =
     let history = history_of origins events in
@@ -295,7 +350,7 @@ pub book_keeps : (network : Network) (origins : List Origin) (standings : List S
     → (offsets : List ℕ) × HasOffsets offsets (outcome_of read.look) × (kept_of network (history_of origins events) ≡ Some offsets)
 book_keeps network origins standings events flags limit open_count best kept tallies book number is read there =
     let stored = (kept_is_stored network origins events number (subst (IsKept network (history_of origins events)) is book.summary.kept)).1 read there in
-    (stored.0, stored_offsets stored.0 stored.1 stored.2 (outcome_of read.look) stored.3, stored.4)
+    (stored.0, stored_offsets stored.0 stored.1 stored.2 stored.3 (outcome_of read.look) stored.4, stored.5)
 
 pub keeps_within : (network : Network) (origins : List Origin) (standings : List Standing) (events : List Settled) (flags : List Bool) (limit open_count best : ℕ) (kept : Option ℕ) (tallies : List (ℕ × ℕ × ℕ))
     → IsBook network origins standings events flags limit open_count best kept tallies → (number : ℕ) → kept ≡ Some number → number < length events
@@ -303,5 +358,55 @@ keeps_within network origins standings events flags limit open_count best kept t
     (kept_is_stored network origins events number (subst (IsKept network (history_of origins events)) is book.summary.kept)).0
 
 -- the least solved flowspan is a target
-pub best_target : (network : Network) (history : List Settlement) → IsLegal network history → IsBelowBounds (best_bound network history) history
+pub best_target : (network : Network) (history : List Settlement) → IsLegal network history → IsBelowBounds network (best_bound network history) history
 best_target network history legal = let below = best_is_below network history legal in (below.solved, below.pruned)
+
+-- the outcome solves this
+abbrev pub HasSolution : List ℕ → ℕ → Outcome → Type 0
+HasSolution offsets bound (split triple) = ⊥
+HasSolution offsets bound (solved others other leaf chains) = (offsets ≡ others) × (bound ≡ other)
+HasSolution offsets bound (pruned other leaf) = ⊥
+HasSolution offsets bound (tied other leaf chains) = ⊥
+HasSolution offsets bound (refuted leaf) = ⊥
+
+stored_solution : (offsets : List ℕ) (bound : ℕ) (leaf : Leaf) (chains : List (List ℕ)) (outcome : Outcome) → outcome ≡ solved offsets bound leaf chains → HasSolution offsets bound outcome
+stored_solution offsets bound leaf chains outcome same = subst (HasSolution offsets bound) (sym same) (refl, refl)
+
+right_flowspan : (network : Network) (before : List Settlement) (path : List Decision) (outcome : Outcome) (offsets : List ℕ) (bound : ℕ) (leaf : Leaf) (chains : List (List ℕ)) → outcome ≡ solved offsets bound leaf chains
+    → IsRight network before path outcome → flowspan network offsets ≡ bound
+right_flowspan network before path outcome offsets bound leaf chains is right =
+    let solves : IsRight network before path (solved offsets bound leaf chains) = subst (IsRight network before path) is right in
+    solves.1
+
+-- what a tree keeps, as it is read
+pub tree_keeps : (network : Network) (origins : List Origin) (events : List Settled) → IsLegal network (history_of origins events) → (number : ℕ) → IsKept network (history_of origins events) (Some number)
+    → (read : Settled) → read ≡ get_or events number read
+    → (offsets : List ℕ) × (bound : ℕ) × HasSolution offsets bound (outcome_of read.look) × (kept_of network (history_of origins events) ≡ Some offsets) × (flowspan network offsets ≡ bound)
+unfolding kept_is_stored
+tree_keeps network origins events legal number is read there =
+    let history = history_of origins events in
+    let stored = (kept_is_stored network origins events number is).1 read there in
+    let settlement : Settlement = record { teller = is.5.there.0; event = record { path = is.0; outcome = solved is.1 is.2 is.3 is.4 } } in
+    let right = settlement_right network history legal settlement (event_among history settlement number is.5.within is.5.there.1) in
+    (is.1, is.2, stored_solution is.1 is.2 is.3 is.4 (outcome_of read.look) stored.4, is.6, right_flowspan network right.0 is.0 (solved is.1 is.2 is.3 is.4) is.1 is.2 is.3 is.4 refl right.3.is_right)
+
+-- with the same flowspan the order of the offsets decides
+pub even_better : (first : Option (List ℕ)) (offsets : List ℕ) (bound best : ℕ) → bound ≡ best → (nat_lt bound best || (nat_eq bound best && before_kept first offsets)) ≡ before_kept first offsets
+even_better first offsets bound best same =
+    let not_less : nat_lt bound best ≡ false = le-ltb bound best (omega (arith, same)) in
+    let even : nat_eq bound best ≡ true = eq-eqb bound best same in
+    λ i. not_less i || (even i && before_kept first offsets)
+
+pub other_better : (first : Option (List ℕ)) (offsets : List ℕ) (bound best : ℕ) → bound ≢ best → (nat_lt bound best || (nat_eq bound best && before_kept first offsets)) ≡ nat_lt bound best
+other_better first offsets bound best apart =
+    let other : nat_eq bound best ≡ false = ne_eqb bound best apart in
+    (λ i. nat_lt bound best || (other i && before_kept first offsets)) ∙ or_false (nat_lt bound best)
+  where
+    or_false : (b : Bool) → (b || false) ≡ b
+    or_false true = refl
+    or_false false = refl
+
+-- what follows from each case of a search follows from its answer
+pub match_gives : {X : Type 0} (found : Option X) (None_is Other : Type 0) (Is That : X → Type 0) → (None_is → Other) → ((x : X) → Is x → That x) → MatchOption found None_is Is → MatchOption found Other That
+match_gives None None_is Other Is That without with it = without it
+match_gives (Some x) None_is Other Is That without with it = with x it

@@ -10,7 +10,7 @@ use Rattle.tsn_model.specs.declared.Side.TheVariants.{Left, Right}
 use Rattle.tsn_model.specs.declared.Decision.{Decision}
 use Rattle.tsn_model.specs.Network.{Network}
 use Rattle.tsn_model.specs.Certificate.{decided}
-use Rattle.tsn_model.specs.Search.{Outcome, split, solved, pruned, refuted, Event, Settlement, path_eq, children_of, made_paths, open_paths, is_settled, ends_of, IsRight, IsAllowed, IsLegal}
+use Rattle.tsn_model.specs.Search.{Outcome, split, solved, pruned, tied, refuted, Event, Settlement, path_eq, children_of, made_paths, open_paths, is_settled, ends_of, IsRight, IsAllowed, IsLegal}
 use Rattle.tsn_search_laws.proofs.Paths.{path_eq-false}
 use Rattle.tsn_search_laws.proofs.Histories.{legal_nil, legal_snoc, made_paths-snoc, is_settled-snoc, open_from_made, made_apart, child_not_settled, child_ne_parent}
 use Rattle.tsn_book.specs.declared.arena.Origin.{Origin}
@@ -328,8 +328,9 @@ split_grows network origins standings events tree place teller children number t
 pub leaf_parts : (path : List Decision) (outcome : Outcome) → IsLeafOutcome outcome → (children_of path outcome ≡ []) × (ends_of path outcome ≡ path ∷ [])
 unfolding children_of ends_of
 leaf_parts path (split triple) leaf = absurd leaf
-leaf_parts path (solved offsets bound proof) leaf = (refl, refl)
+leaf_parts path (solved offsets bound proof chains) leaf = (refl, refl)
 leaf_parts path (pruned bound proof) leaf = (refl, refl)
+leaf_parts path (tied bound proof chains) leaf = (refl, refl)
 leaf_parts path (refuted proof) leaf = (refl, refl)
 
 -- the tree after a leaf

@@ -13,7 +13,7 @@ use Rattle.tsn_model.specs.declared.Side.TheVariants.{Left, Right}
 use Rattle.tsn_model.specs.declared.Decision.{Decision}
 use Rattle.tsn_model.specs.Network.{Network}
 use Rattle.tsn_model.specs.Certificate.{decided}
-use Rattle.tsn_model.specs.Search.{Outcome, split, solved, pruned, refuted, Settlement, path_eq, children_of, made_paths, open_paths, is_settled, ends_of, IsLegal}
+use Rattle.tsn_model.specs.Search.{Outcome, split, solved, pruned, tied, refuted, Settlement, path_eq, children_of, made_paths, open_paths, is_settled, ends_of, IsLegal}
 use Rattle.tsn_search_laws.proofs.Lists.{snoc_induction, Contains-cons, Contains-from_flat_map}
 use Rattle.tsn_search_laws.proofs.Paths.{path_eq-true, path_eq-refl, path_eq-false, decided-parts, nil-ne-decided}
 use Rattle.tsn_search_laws.proofs.Histories.{settled_at, parent_settled, settled_is_made, settled_once, open_is_made, open_not_settled, child_of}
@@ -208,8 +208,9 @@ split_other triple other different same = different (ap triple_of same)
   where
     triple_of : Outcome → Triple
     triple_of (split t) = t
-    triple_of (solved offsets bound leaf) = triple
+    triple_of (solved offsets bound leaf chains) = triple
     triple_of (pruned bound leaf) = triple
+    triple_of (tied bound leaf chains) = triple
     triple_of (refuted leaf) = triple
 
 -- the standing is no split on the triple

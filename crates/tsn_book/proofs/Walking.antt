@@ -10,7 +10,7 @@ use Rattle.tsn_model.specs.declared.Side.TheVariants.{Left, Right}
 use Rattle.tsn_model.specs.declared.Decision.{Decision}
 use Rattle.tsn_model.specs.Network.{Network}
 use Rattle.tsn_model.specs.Certificate.{decided}
-use Rattle.tsn_model.specs.Search.{Outcome, split, solved, pruned, refuted, Settlement, made_paths, open_paths, PathBefore, IsFirstOpen, IsLegal}
+use Rattle.tsn_model.specs.Search.{Outcome, split, solved, pruned, tied, refuted, Settlement, made_paths, open_paths, PathBefore, IsFirstOpen, IsLegal}
 use Rattle.tsn_search_laws.proofs.Lists.{Contains-here}
 use Rattle.tsn_search_laws.proofs.Histories.{open_is_made}
 use Rattle.tsn_search_laws.proofs.Counting.{made_decides}
@@ -33,8 +33,9 @@ same_triple network history legal path triple event is decision found =
   where
     triple_of : Outcome → Triple
     triple_of (split t) = t
-    triple_of (solved offsets bound leaf) = triple
+    triple_of (solved offsets bound leaf chains) = triple
     triple_of (pruned bound leaf) = triple
+    triple_of (tied bound leaf chains) = triple
     triple_of (refuted leaf) = triple
 
 -- a step below an open path's beginning was made

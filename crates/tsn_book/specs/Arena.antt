@@ -91,8 +91,9 @@ path_in tree place = path_at (paths_of tree.origins.items) place
 -- the outcome ends its path
 abbrev pub IsLeafOutcome : search.Outcome → Type 0
 IsLeafOutcome (search.split triple) = ⊥
-IsLeafOutcome (search.solved offsets bound leaf) = Unit {0}
+IsLeafOutcome (search.solved offsets bound leaf chains) = Unit {0}
 IsLeafOutcome (search.pruned bound leaf) = Unit {0}
+IsLeafOutcome (search.tied bound leaf chains) = Unit {0}
 IsLeafOutcome (search.refuted leaf) = Unit {0}
 
 -- the place exists and is open

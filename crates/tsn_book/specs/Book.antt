@@ -1,11 +1,13 @@
 -- What a book knows, and why it refuses an event.
-use Rattle.std.specs.Prelude.{Bool, ◌≡◌, ℕ, ◌<◌, ◌≤◌, ◌+◌, ◌-◌, ◌^◌, min, fold, List, [], length, All, Contains, Option, Some, None, nat_lt, if◌then◌else◌}
+use Rattle.std.specs.Prelude.{Bool, false, ◌≢◌, MatchOption, ◌||◌, ◌&&◌, nat_eq, ◌≡◌, ℕ, ◌<◌, ◌≤◌, ◌+◌, ◌-◌, ◌^◌, min, fold, List, [], length, All, Contains, Option, Some, None, nat_lt, if◌then◌else◌}
 use Rattle.std.specs.List.{slice_index_or}
 use Rattle.tsn_model.specs.declared.Decision.{Decision}
 use Rattle.tsn_model.specs.Network.{Network, IsWellFormed}
-use Rattle.tsn_model.specs.Certificate.{Leaf, Tree, Accepts, Node, Spells}
+use Rattle.tsn_model.specs.Schedule.{comes_before}
+use Rattle.tsn_model.specs.Certificate.{Leaf, beyond, HasBound, Tree, AcceptsFirst, Node, Spells}
 use Rattle.tsn_model.specs.Arcs.{conflicts_of}
-use Rattle.tsn_model.specs.Search.{Outcome, split, solved, pruned, refuted, Event, Settlement, open_paths, best_bound, kept_of, solved_bound, pruned_bound, tally_of, IsAllowed, IsLegal}
+use Rattle.tsn_model.specs.Search.{Outcome, split, solved, pruned, tied, refuted, Event, Settlement, open_paths, best_bound, kept_of, solved_bound, pruned_bound, tally_of, IsNoBetter, IsAllowed, IsLegal}
+use Rattle.tsn_timing.specs.Solution.{Solution, IsSolved}
 use Rattle.tsn_search_laws.specs.Replies.{not_open, limit_met, not_conflict, already_decided, not_met, IsFirstRefusal}
 use Rattle.tsn_book.specs.Arena.{IsEvent, IsTree, AreClosed, history_of}
 use Rattle.tsn_book.specs.declared.arena.Origin.{Origin}
@@ -39,26 +41,66 @@ IsFault network limit history event AlreadyDecided = IsFirstRefusal network limi
 IsFault network limit history event (NotMet number) = IsFirstRefusal network limit history event (not_met number)
 IsFault network limit history event Memory = (length history < limit) × IsAllowed network history event
 
--- the nodes spell a tree that is accepted for the target
-pub record SpellsAccepted (network : Network) (target : ℕ) (nodes : List Node) : Type 0 where
+-- the nodes spell a tree that is accepted in format 2 for the plan
+pub record SpellsAccepted (network : Network) (plan : Option (List ℕ)) (nodes : List Node) : Type 0 where
   pub tree : Tree
   pub spelled : Spells nodes tree
-  pub accepted : Accepts network target [] tree
+  pub accepted : AcceptsFirst network plan [] tree
+
+-- the offsets of a plan
+abbrev pub planned : Option Solution → Option (List ℕ)
+planned None = None
+planned (Some solution) = Some solution.offsets
+
+-- it has the flowspan of its offsets
+abbrev pub IsPlan : Network → Option Solution → Type 0
+IsPlan network plan = MatchOption plan (Unit {0}) (IsSolved network)
+
+-- it is what is kept
+abbrev pub IsPlanOf : Network → List Settlement → Option Solution → Type 0
+IsPlanOf network history plan = IsPlan network plan × (kept_of network history ≡ planned plan)
+
+-- where the outcome's node is a tie its leaf has a bound, and nothing is tied or solved above the cycle where there is no plan
+abbrev pub HasTie : Network → Option Solution → Outcome → Type 0
+HasTie network plan (split triple) = Unit {0}
+HasTie network plan (solved offsets bound leaf chains) = HasBound leaf × (plan ≡ None → bound ≤ network.cycle)
+HasTie network plan (pruned bound leaf) = Unit {0}
+HasTie network plan (tied bound leaf chains) = HasBound leaf × (plan ≢ None)
+HasTie network plan (refuted leaf) = Unit {0}
+
+-- a pruned bound is worse than the least solved flowspan, and a tie is no better than what is kept
+abbrev pub IsMet : Network → List Settlement → List Decision → Outcome → Type 0
+IsMet network history path (split triple) = Unit {0}
+IsMet network history path (solved offsets bound leaf chains) = Unit {0}
+IsMet network history path (pruned bound leaf) = beyond network (best_bound network history) ≤ bound
+IsMet network history path (tied bound leaf chains) = IsNoBetter network history path bound chains
+IsMet network history path (refuted leaf) = Unit {0}
 
 -- ---- what a book keeps beside its places
 
 abbrev pub child_count : Outcome → ℕ
 child_count (split triple) = 2
-child_count (solved offsets bound leaf) = 0
+child_count (solved offsets bound leaf chains) = 0
 child_count (pruned bound leaf) = 0
+child_count (tied bound leaf chains) = 0
 child_count (refuted leaf) = 0
 
+-- whether the offsets come before those that are kept
+unfoldable pub before_kept : Option (List ℕ) → List ℕ → Bool
+before_kept None offsets = false
+before_kept (Some kept) offsets = comes_before offsets kept
+
+-- whether the outcome is to be kept in place of what is: it solves a lesser flowspan, or the same one by offsets that come before
+abbrev pub is_better : Option (List ℕ) → ℕ → Outcome → Bool
+is_better first best (split triple) = false
+is_better first best (solved offsets bound leaf chains) = nat_lt bound best || (nat_eq bound best && before_kept first offsets)
+is_better first best (pruned bound leaf) = false
+is_better first best (tied bound leaf chains) = false
+is_better first best (refuted leaf) = false
+
 -- the number of the event that is kept, after one more
-abbrev pub kept_after : Option ℕ → ℕ → ℕ → Outcome → Option ℕ
-kept_after kept best number (split triple) = kept
-kept_after kept best number (solved offsets bound leaf) = (if nat_lt bound best then Some number else kept)
-kept_after kept best number (pruned bound leaf) = kept
-kept_after kept best number (refuted leaf) = kept
+abbrev pub kept_after : Bool → Option ℕ → ℕ → Option ℕ
+kept_after better kept number = (if better then Some number else kept)
 
 -- a teller's tally, after one more of its events
 abbrev pub tally_after : ℕ × ℕ × ℕ → Outcome → ℕ × ℕ × ℕ
@@ -68,7 +110,7 @@ tally_after tally outcome = (tally.0 + 1, fold min tally.1 (pruned_bound outcome
 abbrev pub IsKept : Network → List Settlement → Option ℕ → Type 0
 IsKept network history None = kept_of network history ≡ None
 IsKept network history (Some number) =
-    (path : List Decision) × (offsets : List ℕ) × (bound : ℕ) × (leaf : Leaf) × IsEvent history number path (solved offsets bound leaf) × (kept_of network history ≡ Some offsets)
+    (path : List Decision) × (offsets : List ℕ) × (bound : ℕ) × (leaf : Leaf) × (chains : List (List ℕ)) × IsEvent history number path (solved offsets bound leaf chains) × (kept_of network history ≡ Some offsets)
 
 -- the numbers beside the places are those of the history
 pub record IsSummary (network : Network) (history : List Settlement) (open_count best : ℕ) (kept_number : Option ℕ) (tallies : List (ℕ × ℕ × ℕ)) : Type 0 where

@@ -1,7 +1,8 @@
 -- The walk that spells a finished tree: what is spelled, and what the places that wait are still to give.
-use Rattle.std.specs.Prelude.{◌≡◌, ℕ, ◌<◌, List, [], ◌∷◌, ◌++◌, map, length, Contains, IsPermutation, Some, slice_get}
+use Rattle.std.specs.Prelude.{◌≡◌, ℕ, ◌<◌, List, [], ◌∷◌, ◌++◌, map, length, Contains, IsPermutation, Option, Some, slice_get}
 use Rattle.std.specs.List.{slice_index_or}
 use Rattle.tsn_model.specs.declared.Decision.{Decision}
+use Rattle.tsn_model.specs.Network.{Network}
 use Rattle.tsn_model.specs.Certificate.{Node}
 use Rattle.tsn_model.specs.Search.{Settlement}
 use Rattle.tsn_search_laws.specs.Order.{node_of}
@@ -27,11 +28,11 @@ Waits paths (place ∷ places) [] = ⊥
 Waits paths (place ∷ places) (growth ∷ growths) = IsGrown paths place growth × Waits paths places growths
 
 -- the node of a settlement
-abbrev pub settled_node : Settlement → Node
-settled_node settlement = node_of settlement.event.outcome
+abbrev pub settled_node : Network → Option (List ℕ) → Settlement → Node
+settled_node network plan settlement = node_of network plan settlement.event.outcome
 
 -- the nodes so far are those of the first settlements in preorder; those of the others are still as they were
-pub record IsWalk (paths : List (List Decision)) (history : List Settlement) (initial events : List Settled) (stack : List ℕ) (nodes : List Node) : Type 0 where
+pub record IsWalk (network : Network) (plan : Option (List ℕ)) (paths : List (List Decision)) (history : List Settlement) (initial events : List Settled) (stack : List ℕ) (nodes : List Node) : Type 0 where
   pub whole : Growth
   pub same : IsPermutation history (in_order whole)
   pub stands : Stands [] whole
@@ -40,7 +41,7 @@ pub record IsWalk (paths : List (List Decision)) (history : List Settlement) (in
   pub growths : List Growth
   pub waits : Waits paths stack growths
   pub parts : in_order whole ≡ done ++ rest_of growths
-  pub spelled : nodes ≡ map settled_node done
+  pub spelled : nodes ≡ map (settled_node network plan) done
   pub counted : length events ≡ length initial
   pub kept : (event : ℕ) (settlement : Settlement) → slice_get history event ≡ Some settlement → Contains (rest_of growths) settlement
       → (d : Settled) → slice_index_or events event d ≡ slice_index_or initial event d

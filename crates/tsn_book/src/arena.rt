@@ -1,21 +1,25 @@
 //! The tree of a search, in an arena. A place is known by its number, and the root has number 0.
-ghost use Rattle.std.specs.Prelude.{◌≡◌, ◌<◌, ◌≤◌, ◌+◌, ◌++◌, false, ◌∷◌, [], ◌↔◌, IsTrue, List, length, IfOk, MatchResult, OnOk, MatchOption, Any, Contains, vec_len, vec_capacity};
+ghost use Rattle.std.specs.Prelude.{◌≡◌, ◌<◌, ◌≤◌, ◌+◌, ◌++◌, false, ◌∷◌, [], ◌↔◌, IsTrue, MatchBool, List, length, IfOk, MatchResult, OnOk, MatchOption, None, Some, All, Any, Contains, vec_len, vec_capacity};
 ghost use Rattle.tsn_model.specs.declared.Decision.{Decision};
 ghost use Rattle.tsn_model.specs.Schedule.{IsConflict};
-ghost use Rattle.tsn_model.specs.Search.{split, made_paths, open_paths, best_bound, IsRight, IsAllowed, IsFirstOpen};
-ghost use Rattle.tsn_search_laws.specs.Replies.{IsPrunedBelow};
+ghost use Rattle.tsn_timing.specs.Solution.{IsSolved};
+ghost use Rattle.tsn_model.specs.Certificate.{AreChains};
+ghost use Rattle.tsn_model.specs.Search.{split, made_paths, open_paths, best_bound, kept_of, IsNoBetter, IsRight, IsAllowed, IsFirstOpen};
+ghost use Rattle.tsn_search_laws.specs.Replies.{IsUnmet};
 ghost use Rattle.tsn_branch.specs.Outcome.{outcome_of};
 ghost use Rattle.tsn_branch.specs.Look.{HasProof, SplitsUndecided};
 ghost use Rattle.tsn_book.specs.Event.{event_of};
-ghost use Rattle.tsn_book.specs.Book.{IsFault};
+ghost use Rattle.tsn_book.specs.Book.{IsFault, IsMet, IsKept, is_better};
 ghost use Rattle.tsn_book.specs.Arena.{IsArena, IsStop, settled_in, path_in, IsOpenPlace, IsLeafOutcome, HasRoom, AreClosed, IsAhead, IsNewLeaf, IsClosing, IsParentClosed, flag_at};
 
 use crate::event::Event;
 use crate::fault::BookFault;
+use crate::ties::{comes_before, shows_after};
 use std::alloc::{AllocError, Global};
 use tsn_branch::outcome::Look;
 use tsn_branch::{Decision, NoMemory, Node, Side, Triple};
-use tsn_model::plain::PlainNetwork;
+use tsn_cert::Chains;
+use tsn_timing::{Solved, Timing};
 
 /// How a place was made: a child has its parent's number, and the decision that leads to it.
 #[derive(Clone, Copy)]
@@ -55,7 +59,7 @@ pub enum Stop {
 /// The places and what was settled, oldest first. Origins and standings have one entry a place; origins never change.
 #[derive(Drop)]
 pub struct Tree {
-    pub network: PlainNetwork,
+    pub network: Timing,
     pub origins: Vec<Origin>,
     pub standings: Vec<Standing>,
     pub events: Vec<Settled>,
@@ -302,35 +306,64 @@ impl Tree {
     {
         match look {
             Look::Split(triple) => self.split(closed, place, teller, triple),
-            Look::Solved { valid, bound, leaf } => {
-                self.close(closed, place, teller, Look::Solved { valid, bound, leaf })
+            Look::Solved {
+                solved,
+                leaf,
+                chains,
+            } => {
+                let look = Look::Solved {
+                    solved,
+                    leaf,
+                    chains,
+                };
+                self.close(closed, place, teller, look)
             }
             Look::Pruned { bound, leaf } => {
                 self.close(closed, place, teller, Look::Pruned { bound, leaf })
+            }
+            Look::Tied {
+                bound,
+                leaf,
+                chains,
+            } => {
+                let look = Look::Tied {
+                    bound,
+                    leaf,
+                    chains,
+                };
+                self.close(closed, place, teller, look)
             }
             Look::Refuted(leaf) => self.close(closed, place, teller, Look::Refuted(leaf)),
         }
     }
 
-    /// The open place of an event that may be settled, where at most `limit` may be and `best` is the least flowspan solved;
-    /// else the first reason why it may not.
-    pub fn place_for(&self, limit: usize, best: u64, event: &Event) -> Result<usize, BookFault>
+    /// The open place of an event that may be settled, where at most `limit` may be, `best` is the least flowspan solved and
+    /// `kept` the number of the event that is kept; else the first reason why it may not.
+    pub fn place_for(
+        &self,
+        limit: usize,
+        best: u64,
+        kept: Option<usize>,
+        event: &Event,
+    ) -> Result<usize, BookFault>
         requires tree { IsArena self.now }
         requires limit { length self.now.events.items ≤ limit }
         requires best { best ≡ best_bound self.now.network (settled_in self.now) }
+        requires kept { IsKept self.now.network (settled_in self.now) kept }
         requires proof { HasProof self.now.network event.now.node (outcome_of event.now.look) }
         ensures { let history = settled_in self.now in MatchResult result
             (λ place. IsOpenPlace self.now.standings.items place × (path_in self.now place ≡ event.now.node)
             × (length history < limit) × IsAllowed self.now.network history (event_of event.now))
             (λ fault. IsFault self.now.network limit history (event_of event.now) fault) }
     {
-        let stop = self.find(event.node.path());
-        let place = self.admit(limit, best, stop, &event.look)?;
+        let path = event.node.path();
+        let stop = self.find(path);
+        let place = self.admit(limit, best, kept, stop, path, &event.look)?;
         if let Look::Split(triple) = &event.look {
             if !is_conflict(&self.network, *triple) {
                 return Err(BookFault::NotConflict);
             }
-            if decides(event.node.path(), *triple) {
+            if decides(path, *triple) {
                 return Err(BookFault::AlreadyDecided);
             }
         }
@@ -343,30 +376,45 @@ impl Tree {
         &self,
         limit: usize,
         best: u64,
+        kept: Option<usize>,
         place: usize,
+        path: &[Decision],
         look: &Look,
     ) -> Result<(), BookFault>
         requires tree { IsArena self.now }
         requires place { place < length self.now.origins.items }
+        requires path { path.now ≡ path_in self.now place }
         requires best { best ≡ best_bound self.now.network (settled_in self.now) }
+        requires kept { IsKept self.now.network (settled_in self.now) kept }
         requires proof { HasProof self.now.network (path_in self.now place) (outcome_of look.now) }
         requires undecided { SplitsUndecided self.now.network (path_in self.now place) (outcome_of look.now) }
         ensures { let history = settled_in self.now in MatchResult result
             (λ done. (length history < limit) × IsAllowed self.now.network history (record { path = path_in self.now place; outcome = outcome_of look.now }))
             (λ fault. IsFault self.now.network limit history (record { path = path_in self.now place; outcome = outcome_of look.now }) fault) }
     {
-        self.admit(limit, best, self.stop_at(place), look)?;
+        self.admit(limit, best, kept, self.stop_at(place), path, look)?;
         Ok(())
     }
 
-    // The open place where a walk ended, for what is within the limit and not pruned below the best; else the first reason.
-    fn admit(&self, limit: usize, best: u64, stop: Stop, look: &Look) -> Result<usize, BookFault>
+    // The open place where a walk along the path ended, for what is within the limit and no better than what is kept; else the
+    // first reason.
+    fn admit(
+        &self,
+        limit: usize,
+        best: u64,
+        kept: Option<usize>,
+        stop: Stop,
+        path: &[Decision],
+        look: &Look,
+    ) -> Result<usize, BookFault>
         requires tree { IsArena self.now }
         requires best { best ≡ best_bound self.now.network (settled_in self.now) }
+        requires kept { IsKept self.now.network (settled_in self.now) kept }
+        requires proof { HasProof self.now.network path.now (outcome_of look.now) }
+        requires stop { IsStop self.now.origins.items self.now.standings.items self.now.events.items path.now stop }
         ensures { let history = settled_in self.now in MatchResult result
-            (λ place. (stop ≡ Stop.Open place) × (length history < limit) × ¬ IsPrunedBelow (best_bound self.now.network history) (outcome_of look.now))
-            (λ fault. (path : List Decision) → IsStop self.now.origins.items self.now.standings.items self.now.events.items path stop
-            → IsFault self.now.network limit history (record { path = path; outcome = outcome_of look.now }) fault) }
+            (λ place. (stop ≡ Stop.Open place) × (length history < limit) × IsMet self.now.network history path.now (outcome_of look.now))
+            (λ fault. IsFault self.now.network limit history (record { path = path.now; outcome = outcome_of look.now }) fault) }
     {
         let place = match stop {
             Stop::Open(place) => place,
@@ -376,21 +424,104 @@ impl Tree {
         if self.events.len() >= limit {
             return Err(BookFault::Limit(self.events.len()));
         }
-        match look {
-            Look::Pruned { bound, .. } => {
-                if *bound < best {
-                    return Err(BookFault::NotMet(best));
-                }
-            }
-            Look::Split(_) => {}
-            Look::Solved { .. } => {}
-            Look::Refuted(_) => {}
+        if self.is_met(best, kept, path, look) {
+            Ok(place)
+        } else {
+            Err(BookFault::NotMet(best))
         }
-        Ok(place)
+    }
+
+    // Whether a pruned or tied leaf is shown to be no better than what is kept.
+    fn is_met(&self, best: u64, kept: Option<usize>, path: &[Decision], look: &Look) -> bool
+        requires tree { IsArena self.now }
+        requires best { best ≡ best_bound self.now.network (settled_in self.now) }
+        requires kept { IsKept self.now.network (settled_in self.now) kept }
+        requires decided { All (λ decision. IsConflict self.now.network decision.triple) path.now }
+        requires proof { HasProof self.now.network path.now (outcome_of look.now) }
+        ensures { let history = settled_in self.now in MatchBool result
+            (IsMet self.now.network history path.now (outcome_of look.now)) (IsUnmet self.now.network history path.now (outcome_of look.now)) }
+    {
+        match look {
+            Look::Split(_) => true,
+            Look::Solved { .. } => true,
+            Look::Pruned { bound, .. } => *bound > best.min(self.network.cycle()),
+            Look::Tied { bound, chains, .. } => {
+                self.is_no_better(best, kept, path, *bound, chains)
+            }
+            Look::Refuted(_) => true,
+        }
+    }
+
+    // Whether the bound is above that of what is kept, or equal to it while the chains show that no schedule on the path comes
+    // before it.
+    fn is_no_better(
+        &self,
+        best: u64,
+        kept: Option<usize>,
+        path: &[Decision],
+        bound: u64,
+        chains: &Chains,
+    ) -> bool
+        requires tree { IsArena self.now }
+        requires best { best ≡ best_bound self.now.network (settled_in self.now) }
+        requires kept { IsKept self.now.network (settled_in self.now) kept }
+        requires decided { All (λ decision. IsConflict self.now.network decision.triple) path.now }
+        requires chains { AreChains self.now.network path.now chains.now }
+        ensures { let history = settled_in self.now in MatchBool result
+            (IsNoBetter self.now.network history path.now bound chains.now) (IsNoBetter self.now.network history path.now bound chains.now → ⊥) }
+    {
+        let Some(best_solved) = self.kept(kept) else {
+            return false;
+        };
+        if bound != best {
+            return best < bound;
+        }
+        shows_after(
+            &self.network,
+            path,
+            chains.list(),
+            best_solved.valid().offsets(),
+        )
+    }
+
+    /// The schedule of the event that is kept.
+    pub fn kept(&self, kept: Option<usize>) -> Option<&Solved>
+        requires tree { IsArena self.now }
+        requires kept { IsKept self.now.network (settled_in self.now) kept }
+        ensures { MatchOption result (kept_of self.now.network (settled_in self.now) ≡ None)
+            (λ solved. (kept_of self.now.network (settled_in self.now) ≡ Some solved.now.offsets) × IsSolved self.now.network solved.now
+            × (solved.now.flowspan ≡ best_bound self.now.network (settled_in self.now))) }
+    {
+        let number = kept?;
+        match &self.events[number].look {
+            Look::Solved { solved, .. } => Some(solved),
+            Look::Split(_) => None,
+            Look::Pruned { .. } => None,
+            Look::Tied { .. } => None,
+            Look::Refuted(_) => None,
+        }
+    }
+
+    /// Whether what was found solves a lesser flowspan than what is kept, or the same one by offsets that come before.
+    pub fn is_better(&self, best: u64, kept: Option<usize>, look: &Look) -> bool
+        requires tree { IsArena self.now }
+        requires kept { IsKept self.now.network (settled_in self.now) kept }
+        ensures { result ≡ is_better (kept_of self.now.network (settled_in self.now)) best (outcome_of look.now) }
+    {
+        let Look::Solved { solved, .. } = look else {
+            return false;
+        };
+        if solved.flowspan() != best {
+            return solved.flowspan() < best;
+        }
+        let Some(best_solved) = self.kept(kept) else {
+            return false;
+        };
+        comes_before(solved.valid().offsets(), best_solved.valid().offsets())
     }
 
     /// A tree whose root is open.
-    pub fn new(alloc: Global, network: PlainNetwork) -> Result<Tree, AllocError>
+    pub fn new(alloc: Global, network: Timing) -> Result<Tree, AllocError>
         ensures tree { IfOk result (λ tree. IsArena tree) }
         ensures network { IfOk result (λ tree. tree.network ≡ network) }
         ensures history { IfOk result (λ tree. settled_in tree ≡ []) }
@@ -407,7 +538,7 @@ impl Tree {
 }
 
 /// Whether two different streams, the lower number first, both use the triple's link.
-fn is_conflict(network: &PlainNetwork, triple: Triple) -> bool
+fn is_conflict(network: &Timing, triple: Triple) -> bool
     ensures { IsTrue result ↔ IsConflict network.now triple }
 {
     if triple.left >= triple.right {

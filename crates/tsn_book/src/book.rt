@@ -1,6 +1,7 @@
 //! The book of a search, as its callers see it: what was settled so far.
 ghost use Rattle.std.specs.Prelude.{◌≡◌, ◌<◌, ◌≤◌, ◌+◌, ◌++◌, ◌∷◌, [], length, fold, min, replicate, IfOk, IfErr, OnErr, OnOk, MatchOption, Some, None};
-ghost use Rattle.tsn_model.specs.Schedule.{IsValid, flowspan};
+ghost use Rattle.tsn_cert.specs.declared.cert.Format.{Format};
+ghost use Rattle.tsn_timing.specs.Solution.{IsSolved};
 ghost use Rattle.tsn_model.specs.Search.{made_paths, open_paths, best_bound, kept_of, tally_of, solved_bound, IsAllowed, IsFirstOpen};
 ghost use Rattle.tsn_branch.specs.Outcome.{outcome_of};
 ghost use Rattle.tsn_branch.specs.Look.{HasProof, SplitsUndecided};
@@ -16,10 +17,9 @@ use crate::spelling::nodes_of;
 use std::alloc::{AllocError, Global};
 use std::marker::Model;
 use tsn_branch::outcome::Look;
-use tsn_branch::{NoMemory, Node};
-use tsn_cert::{Cert, Nodes};
-use tsn_model::plain::PlainNetwork;
-use tsn_timing::{Timing, Valid};
+use tsn_branch::{Decision, NoMemory, Node};
+use tsn_cert::{Cert, Format, Nodes};
+use tsn_timing::{Solved, Timing};
 
 /// How many events a teller settled, the least bound that it pruned by, and the least flowspan that it solved, each in
 /// nanoseconds, and one more than the cycle where there is none below that.
@@ -33,7 +33,7 @@ pub struct Book {
     closed: Vec<bool>,
     open_nodes: usize,
     limit: usize,
-    // The least flowspan solved, and the number of the first event that solved it.
+    // The least flowspan solved, and the number of the event that solved it by the first offsets in their order.
     best: u64,
     kept: Option<usize>,
     tallies: Vec<Tally>,
@@ -67,17 +67,11 @@ impl Book {
     ) -> Result<Book, NoMemory>
         ensures { IfOk result (λ book. book ≡ record { network = timing.now; tellers = tellers; limit = limit; history = [] }) }
     {
-        let network = timing.plain().copy(alloc)?;
-        Ok(Book::of(alloc, network, tellers, limit)?)
+        Ok(Book::of(alloc, timing.copy(alloc)?, tellers, limit)?)
     }
 
     // A book with nothing settled, for that network.
-    fn of(
-        alloc: Global,
-        network: PlainNetwork,
-        tellers: usize,
-        limit: usize,
-    ) -> Result<Book, AllocError>
+    fn of(alloc: Global, network: Timing, tellers: usize, limit: usize) -> Result<Book, AllocError>
         ensures { IfOk result (λ book. book ≡ record { network = network; tellers = tellers; limit = limit; history = [] }) }
     {
         let past_cycle = network.cycle() + 1;
@@ -108,7 +102,10 @@ impl Book {
         ensures fault { IfErr result (λ refusal. IsFault self.old.network self.old.limit self.old.history (event_of event) refusal.0) }
         ensures returned { IfErr result (λ refusal. refusal.1 ≡ event) }
     {
-        let place = match self.tree.place_for(self.limit, self.best, &event) {
+        let placed = self
+            .tree
+            .place_for(self.limit, self.best, self.kept, &event);
+        let place = match placed {
             Ok(place) => place,
             Err(fault) => return Err((fault, event)),
         };
@@ -128,11 +125,13 @@ impl Book {
         &mut self,
         teller: usize,
         place: usize,
+        path: &[Decision],
         look: Look,
     ) -> Result<(), (BookFault, Look)>
         requires teller { teller < self.old.tellers }
         requires place { place < length (made_paths self.old.history) }
         requires proof { HasProof self.old.network (path_made self.old.history place) (outcome_of look) }
+        requires path { path.now ≡ path_made self.old.history place }
         requires undecided { SplitsUndecided self.old.network (path_made self.old.history place) (outcome_of look) }
         ensures ok { OnOk result (self.new ≡ record self.old {
           history = self.old.history
@@ -147,7 +146,10 @@ impl Book {
             (record { path = path_made self.old.history place; outcome = outcome_of look }) refusal.0) }
         ensures returned { IfErr result (λ refusal. refusal.1 ≡ look) }
     {
-        if let Err(fault) = self.tree.admit_at(self.limit, self.best, place, &look) {
+        let admitted = self
+            .tree
+            .admit_at(self.limit, self.best, self.kept, place, path, &look);
+        if let Err(fault) = admitted {
             return Err((fault, look));
         }
         match self.enter(teller, place, look) {
@@ -173,12 +175,13 @@ impl Book {
         ensures refused { OnErr result (self.new ≡ self.old) }
         ensures returned { IfErr result (λ back. back ≡ look) }
     {
+        let better = self.tree.is_better(self.best, self.kept, &look);
         if self.tree.reserve(&mut self.closed).is_err() {
             return Err(look);
         }
         let number = self.tree.events.len();
         self.open_nodes = open_after(self.open_nodes, &look);
-        self.kept = kept_after(self.kept, self.best, number, &look);
+        self.kept = kept_after(better, self.kept, number);
         self.best = best_after(self.best, &look);
         self.tallies[teller] = tally_after(self.tallies[teller], &look);
         self.tree.settle(&mut self.closed, place, teller, look);
@@ -231,41 +234,48 @@ impl Book {
     /// The least flowspan solved, in nanoseconds, or one more than the cycle where none is: a target for the certificate.
     pub fn best(&self) -> u64
         ensures best { result ≡ best_bound self.now.network self.now.history }
-        ensures target { IsBelowBounds result self.now.history }
+        ensures target { IsBelowBounds self.now.network result self.now.history }
         ensures lawful { IsLawful self.now }
     {
         self.best
     }
 
-    /// The schedule of the first solved leaf of least flowspan.
-    pub fn kept(&self) -> Option<&Valid>
+    /// The schedule that is first in list order of the solved leaves of least flowspan.
+    pub fn kept(&self) -> Option<&Solved>
         ensures kept { MatchOption result (kept_of self.now.network self.now.history ≡ None)
-            (λ valid. kept_of self.now.network self.now.history ≡ Some valid.now) }
+            (λ solved. kept_of self.now.network self.now.history ≡ Some solved.now.offsets) }
         ensures best { MatchOption result (best_bound self.now.network self.now.history ≡ self.now.network.cycle + 1)
-            (λ valid. IsValid self.now.network valid.now × (flowspan self.now.network valid.now ≡ best_bound self.now.network self.now.history)) }
+            (λ solved. IsSolved self.now.network solved.now × (solved.now.flowspan ≡ best_bound self.now.network self.now.history)) }
         ensures lawful { IsLawful self.now }
     {
-        let number = self.kept?;
-        match &self.tree.events[number].look {
-            Look::Solved { valid, .. } => Some(valid),
-            Look::Split(_) => None,
-            Look::Pruned { .. } => None,
-            Look::Refuted(_) => None,
-        }
+        self.tree.kept(self.kept)
     }
 
-    /// The certificate of a finished search, for a target in nanoseconds: one node for each event. The error says that there
+    /// The certificate of a finished search, in format 2 for what is kept: one node for each event. The error says that there
     /// was no memory.
-    pub fn into_cert(self, target: u64) -> Result<Cert, NoMemory>
+    pub fn into_cert(self) -> Result<Cert, NoMemory>
         requires finished { open_paths self.history ≡ [] }
-        requires target { IsBelowBounds target self.history }
-        ensures target { IfOk result (λ cert. cert.target ≡ target) }
-        ensures accepted { IfOk result (λ cert. SpellsAccepted self.network target cert.nodes) }
+        ensures format { IfOk result (λ cert. cert.format ≡ Format.Two) }
+        ensures target { IfOk result (λ cert. cert.target ≡ best_bound self.network self.history) }
+        ensures accepted { IfOk result (λ cert. SpellsAccepted self.network (kept_of self.network self.history) cert.nodes) }
         ensures counted { IfOk result (λ cert. length cert.nodes ≡ length self.history) }
     {
-        let Book { tree, .. } = self;
-        let nodes = Nodes::of(nodes_of(tree)?);
-        Ok(Cert { target, nodes })
+        let Book {
+            tree,
+            best,
+            kept,
+            ..
+        } = self;
+        let plan = match tree.kept(kept) {
+            None => None,
+            Some(solved) => Some(solved.copy()?),
+        };
+        let nodes = Nodes::of(nodes_of(tree, plan.as_ref())?);
+        Ok(Cert {
+            format: Format::Two,
+            target: best,
+            nodes,
+        })
     }
 }
 
@@ -289,6 +299,7 @@ fn open_after(count: usize, look: &Look) -> usize
         Look::Split(_) => count + 1,
         Look::Solved { .. } => count - 1,
         Look::Pruned { .. } => count - 1,
+        Look::Tied { .. } => count - 1,
         Look::Refuted(_) => count - 1,
     }
 }
@@ -298,21 +309,11 @@ fn best_after(best: u64, look: &Look) -> u64
     ensures { result ≡ fold min best (solved_bound (outcome_of look.now)) }
 {
     match look {
-        Look::Solved { bound, .. } => best.min(*bound),
+        Look::Solved { solved, .. } => best.min(solved.flowspan()),
         Look::Split(_) => best,
         Look::Pruned { .. } => best,
+        Look::Tied { .. } => best,
         Look::Refuted(_) => best,
-    }
-}
-
-fn kept_after(kept: Option<usize>, best: u64, number: usize, look: &Look) -> Option<usize>
-    ensures { result ≡ kept_after kept best number (outcome_of look.now) }
-{
-    match look {
-        Look::Solved { bound, .. } => { if *bound < best { Some(number) } else { kept } }
-        Look::Split(_) => kept,
-        Look::Pruned { .. } => kept,
-        Look::Refuted(_) => kept,
     }
 }
 
@@ -323,9 +324,20 @@ fn tally_after(tally: Tally, look: &Look) -> Tally
 {
     let (events, pruned, solved) = tally;
     match look {
-        Look::Solved { bound, .. } => (events + 1, pruned, solved.min(*bound)),
+        Look::Solved {
+            solved: solution,
+            ..
+        } => (events + 1, pruned, solved.min(solution.flowspan())),
         Look::Pruned { bound, .. } => (events + 1, pruned.min(*bound), solved),
         Look::Split(_) => (events + 1, pruned, solved),
+        Look::Tied { .. } => (events + 1, pruned, solved),
         Look::Refuted(_) => (events + 1, pruned, solved),
     }
+}
+
+// The number of the event that is kept, after one more.
+fn kept_after(better: bool, kept: Option<usize>, number: usize) -> Option<usize>
+    ensures { result ≡ kept_after better kept number }
+{
+    if better { Some(number) } else { kept }
 }

@@ -6,6 +6,7 @@ pub mod book;
 pub mod event;
 pub mod fault;
 mod spelling;
+mod ties;
 
 pub use book::{Book, Tally};
 pub use event::Event;

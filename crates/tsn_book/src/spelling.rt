@@ -1,31 +1,35 @@
 //! The nodes of a finished tree, in preorder.
-ghost use Rattle.std.specs.Prelude.{◌≡◌, ◌≢◌, ◌<◌, [], ℕ, List, length, map, IfOk, slice_index_or};
+ghost use Rattle.std.specs.Prelude.{◌≡◌, ◌≢◌, ◌<◌, ◌≤◌, ◌^◌, [], take, ℕ, List, length, Option, map, IfOk, option_copied, slice_index_or};
 ghost use Rattle.tsn_cert.specs.Node.{tree_node};
-ghost use Rattle.tsn_model.specs.Search.{open_paths};
+ghost use Rattle.tsn_model.specs.Search.{open_paths, kept_of};
 ghost use Rattle.tsn_search_laws.specs.Order.{node_of};
-ghost use Rattle.tsn_search_laws.specs.Laws.{IsBelowBounds};
+ghost use Rattle.tsn_model.specs.Schedule.{common};
+ghost use Rattle.tsn_model.specs.Certificate.{HasBound, tie_node};
+ghost use Rattle.tsn_branch.specs.Leaf.{leaf_of};
 ghost use Rattle.tsn_branch.specs.Outcome.{outcome_of};
 ghost use Rattle.tsn_book.specs.Arena.{IsArena, settled_in};
-ghost use Rattle.tsn_book.specs.Book.{SpellsAccepted};
+ghost use Rattle.tsn_book.specs.Book.{SpellsAccepted, planned, IsPlan, IsPlanOf, HasTie};
 ghost use Rattle.tsn_book.specs.declared.arena.Settled.{Settled};
 
 use crate::arena::{Settled, Standing, Tree};
 use std::alloc::AllocError;
 use std::mem;
-use tsn_branch::outcome::Look;
-use tsn_cert::Node;
+use tsn_branch::outcome::{Leaf, Look};
+use tsn_cert::{Chain, Chains, Node};
 use tsn_model::Triple;
+use tsn_timing::{Solved, Timing};
 
-/// The nodes of a tree in which nothing is open: a split's node stands before those of its Left child, and these before
-/// those of its Right child.
-pub fn nodes_of(tree: Tree) -> Result<Vec<Node>, AllocError>
+/// The nodes of a tree in which nothing is open, in format 2 for what is kept: a split's node stands before those of its Left
+/// child, and these before those of its Right child.
+pub fn nodes_of(tree: Tree, plan: Option<&Solved>) -> Result<Vec<Node>, AllocError>
     requires tree { IsArena tree }
+    requires plan { IsPlanOf tree.network (settled_in tree) (option_copied plan) }
     requires finished { open_paths (settled_in tree) ≡ [] }
-    ensures accepted { IfOk result (λ nodes. (target : ℕ) → IsBelowBounds target (settled_in tree)
-        → SpellsAccepted tree.network target (map tree_node nodes.items)) }
+    ensures accepted { IfOk result (λ nodes. SpellsAccepted tree.network (kept_of tree.network (settled_in tree)) (map tree_node nodes.items)) }
     ensures counted { IfOk result (λ nodes. length nodes.items ≡ length (settled_in tree)) }
 {
     let Tree {
+        network,
         standings,
         mut events,
         ..
@@ -46,16 +50,19 @@ pub fn nodes_of(tree: Tree) -> Result<Vec<Node>, AllocError>
                 stack.push(children)?;
                 nodes.push(Node::Branch(triple))?;
             }
-            Standing::Leaf(event) => nodes.push(take_node(&mut events, event))?,
+            Standing::Leaf(event) => nodes.push(take_node(&network, &mut events, event, plan))?,
         }
     }
     Ok(nodes)
 }
 
 /// Takes the node of an event out.
-fn take_node(events: &mut [Settled], event: usize) -> Node
-    requires { event < length events.old }
-    ensures node { (d : Settled) → tree_node result ≡ node_of (outcome_of (slice_index_or events.old event d).look) }
+fn take_node(network: &Timing, events: &mut [Settled], event: usize, plan: Option<&Solved>) -> Node
+    requires within { event < length events.old }
+    requires plan { IsPlan network.now (option_copied plan) }
+    requires tie { (d : Settled) → HasTie network.now (option_copied plan) (outcome_of (slice_index_or events.old event d).look) }
+    ensures node { (d : Settled)
+        → tree_node result ≡ node_of network.now (planned (option_copied plan.entry)) (outcome_of (slice_index_or events.old event d).look) }
     ensures counted { length events.new ≡ length events.old }
     ensures others { (other : ℕ) → other ≢ event → (d : Settled) → slice_index_or events.new other d ≡ slice_index_or events.old other d }
 {
@@ -64,18 +71,84 @@ fn take_node(events: &mut [Settled], event: usize) -> Node
         right: 0,
         link: 0,
     });
-    node_from(mem::replace(&mut events[event].look, taken))
+    node_from(network, mem::replace(&mut events[event].look, taken), plan)
 }
 
 /// The node of what a look found.
-#[tactic(auto, unfolding(tsn_search_laws::specs::Order::node_of))]
-fn node_from(look: Look) -> Node
-    ensures { tree_node result ≡ node_of (outcome_of look) }
+fn node_from(network: &Timing, look: Look, plan: Option<&Solved>) -> Node
+    requires plan { IsPlan network.now (option_copied plan) }
+    requires tie { HasTie network.now (option_copied plan) (outcome_of look) }
+    ensures { tree_node result ≡ node_of network.now (planned (option_copied plan.entry)) (outcome_of look) }
 {
+    let _ = network;
     match look {
         Look::Split(triple) => Node::Branch(triple),
-        Look::Solved { leaf, .. } => leaf.into(),
+        Look::Solved {
+            solved,
+            leaf,
+            chains,
+        } => match plan {
+            Some(best) => {
+                if solved.flowspan() == best.flowspan() {
+                    let count = common(solved.valid().offsets(), best.valid().offsets());
+                    tie_from(leaf, first_chains(chains, count + 1))
+                } else {
+                    leaf.into()
+                }
+            }
+            None => leaf.into(),
+        },
         Look::Pruned { leaf, .. } => leaf.into(),
+        Look::Tied {
+            bound,
+            leaf,
+            chains,
+        } => match plan {
+            Some(best) => {
+                if bound == best.flowspan() {
+                    tie_from(leaf, chains)
+                } else {
+                    leaf.into()
+                }
+            }
+            None => leaf.into(),
+        },
         Look::Refuted(leaf) => leaf.into(),
     }
+}
+
+// The tie of a leaf that has a bound.
+fn tie_from(leaf: Leaf, chains: Chains) -> Node
+    requires bound { HasBound (leaf_of leaf) }
+    ensures { tree_node result ≡ tie_node (leaf_of leaf) chains }
+{
+    match leaf {
+        Leaf::Late(stream, chain) => Node::Tie(stream, chain, chains),
+        Leaf::Load(link, entries) => Node::TieLoad(link, entries, chains),
+        Leaf::Overrun(..) => unreachable!(),
+        Leaf::Cycle(_) => unreachable!(),
+        Leaf::Overload(..) => unreachable!(),
+    }
+}
+
+// This many of the first chains, or all where there are no more.
+fn first_chains(chains: Chains, count: usize) -> Chains
+    requires some { 1 ≤ count }
+    ensures { result ≡ take count chains }
+{
+    let mut list: Vec<Chain> = chains.into_list();
+    list.truncate(count);
+    Chains::of(list)
+}
+
+// How many numbers the lists have in common before the first place where they differ.
+fn common(offsets: &[u64], others: &[u64]) -> usize
+    ensures count { result ≡ common offsets.now others.now }
+    ensures short { result < 2 ^ 63 }
+{
+    let mut count = 0;
+    while count < offsets.len() && count < others.len() && offsets[count] == others[count] {
+        count += 1;
+    }
+    count
 }

@@ -8,3 +8,5 @@ pub mod Findings
 pub mod Loading
 pub mod Shown
 pub mod Calm
+pub mod Tying
+pub mod Tied

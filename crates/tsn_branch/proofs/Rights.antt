@@ -1,5 +1,6 @@
 -- What a look finds is right whatever was settled before.
-use Rattle.std.proofs.Common.{◌≡◌, ◌≢◌, ℕ, ◌≤◌, List, sym, subst, arith, inl, inr}
+use Rattle.std.proofs.Common.{◌≡◌, ◌≢◌, ℕ, ◌≤◌, List, Option, None, Some, sym, subst, arith, inl, inr}
+use Rattle.std.specs.Prelude.{IfSome, IsSomeAnd}
 use Rattle.std.proofs.lemmas.Int.{ints}
 use Rattle.std.proofs.lemmas.List.Elements.{All-weaker}
 use Rattle.tsn_model.specs.declared.Triple.{Triple}
@@ -9,12 +10,14 @@ use Rattle.tsn_model.specs.declared.Decision.{Decision}
 use Rattle.tsn_model.specs.Network.{Network}
 use Rattle.tsn_model.specs.Schedule.{flowspan, Overlaps}
 use Rattle.tsn_model.specs.Arcs.{arc_between, arc_on, arc_of, arcs_of, Holds, HoldsAll}
-use Rattle.tsn_model.specs.Certificate.{Leaf, late, overrun, positive_cycle, load, overload, late_bound, Overruns, Proves}
-use Rattle.tsn_model.specs.Search.{Outcome, split, solved, pruned, refuted, Refutes}
+use Rattle.tsn_model.specs.Certificate.{Leaf, late, overrun, positive_cycle, load, overload, late_bound, Overruns, Proves, HasBound, AreChains, ShowsAfter}
+use Rattle.tsn_model.specs.Search.{Outcome, split, solved, pruned, tied, refuted, Refutes}
 use Rattle.tsn_model.proofs.Lists.{All-unmap}
+use Rattle.tsn_model.proofs.Ties.{shown_chains, shown_after}
+use Rattle.tsn_timing.specs.Solution.{Solution, IsSolved}
 use Rattle.tsn_branch.specs.Path.{IsUndecided}
 use Rattle.tsn_branch.proofs.Shown.{entries_shown, busy_shown, load_shown}
-use Rattle.tsn_branch.specs.Look.{IsLook, IsRefutation, IsPruning, ShowsFlowspan, HasProof, SplitsUndecided, PrunesFrom}
+use Rattle.tsn_branch.specs.Look.{IsLook, IsRefutation, IsPruning, IsTie, ShowsFlowspan, HasProof, SplitsUndecided, PrunesFrom, TiesWith}
 
 -- offsets that hold the arc of one side put the two streams apart
 held_apart : (network : Network) (offsets : List ℕ) (triple : Triple) (side : Side) → Holds offsets (arc_on network triple side) → Overlaps network offsets triple → ⊥
@@ -56,6 +59,42 @@ prunes network path target bound (load link entries) (offsets, least, fit, below
     ((entries_shown network path offsets link entries shows, omega (arith, ints, same, is)), met)
 prunes network path target bound (overload link entries) never = absurd never
 
+shown_bound : (network : Network) (path : List Decision) (offsets : List ℕ) (leaf : Leaf) → ShowsFlowspan network path offsets leaf → HasBound leaf
+shown_bound network path offsets (late i chain) shown = tt
+shown_bound network path offsets (overrun i chain) never = absurd never
+shown_bound network path offsets (positive_cycle chain) never = absurd never
+shown_bound network path offsets (load link entries) never = absurd never
+shown_bound network path offsets (overload link entries) never = absurd never
+
+pruned_bound : (network : Network) (path : List Decision) (target bound : ℕ) (leaf : Leaf) → IsPruning network path target bound leaf → HasBound leaf
+pruned_bound network path target bound (late i chain) pruning = tt
+pruned_bound network path target bound (overrun i chain) never = absurd never
+pruned_bound network path target bound (positive_cycle chain) never = absurd never
+pruned_bound network path target bound (load link entries) pruning = tt
+pruned_bound network path target bound (overload link entries) never = absurd never
+
+-- a tie's leaf is that of a pruned node, and its chains show the least offsets, which don't come before the best schedule
+module _ (network : Network) (path : List Decision) (target bound : ℕ) (leaf : Leaf) (chains : List (List ℕ)) where
+  tie_proof : (best : Option Solution) → IsSomeAnd best (λ solution. IsTie network path target solution bound leaf chains)
+      → Proves network path bound leaf × HasBound leaf × AreChains network path chains
+  tie_proof None never = absurd never
+  tie_proof (Some solution) tie =
+      let shown = tie.shown in (
+        (prunes network path solution.flowspan bound leaf tie.pruned_by_best).0,
+        pruned_bound network path solution.flowspan bound leaf tie.pruned_by_best,
+        subst (AreChains network path) (sym shown.2) (shown_chains network path shown.0 tie.offsets solution.offsets shown.1),
+      )
+
+  ties_with : (best : Option Solution) → IfSome best (IsSolved network) → IsSomeAnd best (λ solution. IsTie network path target solution bound leaf chains)
+      → IsSomeAnd best (λ solution. (solution.flowspan ≤ bound) × ShowsAfter network path chains solution.offsets)
+  ties_with None solved_best never = absurd never
+  ties_with (Some solution) solved_best tie =
+      let shown = tie.shown in (
+        (prunes network path solution.flowspan bound leaf tie.pruned_by_best).1,
+        subst (λ cs. ShowsAfter network path cs solution.offsets) (sym shown.2)
+            (shown_after network path shown.0 tie.offsets solution.offsets shown.1 tie.are_least.count solved_best.0.count tie.not_before),
+      )
+
 refutes : (network : Network) (path : List Decision) (target : ℕ) (leaf : Leaf) → IsRefutation network path target leaf → Refutes network path leaf
 refutes network path target (late i chain) never = absurd never
 refutes network path target (overrun i chain) (offsets, least, first, shown) =
@@ -67,22 +106,33 @@ refutes network path target (load link entries) never = absurd never
 refutes network path target (overload link entries) (offsets, least, fit, below, first, past, shows) =
     λ any. (entries_shown network path offsets link entries shows, rw (busy_shown network path offsets link entries shows) past)
 
-pub HasProof-from : (network : Network) (path : List Decision) (target : ℕ) (outcome : Outcome) → IsLook network path target outcome → HasProof network path outcome
-HasProof-from network path target (split triple) found = tt
-HasProof-from network path target (solved offsets bound leaf) (least, valid, is, below, shown, unloaded) =
-    (valid, sym is, shows_bound network path offsets bound leaf is shown)
-HasProof-from network path target (pruned bound leaf) found = (prunes network path target bound leaf found).0
-HasProof-from network path target (refuted leaf) found = refutes network path target leaf found
+pub HasProof-from : (network : Network) (path : List Decision) (target : ℕ) (best : Option Solution) (outcome : Outcome) → IsLook network path target best outcome → HasProof network path outcome
+HasProof-from network path target best (split triple) found = tt
+HasProof-from network path target best (solved offsets bound leaf chains) (least, valid, is, below, shown, unloaded, shows, untied) =
+    (valid, sym is, shows_bound network path offsets bound leaf is shown, shown_bound network path offsets leaf shown, shows)
+HasProof-from network path target best (pruned bound leaf) found = (prunes network path target bound leaf found).0
+HasProof-from network path target best (tied bound leaf chains) found = tie_proof network path target bound leaf chains best found
+HasProof-from network path target best (refuted leaf) found = refutes network path target leaf found
 
-pub SplitsUndecided-from : (network : Network) (path : List Decision) (target : ℕ) (outcome : Outcome) → IsLook network path target outcome → SplitsUndecided network path outcome
-SplitsUndecided-from network path target (split triple) (offsets, least, fit, below, first, unloaded) =
+pub SplitsUndecided-from : (network : Network) (path : List Decision) (target : ℕ) (best : Option Solution) (outcome : Outcome) → IsLook network path target best outcome → SplitsUndecided network path outcome
+SplitsUndecided-from network path target best (split triple) (offsets, least, fit, below, first, unloaded, untied) =
     (first.conflict, undecided network path offsets triple least.held first.overlaps)
-SplitsUndecided-from network path target (solved offsets bound leaf) found = tt
-SplitsUndecided-from network path target (pruned bound leaf) found = tt
-SplitsUndecided-from network path target (refuted leaf) found = tt
+SplitsUndecided-from network path target best (solved offsets bound leaf chains) found = tt
+SplitsUndecided-from network path target best (pruned bound leaf) found = tt
+SplitsUndecided-from network path target best (tied bound leaf chains) found = tt
+SplitsUndecided-from network path target best (refuted leaf) found = tt
 
-pub PrunesFrom-from : (network : Network) (path : List Decision) (target : ℕ) (outcome : Outcome) → IsLook network path target outcome → PrunesFrom target outcome
-PrunesFrom-from network path target (split triple) found = tt
-PrunesFrom-from network path target (solved offsets bound leaf) found = tt
-PrunesFrom-from network path target (pruned bound leaf) found = (prunes network path target bound leaf found).1
-PrunesFrom-from network path target (refuted leaf) found = tt
+pub PrunesFrom-from : (network : Network) (path : List Decision) (target : ℕ) (best : Option Solution) (outcome : Outcome) → IsLook network path target best outcome → PrunesFrom target outcome
+PrunesFrom-from network path target best (split triple) found = tt
+PrunesFrom-from network path target best (solved offsets bound leaf chains) found = tt
+PrunesFrom-from network path target best (pruned bound leaf) found = (prunes network path target bound leaf found).1
+PrunesFrom-from network path target best (tied bound leaf chains) found = tt
+PrunesFrom-from network path target best (refuted leaf) found = tt
+
+pub TiesWith-from : (network : Network) (path : List Decision) (target : ℕ) (best : Option Solution) → IfSome best (IsSolved network) → (outcome : Outcome) → IsLook network path target best outcome
+    → TiesWith network path best outcome
+TiesWith-from network path target best is (split triple) found = tt
+TiesWith-from network path target best is (solved offsets bound leaf chains) found = tt
+TiesWith-from network path target best is (pruned bound leaf) found = tt
+TiesWith-from network path target best is (tied bound leaf chains) found = ties_with network path target bound leaf chains best is found
+TiesWith-from network path target best is (refuted leaf) found = tt

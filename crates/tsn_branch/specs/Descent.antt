@@ -2,19 +2,24 @@
 --     IsSeenBy, IsSeen      what a split node has by its least offsets
 --     IsFinding            what is found at a node
 --     Stands, Splits       a descent to a node that is to be looked at, or that is to be split
-use Rattle.std.specs.Prelude.{◌≡◌, ℕ, ◌-◌, ◌<◌, List, length, take, slice_get, slice_index_or, Option, Some}
+use Rattle.std.specs.Prelude.{◌≡◌, ℕ, ◌-◌, ◌<◌, List, All, length, take, slice_get, slice_index_or, Option, Some}
 use Rattle.tsn_model.specs.declared.Triple.{Triple}
 use Rattle.tsn_model.specs.declared.Decision.{Decision}
 use Rattle.tsn_model.specs.Network.{Network}
 use Rattle.tsn_model.specs.Schedule.{IsFirstOverlap, IsValid, flowspan}
 use Rattle.tsn_model.specs.Arcs.{conflicts_of, arcs_of}
-use Rattle.tsn_model.specs.Search.{Outcome, split, solved, pruned, refuted}
+use Rattle.tsn_model.specs.Search.{Outcome, split, solved, pruned, tied, refuted, ShowsOffsets}
 use Rattle.tsn_conflict.specs.Raised.{triple_at}
 use Rattle.tsn_diff.specs.Stack.{Stack}
+use Rattle.tsn_diff.specs.Forest.{Labelling}
+use Rattle.tsn_diff.specs.Answers.{Solves}
+use Rattle.tsn_timing.specs.Solution.{Solution}
 use Rattle.tsn_branch.specs.Outcome.{outcome_of}
 use Rattle.tsn_branch.specs.Look.{AreLeast, IsLook, ShowsFlowspan}
+use Rattle.tsn_branch.specs.Links.{shared_links, IsUnloaded}
 use Rattle.tsn_branch.specs.Ends.{Ended, AreRaised}
 use Rattle.tsn_branch.specs.Releases.{releases_of}
+use Rattle.tsn_branch.specs.declared.outcome.Look.{Look}
 use Rattle.tsn_branch.specs.declared.seen.Seen.{Seen}
 use Rattle.tsn_branch.specs.declared.seen.Finding.{Finding}
 use Rattle.tsn_branch.specs.declared.seen.Finding.TheVariants.{Split, Closed}
@@ -46,14 +51,15 @@ pub record WasSeen (network : Network) (raised offsets : List ℕ) (seen : Seen)
 -- the outcome ends its path
 abbrev pub Closes : Outcome → Type 0
 Closes (split triple) = ⊥
-Closes (solved offsets bound leaf) = Unit {0}
+Closes (solved offsets bound leaf chains) = Unit {0}
 Closes (pruned bound leaf) = Unit {0}
+Closes (tied bound leaf chains) = Unit {0}
 Closes (refuted leaf) = Unit {0}
 
 -- the finding is the look's, with what a split node had
-abbrev pub IsFinding : Network → List Decision → ℕ → Finding → Type 0
-IsFinding network path target (Split seen) = IsSeen network path seen × IsLook network path target (split (triple_at (conflicts_of network) seen.place))
-IsFinding network path target (Closed look) = Closes (outcome_of look) × IsLook network path target (outcome_of look)
+abbrev pub IsFinding : Network → List Decision → ℕ → Option Solution → Finding → Type 0
+IsFinding network path target best (Split seen) = IsSeen network path seen × IsLook network path target best (split (triple_at (conflicts_of network) seen.place))
+IsFinding network path target best (Closed look) = Closes (outcome_of look) × IsLook network path target best (outcome_of look)
 
 -- the triple of a finding is one of the first n
 abbrev pub IsPlaced : ℕ → Finding → Type 0
@@ -68,9 +74,19 @@ outcome_found triples (Closed look) = outcome_of look
 -- the least offsets of the path are a valid schedule of this flowspan
 abbrev pub IsSolution : Network → List Decision → ℕ → Outcome → Type 0
 IsSolution network path end (split triple) = ⊥
-IsSolution network path end (solved offsets bound leaf) = AreLeast network path offsets × IsValid network offsets × (bound ≡ end) × (bound ≡ flowspan network offsets) × ShowsFlowspan network path offsets leaf
+IsSolution network path end (solved offsets bound leaf chains) =
+    AreLeast network path offsets × IsValid network offsets × (bound ≡ end) × (bound ≡ flowspan network offsets) × ShowsFlowspan network path offsets leaf
+    × ShowsOffsets network path chains offsets
 IsSolution network path end (pruned bound leaf) = ⊥
+IsSolution network path end (tied bound leaf chains) = ⊥
 IsSolution network path end (refuted leaf) = ⊥
+
+-- the look is a tie with the best schedule, on each path of which these are the least offsets, where that node isn't pruned at its target
+abbrev pub IsTieBy : Network → Labelling → Option Solution → Look → Type 0
+IsTieBy network labels best look =
+    Closes (outcome_of look)
+    × ((path : List Decision) (target : ℕ) → Solves (releases_of network) (arcs_of network path) labels → flowspan network labels.offsets < target
+    → All (IsUnloaded network labels.offsets target) (shared_links network) → IsLook network path target best (outcome_of look))
 
 -- the nodes above the end of the path were split so
 pub record AllSeen (network : Network) (path : List Decision) (seen : List Seen) : Type 0 where
@@ -102,6 +118,7 @@ pub record Leads (network : Network) (way : Way) : Type 0 where
 -- after a look: to be split, or as before
 abbrev pub IsAfter : Network → Outcome → Way → Type 0
 IsAfter network (split triple) way = Splits network triple way
-IsAfter network (solved offsets bound leaf) way = Stands network way
+IsAfter network (solved offsets bound leaf chains) way = Stands network way
 IsAfter network (pruned bound leaf) way = Stands network way
+IsAfter network (tied bound leaf chains) way = Stands network way
 IsAfter network (refuted leaf) way = Stands network way

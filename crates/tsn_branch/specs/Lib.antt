@@ -5,5 +5,6 @@ pub mod Links
 pub mod Loads
 pub mod Look
 pub mod Releases
+pub mod Chains
 pub mod Ends
 pub mod Descent

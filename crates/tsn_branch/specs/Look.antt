@@ -2,16 +2,19 @@
 --     AreLeast, HasNoOffsets                what the decisions of a path ask of the offsets
 --     IsDone, IsFirstOverrun, AllFit, IsFirstLast   when the streams are done by these
 --     ShowsLink                             the entries of a link's streams
+--     IsTie, IsUntied                       a tie with the best schedule
 --     IsLook                                the first case that holds, and what it holds
 --     HasProof, SplitsUndecided, PrunesFrom what is right of an outcome whatever was settled before
-use Rattle.std.specs.Prelude.{◌≡◌, ℕ, ◌+◌, ◌≤◌, ◌<◌, ◌⊎◌, List, length, map, All, pos, ◌≤ℤ◌, ◌<ℤ◌}
+--     TiesWith                              what a tie says of the best schedule
+use Rattle.std.specs.Prelude.{◌≡◌, ℕ, ◌+◌, ◌≤◌, ◌<◌, ◌⊎◌, List, length, map, take, All, Option, MatchOption, IsSomeAnd, pos, ◌≤ℤ◌, ◌<ℤ◌}
 use Rattle.tsn_model.specs.declared.Decision.{Decision}
 use Rattle.tsn_model.specs.Network.{Network, stream_count, latest_of}
 use Rattle.tsn_model.specs.Timing.{arrival, span}
-use Rattle.tsn_model.specs.Schedule.{IsValid, flowspan, offset_of, IsConflict, FitsCycle, IsReleased, IsInTime, IsFirstOverlap}
+use Rattle.tsn_model.specs.Schedule.{IsValid, flowspan, offset_of, IsConflict, FitsCycle, IsReleased, IsInTime, IsFirstOverlap, ComesBefore, IsNotAfter, common}
 use Rattle.tsn_model.specs.Arcs.{arcs_of, HoldsAll}
-use Rattle.tsn_model.specs.Certificate.{Leaf, late, overrun, positive_cycle, load, overload, Entry, LeadsTo, sum_on, Proves}
-use Rattle.tsn_model.specs.Search.{Outcome, split, solved, pruned, refuted, Refutes}
+use Rattle.tsn_model.specs.Certificate.{Leaf, late, overrun, positive_cycle, load, overload, Entry, LeadsTo, sum_on, Proves, HasBound, AreChains, ShowsAfter}
+use Rattle.tsn_model.specs.Search.{Outcome, split, solved, pruned, tied, refuted, Refutes, ShowsOffsets}
+use Rattle.tsn_timing.specs.Solution.{Solution}
 use Rattle.tsn_branch.specs.Path.{IsUndecided}
 use Rattle.tsn_branch.specs.Links.{users_of, shared_links, busy_by, load_by, IsUnloaded, IsFirstLoaded}
 
@@ -106,39 +109,77 @@ IsPruning network path target bound (load link entries) =
     × (pos bound ≡ load_by network offsets link) × (target ≤ bound) × ShowsLink network path offsets link entries
 IsPruning network path target bound (overload link entries) = ⊥
 
+-- the chains show these offsets, up to those of the first stream at which the other ones differ, or else all
+abbrev pub ShowsUpto : Network → List Decision → List ℕ → List ℕ → List (List ℕ) → Type 0
+ShowsUpto network path offsets others chains = (all : List (List ℕ)) × ShowsOffsets network path all offsets × (chains ≡ take (common offsets others + 1) all)
+
+-- the node isn't pruned at the target, but with the best schedule's flowspan for a target it is, by that leaf; and its least offsets
+-- don't come before the best schedule, as the chains show
+pub record IsTie (network : Network) (path : List Decision) (target : ℕ) (best : Solution) (bound : ℕ) (leaf : Leaf) (chains : List (List ℕ)) : Type 0 where
+  pub pruned_by_best : IsPruning network path best.flowspan bound leaf
+  pub offsets : List ℕ
+  pub are_least : AreLeast network path offsets
+  pub fit : AllFit network offsets
+  pub below : flowspan network offsets < target
+  pub unloaded : All (IsUnloaded network offsets target) (shared_links network)
+  pub not_before : IsNotAfter best.offsets offsets
+  pub shown : ShowsUpto network path offsets best.offsets chains
+
+-- no schedule is the best yet, or the offsets come before it, or their flowspan and the load of each link are below its flowspan
+abbrev pub IsUntied : Network → List ℕ → Option Solution → Type 0
+IsUntied network offsets best =
+    MatchOption best (Unit {0}) (λ solution. ComesBefore offsets solution.offsets
+    ⊎ ((flowspan network offsets < solution.flowspan) × All (IsUnloaded network offsets solution.flowspan) (shared_links network)))
+
 -- refuted; or by the least offsets all streams are done in time, and then pruned where their flowspan is at least the target;
--- refuted or pruned where a link is loaded; else split on the first overlap; and solved where there is none
-abbrev pub IsLook : Network → List Decision → ℕ → Outcome → Type 0
-IsLook network path target (refuted leaf) = IsRefutation network path target leaf
-IsLook network path target (pruned bound leaf) = IsPruning network path target bound leaf
-IsLook network path target (split triple) =
+-- refuted or pruned where a link is loaded; tied where it would be pruned with the best schedule's flowspan for a target, and
+-- the least offsets don't come before that schedule; else split on the first overlap; and solved where there is none
+abbrev pub IsLook : Network → List Decision → ℕ → Option Solution → Outcome → Type 0
+IsLook network path target best (refuted leaf) = IsRefutation network path target leaf
+IsLook network path target best (pruned bound leaf) = IsPruning network path target bound leaf
+IsLook network path target best (tied bound leaf chains) = IsSomeAnd best (λ solution. IsTie network path target solution bound leaf chains)
+IsLook network path target best (split triple) =
     (offsets : List ℕ) × AreLeast network path offsets × AllFit network offsets
     × (flowspan network offsets < target) × IsFirstOverlap network offsets triple
-    × All (IsUnloaded network offsets target) (shared_links network)
-IsLook network path target (solved offsets bound leaf) =
+    × All (IsUnloaded network offsets target) (shared_links network) × IsUntied network offsets best
+IsLook network path target best (solved offsets bound leaf chains) =
     AreLeast network path offsets × IsValid network offsets
     × (bound ≡ flowspan network offsets) × (bound < target) × ShowsFlowspan network path offsets leaf
     × All (IsUnloaded network offsets target) (shared_links network)
+    × ShowsOffsets network path chains offsets × IsUntied network offsets best
 
 -- ---- what is right of an outcome
 
--- a leaf is right for its own bound, and a solved one has a valid schedule of that flowspan
+-- a leaf is right for its own bound; a solved one has a valid schedule of that flowspan, with chains that show its offsets, and a tied
+-- one has chains of the path
 abbrev pub HasProof : Network → List Decision → Outcome → Type 0
 HasProof network path (split triple) = Unit {0}
-HasProof network path (solved offsets bound leaf) = IsValid network offsets × (flowspan network offsets ≡ bound) × Proves network path bound leaf
+HasProof network path (solved offsets bound leaf chains) =
+    IsValid network offsets × (flowspan network offsets ≡ bound) × Proves network path bound leaf × HasBound leaf × ShowsOffsets network path chains offsets
 HasProof network path (pruned bound leaf) = Proves network path bound leaf
+HasProof network path (tied bound leaf chains) = Proves network path bound leaf × HasBound leaf × AreChains network path chains
 HasProof network path (refuted leaf) = Refutes network path leaf
 
 -- a split is on a conflict that the path doesn't decide
 abbrev pub SplitsUndecided : Network → List Decision → Outcome → Type 0
 SplitsUndecided network path (split triple) = IsConflict network triple × IsUndecided path triple
-SplitsUndecided network path (solved offsets bound leaf) = Unit {0}
+SplitsUndecided network path (solved offsets bound leaf chains) = Unit {0}
 SplitsUndecided network path (pruned bound leaf) = Unit {0}
+SplitsUndecided network path (tied bound leaf chains) = Unit {0}
 SplitsUndecided network path (refuted leaf) = Unit {0}
 
 -- a pruned bound is at least the target
 abbrev pub PrunesFrom : ℕ → Outcome → Type 0
 PrunesFrom target (split triple) = Unit {0}
-PrunesFrom target (solved offsets bound leaf) = Unit {0}
+PrunesFrom target (solved offsets bound leaf chains) = Unit {0}
 PrunesFrom target (pruned bound leaf) = target ≤ bound
+PrunesFrom target (tied bound leaf chains) = Unit {0}
 PrunesFrom target (refuted leaf) = Unit {0}
+
+-- a tied bound is at least the flowspan of the best schedule, and the chains show that no schedule on the path comes before that
+abbrev pub TiesWith : Network → List Decision → Option Solution → Outcome → Type 0
+TiesWith network path best (split triple) = Unit {0}
+TiesWith network path best (solved offsets bound leaf chains) = Unit {0}
+TiesWith network path best (pruned bound leaf) = Unit {0}
+TiesWith network path best (tied bound leaf chains) = IsSomeAnd best (λ solution. (solution.flowspan ≤ bound) × ShowsAfter network path chains solution.offsets)
+TiesWith network path best (refuted leaf) = Unit {0}

@@ -1,5 +1,6 @@
 //! A way down to a node of the search, for looks that go on from what is known of the nodes above.
-ghost use Rattle.std.specs.Prelude.{◌≡◌, ◌-◌, [], ◌∷◌, take, IfOk, OnOk, OnErr, length, MatchBool, MatchOption};
+ghost use Rattle.std.specs.Prelude.{◌≡◌, ◌-◌, [], ◌∷◌, take, IfOk, IfSome, OnOk, OnErr, length, MatchBool, MatchOption, option_copied};
+ghost use Rattle.tsn_timing.specs.Solution.{IsSolved};
 ghost use Rattle.tsn_model.specs.declared.Side.TheVariants.{Left};
 ghost use Rattle.tsn_model.specs.Network.{Network};
 ghost use Rattle.tsn_model.specs.Places.{pending};
@@ -10,7 +11,7 @@ ghost use Rattle.tsn_conflict.specs.Kept.{AreConflictsOf};
 ghost use Rattle.tsn_branch.specs.Outcome.{outcome_of};
 ghost use Rattle.tsn_branch.specs.Path.{Fits, IsUndecided};
 ghost use Rattle.tsn_branch.specs.Loads.{AreLoadsOf};
-ghost use Rattle.tsn_branch.specs.Look.{IsLook, HasProof, SplitsUndecided, PrunesFrom};
+ghost use Rattle.tsn_branch.specs.Look.{IsLook, HasProof, SplitsUndecided, PrunesFrom, TiesWith};
 ghost use Rattle.tsn_branch.specs.Releases.{releases_of};
 ghost use Rattle.tsn_branch.specs.Descent.{Stands, Splits, IsAfter, Leads, IsFinding};
 
@@ -26,7 +27,7 @@ use tsn_cert::Chain;
 use tsn_conflict::sharing::Conflicts;
 use tsn_diff::ArcStack;
 use tsn_model::{NoMemory, Side, Triple};
-use tsn_timing::Timing;
+use tsn_timing::{Solved, Timing};
 
 /// A node with what is known of the nodes above it: the arcs of their decisions with the least offsets, when the streams are
 /// done by these, and where each was split.
@@ -76,23 +77,26 @@ impl Descent {
         conflicts: &Conflicts,
         loads: &Loads,
         target: u64,
+        best: Option<&Solved>,
     ) -> Result<Look, NoMemory>
         requires conflicts { AreConflictsOf timing.now conflicts.now }
         requires loads { AreLoadsOf timing.now loads.now }
+        requires best { IfSome (option_copied best) (IsSolved timing.now) }
         requires fits { Fits conflicts.now.triples self.old.path }
         requires stands { Stands timing.now self.old }
         ensures path { self.new.path ≡ self.old.path }
-        ensures first_case { IfOk result (λ look. IsLook timing.now self.old.path target (outcome_of look)) }
+        ensures first_case { IfOk result (λ look. IsLook timing.now self.old.path target (option_copied best.entry) (outcome_of look)) }
         ensures proof { IfOk result (λ look. HasProof timing.now self.old.path (outcome_of look)) }
         ensures undecided { IfOk result (λ look. SplitsUndecided timing.now self.old.path (outcome_of look)) }
         ensures met { IfOk result (λ look. PrunesFrom target (outcome_of look)) }
+        ensures ties { IfOk result (λ look. TiesWith timing.now self.old.path (option_copied best.entry) (outcome_of look)) }
         ensures after { IfOk result (λ look. IsAfter timing.now (outcome_of look) self.new) }
         ensures err { OnErr result (Stands timing.now self.new) }
     {
         if let Some(cycle) = self.lead(timing, conflicts)? {
             return Ok(Look::Refuted(Leaf::Cycle(Chain::of(alloc, &cycle)?)));
         }
-        match self.find(alloc, timing, conflicts, loads, target) {
+        match self.find(alloc, timing, conflicts, loads, target, best) {
             Ok(Finding::Split(seen)) => {
                 self.found = Some(seen);
                 Ok(Look::Split(conflicts.triples()[seen.place]))
@@ -205,11 +209,13 @@ impl Descent {
         conflicts: &Conflicts,
         loads: &Loads,
         target: u64,
+        best: Option<&Solved>,
     ) -> Result<Finding, NoMemory>
         requires conflicts { AreConflictsOf timing.now conflicts.now }
         requires loads { AreLoadsOf timing.now loads.now }
+        requires best { IfSome (option_copied best) (IsSolved timing.now) }
         requires leads { Leads timing.now self.now }
-        ensures { IfOk result (IsFinding timing.now self.now.path target) }
+        ensures { IfOk result (IsFinding timing.now self.now.path target (option_copied best.entry)) }
     {
         match self.seen.last() {
             Some(parent) => judge_raised(
@@ -221,8 +227,17 @@ impl Descent {
                 self.stack.raised(),
                 *parent,
                 target,
+                best,
             ),
-            None => judge_least(alloc, timing, conflicts, loads, self.stack.least(), target),
+            None => judge_least(
+                alloc,
+                timing,
+                conflicts,
+                loads,
+                self.stack.least(),
+                target,
+                best,
+            ),
         }
     }
 }

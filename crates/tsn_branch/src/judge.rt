@@ -1,22 +1,24 @@
 //! What the least offsets of a path, or a cycle of its arcs, come to.
-ghost use Rattle.std.specs.Prelude.{◌≡◌, ◌≤◌, ◌<◌, ℕ, List, All, Some, IfOk, length, map, slice_get};
+ghost use Rattle.std.specs.Prelude.{◌≡◌, ◌≤◌, ◌<◌, ℕ, List, All, Option, Some, IfOk, IfSome, IfNone, length, map, slice_get, option_copied};
 ghost use Rattle.tsn_model.specs.declared.Decision.{Decision};
 ghost use Rattle.tsn_model.specs.Network.{IsWellFormed, stream_count};
 ghost use Rattle.tsn_model.specs.Schedule.{flowspan, AreApart};
 ghost use Rattle.tsn_model.specs.Arcs.{arcs_of};
 ghost use Rattle.tsn_conflict.specs.Kept.{AreConflictsOf};
 ghost use Rattle.tsn_conflict.specs.Raised.{OnlyRaisedOverlap};
+ghost use Rattle.tsn_timing.specs.Solution.{Solution, IsSolved};
 ghost use Rattle.tsn_diff.specs.Answers.{Answers, Solves};
 ghost use Rattle.tsn_diff.specs.Forest.{chain_of};
 ghost use Rattle.tsn_branch.specs.Outcome.{outcome_of};
-ghost use Rattle.tsn_branch.specs.Look.{IsLook, AllFit, ShowsLink};
-ghost use Rattle.tsn_branch.specs.Links.{shared_links};
+ghost use Rattle.tsn_branch.specs.Look.{IsLook, AllFit, IsFirstLast, IsUntied, ShowsLink};
+ghost use Rattle.tsn_branch.specs.Links.{shared_links, IsUnloaded};
 ghost use Rattle.tsn_branch.specs.Loads.{AreLoadsOf, IsFirstLoad, entry_by};
 ghost use Rattle.tsn_branch.specs.Ends.{AreEnds};
-ghost use Rattle.tsn_branch.specs.Descent.{Closes, IsFinding, WasSeen, IsSolution, IsPlaced, outcome_found};
+ghost use Rattle.tsn_branch.specs.Descent.{Closes, IsFinding, IsTieBy, WasSeen, IsSolution, IsPlaced, outcome_found};
 ghost use Rattle.tsn_branch.specs.declared.instants.Ends.TheVariants as ends;
 ghost use Rattle.tsn_branch.specs.Releases.{releases_of};
 
+use crate::chains::{chain_to, chains_to, tie_chains};
 use crate::instants::{Ends, ends_after, ends_of};
 use crate::loads::{FirstLoad, Loads, User, first_load};
 use crate::outcome::{Leaf, Look};
@@ -26,7 +28,7 @@ use tsn_cert::{Chain, Entries};
 use tsn_conflict::sharing::Conflicts;
 use tsn_diff::{Least, Outcome};
 use tsn_model::NoMemory;
-use tsn_timing::Timing;
+use tsn_timing::{Solved, Timing};
 
 /// What the arcs of a path come to, as a look at the node.
 pub fn judge(
@@ -36,16 +38,18 @@ pub fn judge(
     loads: &Loads,
     outcome: &Outcome,
     target: u64,
+    best: Option<&Solved>,
 ) -> Result<Look, NoMemory>
     requires conflicts { AreConflictsOf timing.now conflicts.now }
     requires loads { AreLoadsOf timing.now loads.now }
+    requires best { IfSome (option_copied best) (IsSolved timing.now) }
     requires some_path { (path : List Decision) × Answers (releases_of timing.now) (arcs_of timing.now path) outcome.now }
     ensures { IfOk result (λ look. (path : List Decision) → Answers (releases_of timing.now) (arcs_of timing.now path) outcome.now
-        → IsLook timing.now path target (outcome_of look)) }
+        → IsLook timing.now path target (option_copied best.entry) (outcome_of look)) }
 {
     match outcome {
         Outcome::Least(least) => {
-            let finding = judge_least(alloc, timing, conflicts, loads, least, target)?;
+            let finding = judge_least(alloc, timing, conflicts, loads, least, target, best)?;
             Ok(look_of(conflicts, finding))
         }
         Outcome::Positive(cycle) => Ok(Look::Refuted(Leaf::Cycle(Chain::of(alloc, cycle)?))),
@@ -60,15 +64,28 @@ pub fn judge_least(
     loads: &Loads,
     least: &Least,
     target: u64,
+    best: Option<&Solved>,
 ) -> Result<Finding, NoMemory>
     requires conflicts { AreConflictsOf timing.now conflicts.now }
     requires loads { AreLoadsOf timing.now loads.now }
+    requires best { IfSome (option_copied best) (IsSolved timing.now) }
     requires some_path { (path : List Decision) × Solves (releases_of timing.now) (arcs_of timing.now path) least.now }
     ensures { IfOk result (λ finding. (path : List Decision) → Solves (releases_of timing.now) (arcs_of timing.now path) least.now
-        → IsFinding timing.now path target finding) }
+        → IsFinding timing.now path target (option_copied best.entry) finding) }
 {
     let ends = ends_of(timing, least.offsets());
-    judge_ends(alloc, timing, conflicts, loads, least, ends, &[], 0, target)
+    judge_ends(
+        alloc,
+        timing,
+        conflicts,
+        loads,
+        least,
+        ends,
+        &[],
+        0,
+        target,
+        best,
+    )
 }
 
 /// What the least offsets of a path come to, which are those of its parent but for the raised streams.
@@ -81,14 +98,16 @@ pub fn judge_raised(
     raised: &[usize],
     parent: Seen,
     target: u64,
+    best: Option<&Solved>,
 ) -> Result<Finding, NoMemory>
     requires conflicts { AreConflictsOf timing.now conflicts.now }
     requires loads { AreLoadsOf timing.now loads.now }
+    requires best { IfSome (option_copied best) (IsSolved timing.now) }
     requires some_path { (path : List Decision) × Solves (releases_of timing.now) (arcs_of timing.now path) least.now }
     requires raised { All (λ stream. stream < stream_count timing.now) raised.now }
     requires parent { WasSeen timing.now raised.now least.now.offsets parent }
     ensures { IfOk result (λ finding. (path : List Decision) → Solves (releases_of timing.now) (arcs_of timing.now path) least.now
-        → IsFinding timing.now path target finding) }
+        → IsFinding timing.now path target (option_copied best.entry) finding) }
 {
     let ends = ends_after(timing, least.offsets(), raised, parent.last, parent.end);
     judge_ends(
@@ -101,6 +120,7 @@ pub fn judge_raised(
         raised,
         parent.place,
         target,
+        best,
     )
 }
 
@@ -116,16 +136,18 @@ fn judge_ends(
     raised: &[usize],
     start: usize,
     target: u64,
+    best: Option<&Solved>,
 ) -> Result<Finding, NoMemory>
     requires conflicts { AreConflictsOf timing.now conflicts.now }
     requires loads { AreLoadsOf timing.now loads.now }
+    requires best { IfSome (option_copied best) (IsSolved timing.now) }
     requires some_path { (path : List Decision) × Solves (releases_of timing.now) (arcs_of timing.now path) least.now }
     requires ends { AreEnds timing.now least.now.offsets ends }
     requires raised { All (λ stream. stream < stream_count timing.now) raised.now }
     requires start { start ≤ length conflicts.now.triples }
     requires apart { OnlyRaisedOverlap conflicts.now least.now.offsets raised.now start }
     ensures { IfOk result (λ finding. (path : List Decision) → Solves (releases_of timing.now) (arcs_of timing.now path) least.now
-        → IsFinding timing.now path target finding) }
+        → IsFinding timing.now path target (option_copied best.entry) finding) }
 {
     let (last, end) = match ends {
         Ends::Overrun(stream) => {
@@ -142,36 +164,112 @@ fn judge_ends(
         let look = judge_load(alloc, timing, loads, least, found)?;
         return Ok(Finding::Closed(look));
     }
+    let tie = find_tie(alloc, timing, loads, least, last, end, best)?;
+    if let Some(look) = tie {
+        return Ok(Finding::Closed(look));
+    }
     if let Some(place) = conflicts.first_violated_from(least.offsets(), raised, start) {
         return Ok(Finding::Split(Seen { place, last, end }));
     }
-    let look = solved(alloc, timing, least, last, end)?;
+    let look = solved(alloc, timing, least, last)?;
     Ok(Finding::Closed(look))
 }
 
 /// The least offsets of a path as its schedule, where no streams overlap.
-fn solved(
-    alloc: Global,
-    timing: &Timing,
-    least: &Least,
-    last: usize,
-    end: u64,
-) -> Result<Look, NoMemory>
+fn solved(alloc: Global, timing: &Timing, least: &Least, last: usize) -> Result<Look, NoMemory>
+    requires formed { IsWellFormed timing.now }
     requires some_path { (path : List Decision) × Solves (releases_of timing.now) (arcs_of timing.now path) least.now }
-    requires ends { AreEnds timing.now least.now.offsets (ends.Within last end) }
+    requires fit { AllFit timing.now least.now.offsets }
+    requires last { IsFirstLast timing.now least.now.offsets last }
     requires apart { AreApart timing.now least.now.offsets }
     ensures { IfOk result (λ look. (path : List Decision) → Solves (releases_of timing.now) (arcs_of timing.now path) least.now
-        → IsSolution timing.now path end (outcome_of look)) }
+        → IsSolution timing.now path (flowspan timing.now least.now.offsets) (outcome_of look)) }
 {
     let Ok(valid) = timing.valid(Vec::from_slice(alloc, least.offsets())?) else {
         unreachable!();
     };
     let leaf = Leaf::Late(last, chain_to(alloc, least, last)?);
+    let solved = Solved::of(timing, valid);
+    let chains = chains_to(alloc, least, timing.streams())?;
     Ok(Look::Solved {
-        valid,
-        bound: end,
+        solved,
         leaf,
+        chains,
     })
+}
+
+/// The node as a tie with the best schedule: by the least offsets, which don't come before it, the flowspan or else the load of a
+/// link is at least its flowspan.
+fn find_tie(
+    alloc: Global,
+    timing: &Timing,
+    loads: &Loads,
+    least: &Least,
+    last: usize,
+    end: u64,
+    best: Option<&Solved>,
+) -> Result<Option<Look>, NoMemory>
+    requires formed { IsWellFormed timing.now }
+    requires loads { AreLoadsOf timing.now loads.now }
+    requires best { IfSome (option_copied best) (IsSolved timing.now) }
+    requires some_path { (path : List Decision) × Solves (releases_of timing.now) (arcs_of timing.now path) least.now }
+    requires ends { AreEnds timing.now least.now.offsets (ends.Within last end) }
+    requires within { (target : ℕ) × All (IsUnloaded timing.now least.now.offsets target) (shared_links timing.now) }
+    ensures none { IfOk result (λ found. IfNone found (IsUntied timing.now least.now.offsets (option_copied best.entry))) }
+    ensures some { IfOk result (λ found. IfSome found (IsTieBy timing.now least.now (option_copied best.entry))) }
+{
+    match best {
+        Some(best) => judge_tie(alloc, timing, loads, least, last, end, best),
+        None => Ok(None),
+    }
+}
+
+/// The node as a tie with this schedule.
+fn judge_tie(
+    alloc: Global,
+    timing: &Timing,
+    loads: &Loads,
+    least: &Least,
+    last: usize,
+    end: u64,
+    best: &Solved,
+) -> Result<Option<Look>, NoMemory>
+    requires formed { IsWellFormed timing.now }
+    requires loads { AreLoadsOf timing.now loads.now }
+    requires best { IsSolved timing.now best.now }
+    requires some_path { (path : List Decision) × Solves (releases_of timing.now) (arcs_of timing.now path) least.now }
+    requires ends { AreEnds timing.now least.now.offsets (ends.Within last end) }
+    requires within { (target : ℕ) × All (IsUnloaded timing.now least.now.offsets target) (shared_links timing.now) }
+    ensures none { IfOk result (λ found. IfNone found (IsUntied timing.now least.now.offsets (Some best.now))) }
+    ensures some { IfOk result (λ found. IfSome found (IsTieBy timing.now least.now (Some best.now))) }
+{
+    let limit = best.flowspan();
+    if end >= limit {
+        let Some(chains) = tie_chains(alloc, timing, least, best.valid())? else {
+            return Ok(None);
+        };
+        let leaf = Leaf::Late(last, chain_to(alloc, least, last)?);
+        return Ok(Some(Look::Tied {
+            bound: end,
+            leaf,
+            chains,
+        }));
+    }
+    match first_load(loads, timing, least.offsets(), limit) {
+        None => Ok(None),
+        Some(FirstLoad::Overload(_)) => unreachable!(),
+        Some(FirstLoad::Load(place, bound)) => {
+            let Some(chains) = tie_chains(alloc, timing, least, best.valid())? else {
+                return Ok(None);
+            };
+            let (link, entries) = entries_at(alloc, timing, loads, least, place)?;
+            Ok(Some(Look::Tied {
+                bound,
+                leaf: Leaf::Load(link, entries),
+                chains,
+            }))
+        }
+    }
 }
 
 /// A finding as a look.
@@ -199,7 +297,7 @@ fn judge_load(
     requires found { (target : ℕ) × IsFirstLoad timing.now least.now.offsets target found }
     ensures look { IfOk result (λ look. (path : List Decision) (target : ℕ) → Solves (releases_of timing.now) (arcs_of timing.now path) least.now
         → AllFit timing.now least.now.offsets → flowspan timing.now least.now.offsets < target
-        → IsFirstLoad timing.now least.now.offsets target found → IsLook timing.now path target (outcome_of look)) }
+        → IsFirstLoad timing.now least.now.offsets target found → (best : Option Solution) → IsLook timing.now path target best (outcome_of look)) }
     ensures closes { IfOk result (λ look. Closes (outcome_of look)) }
 {
     match found {
@@ -250,14 +348,4 @@ fn entries_of(alloc: Global, least: &Least, users: &[User]) -> Result<Entries, N
         list.push(entry).map_err(|_| NoMemory)?;
     }
     Ok(Entries::of(list))
-}
-
-/// The chain that shows a stream's least offset.
-fn chain_to(alloc: Global, least: &Least, stream: usize) -> Result<Chain, NoMemory>
-    requires stream { stream < length least.now.offsets }
-    requires short { length (chain_of least.now stream) ≤ 128 }
-    ensures { IfOk result (λ chain. chain ≡ chain_of least.now stream) }
-{
-    let depths = least.chain(alloc, stream)?;
-    Chain::of(alloc, &depths)
 }

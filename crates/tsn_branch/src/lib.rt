@@ -1,14 +1,16 @@
 //! A look at one node of the search: what the decisions on its path leave open, or why nothing is left.
 #![tactic(auto)]
 
-ghost use Rattle.std.specs.Prelude.{IfOk};
+ghost use Rattle.std.specs.Prelude.{IfOk, IfSome, option_copied};
+ghost use Rattle.tsn_timing.specs.Solution.{IsSolved};
 ghost use Rattle.tsn_conflict.specs.Kept.{AreConflictsOf};
 ghost use Rattle.tsn_branch.specs.Outcome.{outcome_of};
 ghost use Rattle.tsn_branch.specs.Path.{Fits};
 ghost use Rattle.tsn_branch.specs.Loads.{AreLoadsOf};
-ghost use Rattle.tsn_branch.specs.Look.{IsLook, HasProof, SplitsUndecided, PrunesFrom};
+ghost use Rattle.tsn_branch.specs.Look.{IsLook, HasProof, SplitsUndecided, PrunesFrom, TiesWith};
 
 mod arcs;
+mod chains;
 pub mod descent;
 mod instants;
 mod judge;
@@ -28,7 +30,7 @@ pub use outcome::Leaf;
 use std::alloc::Global;
 use tsn_conflict::sharing::Conflicts;
 pub use tsn_model::{Decision, NoMemory, Side, Triple};
-use tsn_timing::Timing;
+use tsn_timing::{Solved, Timing};
 
 /// Looks at a node: the first of these cases that holds.
 ///
@@ -39,8 +41,12 @@ use tsn_timing::Timing;
 /// 4. By these the streams of some shared link are busy on it behind the cycle, which refutes the node, or else for so long
 ///    that the flowspan is at least the target, and the node is pruned with that bound. Of the first such link, all streams
 ///    in order show it.
-/// 5. By these no two streams overlap on a link: solved, with that flowspan.
-/// 6. Else the node is to be split on the first triple whose streams overlap.
+/// 5. Of the best schedule so far, if there is one: by these the flowspan, or else the load of a shared link, is at least that of
+///    the best schedule, and they don't come before it in list order: tied with that bound, by the first stream that arrives
+///    then, or else all streams of the first such link. The chains go to the first stream at which the two lists differ, or else
+///    to the last.
+/// 6. By these no two streams overlap on a link: solved, with that flowspan and the chains of all streams.
+/// 7. Else the node is to be split on the first triple whose streams overlap.
 ///
 /// The target is in nanoseconds. The error says that there was no memory.
 pub fn look(
@@ -50,16 +56,19 @@ pub fn look(
     loads: &Loads,
     node: &Node,
     target: u64,
+    best: Option<&Solved>,
 ) -> Result<Look, NoMemory>
     requires conflicts { AreConflictsOf timing.now conflicts.now }
     requires loads { AreLoadsOf timing.now loads.now }
+    requires best { IfSome (option_copied best) (IsSolved timing.now) }
     requires fits { Fits conflicts.now.triples node.now }
-    ensures first_case { IfOk result (λ look. IsLook timing.now node.now target (outcome_of look)) }
+    ensures first_case { IfOk result (λ look. IsLook timing.now node.now target (option_copied best.entry) (outcome_of look)) }
     ensures proof { IfOk result (λ look. HasProof timing.now node.now (outcome_of look)) }
     ensures undecided { IfOk result (λ look. SplitsUndecided timing.now node.now (outcome_of look)) }
     ensures met { IfOk result (λ look. PrunesFrom target (outcome_of look)) }
+    ensures ties { IfOk result (λ look. TiesWith timing.now node.now (option_copied best.entry) (outcome_of look)) }
 {
     let arcs = arcs_of(alloc, conflicts, node.path())?;
     let outcome = net_of(alloc, timing)?.least(alloc, &arcs)?;
-    judge(alloc, timing, conflicts, loads, &outcome, target)
+    judge(alloc, timing, conflicts, loads, &outcome, target, best)
 }

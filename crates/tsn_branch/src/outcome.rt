@@ -1,7 +1,7 @@
 //! What a look at a node finds.
-use tsn_cert::{Chain, Entries};
+use tsn_cert::{Chain, Chains, Entries};
 use tsn_model::Triple;
-use tsn_timing::Valid;
+use tsn_timing::Solved;
 
 /// Why no valid schedule on a path has a lesser flowspan, or why there is none. A chain names decisions of the path by
 /// their depths.
@@ -26,16 +26,24 @@ pub enum Leaf {
 pub enum Look {
     /// A conflict to decide.
     Split(Triple),
-    /// A valid schedule, its flowspan in nanoseconds, and the leaf that shows it least on the path.
+    /// A valid schedule with its flowspan, the leaf that shows it least on the path, and the chains of all streams, which show
+    /// its offsets.
     Solved {
-        valid: Valid,
-        bound: u64,
+        solved: Solved,
         leaf: Leaf,
+        chains: Chains,
     },
     /// What no flowspan on the path is below, in nanoseconds, and the leaf that shows it.
     Pruned {
         bound: u64,
         leaf: Leaf,
+    },
+    /// What no flowspan on the path is below, in nanoseconds, the leaf that shows it, and the chains of the first streams, which
+    /// show that no schedule on the path comes before the best one.
+    Tied {
+        bound: u64,
+        leaf: Leaf,
+        chains: Chains,
     },
     /// A leaf that shows that no valid schedule is on the path.
     Refuted(Leaf),

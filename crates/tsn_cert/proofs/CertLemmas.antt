@@ -7,11 +7,13 @@ use Rattle.std.proofs.Math.ListN.{take-append-drop, drop_of_length-le}
 use Rattle.serde_json.specs.Data.{Data, depth}
 use Rattle.serde_json.specs.Read.{max_depth}
 use Rattle.serde_json.specs.Written.{has_float}
-use Rattle.tsn_model.specs.Certificate.{Node, split_node, leaf_node, Leaf, late, overrun, positive_cycle, load, overload, Entry}
+use Rattle.tsn_model.specs.Certificate.{Node, split_node, leaf_node, tie_node, Leaf, late, overrun, positive_cycle, load, overload, Entry}
 use Rattle.tsn_cert.specs.Json.{when, value_of, each, elements, number_value, array_value}
 use Rattle.tsn_cert.specs.Fault.{shaped, answer}
-use Rattle.tsn_cert.specs.Cert.{chain_of, entry_of, entry_list, entries_of, entries_value, node_of, nodes_of, cert_of, cert_fits, cert_in, chain_value, entry_value, leaf_value, node_value, nodes_value, cert_value}
+use Rattle.tsn_cert.specs.Cert.{chain_list, chains_of, chains_value, tie_value, format_number, format_of, are_of, chain_of, entry_of, entry_list, entries_of, entries_value, node_of, nodes_of, cert_of, cert_fits, cert_in, chain_value, entry_value, leaf_value, node_value, nodes_value, cert_value}
 use Rattle.tsn_cert.specs.declared.cert.Cert.{Cert}
+use Rattle.tsn_cert.specs.declared.cert.Format.{Format}
+use Rattle.tsn_cert.specs.declared.cert.Format.TheVariants.{One, Two}
 use Rattle.tsn_cert.proofs.JsonLemmas.{listed-items_of_list, numbers-array_value, no_float-items, items_depth-le}
 
 -- ---- lists that are read again
@@ -93,6 +95,39 @@ load_back link es back = ap (λ o. option_map (λ (l : ℕ × List Entry). leaf_
 pub overload_back : (link : ℕ) (es : List Entry) → entries_of (entries_value es) ≡ Some es → node_of (node_value (leaf_node (overload link es))) ≡ Some (leaf_node (overload link es))
 overload_back link es back = ap (λ o. option_map (λ (l : ℕ × List Entry). leaf_node (overload l.0 l.1)) (option_and_then (λ xs. Some (link, xs)) o)) back
 
+-- ---- chains
+
+-- a chain of the code is the list of its depths
+abbrev pub itself : List ℕ → List ℕ
+itself chain = chain
+
+map_itself : (cs : List (List ℕ)) → map itself cs ≡ cs
+map_itself [] = refl
+map_itself (c ∷ cs) = ap (λ xs. c ∷ xs) (map_itself cs)
+
+-- all chains were printed
+pub printed_chains : (cs : List (List ℕ)) (i : ℕ) → length cs ≤ i → each chain_of (map chain_value (map itself (take i cs))) ≡ Some (map itself (take i cs)) → chain_list (chains_value cs) ≡ Some cs
+printed_chains cs i done read =
+    ap (λ xs. chain_list (chains_value xs)) (sym (map_itself cs)) ∙ printed_done itself chain_of chain_value cs i done read ∙ ap Some (map_itself cs)
+
+pub chains_back : (cs : List (List ℕ)) → 1 ≤ length cs → length cs ≤ 128 → chain_list (chains_value cs) ≡ Some cs → chains_of (chains_value cs) ≡ Some cs
+chains_back cs some few back =
+    let least : nat_le 1 (length cs) ≡ true = grind (arith, nat_tests) in
+    let most : nat_le (length cs) 128 ≡ true = grind (arith, nat_tests) in
+    ap (λ o. option_and_then (λ xs. when (nat_le 1 (length xs) && nat_le (length xs) 128) (Some xs)) o) back ∙ ap₂ (λ a b. when (a && b) (Some cs)) least most
+
+pub tie_back : (stream : ℕ) (chain : List ℕ) (cs : List (List ℕ)) → length chain ≤ 128 → chains_of (chains_value cs) ≡ Some cs
+    → node_of (node_value (tie_node (late stream chain) cs)) ≡ Some (tie_node (late stream chain) cs)
+tie_back stream chain cs short back =
+    ap (λ o. option_map (λ (t : ℕ × List ℕ × List (List ℕ)). tie_node (late t.0 t.1) t.2) (option_and_then (λ c. option_and_then (λ xs. Some (stream, c, xs)) (chains_of (chains_value cs))) o)) (chain_back chain short)
+    ∙ ap (λ o. option_map (λ (t : ℕ × List ℕ × List (List ℕ)). tie_node (late t.0 t.1) t.2) (option_and_then (λ xs. Some (stream, chain, xs)) o)) back
+
+pub tie_load_back : (link : ℕ) (es : List Entry) (cs : List (List ℕ)) → entries_of (entries_value es) ≡ Some es → chains_of (chains_value cs) ≡ Some cs
+    → node_of (node_value (tie_node (load link es) cs)) ≡ Some (tie_node (load link es) cs)
+tie_load_back link es cs back chains =
+    ap (λ o. option_map (λ (t : ℕ × List Entry × List (List ℕ)). tie_node (load t.0 t.1) t.2) (option_and_then (λ xs. option_and_then (λ ys. Some (link, xs, ys)) (chains_of (chains_value cs))) o)) back
+    ∙ ap (λ o. option_map (λ (t : ℕ × List Entry × List (List ℕ)). tie_node (load t.0 t.1) t.2) (option_and_then (λ ys. Some (link, es, ys)) o)) chains
+
 -- ---- no float, and shallow
 
 chain_no_float : (c : List ℕ) → has_float (chain_value c) ≡ false
@@ -108,9 +143,17 @@ leaf_no_float (positive_cycle chain) = rw (chain_no_float chain) refl
 leaf_no_float (load link entries) = rw (no_float-items entry_value entry_no_float entries) refl
 leaf_no_float (overload link entries) = rw (no_float-items entry_value entry_no_float entries) refl
 
+tie_no_float : (l : Leaf) (cs : List (List ℕ)) → has_float (tie_value l cs) ≡ false
+tie_no_float (late stream chain) cs = rw (chain_no_float chain, no_float-items chain_value chain_no_float cs) refl
+tie_no_float (overrun stream chain) cs = refl
+tie_no_float (positive_cycle chain) cs = refl
+tie_no_float (load link entries) cs = rw (no_float-items entry_value entry_no_float entries, no_float-items chain_value chain_no_float cs) refl
+tie_no_float (overload link entries) cs = refl
+
 node_no_float : (n : Node) → has_float (node_value n) ≡ false
 node_no_float (split_node t) = refl
 node_no_float (leaf_node l) = leaf_no_float l
+node_no_float (tie_node l cs) = tie_no_float l cs
 
 chain_depth : (c : List ℕ) → depth (chain_value c) ≤ 1
 chain_depth c = omega (arith, items_depth-le 0 number_value (λ n. omega arith) c)
@@ -125,9 +168,17 @@ leaf_depth (positive_cycle chain) = omega (arith, chain_depth chain)
 leaf_depth (load link entries) = omega (arith, items_depth-le 2 entry_value entry_depth entries)
 leaf_depth (overload link entries) = omega (arith, items_depth-le 2 entry_value entry_depth entries)
 
+tie_depth : (l : Leaf) (cs : List (List ℕ)) → depth (tie_value l cs) ≤ 4
+tie_depth (late stream chain) cs = omega (arith, chain_depth chain, items_depth-le 1 chain_value chain_depth cs)
+tie_depth (overrun stream chain) cs = lit≤ tt
+tie_depth (positive_cycle chain) cs = lit≤ tt
+tie_depth (load link entries) cs = omega (arith, items_depth-le 2 entry_value entry_depth entries, items_depth-le 1 chain_value chain_depth cs)
+tie_depth (overload link entries) cs = lit≤ tt
+
 node_depth : (n : Node) → depth (node_value n) ≤ 4
 node_depth (split_node t) = lit≤ tt
 node_depth (leaf_node l) = leaf_depth l
+node_depth (tie_node l cs) = tie_depth l cs
 
 -- ---- the whole file
 
@@ -137,9 +188,16 @@ has_float-cert_value c = rw (no_float-items node_value node_no_float c.nodes) re
 pub depth-cert_value : (c : Cert) → depth (cert_value c) ≤ max_depth
 depth-cert_value c = omega (arith, items_depth-le 4 node_value node_depth c.nodes)
 
-cert_back : (c : Cert) → nodes_of (nodes_value c.nodes) ≡ Some c.nodes → cert_of (cert_value c) ≡ Some c
-cert_back c e = ap (λ o. option_and_then (λ ns. Some (record { target = c.target; nodes = ns })) o) e
+format_back : (f : Format) → format_of (number_value (format_number f)) ≡ Some f
+format_back One = refl
+format_back Two = refl
 
-pub cert_in-printed : (s : List ℕ) (c : Cert) → value_of s ≡ Some (cert_value c) → nodes_of (nodes_value c.nodes) ≡ Some c.nodes → cert_fits c ≡ true → cert_in s ≡ Ok c
-cert_in-printed s c e back fits =
-    ap (answer cert_of cert_fits) e ∙ ap (shaped cert_fits) (cert_back c back) ∙ rw fits refl
+cert_back : (c : Cert) → nodes_of (nodes_value c.nodes) ≡ Some c.nodes → are_of c.format c.nodes ≡ true → cert_of (cert_value c) ≡ Some c
+cert_back c e of =
+    ap (λ o. option_and_then (λ f. option_and_then (λ ns. when (are_of f ns) (Some (record { format = f; target = c.target; nodes = ns }))) (nodes_of (nodes_value c.nodes))) o) (format_back c.format)
+    ∙ ap (λ o. option_and_then (λ ns. when (are_of c.format ns) (Some (record { format = c.format; target = c.target; nodes = ns }))) o) e
+    ∙ ap (λ b. when b (Some c)) of
+
+pub cert_in-printed : (s : List ℕ) (c : Cert) → value_of s ≡ Some (cert_value c) → nodes_of (nodes_value c.nodes) ≡ Some c.nodes → are_of c.format c.nodes ≡ true → cert_fits c ≡ true → cert_in s ≡ Ok c
+cert_in-printed s c e back of fits =
+    ap (answer cert_of cert_fits) e ∙ ap (shaped cert_fits) (cert_back c back of) ∙ rw fits refl

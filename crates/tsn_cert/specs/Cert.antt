@@ -1,17 +1,19 @@
--- The certificate file: `{"format":1,"nodes":[..],"target":T}`, the nodes in preorder.
-use Rattle.std.specs.Prelude.{ℕ, List, [], ◌∷◌, length, map, Bool, if◌then◌else◌, ◌&&◌, ◌==◌, nat_le, codes, Option, Some, None, option_map, Result}
+-- The certificate file: `{"format":F,"nodes":[..],"target":T}`, the nodes in preorder.
+use Rattle.std.specs.Prelude.{ℕ, List, [], ◌∷◌, length, map, Bool, true, false, not, if◌then◌else◌, ◌&&◌, ◌==◌, nat_le, codes, Option, Some, None, option_map, Result}
 use Rattle.std.specs.List.{list_all}
 use Rattle.std.specs.Str.{bytes_eq}
 use Rattle.serde_json.specs.Data.{Data, string, object, no_members, member}
 use Rattle.serde_json.specs.Find.{get, as_str}
 use Rattle.tsn_model.specs.declared.Triple.{Triple}
-use Rattle.tsn_model.specs.Certificate.{Node, split_node, leaf_node, Leaf, late, overrun, positive_cycle, load, overload, Entry}
+use Rattle.tsn_model.specs.Certificate.{Node, split_node, leaf_node, tie_node, Leaf, late, overrun, positive_cycle, load, overload, Entry}
 use Rattle.tsn_cert.specs.Json.{◌>>=◌, when, value_of, file_text, whole_number, numbers, elements, each, is_object_of, all_within, number_value, array_value}
 use Rattle.tsn_cert.specs.Entry.{tree_entry}
 use Rattle.tsn_cert.specs.Fault.{answer}
 use Rattle.tsn_cert.specs.Plan.{max_time}
 use Rattle.tsn_cert.specs.declared.fault.FileFault.{FileFault}
 use Rattle.tsn_cert.specs.declared.cert.Cert.{Cert}
+use Rattle.tsn_cert.specs.declared.cert.Format.{Format}
+use Rattle.tsn_cert.specs.declared.cert.Format.TheVariants.{One, Two}
 
 -- ---- the grammar
 
@@ -74,6 +76,35 @@ load_parts (link ∷ entries ∷ []) = do
   Some (l, es)
 load_parts _ = None
 
+-- an array of 1 to 128 chains
+abbrev pub chain_list : Data → Option (List (List ℕ))
+chain_list d = do
+  ds ← elements d
+  each chain_of ds
+
+abbrev pub chains_of : Data → Option (List (List ℕ))
+chains_of d = do
+  chains ← chain_list d
+  when (nat_le 1 (length chains) && nat_le (length chains) max_chain) (Some chains)
+
+-- a stream, a chain and chains
+abbrev pub tie_parts : List Data → Option (ℕ × List ℕ × List (List ℕ))
+tie_parts (stream ∷ chain ∷ chains ∷ []) = do
+  i ← whole_number stream
+  depths ← chain_of chain
+  cs ← chains_of chains
+  Some (i, depths, cs)
+tie_parts _ = None
+
+-- a link, entries and chains
+abbrev pub tie_load_parts : List Data → Option (ℕ × List Entry × List (List ℕ))
+tie_load_parts (link ∷ entries ∷ chains ∷ []) = do
+  l ← whole_number link
+  es ← entries_of entries
+  cs ← chains_of chains
+  Some (l, es, cs)
+tie_load_parts _ = None
+
 -- what stands behind the word of a node
 abbrev pub node_parts : List ℕ → List Data → Option Node
 node_parts word ds =
@@ -83,7 +114,9 @@ node_parts word ds =
     else (if bytes_eq word (codes "cycle") then option_map (λ chain. leaf_node (positive_cycle chain)) (cycle_parts ds)
     else (if bytes_eq word (codes "load") then option_map (λ l. leaf_node (load l.0 l.1)) (load_parts ds)
     else (if bytes_eq word (codes "overload") then option_map (λ l. leaf_node (overload l.0 l.1)) (load_parts ds)
-    else None)))))
+    else (if bytes_eq word (codes "tie") then option_map (λ t. tie_node (late t.0 t.1) t.2) (tie_parts ds)
+    else (if bytes_eq word (codes "tieload") then option_map (λ t. tie_node (load t.0 t.1) t.2) (tie_load_parts ds)
+    else None)))))))
 
 -- a word, and what stands behind it
 abbrev pub node_list : List Data → Option Node
@@ -102,12 +135,32 @@ nodes_of d = do
   ds ← elements d
   each node_of ds
 
+-- a format, by its number
+abbrev pub format_number : Format → ℕ
+format_number One = 1
+format_number Two = 2
+
+abbrev pub format_of : Data → Option Format
+format_of d = do
+  f ← whole_number d
+  (if f == 1 then Some One else (if f == 2 then Some Two else None))
+
+-- the first format has no ties
+abbrev pub is_tie : Node → Bool
+is_tie (split_node triple) = false
+is_tie (leaf_node leaf) = false
+is_tie (tie_node leaf chains) = true
+
+abbrev pub are_of : Format → List Node → Bool
+are_of One nodes = list_all (λ node. not (is_tie node)) nodes
+are_of Two nodes = true
+
 abbrev pub cert_of_values : Data → Data → Data → Option Cert
 cert_of_values format nodes target = do
-  f ← whole_number format
+  f ← format_of format
   ns ← nodes_of nodes
   t ← whole_number target
-  when (f == 1) (Some (record { target = t; nodes = ns }))
+  when (are_of f ns) (Some (record { format = f; target = t; nodes = ns }))
 
 -- an object with the three keys and no other
 abbrev pub cert_of : Data → Option Cert
@@ -139,7 +192,8 @@ leaf_fits (overload link entries) = nat_le link max_number && list_all entry_fit
 -- no number of the node is above the limit
 abbrev pub node_fits : Node → Bool
 node_fits (split_node triple) = triple_fits triple
-node_fits (leaf_node leaf) = leaf_fits leaf
+node_fits (leaf_node proof) = leaf_fits proof
+node_fits (tie_node proof chains) = leaf_fits proof && list_all (all_within max_number) chains
 
 -- no number of the file is above its limit
 abbrev pub cert_fits : Cert → Bool
@@ -167,15 +221,27 @@ leaf_value (positive_cycle chain) = array_value (string (codes "cycle") ∷ chai
 leaf_value (load link entries) = array_value (string (codes "load") ∷ number_value link ∷ entries_value entries ∷ [])
 leaf_value (overload link entries) = array_value (string (codes "overload") ∷ number_value link ∷ entries_value entries ∷ [])
 
+abbrev pub chains_value : List (List ℕ) → Data
+chains_value chains = array_value (map chain_value chains)
+
+-- a tie has a late or a load leaf
+abbrev pub tie_value : Leaf → List (List ℕ) → Data
+tie_value (late stream chain) chains = array_value (string (codes "tie") ∷ number_value stream ∷ chain_value chain ∷ chains_value chains ∷ [])
+tie_value (overrun stream chain) chains = array_value []
+tie_value (positive_cycle chain) chains = array_value []
+tie_value (load link entries) chains = array_value (string (codes "tieload") ∷ number_value link ∷ entries_value entries ∷ chains_value chains ∷ [])
+tie_value (overload link entries) chains = array_value []
+
 abbrev pub node_value : Node → Data
 node_value (split_node t) = array_value (string (codes "branch") ∷ number_value t.left ∷ number_value t.right ∷ number_value t.link ∷ [])
-node_value (leaf_node leaf) = leaf_value leaf
+node_value (leaf_node proof) = leaf_value proof
+node_value (tie_node proof chains) = tie_value proof chains
 
 abbrev pub nodes_value : List Node → Data
 nodes_value nodes = array_value (map node_value nodes)
 
 abbrev pub cert_value : Cert → Data
-cert_value c = object (member (codes "format") (number_value 1) (member (codes "nodes") (nodes_value c.nodes) (member (codes "target") (number_value c.target) no_members)))
+cert_value c = object (member (codes "format") (number_value (format_number c.format)) (member (codes "nodes") (nodes_value c.nodes) (member (codes "target") (number_value c.target) no_members)))
 
 -- the text of a certificate file
 abbrev pub cert_text : Cert → List ℕ

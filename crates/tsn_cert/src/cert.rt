@@ -1,5 +1,5 @@
 ghost use Rattle.std.specs.Prelude.{◌≡◌, ◌≤◌, length, IfOk};
-ghost use Rattle.std.specs.Prelude.{map, codes, [], ◌∷◌, string_bytes, OnOk, Some, Ok, IsTrue};
+ghost use Rattle.std.specs.Prelude.{map, codes, [], ◌∷◌, string_bytes, OnOk, Some, Ok, IsTrue, not};
 ghost use Rattle.std.specs.List.{list_all};
 ghost use Rattle.serde_json.specs.Data.{object, member, no_members, string};
 ghost use Rattle.serde_json.specs.View.{view};
@@ -8,9 +8,10 @@ ghost use Rattle.tsn_cert.specs.Fault.{Gives, Reads};
 ghost use Rattle.tsn_cert.specs.Json.{number_value, array_value, all_within};
 ghost use Rattle.tsn_cert.specs.Entry.{tree_entry};
 ghost use Rattle.tsn_cert.specs.Node.{tree_node};
-ghost use Rattle.tsn_cert.specs.Cert.{chain_of, reason_parts, triple_parts, cycle_parts, entry_of, entry_list, entries_of, load_parts, entry_fits, leaf_fits, entry_value, entries_value, node_parts, node_of, nodes_of, cert_of_values, cert_of, cert_in, node_fits, max_number, cert_fits, chain_value, node_value, nodes_value, cert_text};
+ghost use Rattle.tsn_cert.specs.Cert.{chain_list, chains_of, tie_parts, tie_load_parts, chains_value, is_tie, are_of, format_of, format_number, chain_of, reason_parts, triple_parts, cycle_parts, entry_of, entry_list, entries_of, load_parts, entry_fits, leaf_fits, entry_value, entries_value, node_parts, node_of, nodes_of, cert_of_values, cert_of, cert_in, node_fits, max_number, cert_fits, chain_value, node_value, nodes_value, cert_text};
 
 use crate::chain::{Chain, MAX_CHAIN};
+use crate::chains::{Chains, MAX_CHAINS};
 use crate::entries::{Entries, MAX_ENTRIES};
 use crate::plan::MAX_TIME;
 use crate::{FileFault, document};
@@ -39,6 +40,57 @@ pub enum Node {
     /// The link is busy behind the cycle: the least head of the entries and their occupancies of the link are above the
     /// cycle.
     Overload(usize, Entries),
+    /// The stream arrives no sooner than the target, and each schedule on the path is the plan or comes after it: at the
+    /// first stream at which the sums of the chains aren't the plan's offsets the sum is greater, or there is none.
+    Tie(usize, Chain, Chains),
+    /// The link is busy for as long as the target, and each schedule on the path is the plan or comes after it.
+    TieLoad(usize, Entries, Chains),
+}
+
+/// The format of a certificate.
+#[derive(Clone, Copy, Debug, PartialEq, Eq)]
+pub enum Format {
+    /// It shows that no schedule has a flowspan below the target.
+    One,
+    /// It has ties too, and shows that none of the target's flowspan comes before the plan.
+    Two,
+}
+
+impl Format {
+    /// The number by which a file tells the format.
+    pub fn number(self) -> u64
+        ensures { result ≡ format_number self }
+    {
+        match self {
+            Format::One => 1,
+            Format::Two => 2,
+        }
+    }
+
+    /// Whether these nodes are of the format: the first one has no ties.
+    pub fn has(self, nodes: &[Node]) -> bool
+        ensures { result ≡ are_of self (map tree_node nodes.now) }
+    {
+        match self {
+            Format::One => have_no_ties(nodes),
+            Format::Two => true,
+        }
+    }
+}
+
+fn have_no_ties(nodes: &[Node]) -> bool
+    ensures { result ≡ list_all (λ node. not (is_tie (tree_node node))) nodes.now }
+{
+    nodes.iter().all(|node| !node.is_tie())
+}
+
+impl Node {
+    /// Whether the node is a tie.
+    pub fn is_tie(&self) -> bool
+        ensures { result ≡ is_tie (tree_node self.now) }
+    {
+        matches!(self, Node::Tie(..) | Node::TieLoad(..))
+    }
 }
 
 /// The nodes of a certificate in preorder, the Left child of a branch first.
@@ -81,9 +133,11 @@ impl Nodes {
     }
 }
 
-/// A certificate: a tree of decisions whose leaves show that no schedule has a flowspan below the target, in nanoseconds.
+/// A certificate: a tree of decisions whose leaves show that no schedule has a flowspan below the target, in nanoseconds;
+/// in format 2 also that none of that flowspan comes before the plan.
 #[derive(Debug, Drop)]
 pub struct Cert {
+    pub format: Format,
     pub target: u64,
     pub nodes: Nodes,
 }
@@ -175,6 +229,60 @@ fn load_from_parts(alloc: Global, parts: &[Value]) -> Result<(usize, Entries), F
     Ok((document::index_from(link)?, entries_from(alloc, entries)?))
 }
 
+/// The chains that the value is, however many.
+fn chain_list_from(alloc: Global, value: &Value) -> Result<Vec<Chain>, FileFault>
+    ensures { Reads (λ v. v.items) result (chain_list (view value.now)) }
+{
+    let items = document::elements_from(value)?;
+    let mut found = Vec::with_capacity(alloc, items.len())?;
+    for item in items {
+        found.push(chain_from(alloc, item)?)?;
+    }
+    Ok(found)
+}
+
+/// The chains that the value is.
+fn chains_from(alloc: Global, value: &Value) -> Result<Chains, FileFault>
+    ensures { Reads (λ chains. chains) result (chains_of (view value.now)) }
+{
+    let list = chain_list_from(alloc, value)?;
+    if list.is_empty() || list.len() > MAX_CHAINS {
+        return Err(FileFault::WrongShape);
+    }
+    Ok(Chains::of(list))
+}
+
+/// A stream, a chain and chains.
+fn tie_from_parts(alloc: Global, parts: &[Value]) -> Result<(usize, Chain, Chains), FileFault>
+    ensures { Reads (λ tie. tie) result (tie_parts (map view parts.now)) }
+{
+    let [stream, chain, chains] = parts else {
+        return Err(FileFault::WrongShape);
+    };
+    Ok((
+        document::index_from(stream)?,
+        chain_from(alloc, chain)?,
+        chains_from(alloc, chains)?,
+    ))
+}
+
+/// A link, entries and chains.
+fn tie_load_from_parts(
+    alloc: Global,
+    parts: &[Value],
+) -> Result<(usize, Entries, Chains), FileFault>
+    ensures { Reads (λ tie. tie) result (tie_load_parts (map view parts.now)) }
+{
+    let [link, entries, chains] = parts else {
+        return Err(FileFault::WrongShape);
+    };
+    Ok((
+        document::index_from(link)?,
+        entries_from(alloc, entries)?,
+        chains_from(alloc, chains)?,
+    ))
+}
+
 /// The node of this word.
 fn node_from_parts(alloc: Global, word: &str, parts: &[Value]) -> Result<Node, FileFault>
     ensures { Reads tree_node result (node_parts word.now (map view parts.now)) }
@@ -195,6 +303,12 @@ fn node_from_parts(alloc: Global, word: &str, parts: &[Value]) -> Result<Node, F
     } else if word == "overload" {
         let (link, entries) = load_from_parts(alloc, parts)?;
         Ok(Node::Overload(link, entries))
+    } else if word == "tie" {
+        let (stream, chain, chains) = tie_from_parts(alloc, parts)?;
+        Ok(Node::Tie(stream, chain, chains))
+    } else if word == "tieload" {
+        let (link, entries, chains) = tie_load_from_parts(alloc, parts)?;
+        Ok(Node::TieLoad(link, entries, chains))
     } else {
         Err(FileFault::WrongShape)
     }
@@ -243,6 +357,12 @@ fn entries_fit(entries: &[(usize, Chain)]) -> bool
     entries.iter().all(|entry| entry_fits(entry))
 }
 
+fn chains_fit(chains: &[Chain]) -> bool
+    ensures { result ≡ list_all (all_within max_number) chains.now }
+{
+    chains.iter().all(|chain| chain_fits(chain))
+}
+
 fn load_fits(link: usize, entries: &Entries) -> bool
     ensures { result ≡ leaf_fits (load link entries.now) }
 {
@@ -261,6 +381,12 @@ fn node_fits(node: &Node) -> bool
         }
         Node::Cycle(chain) => chain_fits(chain),
         Node::Load(link, entries) | Node::Overload(link, entries) => load_fits(*link, entries),
+        Node::Tie(stream, chain, chains) => {
+            *stream <= MAX_NUMBER && chain_fits(chain) && chains_fit(chains.list())
+        }
+        Node::TieLoad(link, entries, chains) => {
+            load_fits(*link, entries) && chains_fit(chains.list())
+        }
     }
 }
 
@@ -314,13 +440,31 @@ fn cert_from_values(
     ensures { Reads (λ cert. cert) result
         (cert_of_values (view format.now) (view nodes.now) (view target.now)) }
 {
-    let format = document::whole_number_from(format)?;
+    let format = format_from(format)?;
     let nodes = nodes_from(alloc, nodes)?;
     let target = document::whole_number_from(target)?;
-    if format != 1 {
+    if !format.has(nodes.list()) {
         return Err(FileFault::WrongShape);
     }
-    Ok(Cert { target, nodes })
+    Ok(Cert {
+        format,
+        target,
+        nodes,
+    })
+}
+
+/// The format of that number.
+fn format_from(value: &Value) -> Result<Format, FileFault>
+    ensures { Reads (λ format. format) result (format_of (view value.now)) }
+{
+    let number = document::whole_number_from(value)?;
+    if number == 1 {
+        Ok(Format::One)
+    } else if number == 2 {
+        Ok(Format::Two)
+    } else {
+        Err(FileFault::WrongShape)
+    }
 }
 
 // ---- printing
@@ -328,21 +472,21 @@ fn cert_from_values(
 /// The text of a certificate file.
 pub fn cert_to_json(alloc: Global, cert: &Cert) -> Result<String, NoMemory>
     ensures text { IfOk result (λ s. string_bytes s ≡ cert_text cert.now) }
-    // What is printed is read again.
-    ensures reads_back { IfOk result (λ s. IsTrue (cert_fits cert.now)
+    // What is printed is read again, where the nodes are of its format.
+    ensures reads_back { IfOk result (λ s. IsTrue (are_of cert.now.format cert.now.nodes) → IsTrue (cert_fits cert.now)
         → cert_in (string_bytes s) ≡ Ok cert.now) }
 {
     let nodes = nodes_value(alloc, cert.nodes.list())?;
-    let value = cert_value(alloc, cert.target, nodes)?;
+    let value = cert_value(alloc, cert.format.number(), cert.target, nodes)?;
     Ok(document::file_text(alloc, &value)?)
 }
 
-fn cert_value(alloc: Global, target: u64, nodes: Value) -> Result<Value, AllocError>
-    ensures { IfOk result (λ v. view v ≡ object (member (codes "format") (number_value 1)
+fn cert_value(alloc: Global, format: u64, target: u64, nodes: Value) -> Result<Value, AllocError>
+    ensures { IfOk result (λ v. view v ≡ object (member (codes "format") (number_value format)
         (member (codes "nodes") (view nodes)
         (member (codes "target") (number_value target) no_members)))) }
 {
-    json!(in alloc; {"format": 1u64, "nodes": nodes, "target": target})
+    json!(in alloc; {"format": format, "nodes": nodes, "target": target})
 }
 
 fn nodes_value(alloc: Global, nodes: &[Node]) -> Result<Value, AllocError>
@@ -357,7 +501,7 @@ fn nodes_value(alloc: Global, nodes: &[Node]) -> Result<Value, AllocError>
     Ok(Value::Array(items))
 }
 
-#[tactic(auto, using(crate::proofs::CertLemmas::late_back, crate::proofs::CertLemmas::overrun_back, crate::proofs::CertLemmas::cycle_back, crate::proofs::CertLemmas::load_back, crate::proofs::CertLemmas::overload_back))]
+#[tactic(auto, using(crate::proofs::CertLemmas::late_back, crate::proofs::CertLemmas::overrun_back, crate::proofs::CertLemmas::cycle_back, crate::proofs::CertLemmas::load_back, crate::proofs::CertLemmas::overload_back, crate::proofs::CertLemmas::tie_back, crate::proofs::CertLemmas::tie_load_back))]
 fn node_value(alloc: Global, node: &Node) -> Result<Value, AllocError>
     ensures value { IfOk result (λ v. view v ≡ node_value (tree_node node.now)) }
     ensures reads_back { OnOk result
@@ -378,7 +522,53 @@ fn node_value(alloc: Global, node: &Node) -> Result<Value, AllocError>
         Node::Overload(link, entries) => {
             load_value(alloc, "overload", *link, entries_value(alloc, entries)?)
         }
+        Node::Tie(stream, chain, chains) => {
+            let chain = chain_value(alloc, chain)?;
+            tie_value(alloc, *stream, chain, chains_value(alloc, chains)?)
+        }
+        Node::TieLoad(link, entries, chains) => {
+            let entries = entries_value(alloc, entries)?;
+            tie_load_value(alloc, *link, entries, chains_value(alloc, chains)?)
+        }
     }
+}
+
+fn tie_value(alloc: Global, stream: usize, chain: Value, chains: Value) -> Result<Value, AllocError>
+    ensures { IfOk result (λ v. view v
+        ≡ array_value (string (codes "tie") ∷ number_value stream ∷ view chain ∷ view chains ∷ [])) }
+{
+    json!(in alloc; ["tie", stream, chain, chains])
+}
+
+fn tie_load_value(
+    alloc: Global,
+    link: usize,
+    entries: Value,
+    chains: Value,
+) -> Result<Value, AllocError>
+    ensures { IfOk result (λ v. view v
+        ≡ array_value (string (codes "tieload") ∷ number_value link ∷ view entries ∷ view chains ∷ [])) }
+{
+    json!(in alloc; ["tieload", link, entries, chains])
+}
+
+#[tactic(auto, using(crate::proofs::CertLemmas::chains_back))]
+fn chains_value(alloc: Global, chains: &Chains) -> Result<Value, AllocError>
+    ensures value { IfOk result (λ v. view v ≡ chains_value chains.now) }
+    ensures reads_back { OnOk result (chains_of (chains_value chains.now) ≡ Some chains.now) }
+{
+    chain_values(alloc, chains.list())
+}
+
+fn chain_values(alloc: Global, chains: &[Chain]) -> Result<Value, AllocError>
+    ensures value { IfOk result (λ v. view v ≡ chains_value chains.now) }
+    ensures reads_back { OnOk result (chain_list (chains_value chains.now) ≡ Some chains.now) }
+{
+    let mut items = Vec::with_capacity(alloc, chains.len())?;
+    for chain in chains {
+        items.push(chain_value(alloc, chain)?)?;
+    }
+    Ok(Value::Array(items))
 }
 
 /// A leaf of a link and entries.

@@ -3,13 +3,15 @@
 
 pub mod cert;
 pub mod chain;
+pub mod chains;
 mod document;
 pub mod entries;
 pub mod fault;
 pub mod plan;
 
-pub use cert::{Cert, Node, Nodes, cert_from_json, cert_to_json};
+pub use cert::{Cert, Format, Node, Nodes, cert_from_json, cert_to_json};
 pub use chain::Chain;
+pub use chains::Chains;
 pub use entries::Entries;
 pub use fault::FileFault;
 pub use plan::{Offsets, Plan, plan_from_json, plan_to_json};

@@ -1,24 +1,24 @@
 -- A plan and a certificate have at most one first fault.
-use Rattle.std.proofs.Common.{◌≡◌, ◌≢◌, ℕ, zero, suc, ◌<◌, ◌≤◌, List, [], ◌∷◌, length, take, All, Any, Some, inl, inr, refl, sym, ap, ◌∙◌, subst, arith}
+use Rattle.std.proofs.Common.{◌≡◌, ◌≢◌, ℕ, zero, suc, ◌<◌, ◌≤◌, List, [], ◌∷◌, length, take, All, Any, Some, inl, inr, refl, sym, ap, ◌∙◌, subst, arith, Option}
 use Rattle.std.specs.Prelude.{slice_get}
 use Rattle.std.proofs.lemmas.Bool.{cases_lt}
 use Rattle.std.proofs.lemmas.List.{take_all, take-take}
 use Rattle.tsn_model.specs.declared.Decision.{Decision}
 use Rattle.tsn_model.specs.Network.{Network}
 use Rattle.tsn_model.specs.Arcs.{arcs_of, IsClosedChain}
-use Rattle.tsn_model.specs.Certificate.{Leaf, late, overrun, positive_cycle, load, overload, Entry, LeadsTo, AreEntries, Proves, Node, split_node, leaf_node}
+use Rattle.tsn_model.specs.Certificate.{Leaf, late, overrun, positive_cycle, load, overload, Entry, LeadsTo, AreEntries, Proves, Node, split_node, leaf_node, tie_node, IsNodeShown}
 use Rattle.tsn_cert.specs.declared.plan.Plan.{Plan}
 use Rattle.tsn_cert.specs.declared.plan.Plan.TheVariants as plan
 use Rattle.tsn_cert.specs.declared.cert.Cert.{Cert}
-use Rattle.tsn_model.specs.Places.{IsNodeRight, next_places, places_from, places_after, AreRight}
+use Rattle.tsn_model.specs.Places.{next_places, places_from, places_after, AreRight}
 use Rattle.tsn_check.specs.Numbers.{fault_at}
 use Rattle.tsn_check.specs.Steps.{IsWrongEntry, IsRightEntry, HasFault}
 use Rattle.tsn_check.specs.declared.fault.NodeFault.{NodeFault}
 use Rattle.tsn_check.specs.declared.fault.NodeFault.TheVariants as kinds
-use Rattle.tsn_check.specs.Faults.{IsFirstWrong, Stands, IsTreeFault, IsScheduleFault, IsClaimFault, IsFirstFault}
+use Rattle.tsn_check.specs.Faults.{offsets_in, leaf_target, tie_plan, IsFirstWrong, Stands, IsTreeFault, IsScheduleFault, IsClaimFault, IsFirstFault}
 use Rattle.tsn_check.specs.declared.fault.CheckFault.{CheckFault}
 use Rattle.tsn_check.specs.declared.fault.CheckFault.TheVariants.{PlanInvalid, FlowspanWrong, TreeUnfinished, TreeTooLong, NotConflict, ChainBroken, BoundTooLow, StreamRepeated, NotOnLink, Memory}
-use Rattle.tsn_check.proofs.Refusals.{there_below, entry_right, wrong_not_right, first_wrong_refutes, fault_wrong}
+use Rattle.tsn_check.proofs.Refusals.{there_below, entry_right, wrong_not_right, first_wrong_refutes, chain_broken, repeated_wrong, off_link_wrong, fault_wrong}
 use Rattle.tsn_check.proofs.Verdicts.{claim_fault_refutes}
 
 there_is : (nodes : List Node) (k : ℕ) → k < length nodes → (node : Node) × (slice_get nodes k ≡ Some node)
@@ -80,7 +80,7 @@ module _ (network : Network) (path : List Decision) (link : ℕ) where
     ]
   ]
 
-module _ (network : Network) (target : ℕ) (path : List Decision) where
+module _ (network : Network) (target : ℕ) (planned : Option (List ℕ)) (path : List Decision) where
   -- a leaf without entries: its chain is broken, or its bound is too low
   PlainFault : Type 0 → Type 0 → NodeFault → Type 0
   PlainFault Chains Low kinds.ChainBroken = Chains → ⊥
@@ -97,21 +97,21 @@ module _ (network : Network) (target : ℕ) (path : List Decision) where
   one_plain_fault Chains Low kinds.BoundTooLow _ is another = absurd another
   one_plain_fault Chains Low _ other is another = absurd is
 
-  late_fault : (i : ℕ) (chain : List ℕ) (fault : NodeFault) → HasFault network target path (leaf_node (late i chain)) fault
+  late_fault : (i : ℕ) (chain : List ℕ) (fault : NodeFault) → HasFault network target planned path (leaf_node (late i chain)) fault
       → PlainFault (LeadsTo network path chain i) (Proves network path target (late i chain) → ⊥) fault
   unfolding PlainFault
   late_fault i chain kinds.ChainBroken is = is
   late_fault i chain kinds.BoundTooLow is = is
   late_fault i chain _ is = absurd is
 
-  overrun_fault : (i : ℕ) (chain : List ℕ) (fault : NodeFault) → HasFault network target path (leaf_node (overrun i chain)) fault
+  overrun_fault : (i : ℕ) (chain : List ℕ) (fault : NodeFault) → HasFault network target planned path (leaf_node (overrun i chain)) fault
       → PlainFault (LeadsTo network path chain i) (Proves network path target (overrun i chain) → ⊥) fault
   unfolding PlainFault
   overrun_fault i chain kinds.ChainBroken is = is
   overrun_fault i chain kinds.BoundTooLow is = is
   overrun_fault i chain _ is = absurd is
 
-  cycle_fault : (chain : List ℕ) (fault : NodeFault) → HasFault network target path (leaf_node (positive_cycle chain)) fault
+  cycle_fault : (chain : List ℕ) (fault : NodeFault) → HasFault network target planned path (leaf_node (positive_cycle chain)) fault
       → PlainFault (IsClosedChain (arcs_of network path) chain) (Proves network path target (positive_cycle chain) → ⊥) fault
   unfolding PlainFault
   cycle_fault chain kinds.ChainBroken is = is
@@ -130,31 +130,58 @@ module _ (network : Network) (target : ℕ) (path : List Decision) where
   one_link_fault link entries Low one kinds.BoundTooLow is another = absurd (first_wrong_refutes network path link entries one is another.0)
   one_link_fault link entries Low one other is another = one_first_wrong network path link entries one other is another
 
-  load_fault : (link : ℕ) (entries : List Entry) (fault : NodeFault) → HasFault network target path (leaf_node (load link entries)) fault
+  load_fault : (link : ℕ) (entries : List Entry) (fault : NodeFault) → HasFault network target planned path (leaf_node (load link entries)) fault
       → LinkFault link entries (Proves network path target (load link entries) → ⊥) fault
   unfolding LinkFault
   load_fault link entries kinds.NotConflict is = absurd is
   load_fault link entries _ is = is
 
-  overload_fault : (link : ℕ) (entries : List Entry) (fault : NodeFault) → HasFault network target path (leaf_node (overload link entries)) fault
+  overload_fault : (link : ℕ) (entries : List Entry) (fault : NodeFault) → HasFault network target planned path (leaf_node (overload link entries)) fault
       → LinkFault link entries (Proves network path target (overload link entries) → ⊥) fault
   unfolding LinkFault
   overload_fault link entries kinds.NotConflict is = absurd is
   overload_fault link entries _ is = is
 
-  one_leaf_fault : (proof : Leaf) (one other : NodeFault) → HasFault network target path (leaf_node proof) one → HasFault network target path (leaf_node proof) other → one ≡ other
+  one_leaf_fault : (proof : Leaf) (one other : NodeFault) → HasFault network target planned path (leaf_node proof) one → HasFault network target planned path (leaf_node proof) other → one ≡ other
   one_leaf_fault (late i chain) one other is another = one_plain_fault _ _ one other (late_fault i chain one is) (late_fault i chain other another)
   one_leaf_fault (overrun i chain) one other is another = one_plain_fault _ _ one other (overrun_fault i chain one is) (overrun_fault i chain other another)
   one_leaf_fault (positive_cycle chain) one other is another = one_plain_fault _ _ one other (cycle_fault chain one is) (cycle_fault chain other another)
   one_leaf_fault (load link entries) one other is another = one_link_fault link entries _ one other (load_fault link entries one is) (load_fault link entries other another)
   one_leaf_fault (overload link entries) one other is another = one_link_fault link entries _ one other (overload_fault link entries one is) (overload_fault link entries other another)
 
+  one_tie_fault : (proof : Leaf) (chains : List (List ℕ)) (one other : NodeFault) → HasFault network target planned path (tie_node proof chains) one → HasFault network target planned path (tie_node proof chains) other → one ≡ other
+  one_tie_fault proof chains kinds.NotConflict other is another = absurd is
+  one_tie_fault proof chains one kinds.NotConflict is another = absurd another
+  one_tie_fault proof chains kinds.ChainBroken kinds.ChainBroken is another = refl
+  one_tie_fault proof chains kinds.ChainBroken kinds.BoundTooLow is another =
+      elim is [ inl breaks ↦ absurd (chain_broken network path proof breaks another.0) | inr unled ↦ absurd (unled.1 another.1) ]
+  one_tie_fault proof chains kinds.ChainBroken kinds.StreamRepeated is another =
+      elim is [ inl breaks ↦ one_leaf_fault proof kinds.ChainBroken kinds.StreamRepeated breaks another | inr unled ↦ absurd (repeated_wrong network path proof another unled.0) ]
+  one_tie_fault proof chains kinds.ChainBroken kinds.NotOnLink is another =
+      elim is [ inl breaks ↦ one_leaf_fault proof kinds.ChainBroken kinds.NotOnLink breaks another | inr unled ↦ absurd (off_link_wrong network path proof another unled.0) ]
+  one_tie_fault proof chains kinds.BoundTooLow kinds.ChainBroken is another =
+      elim another [ inl breaks ↦ absurd (chain_broken network path proof breaks is.0) | inr unled ↦ absurd (unled.1 is.1) ]
+  one_tie_fault proof chains kinds.BoundTooLow kinds.BoundTooLow is another = refl
+  one_tie_fault proof chains kinds.BoundTooLow kinds.StreamRepeated is another = absurd (repeated_wrong network path proof another is.0)
+  one_tie_fault proof chains kinds.BoundTooLow kinds.NotOnLink is another = absurd (off_link_wrong network path proof another is.0)
+  one_tie_fault proof chains kinds.StreamRepeated kinds.ChainBroken is another =
+      elim another [ inl breaks ↦ one_leaf_fault proof kinds.StreamRepeated kinds.ChainBroken is breaks | inr unled ↦ absurd (repeated_wrong network path proof is unled.0) ]
+  one_tie_fault proof chains kinds.StreamRepeated kinds.BoundTooLow is another = absurd (repeated_wrong network path proof is another.0)
+  one_tie_fault proof chains kinds.StreamRepeated kinds.StreamRepeated is another = refl
+  one_tie_fault proof chains kinds.StreamRepeated kinds.NotOnLink is another = one_leaf_fault proof kinds.StreamRepeated kinds.NotOnLink is another
+  one_tie_fault proof chains kinds.NotOnLink kinds.ChainBroken is another =
+      elim another [ inl breaks ↦ one_leaf_fault proof kinds.NotOnLink kinds.ChainBroken is breaks | inr unled ↦ absurd (off_link_wrong network path proof is unled.0) ]
+  one_tie_fault proof chains kinds.NotOnLink kinds.BoundTooLow is another = absurd (off_link_wrong network path proof is another.0)
+  one_tie_fault proof chains kinds.NotOnLink kinds.StreamRepeated is another = one_leaf_fault proof kinds.NotOnLink kinds.StreamRepeated is another
+  one_tie_fault proof chains kinds.NotOnLink kinds.NotOnLink is another = refl
+
   -- a node has one fault
-  one_node_fault : (node : Node) (one other : NodeFault) → HasFault network target path node one → HasFault network target path node other → one ≡ other
+  one_node_fault : (node : Node) (one other : NodeFault) → HasFault network target planned path node one → HasFault network target planned path node other → one ≡ other
   one_node_fault (split_node triple) kinds.NotConflict kinds.NotConflict is another = refl
   one_node_fault (split_node triple) kinds.NotConflict _ is another = absurd another
   one_node_fault (split_node triple) _ other is another = absurd is
   one_node_fault (leaf_node proof) one other is another = one_leaf_fault proof one other is another
+  one_node_fault (tie_node proof chains) one other is another = one_tie_fault proof chains one other is another
 
 -- ---- of a list of nodes
 
@@ -163,10 +190,10 @@ data Kind : Type 0 where
   too_long : Kind
   wrong : NodeFault → Kind
 
-module _ (network : Network) (target : ℕ) where
+module _ (network : Network) (target : ℕ) (planned : Option (List ℕ)) where
   -- where the first m nodes are right, so is each of them
-  right_from : (places : List (List Decision)) (nodes : List Node) (m k : ℕ) (node : Node) → AreRight network target places (take m nodes) → k < m → slice_get nodes k ≡ Some node
-      → (path : List Decision) × (rest : List (List Decision)) × (places_from places (take k nodes) ≡ path ∷ rest) × IsNodeRight network target path node
+  right_from : (places : List (List Decision)) (nodes : List Node) (m k : ℕ) (node : Node) → AreRight (IsNodeShown network target planned) places (take m nodes) → k < m → slice_get nodes k ≡ Some node
+      → (path : List Decision) × (rest : List (List Decision)) × (places_from places (take k nodes) ≡ path ∷ rest) × IsNodeShown network target planned path node
   unfolding places_from
   right_from places [] m zero node right below at = cc
   right_from places [] m (suc k) node right below at = cc
@@ -174,23 +201,23 @@ module _ (network : Network) (target : ℕ) where
   right_from [] (first ∷ nodes) (suc m) k node right below at = absurd right
   right_from (path ∷ paths) (first ∷ nodes) (suc m) zero node right below at =
       let is : first ≡ node = cc in
-      (path, paths, refl, subst (IsNodeRight network target path) is right.0)
+      (path, paths, refl, subst (IsNodeShown network target planned path) is right.0)
   right_from (path ∷ paths) (first ∷ nodes) (suc m) (suc k) node right below at =
       right_from (next_places (path ∷ paths) first) nodes m k node right.1 (omega arith) at
 
-  right_there : (nodes : List Node) (m k : ℕ) (node : Node) → AreRight network target ([] ∷ []) (take m nodes) → k < m → slice_get nodes k ≡ Some node
-      → (path : List Decision) × (rest : List (List Decision)) × (places_after (take k nodes) ≡ path ∷ rest) × IsNodeRight network target path node
+  right_there : (nodes : List Node) (m k : ℕ) (node : Node) → AreRight (IsNodeShown network target planned) ([] ∷ []) (take m nodes) → k < m → slice_get nodes k ≡ Some node
+      → (path : List Decision) × (rest : List (List Decision)) × (places_after (take k nodes) ≡ path ∷ rest) × IsNodeShown network target planned path node
   unfolding places_after
   right_there nodes m k node right below at = right_from ([] ∷ []) nodes m k node right below at
 
   -- a node that isn't right where it stands is no node before which others are right
-  stands_blocks : (nodes : List Node) (m k : ℕ) (path : List Decision) (node : Node) → Stands network target nodes k path node → (IsNodeRight network target path node → ⊥) → k < m
-      → AreRight network target ([] ∷ []) (take m nodes) → ⊥
+  stands_blocks : (nodes : List Node) (m k : ℕ) (path : List Decision) (node : Node) → Stands network target planned nodes k path node → (IsNodeShown network target planned path node → ⊥) → k < m
+      → AreRight (IsNodeShown network target planned) ([] ∷ []) (take m nodes) → ⊥
   stands_blocks nodes m k path node stands isnt below right =
       let found = right_there nodes m k node right below stands.there in
       let places : path ∷ stands.waiting ≡ found.0 ∷ found.1 = sym stands.first_place ∙ found.2 in
       let same : path ≡ found.0 = cc in
-      isnt (subst (λ p. IsNodeRight network target p node) (sym same) found.3)
+      isnt (subst (λ p. IsNodeShown network target planned p node) (sym same) found.3)
 
   -- ---- what a fault of the nodes says of a place
 
@@ -201,11 +228,11 @@ module _ (network : Network) (target : ℕ) where
 
   -- the nodes end and a place is open; a node stands after the tree's end; or a node isn't right where it stands
   Says : List Node → Kind → ℕ → Type 0
-  Says nodes unfinished k = (k ≡ length nodes) × AreRight network target ([] ∷ []) nodes
-  Says nodes too_long k = (k < length nodes) × AreRight network target ([] ∷ []) (take k nodes) × (places_after (take k nodes) ≡ [])
-  Says nodes (wrong fault) k = (path : List Decision) × (node : Node) × Stands network target nodes k path node × HasFault network target path node fault
+  Says nodes unfinished k = (k ≡ length nodes) × AreRight (IsNodeShown network target planned) ([] ∷ []) nodes
+  Says nodes too_long k = (k < length nodes) × AreRight (IsNodeShown network target planned) ([] ∷ []) (take k nodes) × (places_after (take k nodes) ≡ [])
+  Says nodes (wrong fault) k = (path : List Decision) × (node : Node) × Stands network target planned nodes k path node × HasFault network target planned path node fault
 
-  says : (nodes : List Node) (fault : CheckFault) → IsTreeFault network target nodes fault → (kind : Kind) × (k : ℕ) × (fault ≡ fault_of kind k) × Says nodes kind k
+  says : (nodes : List Node) (fault : CheckFault) → IsTreeFault network target planned nodes fault → (kind : Kind) × (k : ℕ) × (fault ≡ fault_of kind k) × Says nodes kind k
   unfolding fault_of Says
   says nodes (TreeUnfinished k) is = (unfinished, k, refl, (is.0, is.1))
   says nodes (TreeTooLong k) is = (too_long, k, refl, is)
@@ -218,15 +245,15 @@ module _ (network : Network) (target : ℕ) where
   says nodes FlowspanWrong is = absurd is
   says nodes Memory is = absurd is
 
-  reaches : (nodes : List Node) (kind : Kind) (k : ℕ) → Says nodes kind k → AreRight network target ([] ∷ []) (take k nodes) × (k ≤ length nodes)
+  reaches : (nodes : List Node) (kind : Kind) (k : ℕ) → Says nodes kind k → AreRight (IsNodeShown network target planned) ([] ∷ []) (take k nodes) × (k ≤ length nodes)
   unfolding Says
   reaches nodes unfinished k is =
       let ends = is.0 in
-      (subst (AreRight network target ([] ∷ [])) (sym (take_all k nodes (omega arith))) is.1, omega arith)
+      (subst (AreRight (IsNodeShown network target planned) ([] ∷ [])) (sym (take_all k nodes (omega arith))) is.1, omega arith)
   reaches nodes too_long k is = let below = is.0 in (is.1, omega arith)
   reaches nodes (wrong fault) k is = let below = there_below nodes k is.1 is.2.there in (is.2.right_before, omega arith)
 
-  blocks : (nodes : List Node) (kind : Kind) (k m : ℕ) → Says nodes kind k → k < m → m ≤ length nodes → AreRight network target ([] ∷ []) (take m nodes) → ⊥
+  blocks : (nodes : List Node) (kind : Kind) (k m : ℕ) → Says nodes kind k → k < m → m ≤ length nodes → AreRight (IsNodeShown network target planned) ([] ∷ []) (take m nodes) → ⊥
   unfolding Says
   blocks nodes unfinished k m is below within right = let ends = is.0 in omega arith
   blocks nodes too_long k m is below within right =
@@ -234,7 +261,7 @@ module _ (network : Network) (target : ℕ) where
       let found = right_there nodes m k node.0 right below node.1 in
       let clash : [] ≡ found.0 ∷ found.1 = sym is.2 ∙ found.2 in
       cc
-  blocks nodes (wrong fault) k m is below within right = stands_blocks nodes m k is.0 is.1 is.2 (fault_wrong network target is.0 is.1 fault is.3) below right
+  blocks nodes (wrong fault) k m is below within right = stands_blocks nodes m k is.0 is.1 is.2 (fault_wrong network target planned is.0 is.1 fault is.3) below right
 
   same_place : (nodes : List Node) (one other : Kind) (k m : ℕ) → Says nodes one k → Says nodes other m → k ≡ m
   same_place nodes one other k m is is_other =
@@ -250,7 +277,7 @@ module _ (network : Network) (target : ℕ) where
 
   -- ---- of two faults at one place
 
-  same_stand : (nodes : List Node) (k m : ℕ) (path other : List Decision) (node another : Node) → Stands network target nodes k path node → Stands network target nodes m other another → k ≡ m
+  same_stand : (nodes : List Node) (k m : ℕ) (path other : List Decision) (node another : Node) → Stands network target planned nodes k path node → Stands network target planned nodes m other another → k ≡ m
       → (path ≡ other) × (node ≡ another)
   same_stand nodes k m path other node another stands stands_other same =
       let places : path ∷ stands.waiting ≡ other ∷ stands_other.waiting = sym stands.first_place ∙ ap (λ n. places_after (take n nodes)) same ∙ stands_other.first_place in
@@ -275,10 +302,10 @@ module _ (network : Network) (target : ℕ) where
       cc
   same_kind nodes (wrong fault) (wrong other) k m is another same =
       let both = same_stand nodes k m is.0 another.0 is.1 another.1 is.2 another.2 same in
-      ap wrong (one_node_fault network target another.0 another.1 fault other
-      (subst (λ p. HasFault network target p another.1 fault) both.0 (subst (λ n. HasFault network target is.0 n fault) both.1 is.3)) another.3)
+      ap wrong (one_node_fault network target planned another.0 another.1 fault other
+      (subst (λ p. HasFault network target planned p another.1 fault) both.0 (subst (λ n. HasFault network target planned is.0 n fault) both.1 is.3)) another.3)
 
-  one_tree_fault : (nodes : List Node) (one other : CheckFault) → IsTreeFault network target nodes one → IsTreeFault network target nodes other → one ≡ other
+  one_tree_fault : (nodes : List Node) (one other : CheckFault) → IsTreeFault network target planned nodes one → IsTreeFault network target planned nodes other → one ≡ other
   one_tree_fault nodes one other is another =
       let first = says nodes one is in
       let second = says nodes other another in
@@ -322,7 +349,7 @@ one_first_fault network plan cert one other is another = elim is [
       | inl other_claim ↦ absurd (claim_fault_refutes network plan other other_claim nodes.0)
       | inr later ↦ elim later [
         | inl target ↦ absurd (target.1 nodes.1)
-        | inr other_nodes ↦ one_tree_fault network cert.target cert.nodes one other nodes.2 other_nodes.2
+        | inr other_nodes ↦ one_tree_fault network (leaf_target network cert.format cert.target) (tie_plan cert.format (offsets_in plan)) cert.nodes one other nodes.2 other_nodes.2
       ]
     ]
   ]

@@ -1,5 +1,5 @@
 -- The conflicts that are kept, as those of the network.
-use Rattle.std.proofs.Common.{ℕ, ◌<◌, List, get_or, Contains, sym, subst, arith}
+use Rattle.std.proofs.Common.{ℕ, ◌<◌, List, get_or, Contains, sym, subst, arith, Option}
 use Rattle.tsn_model.specs.declared.Triple.{Triple}
 use Rattle.tsn_model.specs.declared.Decision.{Decision}
 use Rattle.tsn_model.specs.declared.Side.{Side}
@@ -8,8 +8,7 @@ use Rattle.tsn_model.specs.declared.Arc.{Arc}
 use Rattle.tsn_model.specs.Network.{Network, stream_count}
 use Rattle.tsn_model.specs.Arcs.{arc_between, arc_on, arc_of}
 use Rattle.tsn_model.specs.Schedule.{IsConflict}
-use Rattle.tsn_model.specs.Certificate.{Node, split_node, leaf_node}
-use Rattle.tsn_model.specs.Places.{IsNodeRight}
+use Rattle.tsn_model.specs.Certificate.{Node, split_node, leaf_node, tie_node, IsNodeShown}
 use Rattle.tsn_model.proofs.Conflicts.{conflict_listed, listed_conflict}
 use Rattle.tsn_conflict.specs.Kept.{Kept, AreConflictsOf}
 use Rattle.tsn_check.specs.declared.path.Turn.{Turn}
@@ -38,6 +37,7 @@ turns_in network kept of_network turns all = λ k d below.
     from_counted network found.decision.triple found.decision.side (kept_conflict network kept of_network found.decision.triple turn.conflict) in
     record { same_arc = same; begins = subst (λ (arc : Arc). arc.from < stream_count network) (sym same) begins; small = turn.small }
 
-pub branch_of : (network : Network) (kept : Kept) → AreConflictsOf network kept → (target : ℕ) (path : List Decision) (node : Node) → IsNodeRight network target path node → IsBranchOf kept node
-branch_of network kept of_network target path (split_node triple) right = conflict_kept network kept of_network triple right
-branch_of network kept of_network target path (leaf_node leaf) right = tt
+pub branch_of : (network : Network) (kept : Kept) → AreConflictsOf network kept → (target : ℕ) (planned : Option (List ℕ)) (path : List Decision) (node : Node) → IsNodeShown network target planned path node → IsBranchOf kept node
+branch_of network kept of_network target planned path (split_node triple) right = conflict_kept network kept of_network triple right
+branch_of network kept of_network target planned path (leaf_node proof) right = tt
+branch_of network kept of_network target planned path (tie_node proof chains) right = tt

@@ -5,3 +5,4 @@ mod Walks
 mod Chains
 mod Firsts
 mod Kept
+mod Ties

@@ -3,17 +3,19 @@ use Rattle.std.proofs.Common.{◌≡◌, ◌≤◌, ℕ, List, [], ◌∷◌, Al
 use Rattle.std.proofs.lemmas.List.{get_or_default}
 use Rattle.tsn_model.specs.Network.{Network, IsWellFormed}
 use Rattle.tsn_model.specs.Schedule.{IsValid, HasNoSchedule, target_of}
-use Rattle.tsn_model.specs.Certificate.{Accepts}
+use Rattle.tsn_model.specs.Certificate.{AcceptsBy, IsNodeShown}
 use Rattle.tsn_model.proofs.Soundness.{accepted_optimal, accepted_none}
+use Rattle.tsn_model.proofs.Firsts.{accepted_first, accepted_first_none}
 use Rattle.tsn_cert.specs.declared.plan.Plan.{Plan}
 use Rattle.tsn_cert.specs.declared.plan.Plan.TheVariants as plan
 use Rattle.tsn_cert.specs.declared.cert.Cert.{Cert}
+use Rattle.tsn_cert.specs.declared.cert.Format.{Format}
+use Rattle.tsn_cert.specs.declared.cert.Format.TheVariants.{One, Two}
 use Rattle.tsn_model.specs.Certificate as tree
 use Rattle.tsn_model.specs.Places.{Fills}
 use Rattle.tsn_check.specs.Claims.{IsClaim}
-use Rattle.tsn_check.specs.declared.verdict.Verdict.{Verdict}
-use Rattle.tsn_check.specs.Faults.{Certifies, IsPlanRight, IsOptimalPlan, IsClaimFault, IsScheduleFault, IsFirstFault, IsTreeFault, offsets_in, verdict_of}
-use Rattle.tsn_check.specs.declared.verdict.Verdict.TheVariants.{Optimal, NoSchedule}
+use Rattle.tsn_check.specs.Faults.{Certifies, leaf_target, tie_plan, span_in, IsPlanRight, IsOptimalPlan, IsFirstPlan, IsClaimFault, IsScheduleFault, IsFirstFault, IsTreeFault, offsets_in, verdict_of}
+use Rattle.tsn_check.specs.declared.verdict.Verdict.TheVariants.{Optimal, First, NoSchedule}
 use Rattle.tsn_check.specs.declared.fault.CheckFault.{CheckFault}
 use Rattle.tsn_check.specs.declared.fault.CheckFault.TheVariants.{PlanInvalid, FlowspanWrong, TreeUnfinished, TreeTooLong, NotConflict, ChainBroken, BoundTooLow, StreamRepeated, NotOnLink, Memory}
 use Rattle.tsn_model.proofs.Places.{filled_tree, tree_filled}
@@ -21,24 +23,39 @@ use Rattle.tsn_check.proofs.Refusals.{tree_fault_refutes}
 
 -- nodes that fill the root's place for the plan's target
 pub certified : (network : Network) (plan : Plan) (cert : Cert) → IsPlanRight network plan → cert.target ≡ target_of network (offsets_in plan)
-    → Fills network cert.target ([] ∷ []) cert.nodes → Certifies network plan cert
+    → Fills (IsNodeShown network (leaf_target network cert.format cert.target) (tie_plan cert.format (offsets_in plan))) ([] ∷ []) cert.nodes → Certifies network plan cert
 certified network plan cert right target fills =
-    let found = filled_tree network cert.target [] cert.nodes fills in
+    let found = filled_tree (IsNodeShown network (leaf_target network cert.format cert.target) (tie_plan cert.format (offsets_in plan))) [] cert.nodes fills in
     record { plan_right = right; target_right = target; tree = found.0; spelled = found.1; accepted = found.2 }
 
-pub certified_optimal : (network : Network) → IsWellFormed network → (plan : Plan) (cert : Cert) → Certifies network plan cert → verdict_of plan ≡ Optimal → IsOptimalPlan network plan
-unfolding target_of
-certified_optimal network formed (plan.Schedule span offsets) cert certifies is = (
-  accepted_optimal network formed offsets certifies.plan_right.0 certifies.tree (subst (λ target. Accepts network target [] certifies.tree) certifies.target_right certifies.accepted),
-  certifies.plan_right.1,
-)
-certified_optimal network formed plan.None cert certifies is = cc
+abbrev AcceptedIn : Network → Plan → Format → ℕ → tree.Tree → Type 0
+AcceptedIn network plan format target accepted = AcceptsBy (IsNodeShown network (leaf_target network format target) (tie_plan format (offsets_in plan))) [] accepted
 
-pub certified_none : (network : Network) → IsWellFormed network → (plan : Plan) (cert : Cert) → Certifies network plan cert → verdict_of plan ≡ NoSchedule → HasNoSchedule network
+accepted_for : (network : Network) (plan : Plan) (cert : Cert) (certifies : Certifies network plan cert) → AcceptedIn network plan cert.format (target_of network (offsets_in plan)) certifies.tree
+accepted_for network plan cert certifies = subst (λ target. AcceptedIn network plan cert.format target certifies.tree) certifies.target_right certifies.accepted
+
+optimal_in : (network : Network) → IsWellFormed network → (format : Format) (plan : Plan) (accepted : tree.Tree) → IsPlanRight network plan → AcceptedIn network plan format (target_of network (offsets_in plan)) accepted
+    → verdict_of format plan ≡ Optimal → IsOptimalPlan network plan
 unfolding target_of
-certified_none network formed (plan.Schedule span offsets) cert certifies is = cc
-certified_none network formed plan.None cert certifies is =
-    accepted_none network formed certifies.tree (subst (λ target. Accepts network target [] certifies.tree) certifies.target_right certifies.accepted)
+optimal_in network formed One (plan.Schedule span offsets) accepted right accepts is = (accepted_optimal network formed offsets right.0 accepted accepts, right.1)
+optimal_in network formed Two (plan.Schedule span offsets) accepted right accepts is = cc
+optimal_in network formed One plan.None accepted right accepts is = cc
+optimal_in network formed Two plan.None accepted right accepts is = cc
+
+first_in : (network : Network) → IsWellFormed network → (format : Format) (plan : Plan) (accepted : tree.Tree) → IsPlanRight network plan → AcceptedIn network plan format (target_of network (offsets_in plan)) accepted
+    → verdict_of format plan ≡ First → IsFirstPlan network plan
+first_in network formed One (plan.Schedule span offsets) accepted right accepts is = cc
+first_in network formed Two (plan.Schedule span offsets) accepted right accepts is = (accepted_first network formed offsets right.0 accepted accepts, right.1)
+first_in network formed One plan.None accepted right accepts is = cc
+first_in network formed Two plan.None accepted right accepts is = cc
+
+none_in : (network : Network) → IsWellFormed network → (format : Format) (plan : Plan) (accepted : tree.Tree) → IsPlanRight network plan → AcceptedIn network plan format (target_of network (offsets_in plan)) accepted
+    → verdict_of format plan ≡ NoSchedule → HasNoSchedule network
+unfolding target_of
+none_in network formed One (plan.Schedule span offsets) accepted right accepts is = cc
+none_in network formed Two (plan.Schedule span offsets) accepted right accepts is = cc
+none_in network formed One plan.None accepted right accepts is = accepted_none network formed accepted accepts
+none_in network formed Two plan.None accepted right accepts is = accepted_first_none network formed accepted accepts
 
 schedule_fault_refutes : (network : Network) (span : ℕ) (offsets : List ℕ) (fault : CheckFault) → IsScheduleFault network span offsets fault → IsPlanRight network (plan.Schedule span offsets) → ⊥
 schedule_fault_refutes network span offsets PlanInvalid fault right = fault right.0
@@ -61,40 +78,52 @@ first_fault_refutes network plan cert fault is certifies = elim is [
   | inl claim ↦ claim_fault_refutes network plan fault claim certifies.plan_right
   | inr later ↦ elim later [
     | inl target ↦ target.1 certifies.target_right
-    | inr tree ↦ tree_fault_refutes network cert.target cert.nodes fault tree.2 (tree_filled network cert.target [] cert.nodes certifies.tree certifies.spelled certifies.accepted)
+    | inr tree ↦ tree_fault_refutes network (leaf_target network cert.format cert.target) (tie_plan cert.format (offsets_in plan)) cert.nodes fault tree.2
+        (tree_filled (IsNodeShown network (leaf_target network cert.format cert.target) (tie_plan cert.format (offsets_in plan))) [] cert.nodes certifies.tree certifies.spelled certifies.accepted)
   ]
 ]
 
 -- ---- what the code found
 
+-- no flowspan of a right plan is above the limit
+pub span-small : (network : Network) (plan : Plan) (target : ℕ) → IsClaim network plan target → span_in plan ≤ 2000000000
+unfolding target_of
+span-small network (plan.Schedule span offsets) target claim = let small = claim.small in let aim = claim.aim in let right = claim.right.1 in omega arith
+span-small network plan.None target claim = omega arith
+
 -- its claim holds, and the nodes fill the root's place
-pub checked : (network timing : Network) (plan : Plan) (cert : Cert) (verdict : Verdict) (target : ℕ) (nodes : List tree.Node) → timing ≡ network → IsClaim timing plan (verdict, target)
-    → cert.target ≡ target → nodes ≡ cert.nodes → Fills timing target ([] ∷ []) nodes → Certifies network plan cert
-checked network timing plan cert verdict target nodes same claim aimed listed fills =
+pub checked : (network timing : Network) (plan : Plan) (cert : Cert) (target : ℕ) (nodes : List tree.Node) → timing ≡ network → IsClaim timing plan target
+    → cert.target ≡ target → nodes ≡ cert.nodes → Fills (IsNodeShown timing (leaf_target timing cert.format target) (tie_plan cert.format (offsets_in plan))) ([] ∷ []) nodes → Certifies network plan cert
+checked network timing plan cert target nodes same claim aimed listed fills =
     let right = subst (λ n. IsPlanRight n plan) same claim.right in
-    let aim : cert.target ≡ target_of network (offsets_in plan) = aimed ∙ claim.target ∙ ap (λ n. target_of n (offsets_in plan)) same in
-    let whole : Fills network cert.target ([] ∷ []) cert.nodes =
-    subst (Fills network cert.target ([] ∷ [])) listed (subst (λ t. Fills network t ([] ∷ []) nodes) (sym aimed) (subst (λ n. Fills n target ([] ∷ []) nodes) same fills)) in
+    let aim : cert.target ≡ target_of network (offsets_in plan) = aimed ∙ claim.aim ∙ ap (λ n. target_of n (offsets_in plan)) same in
+    let Filled : Network → ℕ → List tree.Node → Type 0 = λ n t ns. Fills (IsNodeShown n (leaf_target n cert.format t) (tie_plan cert.format (offsets_in plan))) ([] ∷ []) ns in
+    let whole : Filled network cert.target cert.nodes = subst (Filled network cert.target) listed (subst (λ t. Filled network t nodes) (sym aimed) (subst (λ n. Filled n target nodes) same fills)) in
     certified network plan cert right aim whole
 
-pub shown_optimal : (network timing : Network) (plan : Plan) (cert : Cert) (verdict : Verdict) (target : ℕ) → timing ≡ network → IsClaim timing plan (verdict, target) → Certifies network plan cert
-    → verdict ≡ Optimal → IsOptimalPlan network plan
-shown_optimal network timing plan cert verdict target same claim certifies is =
-    certified_optimal network (subst IsWellFormed same claim.formed) plan cert certifies (sym claim.verdict ∙ is)
+pub shown_optimal : (network timing : Network) (plan : Plan) (cert : Cert) (target : ℕ) → timing ≡ network → IsClaim timing plan target → Certifies network plan cert
+    → verdict_of cert.format plan ≡ Optimal → IsOptimalPlan network plan
+shown_optimal network timing plan cert target same claim certifies is =
+    optimal_in network (subst IsWellFormed same claim.formed) cert.format plan certifies.tree certifies.plan_right (accepted_for network plan cert certifies) is
 
-pub shown_none : (network timing : Network) (plan : Plan) (cert : Cert) (verdict : Verdict) (target : ℕ) → timing ≡ network → IsClaim timing plan (verdict, target) → Certifies network plan cert
-    → verdict ≡ NoSchedule → HasNoSchedule network
-shown_none network timing plan cert verdict target same claim certifies is =
-    certified_none network (subst IsWellFormed same claim.formed) plan cert certifies (sym claim.verdict ∙ is)
+pub shown_first : (network timing : Network) (plan : Plan) (cert : Cert) (target : ℕ) → timing ≡ network → IsClaim timing plan target → Certifies network plan cert
+    → verdict_of cert.format plan ≡ First → IsFirstPlan network plan
+shown_first network timing plan cert target same claim certifies is =
+    first_in network (subst IsWellFormed same claim.formed) cert.format plan certifies.tree certifies.plan_right (accepted_for network plan cert certifies) is
+
+pub shown_none : (network timing : Network) (plan : Plan) (cert : Cert) (target : ℕ) → timing ≡ network → IsClaim timing plan target → Certifies network plan cert
+    → verdict_of cert.format plan ≡ NoSchedule → HasNoSchedule network
+shown_none network timing plan cert target same claim certifies is =
+    none_in network (subst IsWellFormed same claim.formed) cert.format plan certifies.tree certifies.plan_right (accepted_for network plan cert certifies) is
 
 -- a fault of the nodes is the first one
-pub tree_fault_first : (network timing : Network) (plan : Plan) (cert : Cert) (verdict : Verdict) (target : ℕ) (nodes : List tree.Node) (fault : CheckFault) → timing ≡ network → IsClaim timing plan (verdict, target)
-    → cert.target ≡ target → nodes ≡ cert.nodes → IsTreeFault timing target nodes fault → IsFirstFault network plan cert fault
-tree_fault_first network timing plan cert verdict target nodes fault same claim aimed listed is =
+pub tree_fault_first : (network timing : Network) (plan : Plan) (cert : Cert) (target : ℕ) (nodes : List tree.Node) (fault : CheckFault) → timing ≡ network → IsClaim timing plan target
+    → cert.target ≡ target → nodes ≡ cert.nodes → IsTreeFault timing (leaf_target timing cert.format target) (tie_plan cert.format (offsets_in plan)) nodes fault → IsFirstFault network plan cert fault
+tree_fault_first network timing plan cert target nodes fault same claim aimed listed is =
     let right = subst (λ n. IsPlanRight n plan) same claim.right in
-    let aim : cert.target ≡ target_of network (offsets_in plan) = aimed ∙ claim.target ∙ ap (λ n. target_of n (offsets_in plan)) same in
-    let whole : IsTreeFault network cert.target cert.nodes fault =
-    subst (λ ns. IsTreeFault network cert.target ns fault) listed (subst (λ t. IsTreeFault network t nodes fault) (sym aimed) (subst (λ n. IsTreeFault n target nodes fault) same is)) in
+    let aim : cert.target ≡ target_of network (offsets_in plan) = aimed ∙ claim.aim ∙ ap (λ n. target_of n (offsets_in plan)) same in
+    let Faulty : Network → ℕ → List tree.Node → Type 0 = λ n t ns. IsTreeFault n (leaf_target n cert.format t) (tie_plan cert.format (offsets_in plan)) ns fault in
+    let whole : Faulty network cert.target cert.nodes = subst (Faulty network cert.target) listed (subst (λ t. Faulty network t nodes) (sym aimed) (subst (λ n. Faulty n target nodes) same is)) in
     inr (inr (right, aim, whole))
 
 -- ---- plans

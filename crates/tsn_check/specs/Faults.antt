@@ -1,21 +1,24 @@
 -- What a certificate of a plan shows, and the first reason why it shows nothing.
+--     leaf_target, tie_plan                            what the leaves of a format show, and with which schedule they may tie
 --     Certifies                                        the plan is right, and the nodes spell an accepted tree
 --     IsFirstFault                                     the first fault of a plan and a certificate
 --     IsFirstWrong                                     the first entry of a leaf that isn't right
 --     IsNoConflict, IsNotOnLink, IsStreamRepeated, IsChainBroken, IsBoundTooLow      what is wrong with a node at the end of a path
-use Rattle.std.specs.Prelude.{◌≡◌, ◌≢◌, ◌⊎◌, ℕ, ◌<◌, List, [], ◌∷◌, length, take, slice_get, Option, Some, None, All, Any}
+use Rattle.std.specs.Prelude.{◌≡◌, ◌≢◌, ◌⊎◌, ℕ, ◌<◌, List, [], ◌∷◌, length, take, slice_get, Option, Some, None, IsSomeAnd, All, Any}
 use Rattle.tsn_model.specs.declared.Decision.{Decision}
 use Rattle.tsn_model.specs.Network.{Network}
 use Rattle.tsn_model.specs.Timing.{UsesLink}
-use Rattle.tsn_model.specs.Schedule.{IsValid, flowspan, target_of, IsOptimal, IsConflict}
+use Rattle.tsn_model.specs.Schedule.{IsValid, flowspan, target_of, IsOptimal, IsFirst, IsConflict}
 use Rattle.tsn_model.specs.Arcs.{arcs_of, IsClosedChain}
-use Rattle.tsn_model.specs.Certificate.{Leaf, late, overrun, positive_cycle, load, overload, Entry, LeadsTo, AreEntries, Proves, Tree, Accepts, Node, split_node, leaf_node, Spells}
+use Rattle.tsn_model.specs.Certificate.{Leaf, late, overrun, positive_cycle, load, overload, Entry, LeadsTo, AreEntries, Proves, beyond, AreChains, Ties, Tree, AcceptsBy, Node, split_node, leaf_node, tie_node, IsNodeShown, Spells}
 use Rattle.tsn_cert.specs.declared.plan.Plan.{Plan}
 use Rattle.tsn_cert.specs.declared.plan.Plan.TheVariants as plan
 use Rattle.tsn_cert.specs.declared.cert.Cert.{Cert}
+use Rattle.tsn_cert.specs.declared.cert.Format.{Format}
+use Rattle.tsn_cert.specs.declared.cert.Format.TheVariants.{One, Two}
 use Rattle.tsn_model.specs.Places.{AreRight, places_after}
 use Rattle.tsn_check.specs.declared.verdict.Verdict.{Verdict}
-use Rattle.tsn_check.specs.declared.verdict.Verdict.TheVariants.{Optimal, NoSchedule}
+use Rattle.tsn_check.specs.declared.verdict.Verdict.TheVariants.{Optimal, First, NoSchedule}
 use Rattle.tsn_check.specs.declared.fault.CheckFault.{CheckFault}
 use Rattle.tsn_check.specs.declared.fault.CheckFault.TheVariants.{PlanInvalid, FlowspanWrong, TreeUnfinished, TreeTooLong, NotConflict, ChainBroken, BoundTooLow, StreamRepeated, NotOnLink}
 
@@ -25,6 +28,11 @@ use Rattle.tsn_check.specs.declared.fault.CheckFault.TheVariants.{PlanInvalid, F
 abbrev pub offsets_in : Plan → Option (List ℕ)
 offsets_in (plan.Schedule span offsets) = Some offsets
 offsets_in plan.None = None
+
+-- its flowspan, 0 where it is that there is no schedule
+abbrev pub span_in : Plan → ℕ
+span_in (plan.Schedule span offsets) = span
+span_in plan.None = 0
 
 -- the plan is a valid schedule with its own flowspan, or that there is none
 abbrev pub IsPlanRight : Network → Plan → Type 0
@@ -49,23 +57,40 @@ IsClaimFault network plan.None fault = ⊥
 
 -- ---- certificates
 
--- The plan is right, and the nodes spell a tree that is accepted for what no schedule may undercut.
+-- what each leaf shows every flowspan on its path to be at least: the target, or in format 2 what is worse
+abbrev pub leaf_target : Network → Format → ℕ → ℕ
+leaf_target network One target = target
+leaf_target network Two target = beyond network target
+
+-- the schedule with which a leaf may tie: none in format 1
+abbrev pub tie_plan : Format → Option (List ℕ) → Option (List ℕ)
+tie_plan One planned = None
+tie_plan Two planned = planned
+
+-- The plan is right, and the nodes spell a tree that is accepted, in the certificate's format, for what no schedule may undercut.
 pub record Certifies (network : Network) (plan : Plan) (cert : Cert) : Type 0 where
   pub plan_right : IsPlanRight network plan
   pub target_right : cert.target ≡ target_of network (offsets_in plan)
   pub tree : Tree
   pub spelled : Spells cert.nodes tree
-  pub accepted : Accepts network cert.target [] tree
+  pub accepted : AcceptsBy (IsNodeShown network (leaf_target network cert.format cert.target) (tie_plan cert.format (offsets_in plan))) [] tree
 
 -- what a certificate of the plan shows
-abbrev pub verdict_of : Plan → Verdict
-verdict_of (plan.Schedule span offsets) = Optimal
-verdict_of plan.None = NoSchedule
+abbrev pub verdict_of : Format → Plan → Verdict
+verdict_of One (plan.Schedule span offsets) = Optimal
+verdict_of Two (plan.Schedule span offsets) = First
+verdict_of One plan.None = NoSchedule
+verdict_of Two plan.None = NoSchedule
 
 -- the plan is a schedule whose flowspan no valid schedule undercuts
 abbrev pub IsOptimalPlan : Network → Plan → Type 0
 IsOptimalPlan network (plan.Schedule span offsets) = IsOptimal network offsets × (span ≡ flowspan network offsets)
 IsOptimalPlan network plan.None = ⊥
+
+-- the plan is a schedule of such a flowspan, and comes before every other one
+abbrev pub IsFirstPlan : Network → Plan → Type 0
+IsFirstPlan network (plan.Schedule span offsets) = IsFirst network offsets × (span ≡ flowspan network offsets)
+IsFirstPlan network plan.None = ⊥
 
 -- ---- the entries of a leaf over a whole link
 
@@ -95,7 +120,8 @@ IsUnled network path link before entry =
 -- a branch on something other than two streams and a link of both
 abbrev pub IsNoConflict : Network → Node → Type 0
 IsNoConflict network (split_node triple) = IsConflict network triple → ⊥
-IsNoConflict network (leaf_node leaf) = ⊥
+IsNoConflict network (leaf_node proof) = ⊥
+IsNoConflict network (tie_node proof chains) = ⊥
 
 -- the leaf's chains are chains of the path, and end where they are to
 abbrev pub HasChains : Network → List Decision → Leaf → Type 0
@@ -116,12 +142,14 @@ HasWrongEntry network path Wrong (overload link entries) = IsFirstWrong network 
 -- a leaf over a link with an entry that isn't on it
 abbrev pub IsNotOnLink : Network → List Decision → Node → Type 0
 IsNotOnLink network path (split_node triple) = ⊥
-IsNotOnLink network path (leaf_node leaf) = HasWrongEntry network path (IsOffLink network) leaf
+IsNotOnLink network path (leaf_node proof) = HasWrongEntry network path (IsOffLink network) proof
+IsNotOnLink network path (tie_node proof chains) = HasWrongEntry network path (IsOffLink network) proof
 
 -- a leaf over a link with a stream twice
 abbrev pub IsStreamRepeated : Network → List Decision → Node → Type 0
 IsStreamRepeated network path (split_node triple) = ⊥
-IsStreamRepeated network path (leaf_node leaf) = HasWrongEntry network path (IsRepeated network) leaf
+IsStreamRepeated network path (leaf_node proof) = HasWrongEntry network path (IsRepeated network) proof
+IsStreamRepeated network path (tie_node proof chains) = HasWrongEntry network path (IsRepeated network) proof
 
 -- the leaf's chain, or that of the first entry that isn't right, doesn't end where it is to
 abbrev pub BreaksChain : Network → List Decision → Leaf → Type 0
@@ -131,37 +159,40 @@ BreaksChain network path (positive_cycle chain) = IsClosedChain (arcs_of network
 BreaksChain network path (load link entries) = IsFirstWrong network path link entries (IsUnled network path link)
 BreaksChain network path (overload link entries) = IsFirstWrong network path link entries (IsUnled network path link)
 
--- a leaf whose chains aren't right
+-- a leaf whose chains aren't right, or a tie whose own chains aren't while its leaf's are
 abbrev pub IsChainBroken : Network → List Decision → Node → Type 0
 IsChainBroken network path (split_node triple) = ⊥
-IsChainBroken network path (leaf_node leaf) = BreaksChain network path leaf
+IsChainBroken network path (leaf_node proof) = BreaksChain network path proof
+IsChainBroken network path (tie_node proof chains) = BreaksChain network path proof ⊎ (HasChains network path proof × (AreChains network path chains → ⊥))
 
--- a leaf whose chains are right, and which doesn't prove the target
-abbrev pub IsBoundTooLow : Network → ℕ → List Decision → Node → Type 0
-IsBoundTooLow network target path (split_node triple) = ⊥
-IsBoundTooLow network target path (leaf_node leaf) = HasChains network path leaf × (Proves network path target leaf → ⊥)
+-- a leaf whose chains are right, and which doesn't prove the target; or a tie whose chains are right, and which isn't one with the plan
+abbrev pub IsBoundTooLow : Network → ℕ → Option (List ℕ) → List Decision → Node → Type 0
+IsBoundTooLow network target planned path (split_node triple) = ⊥
+IsBoundTooLow network target planned path (leaf_node proof) = HasChains network path proof × (Proves network path target proof → ⊥)
+IsBoundTooLow network target planned path (tie_node proof chains) =
+    HasChains network path proof × AreChains network path chains × (IsSomeAnd planned (λ offsets. Ties network path offsets proof chains) → ⊥)
 
 -- The nodes before node k are right, and it stands at the end of the path, the first place that is open there.
-pub record Stands (network : Network) (target : ℕ) (nodes : List Node) (k : ℕ) (path : List Decision) (node : Node) : Type 0 where
-  pub right_before : AreRight network target ([] ∷ []) (take k nodes)
+pub record Stands (network : Network) (target : ℕ) (planned : Option (List ℕ)) (nodes : List Node) (k : ℕ) (path : List Decision) (node : Node) : Type 0 where
+  pub right_before : AreRight (IsNodeShown network target planned) ([] ∷ []) (take k nodes)
   pub waiting : List (List Decision)
   pub first_place : places_after (take k nodes) ≡ path ∷ waiting
   pub there : slice_get nodes k ≡ Some node
 
 -- The first fault of a list of nodes: they end and a place is open; a node stands after the tree's end; a node isn't right where it stands.
-abbrev pub IsTreeFault : Network → ℕ → List Node → CheckFault → Type 0
-IsTreeFault network target nodes (TreeUnfinished k) = (k ≡ length nodes) × AreRight network target ([] ∷ []) nodes × (places_after nodes ≢ [])
-IsTreeFault network target nodes (TreeTooLong k) = (k < length nodes) × AreRight network target ([] ∷ []) (take k nodes) × (places_after (take k nodes) ≡ [])
-IsTreeFault network target nodes (NotConflict k) = (path : List Decision) × (node : Node) × Stands network target nodes k path node × IsNoConflict network node
-IsTreeFault network target nodes (ChainBroken k) = (path : List Decision) × (node : Node) × Stands network target nodes k path node × IsChainBroken network path node
-IsTreeFault network target nodes (BoundTooLow k) = (path : List Decision) × (node : Node) × Stands network target nodes k path node × IsBoundTooLow network target path node
-IsTreeFault network target nodes (StreamRepeated k) = (path : List Decision) × (node : Node) × Stands network target nodes k path node × IsStreamRepeated network path node
-IsTreeFault network target nodes (NotOnLink k) = (path : List Decision) × (node : Node) × Stands network target nodes k path node × IsNotOnLink network path node
-IsTreeFault network target nodes _ = ⊥
+abbrev pub IsTreeFault : Network → ℕ → Option (List ℕ) → List Node → CheckFault → Type 0
+IsTreeFault network target planned nodes (TreeUnfinished k) = (k ≡ length nodes) × AreRight (IsNodeShown network target planned) ([] ∷ []) nodes × (places_after nodes ≢ [])
+IsTreeFault network target planned nodes (TreeTooLong k) = (k < length nodes) × AreRight (IsNodeShown network target planned) ([] ∷ []) (take k nodes) × (places_after (take k nodes) ≡ [])
+IsTreeFault network target planned nodes (NotConflict k) = (path : List Decision) × (node : Node) × Stands network target planned nodes k path node × IsNoConflict network node
+IsTreeFault network target planned nodes (ChainBroken k) = (path : List Decision) × (node : Node) × Stands network target planned nodes k path node × IsChainBroken network path node
+IsTreeFault network target planned nodes (BoundTooLow k) = (path : List Decision) × (node : Node) × Stands network target planned nodes k path node × IsBoundTooLow network target planned path node
+IsTreeFault network target planned nodes (StreamRepeated k) = (path : List Decision) × (node : Node) × Stands network target planned nodes k path node × IsStreamRepeated network path node
+IsTreeFault network target planned nodes (NotOnLink k) = (path : List Decision) × (node : Node) × Stands network target planned nodes k path node × IsNotOnLink network path node
+IsTreeFault network target planned nodes _ = ⊥
 
 -- the first fault of a plan and its certificate: of the plan, then of the target, then of the nodes in order
 abbrev pub IsFirstFault : Network → Plan → Cert → CheckFault → Type 0
 IsFirstFault network plan cert fault =
     IsClaimFault network plan fault
     ⊎ (IsPlanRight network plan × (cert.target ≢ target_of network (offsets_in plan)) × (fault ≡ FlowspanWrong))
-    ⊎ (IsPlanRight network plan × (cert.target ≡ target_of network (offsets_in plan)) × IsTreeFault network cert.target cert.nodes fault)
+    ⊎ (IsPlanRight network plan × (cert.target ≡ target_of network (offsets_in plan)) × IsTreeFault network (leaf_target network cert.format cert.target) (tie_plan cert.format (offsets_in plan)) cert.nodes fault)

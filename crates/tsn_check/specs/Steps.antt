@@ -1,28 +1,50 @@
 -- What a node is found to be at the end of a path, and where the walk goes on from it.
-use Rattle.std.specs.Prelude.{◌≡◌, ◌≢◌, ℕ, ◌*◌, ◌≤◌, List, [], ◌∷◌, length, map, All, ℤ, pos, ◌+ℤ◌, ◌≤ℤ◌, Result, Ok, Err, Contains}
+use Rattle.std.specs.Prelude.{◌≡◌, ◌≢◌, ℕ, ◌*◌, ◌≤◌, List, [], ◌∷◌, length, map, All, ℤ, pos, ◌+ℤ◌, ◌≤ℤ◌, Bool, MatchBool, Result, Ok, Err, Option, Contains}
 use Rattle.tsn_model.specs.declared.Decision.{Decision}
 use Rattle.tsn_model.specs.Network.{Network}
 use Rattle.tsn_model.specs.Timing.{UsesLink}
-use Rattle.tsn_model.specs.Certificate.{Entry, LeadsTo, AreEntries, sum_on, least, head_of, tail_of, work_of, Node, split_node, leaf_node}
-use Rattle.tsn_model.specs.Places.{IsNodeRight}
+use Rattle.tsn_model.specs.Certificate.{Entry, LeadsTo, AreEntries, sum_on, least, head_of, tail_of, work_of, Leaf, Proves, AreChains, Node, split_node, leaf_node, tie_node, IsNodeShown}
 use Rattle.tsn_conflict.specs.Kept.{Kept}
-use Rattle.tsn_check.specs.Faults.{IsNoConflict, IsNotOnLink, IsStreamRepeated, IsChainBroken, IsBoundTooLow, IsFirstWrong, IsOffLink, IsRepeated, IsUnled}
+use Rattle.tsn_check.specs.Faults.{IsNoConflict, IsNotOnLink, IsStreamRepeated, IsChainBroken, IsBoundTooLow, HasChains, HasWrongEntry, BreaksChain, IsFirstWrong, IsOffLink, IsRepeated, IsUnled}
 use Rattle.tsn_check.specs.declared.fault.NodeFault.{NodeFault}
 use Rattle.tsn_check.specs.declared.fault.NodeFault.TheVariants.{NotConflict, ChainBroken, BoundTooLow, StreamRepeated, NotOnLink}
 use Rattle.tsn_check.specs.declared.load.LinkLoad.{LinkLoad}
 
 -- a node at the end of a path has this fault
-abbrev pub HasFault : Network → ℕ → List Decision → Node → NodeFault → Type 0
-HasFault network target path node NotConflict = IsNoConflict network node
-HasFault network target path node ChainBroken = IsChainBroken network path node
-HasFault network target path node BoundTooLow = IsBoundTooLow network target path node
-HasFault network target path node StreamRepeated = IsStreamRepeated network path node
-HasFault network target path node NotOnLink = IsNotOnLink network path node
+abbrev pub HasFault : Network → ℕ → Option (List ℕ) → List Decision → Node → NodeFault → Type 0
+HasFault network target planned path node NotConflict = IsNoConflict network node
+HasFault network target planned path node ChainBroken = IsChainBroken network path node
+HasFault network target planned path node BoundTooLow = IsBoundTooLow network target planned path node
+HasFault network target planned path node StreamRepeated = IsStreamRepeated network path node
+HasFault network target planned path node NotOnLink = IsNotOnLink network path node
 
 -- the node at the end of a path is right, or has the fault that is told
-abbrev pub Judges : Network → ℕ → List Decision → Node → Result Unit NodeFault → Type 0
-Judges network target path node (Ok _) = IsNodeRight network target path node
-Judges network target path node (Err fault) = HasFault network target path node fault
+abbrev pub Judges : Network → ℕ → Option (List ℕ) → List Decision → Node → Result Unit NodeFault → Type 0
+Judges network target planned path node (Ok _) = IsNodeShown network target planned path node
+Judges network target planned path node (Err fault) = HasFault network target planned path node fault
+
+-- what is wrong with the chains or entries of a leaf
+abbrev pub HasPartFault : Network → List Decision → Leaf → NodeFault → Type 0
+HasPartFault network path proof ChainBroken = BreaksChain network path proof
+HasPartFault network path proof StreamRepeated = HasWrongEntry network path (IsRepeated network) proof
+HasPartFault network path proof NotOnLink = HasWrongEntry network path (IsOffLink network) proof
+HasPartFault network path proof _ = ⊥
+
+-- the leaf's parts are right, and it is told whether it proves the target; or what is wrong with them
+abbrev pub FindsBound : Network → ℕ → List Decision → Leaf → Result Bool NodeFault → Type 0
+FindsBound network target path proof (Ok is_proved) = HasChains network path proof × MatchBool is_proved (Proves network path target proof) (Proves network path target proof → ⊥)
+FindsBound network target path proof (Err fault) = HasPartFault network path proof fault
+
+-- the leaf proves the target, or has the fault that is told
+abbrev pub JudgesLeaf : Network → ℕ → List Decision → Leaf → Result Unit NodeFault → Type 0
+JudgesLeaf network target path proof (Ok _) = Proves network path target proof
+JudgesLeaf network target path proof (Err BoundTooLow) = HasChains network path proof × (Proves network path target proof → ⊥)
+JudgesLeaf network target path proof (Err fault) = HasPartFault network path proof fault
+
+-- there is a chain to each of the first streams, or one isn't such a chain
+abbrev pub FindsChains : Network → List Decision → List (List ℕ) → Result Unit NodeFault → Type 0
+FindsChains network path chains (Ok _) = AreChains network path chains
+FindsChains network path chains (Err fault) = (fault ≡ ChainBroken) × (AreChains network path chains → ⊥)
 
 -- the sum of a chain of the path to a stream, which begins with a release
 pub record IsSumTo (network : Network) (path : List Decision) (chain : List ℕ) (i : ℕ) (sum : ℤ) : Type 0 where
@@ -77,4 +99,5 @@ FindsLoad network path link entries (Err fault) = IsFirstWrong network path link
 -- if the node is a branch, it is on one of the conflicts that are kept
 abbrev pub IsBranchOf : Kept → Node → Type 0
 IsBranchOf kept (split_node triple) = Contains kept.triples triple
-IsBranchOf kept (leaf_node leaf) = Unit {0}
+IsBranchOf kept (leaf_node proof) = Unit {0}
+IsBranchOf kept (tie_node proof chains) = Unit {0}

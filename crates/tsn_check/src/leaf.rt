@@ -1,8 +1,8 @@
 //! Whether a leaf proves its target at the end of a path.
 ghost use Rattle.std.specs.Prelude.{ℕ, ◌≤◌};
-ghost use Rattle.tsn_model.specs.Certificate.{leaf_node, late, overrun, positive_cycle};
+ghost use Rattle.tsn_model.specs.Certificate.{late, overrun, positive_cycle};
 ghost use Rattle.tsn_check.specs.Turns.{AreTurns, decisions};
-ghost use Rattle.tsn_check.specs.Steps.{Judges, FindsSum};
+ghost use Rattle.tsn_check.specs.Steps.{JudgesLeaf, FindsSum};
 
 use crate::chain::{closed_sum, walk_back};
 use crate::fault::NodeFault;
@@ -40,7 +40,7 @@ pub fn judge_late(
 ) -> Result<(), NodeFault>
     requires turns { AreTurns timing.now path.now }
     requires target { target ≤ 2_000_000_000 }
-    ensures { Judges timing.now target (decisions path.now) (leaf_node (late stream chain.now)) result }
+    ensures { JudgesLeaf timing.now target (decisions path.now) (late stream chain.now) result }
 {
     let sum = sum_to(timing, path, stream, chain)?;
     if sum + timing.arrival(stream) as i64 >= target as i64 {
@@ -58,7 +58,7 @@ pub fn judge_overrun(
     chain: &Chain,
 ) -> Result<(), NodeFault>
     requires { AreTurns timing.now path.now }
-    ensures { (target : ℕ) → Judges timing.now target (decisions path.now) (leaf_node (overrun stream chain.now)) result }
+    ensures { (target : ℕ) → JudgesLeaf timing.now target (decisions path.now) (overrun stream chain.now) result }
 {
     let sum = sum_to(timing, path, stream, chain)?;
     let past_cycle = sum + timing.span(stream) as i64 > timing.cycle() as i64;
@@ -72,7 +72,7 @@ pub fn judge_overrun(
 /// The chain is closed, and its sum is above 0.
 pub fn judge_cycle(timing: &Timing, path: &[Turn], chain: &Chain) -> Result<(), NodeFault>
     requires { AreTurns timing.now path.now }
-    ensures { (target : ℕ) → Judges timing.now target (decisions path.now) (leaf_node (positive_cycle chain.now)) result }
+    ensures { (target : ℕ) → JudgesLeaf timing.now target (decisions path.now) (positive_cycle chain.now) result }
 {
     let Some(sum) = closed_sum(path, chain.depths()) else {
         return Err(NodeFault::ChainBroken);

@@ -8,6 +8,7 @@ mod leaf;
 mod load;
 mod path;
 pub mod plan;
+mod tie;
 mod tree;
 pub mod verdict;
 

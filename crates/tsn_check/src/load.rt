@@ -1,10 +1,10 @@
 //! The entries of a leaf over a whole link: whether they are right, and what they come to.
 ghost use Rattle.std.specs.Prelude.{◌≡◌, ◌≤◌, ◌==◌, ℕ, map};
 ghost use Rattle.std.specs.List.{list_any};
-ghost use Rattle.tsn_model.specs.Certificate.{leaf_node, load, overload};
+ghost use Rattle.tsn_model.specs.Certificate.{load, overload};
 ghost use Rattle.tsn_cert.specs.Entry.{tree_entry};
 ghost use Rattle.tsn_check.specs.Turns.{AreTurns, decisions};
-ghost use Rattle.tsn_check.specs.Steps.{Judges, FindsEntry, FindsLoad};
+ghost use Rattle.tsn_check.specs.Steps.{JudgesLeaf, FindsEntry, FindsLoad};
 
 use crate::fault::NodeFault;
 use crate::leaf::sum_to;
@@ -95,7 +95,7 @@ pub fn judge_load(
 ) -> Result<(), NodeFault>
     requires turns { AreTurns timing.now path.now }
     requires target { target ≤ 2_000_000_000 }
-    ensures { Judges timing.now target (decisions path.now) (leaf_node (load link entries.now)) result }
+    ensures { JudgesLeaf timing.now target (decisions path.now) (load link entries.now) result }
 {
     let all = link_load(timing, path, link, entries)?;
     if all.head + all.work as i64 + all.tail >= target as i64 {
@@ -113,7 +113,7 @@ pub fn judge_overload(
     entries: &Entries,
 ) -> Result<(), NodeFault>
     requires { AreTurns timing.now path.now }
-    ensures { (target : ℕ) → Judges timing.now target (decisions path.now) (leaf_node (overload link entries.now)) result }
+    ensures { (target : ℕ) → JudgesLeaf timing.now target (decisions path.now) (overload link entries.now) result }
 {
     let all = link_load(timing, path, link, entries)?;
     if all.head + all.work as i64 > timing.cycle() as i64 {

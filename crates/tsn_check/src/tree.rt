@@ -3,7 +3,8 @@ ghost use Rattle.std.specs.Prelude.{◌≡◌, ◌≤◌, ◌⊎◌, [], ◌∷�
 ghost use Rattle.tsn_cert.specs.Node.{tree_node};
 ghost use Rattle.tsn_model.specs.Places.{Fills, next_places, pending};
 ghost use Rattle.tsn_conflict.specs.Kept.{AreConflictsOf};
-ghost use Rattle.tsn_check.specs.Faults.{IsTreeFault};
+ghost use Rattle.tsn_model.specs.Certificate.{IsNodeShown};
+ghost use Rattle.tsn_check.specs.Faults.{offsets_in, span_in, IsPlanRight, IsTreeFault};
 ghost use Rattle.tsn_check.specs.Turns.{AreTurns, AreTurnsOf, decisions, places_at};
 ghost use Rattle.tsn_check.specs.Steps.{Judges, IsBranchOf};
 
@@ -11,8 +12,9 @@ use crate::fault::{CheckFault, NodeFault};
 use crate::leaf::{judge_cycle, judge_late, judge_overrun};
 use crate::load::{judge_load, judge_overload};
 use crate::path::{Turn, next_place, turn_to};
+use crate::tie::{judge_tie, span_of};
 use std::alloc::Global;
-use tsn_cert::Node;
+use tsn_cert::{Node, Plan};
 use tsn_conflict::sharing::Conflicts;
 use tsn_model::Side;
 use tsn_timing::Timing;
@@ -22,13 +24,16 @@ fn judge(
     timing: &Timing,
     conflicts: &Conflicts,
     target: u64,
+    plan: &Plan,
     path: &[Turn],
     node: &Node,
 ) -> Result<(), NodeFault>
     requires conflicts { AreConflictsOf timing.now conflicts.now }
     requires turns { AreTurns timing.now path.now }
     requires target { target ≤ 2_000_000_000 }
-    ensures { Judges timing.now target (decisions path.now) (tree_node node.now) result }
+    requires plan { IsPlanRight timing.now plan.now }
+    requires span { span_in plan.now ≤ 2_000_000_000 }
+    ensures { Judges timing.now target (offsets_in plan.now) (decisions path.now) (tree_node node.now) result }
 {
     match node {
         Node::Branch(triple) => {
@@ -43,6 +48,14 @@ fn judge(
         Node::Cycle(chain) => judge_cycle(timing, path, chain),
         Node::Load(link, entries) => judge_load(timing, target, path, *link, entries),
         Node::Overload(link, entries) => judge_overload(timing, path, *link, entries),
+        Node::Tie(stream, chain, chains) => {
+            let judged = judge_late(timing, span_of(plan), path, *stream, chain);
+            judge_tie(timing, path, judged, chains, plan)
+        }
+        Node::TieLoad(link, entries, chains) => {
+            let judged = judge_load(timing, span_of(plan), path, *link, entries);
+            judge_tie(timing, path, judged, chains, plan)
+        }
     }
 }
 
@@ -62,8 +75,13 @@ fn go_on(conflicts: &Conflicts, path: &mut Vec<Turn>, node: &Node) -> Result<boo
             path.push(turn_to(conflicts, *triple, Side::Left))?;
             Ok(true)
         }
-        Node::Late(..) | Node::Overrun(..) | Node::Cycle(_) | Node::Load(..) | Node::Overload(..) =>
-            Ok(next_place(conflicts, path)),
+        Node::Late(..)
+        | Node::Overrun(..)
+        | Node::Cycle(_)
+        | Node::Load(..)
+        | Node::Overload(..)
+        | Node::Tie(..)
+        | Node::TieLoad(..) => Ok(next_place(conflicts, path)),
     }
 }
 
@@ -73,13 +91,16 @@ pub fn check_tree(
     timing: &Timing,
     conflicts: &Conflicts,
     target: u64,
+    plan: &Plan,
     nodes: &[Node],
 ) -> Result<(), CheckFault>
     requires conflicts { AreConflictsOf timing.now conflicts.now }
     requires target { target ≤ 2_000_000_000 }
-    ensures ok { OnOk result (Fills timing.now target ([] ∷ []) (map tree_node nodes.now)) }
+    requires plan { IsPlanRight timing.now plan.now }
+    requires span { span_in plan.now ≤ 2_000_000_000 }
+    ensures ok { OnOk result (Fills (IsNodeShown timing.now target (offsets_in plan.now)) ([] ∷ []) (map tree_node nodes.now)) }
     ensures err { IfErr result (λ fault. (fault ≡ CheckFault.Memory)
-        ⊎ IsTreeFault timing.now target (map tree_node nodes.now) fault) }
+        ⊎ IsTreeFault timing.now target (offsets_in plan.now) (map tree_node nodes.now) fault) }
 {
     let mut path = Vec::new(alloc);
     let mut open = true;
@@ -87,7 +108,7 @@ pub fn check_tree(
         if !open {
             return Err(CheckFault::TreeTooLong(number));
         }
-        if let Err(fault) = judge(timing, conflicts, target, &path, node) {
+        if let Err(fault) = judge(timing, conflicts, target, plan, &path, node) {
             return Err(fault.at(number));
         }
         open = go_on(conflicts, &mut path, node)?;

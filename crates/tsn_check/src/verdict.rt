@@ -1,15 +1,20 @@
-//! Whether a certificate shows that its plan is optimal, or that there is no schedule.
-ghost use Rattle.std.specs.Prelude.{◌≡◌, ◌⊎◌, IfOk, IfErr, IsOkUnless, Ok};
+//! Whether a certificate shows that its plan is optimal, and the first of the optimal ones, or that there is no schedule.
+ghost use Rattle.std.specs.Prelude.{◌≡◌, ◌≤◌, ◌⊎◌, [], ◌∷◌, map, IfOk, IfErr, OnOk, IsOkUnless, Ok};
 ghost use Rattle.tsn_model.specs.Schedule.{HasNoSchedule};
 ghost use Rattle.tsn_check.specs.Claims.{IsClaim};
-ghost use Rattle.tsn_check.specs.Faults.{Certifies, IsOptimalPlan, IsClaimFault, IsFirstFault, verdict_of};
+ghost use Rattle.tsn_model.specs.Certificate.{IsNodeShown};
+ghost use Rattle.tsn_model.specs.Places.{Fills};
+ghost use Rattle.tsn_cert.specs.Node.{tree_node};
+ghost use Rattle.tsn_conflict.specs.Kept.{AreConflictsOf};
+ghost use Rattle.tsn_check.specs.Faults.{Certifies, IsOptimalPlan, IsFirstPlan, IsPlanRight, IsClaimFault, IsTreeFault, IsFirstFault, leaf_target, tie_plan, offsets_in, span_in, verdict_of};
 
 use crate::fault::CheckFault;
 use crate::plan::judge_schedule;
 use crate::tree::check_tree;
 use std::alloc::Global;
-use tsn_cert::{Cert, Plan};
+use tsn_cert::{Cert, Format, Node, Plan};
 use tsn_conflict::conflicts;
+use tsn_conflict::sharing::Conflicts;
 use tsn_net::Problem;
 use tsn_timing::Timing;
 
@@ -18,6 +23,8 @@ use tsn_timing::Timing;
 pub enum Verdict {
     /// No valid schedule has a lesser flowspan than the plan.
     Optimal,
+    /// Nor does another one of that flowspan come before it.
+    First,
     /// There is no valid schedule.
     NoSchedule,
 }
@@ -31,10 +38,11 @@ pub fn check(
     cert: &Cert,
 ) -> Result<Verdict, CheckFault>
     ensures accepted { IfOk result (λ verdict. Certifies problem.now.network plan.now cert.now) }
-    ensures verdict { IfOk result (λ verdict. verdict ≡ verdict_of plan.now) }
+    ensures verdict { IfOk result (λ verdict. verdict ≡ verdict_of cert.now.format plan.now) }
 
     // What the verdict means.
     ensures optimal { result ≡ Ok Verdict.Optimal → IsOptimalPlan problem.now.network plan.now }
+    ensures first { result ≡ Ok Verdict.First → IsFirstPlan problem.now.network plan.now }
     ensures no_schedule { result ≡ Ok Verdict.NoSchedule → HasNoSchedule problem.now.network }
 
     // Whatever shows it is accepted, and else the first fault is told, unless memory is wanting.
@@ -43,26 +51,74 @@ pub fn check(
         ⊎ IsFirstFault problem.now.network plan.now cert.now fault) }
 {
     let timing = Timing::of(alloc, problem)?;
-    let (verdict, target) = judge_claim(&timing, plan)?;
+    let target = judge_claim(&timing, plan)?;
     if cert.target != target {
         return Err(CheckFault::FlowspanWrong);
     }
     let conflicts = conflicts(alloc, &timing)?;
-    check_tree(alloc, &timing, &conflicts, target, cert.nodes.list())?;
-    Ok(verdict)
+    check_nodes(
+        alloc,
+        &timing,
+        &conflicts,
+        cert.format,
+        target,
+        plan,
+        cert.nodes.list(),
+    )?;
+    Ok(verdict_on(cert.format, plan))
 }
 
-/// What a certificate of the plan shows, and for which target in nanoseconds; else the plan's first fault.
-fn judge_claim(timing: &Timing, plan: &Plan) -> Result<(Verdict, u64), CheckFault>
-    ensures claim { IfOk result (λ claim. IsClaim timing.now plan.now claim) }
+/// What an accepted certificate of a format shows of a plan.
+fn verdict_on(format: Format, plan: &Plan) -> Verdict
+    ensures { result ≡ verdict_of format plan.now }
+{
+    match plan {
+        Plan::Schedule { .. } => match format {
+            Format::One => Verdict::Optimal,
+            Format::Two => Verdict::First,
+        },
+        Plan::None => Verdict::NoSchedule,
+    }
+}
+
+/// Whether the nodes spell a tree that is accepted in the format for the plan, or else their first fault.
+fn check_nodes(
+    alloc: Global,
+    timing: &Timing,
+    conflicts: &Conflicts,
+    format: Format,
+    target: u64,
+    plan: &Plan,
+    nodes: &[Node],
+) -> Result<(), CheckFault>
+    requires conflicts { AreConflictsOf timing.now conflicts.now }
+    requires target { target ≤ 2_000_000_000 }
+    requires plan { IsPlanRight timing.now plan.now }
+    requires span { span_in plan.now ≤ 2_000_000_000 }
+    ensures ok { OnOk result (Fills (IsNodeShown timing.now (leaf_target timing.now format target) (tie_plan format (offsets_in plan.now))) ([] ∷ []) (map tree_node nodes.now)) }
+    ensures err { IfErr result (λ fault. (fault ≡ CheckFault.Memory)
+        ⊎ IsTreeFault timing.now (leaf_target timing.now format target) (tie_plan format (offsets_in plan.now)) (map tree_node nodes.now) fault) }
+{
+    match format {
+        Format::One => check_tree(alloc, timing, conflicts, target, &Plan::None, nodes),
+        Format::Two => {
+            let worse = (target + 1).min(timing.cycle() + 1);
+            check_tree(alloc, timing, conflicts, worse, plan, nodes)
+        }
+    }
+}
+
+/// The target of a certificate of the plan, in nanoseconds; else the plan's first fault.
+fn judge_claim(timing: &Timing, plan: &Plan) -> Result<u64, CheckFault>
+    ensures claim { IfOk result (λ target. IsClaim timing.now plan.now target) }
     ensures fault { IfErr result (IsClaimFault timing.now plan.now) }
 {
     let past_cycle = timing.cycle() + 1;
     match plan {
         Plan::Schedule { flowspan, offsets } => {
             judge_schedule(timing, *flowspan, offsets.list())?;
-            Ok((Verdict::Optimal, *flowspan))
+            Ok(*flowspan)
         }
-        Plan::None => Ok((Verdict::NoSchedule, past_cycle)),
+        Plan::None => Ok(past_cycle),
     }
 }

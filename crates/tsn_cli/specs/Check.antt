@@ -7,14 +7,15 @@ use Rattle.tsn_model.specs.Network.{Network}
 use Rattle.tsn_net.specs.File.{States}
 use Rattle.tsn_net.specs.Problem.{NamedNetwork}
 use Rattle.tsn_cert.specs.declared.plan.Plan.{Plan}
-use Rattle.tsn_cert.specs.declared.plan.Plan.TheVariants as plan
 use Rattle.tsn_cert.specs.declared.cert.Cert.{Cert}
 use Rattle.tsn_cert.specs.declared.fault.FileFault.{FileFault}
 use Rattle.tsn_cert.specs.Fault as file
 use Rattle.tsn_cert.specs.Plan.{plan_in}
 use Rattle.tsn_cert.specs.Cert.{cert_in}
 use Rattle.tsn_check.specs.declared.fault.CheckFault.{CheckFault}
-use Rattle.tsn_check.specs.Faults.{Certifies, IsFirstFault}
+use Rattle.tsn_check.specs.declared.verdict.Verdict.{Verdict}
+use Rattle.tsn_check.specs.declared.verdict.Verdict.TheVariants.{Optimal, First, NoSchedule}
+use Rattle.tsn_check.specs.Faults.{Certifies, IsFirstFault, span_in, verdict_of}
 use Rattle.tsn_check.specs.Numbers.{number_of, node_of}
 use Rattle.tsn_cli.specs.Run.{Output, Command, IsLine}
 use Rattle.tsn_cli.specs.Valid.{RefusesNetwork}
@@ -31,10 +32,11 @@ RefusesPlan file output = (fault : FileFault) × (plan_in file ≡ Err fault) ×
 abbrev pub RefusesCert : List ℕ → Output → Type 0
 RefusesCert file output = (fault : FileFault) × (cert_in file ≡ Err fault) × IsLine 3 (refusal_line (codes "cert") fault) output
 
--- what is said where the certificate shows what the plan says
-abbrev pub accepted_line : Plan → List ℕ
-accepted_line (plan.Schedule flowspan offsets) = codes "accepted optimal " ++ decimal flowspan ++ codes "\n"
-accepted_line plan.None = codes "accepted no schedule\n"
+-- what is said where the certificate shows what the plan says, with this verdict
+abbrev pub accepted_line : Verdict → Plan → List ℕ
+accepted_line Optimal plan = codes "accepted optimal " ++ decimal (span_in plan) ++ codes "\n"
+accepted_line First plan = codes "accepted first " ++ decimal (span_in plan) ++ codes "\n"
+accepted_line NoSchedule plan = codes "accepted no schedule\n"
 
 -- the node at which a fault lies, if it lies at one
 abbrev pub node_text : Option ℕ → List ℕ
@@ -51,7 +53,7 @@ rejected_line fault = codes "certificate refused " ++ cause_text fault ++ codes 
 
 -- the certificate shows what the plan says
 abbrev pub ShowsClaim : Network → Plan → Cert → Output → Type 0
-ShowsClaim network plan cert output = Certifies network plan cert × IsLine 0 (accepted_line plan) output
+ShowsClaim network plan cert output = Certifies network plan cert × IsLine 0 (accepted_line (verdict_of cert.format plan) plan) output
 
 -- it doesn't, and this is the first fault
 abbrev pub ShowsNothing : Network → Plan → Cert → Output → Type 0

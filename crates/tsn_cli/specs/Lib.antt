@@ -5,3 +5,4 @@ pub mod Tables
 pub mod Outcome
 pub mod Told
 pub mod Plan
+pub mod Laws

@@ -15,7 +15,7 @@ use crate::valid::refusal;
 use std::alloc::Global;
 use std::fmt;
 use tsn_cert::{Cert, FileFault, Plan, cert_from_json, plan_from_json};
-use tsn_check::{CheckFault, check};
+use tsn_check::{CheckFault, Verdict, check};
 use tsn_model::NoMemory;
 use tsn_net::{Problem, read_problem};
 
@@ -187,18 +187,23 @@ fn judgement(alloc: Global, problem: &Problem, plan: &Plan, cert: &Cert) -> Resu
         ⊎ ShowsNothing problem.now.network plan.now cert.now (output_of (Ok a))) }
 {
     match check(alloc, problem, plan, cert) {
-        Ok(_) => acceptance(alloc, plan),
+        Ok(verdict) => acceptance(alloc, verdict, plan),
         Err(fault) => rejection(alloc, fault),
     }
 }
 
-/// What is said of a plan whose certificate is accepted.
-fn acceptance(alloc: Global, plan: &Plan) -> Result<Answer, NoMemory>
-    ensures { IfOk result (λ a. IsLine DONE (accepted_line plan.now) (output_of (Ok a))) }
+/// What is said of a plan whose certificate is accepted with this verdict.
+fn acceptance(alloc: Global, verdict: Verdict, plan: &Plan) -> Result<Answer, NoMemory>
+    ensures { IfOk result (λ a. IsLine DONE (accepted_line verdict plan.now) (output_of (Ok a))) }
 {
-    let text = match plan {
-        Plan::Schedule { flowspan, .. } => format!(in alloc; "accepted optimal {flowspan}\n")?,
-        Plan::None => format!(in alloc; "accepted no schedule\n")?,
+    let span = match plan {
+        Plan::Schedule { flowspan, .. } => *flowspan,
+        Plan::None => 0,
+    };
+    let text = match verdict {
+        Verdict::Optimal => format!(in alloc; "accepted optimal {span}\n")?,
+        Verdict::First => format!(in alloc; "accepted first {span}\n")?,
+        Verdict::NoSchedule => format!(in alloc; "accepted no schedule\n")?,
     };
     Ok(Answer { status: DONE, text })
 }

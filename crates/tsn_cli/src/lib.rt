@@ -4,6 +4,7 @@
 mod answer;
 mod check;
 pub mod device;
+pub mod laws;
 pub mod memory;
 mod plan;
 pub mod run;

@@ -1,4 +1,4 @@
-//! `plan`: finds a schedule of least flowspan.
+//! `plan`: finds the schedule of least flowspan that is first in list order.
 ghost use Rattle.std.specs.Prelude.{◌≡◌, ◌≢◌, ◌≤◌, ◌<◌, ◌+◌, ◌-◌, ◌^◌, [], ◌∷◌, IfOk, string_bytes};
 ghost use Rattle.std.specs.Io.KnownBytes.{Keeps};
 ghost use Rattle.tsn_cli.specs.Run.{Ends, EndsEarly, IsOutput, reading_of, writing_of};
@@ -174,10 +174,10 @@ fn stopped(alloc: Global, book: &Book) -> Result<Told, NoMemory>
     ensures { IfOk result (λ told. told_by (Ok told) ≡ output_of (Stopped book.now)) }
 {
     let count = book.count();
-    let span = book.best();
     let (plan, line) = match book.kept() {
-        Some(valid) => {
-            let offsets = Offsets::of(Vec::from_slice(alloc, valid.offsets())?);
+        Some(kept) => {
+            let span = kept.flowspan();
+            let offsets = Offsets::of(Vec::from_slice(alloc, kept.valid().offsets())?);
             let plan = Plan::Schedule {
                 flowspan: span,
                 offsets,

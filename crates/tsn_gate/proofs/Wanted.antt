@@ -136,7 +136,7 @@ module _ (network : Network) (offsets : List ℕ) where
   -- wanted lists give the wanted gates at each instant of each cycle
   pub HasWantedGates-lists : IsWellFormed network → (lists : List LinkGates) → AreWantedLists network offsets lists → HasWantedGates network offsets lists
   HasWantedGates-lists formed lists are = record {
-    wanted = λ k d inside t octet at. wanted_at formed (get_or lists k d) (are.wanted k d inside) t octet at;
+    wanted = λ k d inside i t octet used at. wanted_at formed (get_or lists k d) (are.wanted k d inside) t octet at;
     listed = λ i link t uses.
         let has = are.all_used link (i, uses) in
         let list = has.1 in

@@ -314,8 +314,9 @@ module _ (network : Network) (formed : IsWellFormed network) (offsets : List ℕ
       let product : (begun.octets + 20) * (link_at network begun.link).r ≤ 1542 * (link_at network begun.link).r = mul-le-mul sum same_rate in
       let near : planned network offsets p ≤ begun.time + guard_of network begun.link = omega arith in
       let guard = guarded_before p passage begun.time before (subst (λ l. planned network offsets p ≤ begun.time + guard_of network l) same_link near) in
-      let wanted = has.wanted opened.0 opened.1 opened.2 begun.time opened.4.1.0 (subst (λ (item : LinkGates). IsOctetAt item.entries begun.time opened.4.1.0) (sym opened.3) opened.4.1.1) in
       let item_link : (get_or gates opened.0 opened.1).link ≡ link_of network p = ap (λ (item : LinkGates). item.link) opened.3 ∙ (opened.4.0 ∙ same_link) in
+      let used = subst (λ l. UsesLink network p.stream l) (sym item_link) (uses p passage) in
+      let wanted = has.wanted opened.0 opened.1 opened.2 p.stream begun.time opened.4.1.0 used (subst (λ (item : LinkGates). IsOctetAt item.entries begun.time opened.4.1.0) (sym opened.3) opened.4.1.1) in
       let wanted_here = subst (λ l. IsWanted network offsets l (begun.time % network.cycle) opened.4.1.0) item_link wanted in
       opened.4.1.2 (closed_in (link_of network p) (begun.time % network.cycle) opened.4.1.0 (inr guard) wanted_here)
 

@@ -130,9 +130,9 @@ pub record IsBridgeRun (network : Network) (offsets : List ℕ) (gates : List Li
   pub waits : (passage : Passage) (ready t : ℕ) → IsPassage network cycles passage → IsReady network offsets run passage ready → ready ≤ t → t < cycles * network.cycle
       → NotStartedBefore run passage (t + 1) → IsBlocked network offsets gates cycles run passage ready t
 
--- each listed link's gates are those that the schedule asks for, and each link that a stream uses is listed
+-- on each link that a stream uses the listed gates are those that the schedule asks for, and each such link is listed
 pub record HasWantedGates (network : Network) (offsets : List ℕ) (gates : List LinkGates) : Type 0 where
-  pub wanted : All (λ (item : LinkGates). (t octet : ℕ) → IsOctetAt item.entries t octet → IsWanted network offsets item.link (t % network.cycle) octet) gates
+  pub wanted : All (λ (item : LinkGates). (i t octet : ℕ) → UsesLink network i item.link → IsOctetAt item.entries t octet → IsWanted network offsets item.link (t % network.cycle) octet) gates
   pub listed : (i link t : ℕ) → UsesLink network i link → GatesAt gates link t (λ octet. IsWanted network offsets link (t % network.cycle) octet)
 
 -- when the schedule plans a passage to start

@@ -1,5 +1,6 @@
--- Which fault a document has, in words: the least condition that holds anywhere, at the first place where it holds.
-use Rattle.std.specs.Prelude.{◌≡◌, ◌<◌, ◌⊎◌, ◌↔◌, ℕ, true, false, Some, None, length}
+-- Which fault a document has, in words: the least condition that holds anywhere, at the first place where it holds; and
+-- that a file states one problem alone.
+use Rattle.std.specs.Prelude.{◌≡◌, ◌<◌, ◌⊎◌, ◌↔◌, ℕ, List, true, false, Some, None, length}
 use Rattle.tsn_net.specs.declared.fault.Place.{Place}
 use Rattle.tsn_net.specs.declared.fault.Place.TheVariants.{Text, Top, Node, Link, Stream}
 use Rattle.tsn_net.specs.declared.fault.Code.{Code}
@@ -7,6 +8,8 @@ use Rattle.tsn_net.specs.declared.fault.NetFault.{NetFault}
 use Rattle.tsn_net.specs.Document.{Document}
 use Rattle.tsn_net.specs.Conditions.{holds, fault_of}
 use Rattle.tsn_net.specs.Fault.{code_number}
+use Rattle.tsn_net.specs.File.{States}
+use Rattle.tsn_net.specs.Problem.{NamedNetwork}
 
 -- the place is one of the document: the top table, or a node, a cable or a stream that is there
 abbrev pub IsIn : Document → Place → Type 0
@@ -50,3 +53,7 @@ FaultsAreFirst = (d : Document) (fault : NetFault) → (fault_of d ≡ Some faul
 -- a document has no fault exactly where no condition holds at any place
 abbrev pub FaultlessIsClear : Type 0
 FaultlessIsClear = (d : Document) → (fault_of d ≡ None) ↔ ((code : Code) (place : Place) → IsIn d place → holds code d place ≡ false)
+
+-- a file states one problem alone
+abbrev pub FilesStateOne : Type 0
+FilesStateOne = (file : List ℕ) (problem other : NamedNetwork) → States file problem → States file other → problem ≡ other

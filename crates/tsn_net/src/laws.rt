@@ -1,6 +1,6 @@
 //! The laws of the definitions. Each function does nothing: its contract is the law.
 
-ghost use Rattle.tsn_net.specs.Laws.{FaultsAreFirst, FaultlessIsClear};
+ghost use Rattle.tsn_net.specs.Laws.{FaultsAreFirst, FaultlessIsClear, FilesStateOne};
 
 /// The fault of a document is the one whose condition holds at its place, and neither at a place before it nor, for a
 /// lesser code, anywhere.
@@ -11,4 +11,9 @@ pub fn faults_are_first()
 /// A document has no fault exactly where no condition holds at any place.
 pub fn faultless_is_clear()
     ensures { FaultlessIsClear }
+{}
+
+/// A file states one problem alone.
+pub fn files_state_one()
+    ensures { FilesStateOne }
 {}

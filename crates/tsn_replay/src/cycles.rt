@@ -1,5 +1,5 @@
 //! The replay of cycles.
-ghost use Rattle.std.specs.Prelude.{◌≡◌, ◌≤◌, ◌<◌, length, All, IfOk, IfErr};
+ghost use Rattle.std.specs.Prelude.{◌≡◌, ◌≤◌, ◌<◌, ℕ, length, All, IfOk, IfErr};
 ghost use Rattle.tsn_model.specs.Schedule.{IsValid};
 ghost use Rattle.tsn_model.specs.Bridge.{BridgeRun, IsBridgeRun, IsFed, HasWantedGates, StartsOnTime};
 ghost use Rattle.tsn_replay.specs.Feeding.{background_of};
@@ -48,7 +48,7 @@ pub fn replay(
     ensures rows { IfOk result (λ trace. AreRows problem.now.network valid.now cycles trace.run trace.rows) }
     ensures named { IfOk result (λ trace. All (λ (row : Row). row.stream < length problem.now.stream_names) trace.rows) }
     ensures on_time { IfOk result (λ _. HasWantedGates problem.now.network valid.now lists.now
-        → (run : BridgeRun) → IsBridgeRun problem.now.network valid.now lists.now cycles run → StartsOnTime problem.now.network valid.now cycles run) }
+        → (count : ℕ) (run : BridgeRun) → IsBridgeRun problem.now.network valid.now lists.now count run → StartsOnTime problem.now.network valid.now count run) }
     ensures links { IfOk result (λ _. NamesLinks problem.now.network lists.now (background_of background.now)) }
     ensures limits { IfOk result (λ _. KeepsLimits problem.now.network lists.now cycles (background_of background.now)) }
     ensures fault { IfErr result (HasReplayFault problem.now.network lists.now cycles (background_of background.now)) }

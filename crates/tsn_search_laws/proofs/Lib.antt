@@ -7,8 +7,9 @@ pub mod Numbers
 pub mod Steps
 pub mod Growths
 pub mod Preorders
-pub mod Finished
+pub mod Bounds
 pub mod Kept
+pub mod Finished
 pub mod Runs
 pub mod OpenOrder
 pub mod Walking

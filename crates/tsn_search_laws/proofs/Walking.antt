@@ -9,7 +9,7 @@ use Rattle.tsn_model.specs.declared.Decision.{Decision}
 use Rattle.tsn_model.specs.Network.{Network}
 use Rattle.tsn_model.specs.Certificate.{decided}
 use Rattle.tsn_model.specs.Places.{pending}
-use Rattle.tsn_model.specs.Search.{Outcome, split, solved, pruned, refuted, Settlement, children_of, made_paths, is_settled, open_paths, IsLegal, PathBefore, IsFirstOpen}
+use Rattle.tsn_model.specs.Search.{Outcome, split, solved, pruned, tied, refuted, Settlement, children_of, made_paths, is_settled, open_paths, IsLegal, PathBefore, IsFirstOpen}
 use Rattle.tsn_model.proofs.Places.{pending-nil, pending-left, pending-right}
 use Rattle.tsn_search_laws.specs.Walk.{path_made, IsPlaceOf, IsWalk}
 use Rattle.tsn_search_laws.proofs.Lists.{snoc_induction, Contains-nil, Contains-here, Contains-there, Contains-cons, Contains-left, Contains-right, Contains-append, Contains-Without}
@@ -255,8 +255,9 @@ walk_split network history settlement path place waiting triple made legal walk 
 pub no_children : (path : List Decision) (outcome : Outcome) → ((triple : Triple) → outcome ≢ split triple) → children_of path outcome ≡ []
 unfolding children_of
 no_children path (split triple) other = absurd (other triple refl)
-no_children path (solved offsets bound leaf) other = refl
+no_children path (solved offsets bound leaf chains) other = refl
 no_children path (pruned bound leaf) other = refl
+no_children path (tied bound leaf chains) other = refl
 no_children path (refuted leaf) other = refl
 
 -- after a leaf what waited is open, and nothing else

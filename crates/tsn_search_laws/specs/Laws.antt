@@ -1,15 +1,15 @@
 -- The laws of the search, each the contract of a function in `src/laws.rt`.
-use Rattle.std.specs.Prelude.{◌≡◌, ◌≢◌, ℕ, ◌+◌, ◌-◌, ◌^◌, ◌≤◌, ◌<◌, ◌⊎◌, ◌↔◌, List, [], ◌∷◌, ◌++◌, map, length, true, MatchOption, sum_by, Some, All, AllPairs, Contains, IsPermutation}
+use Rattle.std.specs.Prelude.{◌≡◌, ◌≢◌, ℕ, ◌+◌, ◌-◌, ◌^◌, ◌≤◌, ◌<◌, ◌⊎◌, ◌↔◌, List, [], ◌∷◌, ◌++◌, map, length, true, MatchOption, sum_by, Option, Some, All, AllPairs, Contains, IsPermutation}
 use Rattle.tsn_model.specs.declared.Triple.{Triple}
 use Rattle.std.specs.List.{range_with_len}
 use Rattle.tsn_model.specs.declared.Side.{Side}
 use Rattle.tsn_model.specs.declared.Decision.{Decision}
 use Rattle.tsn_model.specs.Network.{Network, IsWellFormed}
-use Rattle.tsn_model.specs.Schedule.{IsValid, flowspan, target_of, IsOptimal, HasNoSchedule, IsConflict}
+use Rattle.tsn_model.specs.Schedule.{IsValid, flowspan, target_of, IsNotAfter, IsFirst, earlier, HasNoSchedule, IsConflict}
 use Rattle.tsn_model.specs.Arcs.{conflicts_of}
-use Rattle.tsn_model.specs.Certificate.{Leaf, Tree, Accepts, Spells, decided}
-use Rattle.tsn_model.specs.Search.{Covers, solved, Settlement, children_of, made_paths, is_settled, open_paths, leaf_paths, solved_bound, solved_bounds, pruned_bounds, tally_of, best_bound, kept_of, IsAllowed, IsLegal, PathBefore, Outcome, IsRight}
-use Rattle.tsn_model.specs.Core.{State, initial_state, Step, Takes, Runs, IsSound, IsQuiet}
+use Rattle.tsn_model.specs.Certificate.{Leaf, beyond, Tree, AcceptsFirst, Spells, decided}
+use Rattle.tsn_model.specs.Search.{Covers, solved, pruned, Settlement, children_of, made_paths, is_settled, open_paths, leaf_paths, solved_bound, solved_bounds, pruned_bounds, tally_of, best_bound, solution_of, kept_of, IsAllowed, IsLegal, PathBefore, Outcome, IsRight}
+use Rattle.tsn_model.specs.Core.{State, initial_state, teller_at, Step, IsAboveSeen, Takes, Runs, IsSound, IsQuiet}
 use Rattle.tsn_search_laws.specs.Order.{Precedes, node_of}
 use Rattle.tsn_search_laws.specs.Replies.{IsLeafRight, FitsHistory, Reply, Answers, AnswersAll}
 use Rattle.tsn_search_laws.specs.Gathering.{tally_with, IsGathered}
@@ -69,17 +69,26 @@ KeptIsBest = (network : Network) (history : List Settlement) → IsLegal network
     → MatchOption (kept_of network history) (solved_bounds history ≡ []) (λ offsets. IsValid network offsets × (flowspan network offsets ≡ best_bound network history))
     × (target_of network (kept_of network history) ≡ best_bound network history)
 
--- where nothing is open what is kept is optimal, and where nothing is kept there is no schedule
+-- it is a solved leaf's, and no solved leaf of that flowspan comes before it
+abbrev pub KeptIsFirst : Type 0
+KeptIsFirst = (network : Network) (history : List Settlement) → IsLegal network history → (kept : List ℕ) → kept_of network history ≡ Some kept
+    → ((settlement : Settlement) × Contains history settlement × Contains (solution_of settlement.event.outcome) (kept, best_bound network history))
+    × ((settlement : Settlement) (other : List ℕ) → Contains history settlement → Contains (solution_of settlement.event.outcome) (other, best_bound network history) → IsNotAfter kept other)
+
+-- where nothing is open what is kept is the first of the optimal schedules, and where nothing is kept there is no schedule
 abbrev pub FinishedHistoriesDecide : Type 0
 FinishedHistoriesDecide = (network : Network) → IsWellFormed network → (history : List Settlement) → IsLegal network history → open_paths history ≡ []
-    → MatchOption (kept_of network history) (HasNoSchedule network) (IsOptimal network)
+    → MatchOption (kept_of network history) (HasNoSchedule network) (IsFirst network)
 
--- a solved leaf of a lesser flowspan is kept; any other settlement keeps what was kept
+-- a solved leaf of a lesser flowspan is kept, and so is one of the same flowspan that comes before what was kept; any other settlement keeps what was kept
 abbrev pub KeptFollows : Type 0
 KeptFollows = (network : Network) (history : List Settlement) (settlement : Settlement) → IsLegal network (history ++ settlement ∷ [])
-    → ((offsets : List ℕ) (bound : ℕ) (leaf : Leaf) → settlement.event.outcome ≡ solved offsets bound leaf → bound < best_bound network history
+    → ((offsets : List ℕ) (bound : ℕ) (leaf : Leaf) (chains : List (List ℕ)) → settlement.event.outcome ≡ solved offsets bound leaf chains → bound < best_bound network history
     → (best_bound network (history ++ settlement ∷ []) ≡ bound) × (kept_of network (history ++ settlement ∷ []) ≡ Some offsets))
-    × (All (λ bound. best_bound network history ≤ bound) (solved_bound settlement.event.outcome)
+    × ((offsets : List ℕ) (bound : ℕ) (leaf : Leaf) (chains : List (List ℕ)) → settlement.event.outcome ≡ solved offsets bound leaf chains → bound ≡ best_bound network history
+    → (best_bound network (history ++ settlement ∷ []) ≡ best_bound network history)
+    × ((kept : List ℕ) → kept_of network history ≡ Some kept → kept_of network (history ++ settlement ∷ []) ≡ Some (earlier kept offsets)))
+    × (All (λ bound. best_bound network history < bound) (solved_bound settlement.event.outcome)
     → (best_bound network (history ++ settlement ∷ []) ≡ best_bound network history) × (kept_of network (history ++ settlement ∷ []) ≡ kept_of network history))
 
 -- a teller's tally takes its own events, and no others
@@ -95,17 +104,28 @@ abbrev pub OpenPathsPart : Type 0
 OpenPathsPart = (network : Network) (history : List Settlement) → IsLegal network history → (first second : List Decision)
     → Contains (open_paths history) first → Contains (open_paths history) second → first ≢ second → PathBefore first second ⊎ PathBefore second first
 
+-- ---- outcomes
+
+-- an outcome that is right after some history is right after each longer one: so what was found to be no better than what was kept isn't refused for what is kept by now
+abbrev pub RightStays : Type 0
+RightStays = (network : Network) (before rest : List Settlement) → IsLegal network (before ++ rest) → (path : List Decision) (outcome : Outcome)
+    → IsRight network before path outcome → IsRight network (before ++ rest) path outcome
+
 -- ---- certificates
 
--- a target that is at most each solved and each pruned bound
-abbrev pub IsBelowBounds : ℕ → List Settlement → Type 0
-IsBelowBounds target history = All (λ bound. target ≤ bound) (solved_bounds history) × All (λ bound. target ≤ bound) (pruned_bounds history)
+-- a target that is at most each solved bound, while each pruned bound is worse
+abbrev pub IsBelowBounds : Network → ℕ → List Settlement → Type 0
+IsBelowBounds network target history = All (λ bound. target ≤ bound) (solved_bounds history) × All (λ bound. beyond network target ≤ bound) (pruned_bounds history)
 
--- the settlements, none after one that its path precedes, are the nodes of an accepted tree where nothing is open
+-- the settlements, one after another, are the nodes of a tree that is accepted in format 2 for the plan
+abbrev pub AreAcceptedTree : Network → Option (List ℕ) → List Settlement → Type 0
+AreAcceptedTree network plan ordered = (tree : Tree) × AcceptsFirst network plan [] tree × Spells (map (λ (settlement : Settlement). node_of network plan settlement.event.outcome) ordered) tree
+
+-- the settlements, none after one that its path precedes, are the nodes of a tree that is accepted for what is kept, where nothing is open
 abbrev pub FinishedHistoriesAreTrees : Type 0
-FinishedHistoriesAreTrees = (network : Network) (history : List Settlement) → IsLegal network history → open_paths history ≡ [] → (target : ℕ) → IsBelowBounds target history
+FinishedHistoriesAreTrees = (network : Network) (history : List Settlement) → IsLegal network history → open_paths history ≡ []
     → (ordered : List Settlement) → IsPermutation history ordered → AllPairs (λ (a b : Settlement). Precedes b.event.path a.event.path → ⊥) ordered
-    → (tree : Tree) × Accepts network target [] tree × Spells (map (λ (settlement : Settlement). node_of settlement.event.outcome) ordered) tree
+    → AreAcceptedTree network (kept_of network history) ordered
 
 -- and there is such an order
 abbrev pub SettlementsCanBeOrdered : Type 0
@@ -114,7 +134,7 @@ SettlementsCanBeOrdered = (network : Network) (history : List Settlement) → Is
 
 -- the least solved flowspan is such a target, for every legal history
 abbrev pub BestIsTarget : Type 0
-BestIsTarget = (network : Network) (history : List Settlement) → IsLegal network history → IsBelowBounds (best_bound network history) history
+BestIsTarget = (network : Network) (history : List Settlement) → IsLegal network history → IsBelowBounds network (best_bound network history) history
 
 -- ---- the shared search
 
@@ -141,10 +161,17 @@ abbrev pub AnswersAreOne : Type 0
 AnswersAreOne = (network : Network) (limit : ℕ) (state : State) (step : Step) (first second : Reply) (one other : State)
     → Answers network limit state step first one → Answers network limit state step second other → (first ≡ second) × (one ≡ other)
 
--- in a sound and quiet state the word is a target, so the history is an accepted tree for it
+-- in a sound state a pruned leaf that is above what its teller has seen fits to the history
+abbrev pub SeenIsEnough : Type 0
+SeenIsEnough = (network : Network) (state : State) → IsSound network state → (k : ℕ) → k < length state.tellers → (path : List Decision) (bound : ℕ) (leaf : Leaf)
+    → IsAboveSeen network (teller_at state k).seen (pruned bound leaf) → FitsHistory network state.history path (pruned bound leaf)
+
+-- in a sound and quiet state the word is the flowspan of what is kept, or one more than the cycle, and the history's settlements, in the order of their paths, are the nodes of a tree that is accepted for what is kept
 abbrev pub QuietStatesAreTrees : Type 0
 QuietStatesAreTrees = (network : Network) (state : State) → IsSound network state → IsQuiet state
-    → IsBelowBounds state.word state.history × ((tree : Tree) × Accepts network state.word [] tree)
+    → (state.word ≡ target_of network (kept_of network state.history)) × IsBelowBounds network state.word state.history
+    × ((ordered : List Settlement) × IsPermutation state.history ordered × AllPairs (λ (a b : Settlement). Precedes a.event.path b.event.path) ordered
+    × AreAcceptedTree network (kept_of network state.history) ordered)
 
 -- a gathered state is sound, quiet where nothing is open, and its word is the least flowspan that was solved
 abbrev pub GatheredStatesAreSound : Type 0

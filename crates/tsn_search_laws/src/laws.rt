@@ -1,7 +1,7 @@
 //! Each function does nothing: its contract is the law.
 
-ghost use Rattle.tsn_search_laws.specs.Laws.{LegalHistoriesGrow, LegalHistoriesCover, PathsAreMadeOnce, SettledPathsWereMade, ChildrenAreNew, OpenPathsFollow, PathsDecideConflicts, PathsAreShort, HistoriesAreShort, KeptIsBest, KeptFollows, TalliesFollow, FinishedHistoriesDecide, OpenPathsPart, FinishedHistoriesAreTrees, SettlementsCanBeOrdered, BestIsTarget, RunsKeepSound, RunsKeepLimit, AnswersAreSteps, AnswersAreOne, QuietStatesAreTrees, GatheredStatesAreSound, TalliesAddUp, RightByParts};
-ghost use Rattle.tsn_search_laws.specs.Examples.{SmallSearch, SmallRun};
+ghost use Rattle.tsn_search_laws.specs.Laws.{LegalHistoriesGrow, LegalHistoriesCover, PathsAreMadeOnce, SettledPathsWereMade, ChildrenAreNew, OpenPathsFollow, PathsDecideConflicts, PathsAreShort, HistoriesAreShort, KeptIsBest, KeptIsFirst, KeptFollows, TalliesFollow, FinishedHistoriesDecide, OpenPathsPart, FinishedHistoriesAreTrees, SettlementsCanBeOrdered, BestIsTarget, RunsKeepSound, RunsKeepLimit, AnswersAreSteps, AnswersAreOne, QuietStatesAreTrees, GatheredStatesAreSound, TalliesAddUp, RightByParts, RightStays, SeenIsEnough};
+ghost use Rattle.tsn_search_laws.specs.Examples.{SmallSearch, SmallRun, SmallOtherSearch};
 
 /// A legal history is empty, or a legal one with an allowed settlement at its end.
 pub fn legal_histories_grow()
@@ -53,7 +53,12 @@ pub fn kept_is_best()
     ensures { KeptIsBest }
 {}
 
-/// What is kept changes with a solved leaf of a lesser flowspan alone.
+/// What is kept is a solved leaf's, and no solved leaf of its flowspan comes before it.
+pub fn kept_is_first()
+    ensures { KeptIsFirst }
+{}
+
+/// What is kept changes with a solved leaf of a lesser flowspan, or of the same flowspan that comes before it, alone.
 pub fn kept_follows()
     ensures { KeptFollows }
 {}
@@ -63,7 +68,7 @@ pub fn tallies_follow()
     ensures { TalliesFollow }
 {}
 
-/// Where nothing is open what is kept is optimal, and where nothing is kept there is no schedule.
+/// Where nothing is open what is kept is the first of the optimal schedules, and where nothing is kept there is no schedule.
 pub fn finished_histories_decide()
     ensures { FinishedHistoriesDecide }
 {}
@@ -73,7 +78,7 @@ pub fn open_paths_part()
     ensures { OpenPathsPart }
 {}
 
-/// Where nothing is open the settlements, in the order of their paths, are an accepted tree.
+/// Where nothing is open the settlements, in the order of their paths, are a tree that is accepted for what is kept.
 pub fn finished_histories_are_trees()
     ensures { FinishedHistoriesAreTrees }
 {}
@@ -83,7 +88,7 @@ pub fn settlements_can_be_ordered()
     ensures { SettlementsCanBeOrdered }
 {}
 
-/// The least flowspan that a legal history solved is at most each bound of its leaves.
+/// The least flowspan that a legal history solved is at most each solved bound, and each pruned bound is worse.
 pub fn best_is_target()
     ensures { BestIsTarget }
 {}
@@ -108,7 +113,7 @@ pub fn answers_are_one()
     ensures { AnswersAreOne }
 {}
 
-/// The history of a sound and quiet state is an accepted tree for its word.
+/// The settlements of a sound and quiet state, in the order of their paths, are a tree that is accepted for what is kept.
 pub fn quiet_states_are_trees()
     ensures { QuietStatesAreTrees }
 {}
@@ -128,7 +133,12 @@ pub fn small_search()
     ensures { SmallSearch }
 {}
 
-/// The same search as steps with their replies, three of them not taken.
+/// The same network, where the other schedule of least flowspan is solved first.
+pub fn small_other_search()
+    ensures { SmallOtherSearch }
+{}
+
+/// The same search as steps with their replies, four of them not taken.
 pub fn small_run()
     ensures { SmallRun }
 {}
@@ -136,4 +146,14 @@ pub fn small_run()
 /// An outcome is right exactly where its leaf is, and it fits to the history.
 pub fn right_by_parts()
     ensures { RightByParts }
+{}
+
+/// An outcome that is right after some history is right after each longer one.
+pub fn right_stays()
+    ensures { RightStays }
+{}
+
+/// In a sound state a pruned leaf that is above what its teller has seen fits to the history.
+pub fn seen_is_enough()
+    ensures { SeenIsEnough }
 {}

@@ -77,7 +77,7 @@ fn reads_of_a_check_fail(rt: HostRuntime) {
 #[test]
 fn writes_of_a_check_fail(rt: HostRuntime) {
     let alloc = rt.alloc();
-    let line = b"accepted optimal 2924\n";
+    let line = b"accepted first 2924\n";
     for written in 0..line.len() {
         let mut network = whole(NETWORK);
         let mut plan = whole(PLAN);

@@ -22,7 +22,7 @@ stream = [
 pub const PLAN: &str = "{\"flowspan\":2924,\"offsets\":[0,672]}\n";
 
 pub const CERT: &str =
-    "{\"format\":1,\"nodes\":[[\"branch\",0,1,4],[\"late\",1,[0]],[\"late\",0,[0]]],\"target\":2924}\n";
+    "{\"format\":2,\"nodes\":[[\"branch\",0,1,4],[\"tie\",1,[0],[[],[0]]],[\"tie\",0,[0],[[0]]]],\"target\":2924}\n";
 
 /// The gate table of the plan.
 pub const TABLE: &str = "link 0 A S 3

@@ -3,8 +3,8 @@ use std::alloc::Global;
 use std::process::Abort;
 use std::test::Fail;
 use tsn_cert::{
-    Cert, Chain, Entries, Node, Nodes, Offsets, Plan, cert_from_json, cert_to_json, plan_from_json,
-    plan_to_json,
+    Cert, Chain, Chains, Entries, Format, Node, Nodes, Offsets, Plan, cert_from_json, cert_to_json,
+    plan_from_json, plan_to_json,
 };
 use tsn_model::Triple;
 
@@ -64,6 +64,8 @@ fn certificates_are_read_and_printed(rt: HostRuntime) -> Result<(), Fail> {
         "{\"format\":1,\"nodes\":[[\"load\",4,[[0,[]],[0,[]]]]],\"target\":2924}\n",
         "{\"format\":1,\"nodes\":[[\"load\",4294967295,[[4294967295,[4294967295,0]]]]],\"target\":0}\n",
         "{\"format\":1,\"nodes\":[],\"target\":0}\n",
+        "{\"format\":2,\"nodes\":[[\"branch\",0,1,4],[\"tie\",1,[0],[[],[0]]],[\"tie\",0,[0],[[0]]]],\"target\":2924}\n",
+        "{\"format\":2,\"nodes\":[[\"tieload\",4,[[0,[]],[1,[2,0]]],[[],[2,0]]]],\"target\":9}\n",
         "{\"format\":1,\"nodes\":[[\"branch\",4294967295,0,0]],\"target\":2000000000}\n",
     ] {
         prints_cert(&rt, alloc, file)?;
@@ -113,6 +115,7 @@ fn certificates_are_made(rt: HostRuntime) -> Result<(), Fail> {
     nodes.push(Node::Late(1, Chain::of(alloc, &[0])?))?;
     nodes.push(Node::Late(0, Chain::of(alloc, &[0])?))?;
     let cert = Cert {
+        format: Format::One,
         target: 2924,
         nodes: Nodes::of(nodes),
     };
@@ -143,12 +146,40 @@ fn entries_are_made_and_given_back(rt: HostRuntime) -> Result<(), Fail> {
     let mut nodes = Vec::new(alloc);
     nodes.push(Node::Load(7, Entries::of(list)))?;
     let cert = Cert {
+        format: Format::One,
         target: 9,
         nodes: Nodes::of(nodes),
     };
     assert_eq!(rt;
         cert_to_json(alloc, &cert)?.as_str(),
         "{\"format\":1,\"nodes\":[[\"load\",7,[[3,[]],[5,[1,0]]]]],\"target\":9}\n"
+    );
+    Ok(())
+}
+
+#[test]
+fn chains_are_made_and_given_back(rt: HostRuntime) -> Result<(), Fail> {
+    let alloc = rt.alloc();
+    let mut list = Vec::new(alloc);
+    list.push(Chain::of(alloc, &[])?)?;
+    list.push(Chain::of(alloc, &[2, 0])?)?;
+    let chains = Chains::of(list);
+    assert_eq!(rt; chains.list().len(), 2);
+    let mut nodes = Vec::new(alloc);
+    let tie = Node::Tie(
+        1,
+        Chain::of(alloc, &[2, 0])?,
+        Chains::of(chains.into_list()),
+    );
+    nodes.push(tie)?;
+    let cert = Cert {
+        format: Format::Two,
+        target: 9,
+        nodes: Nodes::of(nodes),
+    };
+    assert_eq!(rt;
+        cert_to_json(alloc, &cert)?.as_str(),
+        "{\"format\":2,\"nodes\":[[\"tie\",1,[2,0],[[],[2,0]]]],\"target\":9}\n"
     );
     Ok(())
 }

@@ -1,8 +1,10 @@
 //! The book of a search on the two streams that share link 4.
-ghost use Rattle.std.specs.Prelude.{◌≡◌, ◌<◌, IfOk};
+ghost use Rattle.std.specs.Prelude.{◌≡◌, ◌<◌, IfOk, IfSome, option_copied};
+ghost use Rattle.tsn_timing.specs.Solution.{IsSolved};
 ghost use Rattle.tsn_branch.specs.Outcome.{outcome_of};
 ghost use Rattle.tsn_branch.specs.Look.{HasProof};
 
+use crate::branch::schedule;
 use crate::networks::{FAST, TWO, star};
 use std::alloc::Global;
 use std::process::Abort;
@@ -12,7 +14,7 @@ use tsn_branch::outcome::Look;
 use tsn_branch::{Loads, Node, Side, Triple, fits, look};
 use tsn_cert::cert_to_json;
 use tsn_conflict::conflicts;
-use tsn_timing::Timing;
+use tsn_timing::{Solved, Timing};
 
 /// Which of the two streams goes first on a link.
 fn on(link: usize) -> Triple {
@@ -67,21 +69,23 @@ fn split(
     Ok(())
 }
 
-/// Settles a node as a look finds it, with that answer.
+/// Settles a node as a look finds it, with a best schedule or none, with that answer.
 fn find<R: Abort + AllocGlobal>(
     rt: &R,
     book: &mut Book,
     timing: &Timing,
     node: &Node,
     target: u64,
+    best: Option<&Solved>,
     answer: Result<(), BookFault>,
 ) -> Result<(), Fail>
     requires teller { 0 < book.old.tellers }
     requires network { book.old.network ≡ timing.now }
+    requires best { IfSome (option_copied best) (IsSolved timing.now) }
     ensures tellers { book.new.tellers ≡ book.old.tellers }
     ensures network { book.new.network ≡ book.old.network }
 {
-    let event = event_of(rt, timing, node, target)?;
+    let event = event_of(rt, timing, node, target, best)?;
     assert_eq!(rt; fault_of(book.settle(0, event)), answer);
     Ok(())
 }
@@ -92,13 +96,15 @@ fn event_of<R: Abort + AllocGlobal>(
     timing: &Timing,
     node: &Node,
     target: u64,
+    best: Option<&Solved>,
 ) -> Result<Event, Fail>
+    requires { IfSome (option_copied best) (IsSolved timing.now) }
     ensures { IfOk result (λ event. HasProof timing.now event.node (outcome_of event.look)) }
 {
     let shared = conflicts(rt.alloc(), timing)?;
     assert!(rt; fits(&shared, node));
     let loads = Loads::of(rt.alloc(), timing)?;
-    let look = look(rt.alloc(), timing, &shared, &loads, node, target)?;
+    let look = look(rt.alloc(), timing, &shared, &loads, node, target, best)?;
     Ok(Event {
         node: node.copy()?,
         look,
@@ -136,20 +142,34 @@ fn searched<R: Abort + AllocGlobal>(rt: &R) -> Result<Book, Fail>
 {
     let alloc = rt.alloc();
     let timing = star(alloc, 1_000_000, FAST, TWO)?;
+    let best = schedule(alloc, &timing, &[0, 672])?;
     let left = below_root(rt, alloc, Side::Left)?;
     let right = below_root(rt, alloc, Side::Right)?;
     let mut book = Book::new(alloc, &timing, 1, 10)?;
     split(rt, &mut book, &Node::root(alloc), 4, Ok(()))?;
-    find(
-        rt,
-        &mut book,
-        &timing,
-        &left,
-        2_924,
-        Err(BookFault::NotMet(1_000_001)),
-    )?;
-    find(rt, &mut book, &timing, &left, 1_000_001, Ok(()))?;
-    find(rt, &mut book, &timing, &right, 2_924, Ok(()))?;
+    let unmet = Err(BookFault::NotMet(1_000_001));
+    find(rt, &mut book, &timing, &left, 2_924, None, unmet)?;
+    find(rt, &mut book, &timing, &left, 1_000_001, None, Ok(()))?;
+    find(rt, &mut book, &timing, &right, 2_925, Some(&best), Ok(()))?;
+    Ok(book)
+}
+
+/// The book of a search whose right side was solved first. The left side isn't worse than what is kept then, so no tie may
+/// be settled there.
+fn searched_from_the_right<R: Abort + AllocGlobal>(rt: &R) -> Result<Book, Fail>
+    ensures { IfOk result (λ book. book.tellers ≡ 1) }
+{
+    let alloc = rt.alloc();
+    let timing = star(alloc, 1_000_000, FAST, TWO)?;
+    let best = schedule(alloc, &timing, &[0, 672])?;
+    let left = below_root(rt, alloc, Side::Left)?;
+    let right = below_root(rt, alloc, Side::Right)?;
+    let mut book = Book::new(alloc, &timing, 1, 10)?;
+    split(rt, &mut book, &Node::root(alloc), 4, Ok(()))?;
+    find(rt, &mut book, &timing, &right, 1_000_001, None, Ok(()))?;
+    let unmet = Err(BookFault::NotMet(2_924));
+    find(rt, &mut book, &timing, &left, 2_925, Some(&best), unmet)?;
+    find(rt, &mut book, &timing, &left, 2_925, None, Ok(()))?;
     Ok(book)
 }
 
@@ -158,25 +178,26 @@ fn certificate(alloc: Global, book: Book) -> Result<String, Fail> {
     match book.first_open(alloc)? {
         Some(_) => Err(Fail::from("a node is open")),
         None => {
-            let target = book.best();
-            let cert = book.into_cert(target)?;
+            let cert = book.into_cert()?;
             Ok(cert_to_json(alloc, &cert)?)
         }
     }
 }
 
+/// A tie counts as an event, and by no bound.
 #[test]
-fn a_whole_search_is_certified(rt: HostRuntime) -> Result<(), Fail> {
-    let book = searched(&rt)?;
-    assert_eq!(rt; book.open_count(), 0);
-    assert_eq!(rt; book.tally(0), (3, 2_924, 2_924));
-    let kept = book.kept().ok_or("nothing is kept")?;
-    assert_eq!(rt; kept.offsets(), [0, 672].as_slice());
-    let text = certificate(rt.alloc(), book)?;
-    assert_eq!(rt;
-        text.as_str(),
-        "{\"format\":1,\"nodes\":[[\"branch\",0,1,4],[\"late\",1,[0]],[\"late\",0,[0]]],\"target\":2924}\n"
-    );
+fn whole_searches_are_certified(rt: HostRuntime) -> Result<(), Fail> {
+    for book in [searched(&rt)?, searched_from_the_right(&rt)?] {
+        assert_eq!(rt; book.open_count(), 0);
+        assert_eq!(rt; book.tally(0), (3, 1_000_001, 2_924));
+        let kept = book.kept().ok_or("nothing is kept")?;
+        assert_eq!(rt; kept.valid().offsets(), [0, 672].as_slice());
+        let text = certificate(rt.alloc(), book)?;
+        assert_eq!(rt;
+            text.as_str(),
+            "{\"format\":2,\"nodes\":[[\"branch\",0,1,4],[\"tie\",1,[0],[[],[0]]],[\"tie\",0,[0],[[0]]]],\"target\":2924}\n"
+        );
+    }
     Ok(())
 }
 

@@ -1,12 +1,16 @@
 //! Looks at nodes of the search.
+ghost use Rattle.std.specs.Prelude.{IfOk, IfSome, option_copied};
+ghost use Rattle.tsn_timing.specs.Solution.{IsSolved};
 
 use crate::networks::{FAST, LINE, LOOP, ONE, TWO, star, timing_of};
+use std::alloc::{AllocError, Global};
 use std::process::Abort;
 use std::test::Fail;
 use tsn_branch::outcome::Look;
 use tsn_branch::{Loads, Node, Side, Triple, fits, look};
+use tsn_cert::Chains;
 use tsn_conflict::conflicts;
-use tsn_timing::Timing;
+use tsn_timing::{Solved, Timing};
 
 /// The node one decision below, on which of the first two streams goes first on a link.
 fn below(rt: &impl Abort, node: &Node, link: usize, side: Side) -> Result<Node, Fail> {
@@ -19,27 +23,65 @@ fn below(rt: &impl Abort, node: &Node, link: usize, side: Side) -> Result<Node, 
     Ok(node.child(triple, side)?)
 }
 
-/// What a look finds, in words.
+/// A schedule of these offsets.
+pub fn schedule(alloc: Global, timing: &Timing, offsets: &[u64]) -> Result<Solved, Fail>
+    ensures { IfOk result (IsSolved timing.now) }
+{
+    match timing.valid(Vec::from_slice(alloc, offsets)?) {
+        Ok(valid) => Ok(Solved::of(timing, valid)),
+        Err(_) => Err("the offsets are no schedule".into()),
+    }
+}
+
+/// What a look finds, with a best schedule or none, in words.
 fn found<R: Abort + AllocGlobal>(
     rt: &R,
     timing: &Timing,
     node: &Node,
     target: u64,
-) -> Result<String, Fail> {
+    best: Option<&Solved>,
+) -> Result<String, Fail>
+    requires { IfSome (option_copied best) (IsSolved timing.now) }
+{
     let alloc = rt.alloc();
     let shared = conflicts(alloc, timing)?;
     let loads = Loads::of(alloc, timing)?;
     assert!(rt; fits(&shared, node));
-    Ok(match look(alloc, timing, &shared, &loads, node, target)? {
-        Look::Split(triple) => {
-            format!(in alloc; "split {} {} {}", triple.left, triple.right, triple.link)?
-        }
-        Look::Solved { valid, bound, leaf } => {
-            format!(in alloc; "solved {:?} {bound} {leaf:?}", valid.offsets())?
-        }
-        Look::Pruned { bound, leaf } => format!(in alloc; "pruned {bound} {leaf:?}")?,
-        Look::Refuted(leaf) => format!(in alloc; "refuted {leaf:?}")?,
-    })
+    Ok(
+        match look(alloc, timing, &shared, &loads, node, target, best)? {
+            Look::Split(triple) => {
+                format!(in alloc; "split {} {} {}", triple.left, triple.right, triple.link)?
+            }
+            Look::Solved {
+                solved,
+                leaf,
+                chains,
+            } => {
+                let (offsets, bound) = (solved.valid().offsets(), solved.flowspan());
+                let chains = depths_of(alloc, &chains)?;
+                format!(in alloc; "solved {offsets:?} {bound} {leaf:?} {chains:?}")?
+            }
+            Look::Tied {
+                bound,
+                leaf,
+                chains,
+            } => {
+                let chains = depths_of(alloc, &chains)?;
+                format!(in alloc; "tied {bound} {leaf:?} {chains:?}")?
+            }
+            Look::Pruned { bound, leaf } => format!(in alloc; "pruned {bound} {leaf:?}")?,
+            Look::Refuted(leaf) => format!(in alloc; "refuted {leaf:?}")?,
+        },
+    )
+}
+
+/// The depths of each chain.
+fn depths_of(alloc: Global, chains: &Chains) -> Result<Vec<Vec<usize>>, AllocError> {
+    let mut all = Vec::new(alloc);
+    for chain in chains.list() {
+        all.push(Vec::from_slice(alloc, chain.depths())?)?;
+    }
+    Ok(all)
 }
 
 /// Looks at a node, which is to find this.
@@ -50,7 +92,7 @@ fn expect_look<R: Abort + AllocGlobal>(
     target: u64,
     answer: &str,
 ) -> Result<(), Fail> {
-    let text = found(rt, timing, node, target)?;
+    let text = found(rt, timing, node, target, None)?;
     assert_eq!(rt; text.as_str(), answer);
     Ok(())
 }
@@ -68,17 +110,51 @@ fn splits_solves_and_prunes(rt: HostRuntime) -> Result<(), Fail> {
         (
             &left,
             1_000_001,
-            "solved [0, 672] 2924 Late(1, Chain { depths: [0] })",
+            "solved [0, 672] 2924 Late(1, Chain { depths: [0] }) [[], [0]]",
         ),
         (
             &left,
             2_925,
-            "solved [0, 672] 2924 Late(1, Chain { depths: [0] })",
+            "solved [0, 672] 2924 Late(1, Chain { depths: [0] }) [[], [0]]",
         ),
         (&left, 2_924, "pruned 2924 Late(1, Chain { depths: [0] })"),
         (&right, 2_924, "pruned 2924 Late(0, Chain { depths: [0] })"),
     ] {
         expect_look(&rt, &timing, node, target, answer)?;
+    }
+    Ok(())
+}
+
+/// The chains of a tie go up to the first stream at which the lists differ, and else to the last stream.
+#[test]
+fn ties_with_the_best_schedule(rt: HostRuntime) -> Result<(), Fail> {
+    let alloc = rt.alloc();
+    let timing = star(alloc, 1_000_000, FAST, TWO)?;
+    let first = schedule(alloc, &timing, &[0, 672])?;
+    let second = schedule(alloc, &timing, &[672, 0])?;
+    let root = Node::root(alloc);
+    let left = below(&rt, &root, 4, Side::Left)?;
+    let right = below(&rt, &root, 4, Side::Right)?;
+    for (node, best, answer) in [
+        (&root, &first, "split 0 1 4"),
+        (
+            &right,
+            &first,
+            "tied 2924 Late(0, Chain { depths: [0] }) [[0]]",
+        ),
+        (
+            &left,
+            &first,
+            "tied 2924 Late(1, Chain { depths: [0] }) [[], [0]]",
+        ),
+        (
+            &left,
+            &second,
+            "solved [0, 672] 2924 Late(1, Chain { depths: [0] }) [[], [0]]",
+        ),
+    ] {
+        let text = found(&rt, &timing, node, 2_925, Some(best))?;
+        assert_eq!(&rt; text.as_str(), answer);
     }
     Ok(())
 }
@@ -140,7 +216,7 @@ fn spans_end_within_the_cycle(rt: HostRuntime) -> Result<(), Fail> {
         (
             2_298,
             2_299,
-            "solved [0] 2252 Late(0, Chain { depths: [] })",
+            "solved [0] 2252 Late(0, Chain { depths: [] }) [[]]",
         ),
     ] {
         let timing = star(alloc, cycle, FAST, ONE)?;
@@ -167,7 +243,7 @@ fn cycles_of_positive_sum_refute(rt: HostRuntime) -> Result<(), Fail> {
         (
             &level,
             1_000_001,
-            "solved [0, 672] 3648 Late(0, Chain { depths: [] })",
+            "solved [0, 672] 3648 Late(0, Chain { depths: [] }) [[], [0]]",
         ),
         (
             &level.copy()?,

@@ -1,2 +1,3 @@
 pub mod Judgement
 pub mod Tables
+pub mod Solution

@@ -2,10 +2,12 @@
 #![tactic(auto)]
 
 mod copy;
+pub mod solved;
 mod tables;
 pub mod timing;
 pub mod valid;
 
+pub use solved::Solved;
 pub use timing::{Timing, Validity};
 pub use tsn_model::{NoMemory, Triple, Violation};
 pub use valid::Valid;

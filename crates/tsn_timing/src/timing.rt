@@ -54,6 +54,15 @@ impl Timing {
         Ok(Timing { network, tables })
     }
 
+    /// The same timing once more. The error says that there was no memory.
+    pub fn copy(&self, alloc: Global) -> Result<Timing, NoMemory>
+        ensures { IfOk result (λ timing. timing ≡ self.now) }
+    {
+        let network = self.network.copy(alloc)?;
+        let tables = tables_of(alloc, &network)?;
+        Ok(Timing { network, tables })
+    }
+
     /// The same network as the plain program has it, which works out each number anew.
     pub fn plain(&self) -> &PlainNetwork
         ensures { result.now ≡ self.now }

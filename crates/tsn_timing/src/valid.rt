@@ -1,6 +1,7 @@
 //! A list of offsets that is a valid schedule.
-ghost use Rattle.std.specs.Prelude.{◌≡◌, ℕ, List};
+ghost use Rattle.std.specs.Prelude.{◌≡◌, ℕ, List, IfOk};
 
+use std::alloc::AllocError;
 use std::marker::Model;
 
 /// Offsets that `Timing::valid` found to be a valid schedule: one a stream, in nanoseconds.
@@ -20,6 +21,14 @@ impl Valid {
         ensures { result ≡ offsets.items }
     {
         Valid { offsets }
+    }
+
+    // The same once more.
+    pub(crate) fn copy(&self) -> Result<Valid, AllocError>
+        ensures { IfOk result (λ valid. valid ≡ self.now) }
+    {
+        let offsets = Vec::from_slice(*self.offsets.allocator(), self.offsets())?;
+        Ok(Valid { offsets })
     }
 
     /// The offsets, in stream order.

@@ -1,72 +1,64 @@
 -- What a search shows that has left nothing open, and one that was stopped.
 use Rattle.std.proofs.Common.{◌≡◌, ℕ, ◌+◌, ◌-◌, ◌^◌, ◌≤◌, ◌<◌, ◌⊎◌, inl, inr, List, [], ◌∷◌, length, Option, Some, None, MatchOption, Contains, sym, ap, ◌∙◌, subst, arith}
 use Rattle.tsn_model.specs.Network.{Network, IsWellFormed}
-use Rattle.tsn_model.specs.Schedule.{IsValid, flowspan, target_of, IsOptimal, HasNoSchedule}
+use Rattle.tsn_model.specs.Schedule.{IsValid, flowspan, target_of, IsFirst, HasNoSchedule}
 use Rattle.tsn_model.specs.Arcs.{conflicts_of}
-use Rattle.tsn_model.specs.Certificate.{Tree, Accepts, Spells}
+use Rattle.tsn_model.specs.Certificate.{AcceptsBy, AcceptsFirst, IsNodeShown}
 use Rattle.tsn_model.specs.Search.{Settlement, open_paths, best_bound, kept_of, solved_bounds, IsLegal}
 use Rattle.tsn_search_laws.proofs.Lists.{Contains-here}
-use Rattle.tsn_search_laws.proofs.Kept.{kept_valid, kept_target, finished_plan}
+use Rattle.tsn_search_laws.proofs.Kept.{kept_valid, kept_target}
+use Rattle.tsn_search_laws.proofs.Finished.{finished_plan}
+use Rattle.tsn_cert.specs.declared.plan.Plan.{Plan}
 use Rattle.tsn_cert.specs.declared.plan.Plan.TheVariants as plan
 use Rattle.tsn_cert.specs.declared.cert.Cert.{Cert}
-use Rattle.tsn_check.specs.Faults.{IsOptimalPlan}
+use Rattle.tsn_cert.specs.declared.cert.Format.{Format}
+use Rattle.tsn_cert.specs.declared.cert.Format.TheVariants.{Two}
+use Rattle.tsn_check.specs.Faults.{IsOptimalPlan, IsFirstPlan, IsPlanRight, leaf_target, tie_plan, offsets_in}
+use Rattle.tsn_timing.specs.Solution.{Solution, IsSolved}
 use Rattle.tsn_worker.specs.Answer.{Shows, IsStopped}
 use Rattle.tsn_book.specs.Book.{Progress, IsLawful, SpellsAccepted}
 use Rattle.tsn_worker.specs.Search.{IsSearchOf}
 
--- a certificate for this target, of the tree of the whole history
-pub record IsTreeOf (network : Network) (history : List Settlement) (target : ℕ) (cert : Cert) : Type 0 where
-  pub same_target : cert.target ≡ target
-  pub tree : SpellsAccepted network target cert.nodes
+-- a certificate of format 2 for what is kept, of the tree of the whole history
+pub record IsTreeOf (network : Network) (history : List Settlement) (cert : Cert) : Type 0 where
+  pub of_format_two : cert.format ≡ Two
+  pub same_target : cert.target ≡ best_bound network history
+  pub tree : SpellsAccepted network (kept_of network history) cert.nodes
   pub counted : length cert.nodes ≡ length history
 
-module _ (network : Network) (formed : IsWellFormed network) (limit : ℕ) (history : List Settlement) (legal : IsLegal network history) (within : length history ≤ limit) (none_open : open_paths history ≡ []) (cert : Cert) where
-  accepted : (target : ℕ) → IsTreeOf network history target cert → (tree : Tree) × Spells cert.nodes tree × Accepts network cert.target [] tree
-  accepted target of =
+module _ (network : Network) (formed : IsWellFormed network) (limit : ℕ) (history : List Settlement) (legal : IsLegal network history) (within : length history ≤ limit) (none_open : open_paths history ≡ []) (cert : Cert) (of : IsTreeOf network history cert) where
+  shown : (count : ℕ) → count ≡ length history → (plan : Plan) → kept_of network history ≡ offsets_in plan → IsPlanRight network plan → Shows network limit plan cert count
+  shown count counted plan is right =
       let found = of.tree in
-      (found.tree, found.spelled, subst (λ t. Accepts network t [] found.tree) (sym of.same_target) found.accepted)
+      let target = of.same_target ∙ sym (kept_target network history legal) ∙ ap (target_of network) is in
+      let Accepted : Format → ℕ → Type 0 = λ format least. AcceptsBy (IsNodeShown network (leaf_target network format least) (tie_plan format (offsets_in plan))) [] found.tree in
+      record {
+        certifies = record {
+          plan_right = right;
+          target_right = target;
+          tree = found.tree;
+          spelled = found.spelled;
+          accepted = subst (λ f. Accepted f cert.target) (sym of.of_format_two) (subst (Accepted Two) (sym target) (subst (λ o. AcceptsFirst network o [] found.tree) is found.accepted));
+        };
+        of_format_two = of.of_format_two;
+        counted = counted ∙ sym of.counted;
+        within = omega (arith, counted);
+      }
 
   -- nothing is kept
-  pub shows_none : (target count : ℕ) → kept_of network history ≡ None → target ≡ best_bound network history → count ≡ length history → IsTreeOf network history target cert
-      → HasNoSchedule network × Shows network limit plan.None cert count
-  shows_none target count nothing is counted of =
-      let P : Option (List ℕ) → Type 0 = λ o. MatchOption o (HasNoSchedule network) (IsOptimal network) in
-      let tree = accepted target of in (
-        subst P nothing (finished_plan network formed history legal none_open),
-        record {
-          certifies = record {
-            plan_right = tt;
-            target_right = of.same_target ∙ is ∙ sym (kept_target network history legal) ∙ ap (target_of network) nothing;
-            tree = tree.0;
-            spelled = tree.1;
-            accepted = tree.2;
-          };
-          counted = counted ∙ sym of.counted;
-          within = omega (arith, counted);
-        },
-      )
+  pub shows_none : (count : ℕ) → count ≡ length history → kept_of network history ≡ None → HasNoSchedule network × Shows network limit plan.None cert count
+  shows_none count counted nothing =
+      let P : Option (List ℕ) → Type 0 = λ o. MatchOption o (HasNoSchedule network) (IsFirst network) in
+      (subst P nothing (finished_plan network formed history legal none_open), shown count counted plan.None nothing tt)
 
   -- a schedule is kept
-  pub shows_kept : (target count : ℕ) (offsets : List ℕ) → kept_of network history ≡ Some offsets → target ≡ best_bound network history → count ≡ length history → IsTreeOf network history target cert
-      → IsOptimalPlan network (plan.Schedule target offsets) × Shows network limit (plan.Schedule target offsets) cert count
-  shows_kept target count offsets kept is counted of =
-      let P : Option (List ℕ) → Type 0 = λ o. MatchOption o (HasNoSchedule network) (IsOptimal network) in
-      let Q : Option (List ℕ) → Type 0 = λ o. MatchOption o (solved_bounds history ≡ []) (λ os. IsValid network os × (flowspan network os ≡ best_bound network history)) in
-      let valid : IsValid network offsets × (flowspan network offsets ≡ best_bound network history) = subst Q kept (kept_valid network history legal) in
-      let tree = accepted target of in (
-        (subst P kept (finished_plan network formed history legal none_open), is ∙ sym valid.1),
-        record {
-          certifies = record {
-            plan_right = (valid.0, is ∙ sym valid.1);
-            target_right = of.same_target ∙ is ∙ sym (kept_target network history legal) ∙ ap (target_of network) kept;
-            tree = tree.0;
-            spelled = tree.1;
-            accepted = tree.2;
-          };
-          counted = counted ∙ sym of.counted;
-          within = omega (arith, counted);
-        },
-      )
+  pub shows_kept : (count : ℕ) → count ≡ length history → (solution : Solution) → kept_of network history ≡ Some solution.offsets → IsSolved network solution
+      → let plan = plan.Schedule solution.flowspan solution.offsets in IsOptimalPlan network plan × IsFirstPlan network plan × Shows network limit plan cert count
+  shows_kept count counted solution kept solved =
+      let P : Option (List ℕ) → Type 0 = λ o. MatchOption o (HasNoSchedule network) (IsFirst network) in
+      let first : IsFirst network solution.offsets = subst P kept (finished_plan network formed history legal none_open) in
+      let span = sym solved.1 in
+      ((first.optimal, span), (first, span), shown count counted (plan.Schedule solution.flowspan solution.offsets) kept (solved.0, span))
 
 first_of : {X : Type 0} (xs : List X) → 0 < length xs → (x : X) × Contains xs x
 first_of [] some = absurd (omega arith)

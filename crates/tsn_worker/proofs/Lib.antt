@@ -1,2 +1,3 @@
 mod Settling
 mod Deciding
+pub mod Agreeing

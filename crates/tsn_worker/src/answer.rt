@@ -6,7 +6,8 @@ use tsn_cert::{Cert, Plan};
 /// What a planner found.
 #[derive(Drop)]
 pub enum Answer {
-    /// A schedule of least flowspan, the certificate that shows it, and how many nodes were settled.
+    /// The first in list order of the schedules of least flowspan, the certificate that shows it, and how many nodes were
+    /// settled.
     Optimal(Plan, Cert, usize),
     /// There is no schedule; the certificate that shows it, and how many nodes were settled.
     NoSchedule(Cert, usize),

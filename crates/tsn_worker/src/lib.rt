@@ -3,6 +3,7 @@
 
 pub mod answer;
 pub mod gate;
+pub mod laws;
 pub mod planning;
 mod search;
 

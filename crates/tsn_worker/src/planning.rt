@@ -22,8 +22,8 @@ use tsn_timing::Timing;
 /// The most nodes that a run may settle.
 pub const MAX_LIMIT: usize = 1_000_000_000;
 
-/// A schedule of least flowspan for the problem, or that there is none, each with a certificate that shows it; or, where
-/// `limit` nodes (1 to 1,000,000,000) were settled and one is still open, the book with the best schedule so far, if any.
+/// The schedule of least flowspan for the problem that is first in list order, or that there is none, each with a
+/// certificate that shows it; or, where `limit` nodes (1 to 1,000,000,000) were settled and one is still open, the book with the best schedule so far, if any.
 /// There is one worker: the caller, who starts no thread and waits for nobody but the gate. The error says that there was
 /// no memory.
 pub fn plan<R: Threads + Wait + Sync, G: Gate + Sync>(
@@ -59,16 +59,14 @@ fn decide(alloc: Global, timing: &Timing, limit: usize, book: Book) -> Result<An
     ensures { IfOk result (IsAnswer timing.now limit) }
 {
     let count = book.count();
-    let target = book.best();
     let Some(kept) = book.kept() else {
-        let cert = book.into_cert(target)?;
+        let cert = book.into_cert()?;
         return Ok(Answer::NoSchedule(cert, count));
     };
-    let offsets = Offsets::of(Vec::from_slice(alloc, kept.offsets())?);
-    let cert = book.into_cert(target)?;
     let plan = Plan::Schedule {
-        flowspan: target,
-        offsets,
+        flowspan: kept.flowspan(),
+        offsets: Offsets::of(Vec::from_slice(alloc, kept.valid().offsets())?),
     };
+    let cert = book.into_cert()?;
     Ok(Answer::Optimal(plan, cert, count))
 }

@@ -2,8 +2,8 @@
 ghost use Rattle.std.specs.Prelude.{◌≡◌, ◌<◌, ◌+◌, ◌∷◌, ◌++◌, [], ◌⊎◌, length, reverse, Contains, IfOk, OnOk, MatchBool, MatchOption};
 ghost use Rattle.tsn_model.specs.Network.{Network};
 ghost use Rattle.tsn_model.specs.declared.Side.TheVariants.{Left};
-ghost use Rattle.tsn_model.specs.Certificate.{decided};
-ghost use Rattle.tsn_model.specs.Search.{open_paths, made_paths, best_bound, split};
+ghost use Rattle.tsn_model.specs.Certificate.{decided, beyond};
+ghost use Rattle.tsn_model.specs.Search.{open_paths, made_paths, split};
 ghost use Rattle.tsn_search_laws.specs.Walk.{path_made, IsWalk};
 ghost use Rattle.tsn_conflict.specs.Kept.{AreConflictsOf};
 ghost use Rattle.tsn_branch.specs.Outcome.{outcome_of};
@@ -11,14 +11,14 @@ ghost use Rattle.tsn_branch.specs.Path.{IsUndecided};
 ghost use Rattle.tsn_branch.specs.Loads.{AreLoadsOf};
 ghost use Rattle.tsn_branch.specs.Look.{HasProof, SplitsUndecided, PrunesFrom};
 ghost use Rattle.tsn_branch.specs.Descent.{Stands, Splits, Closes};
-ghost use Rattle.tsn_book.specs.Book.{IsLawful};
+ghost use Rattle.tsn_book.specs.Book.{IsLawful, IsMet};
 ghost use Rattle.tsn_worker.specs.Search.{IsSearchOf, IsSearching, HasChildren, IsAfterLeaf};
 
 use crate::gate::Gate;
 use std::alloc::Global;
 use tsn_book::{Book, BookFault};
 use tsn_branch::outcome::Look;
-use tsn_branch::{Descent, Loads};
+use tsn_branch::{Decision, Descent, Loads};
 use tsn_conflict::sharing::Conflicts;
 use tsn_model::{NoMemory, Triple};
 use tsn_timing::Timing;
@@ -85,12 +85,13 @@ impl Search {
             (IsSearchOf timing.now limit self.new.book × (open_paths self.new.book.history ≡ []))) }
         ensures one { OnOk result (length self.new.book.history ≡ length self.old.book.history + 1) }
     {
+        let target = beyond(timing, self.book.best());
         let look = self
             .descent
-            .look(alloc, timing, conflicts, loads, self.book.best())?;
+            .look(alloc, timing, conflicts, loads, target, self.book.kept())?;
         let split = split_of(&look);
         gate.pass(0);
-        record(&mut self.book, self.place, look)?;
+        record(&mut self.book, self.place, self.descent.node().path(), look)?;
         match split {
             Some(triple) => {
                 self.go_down(triple)?;
@@ -147,26 +148,35 @@ fn split_of(look: &Look) -> Option<Triple>
         Look::Split(triple) => Some(*triple),
         Look::Solved { .. } => None,
         Look::Pruned { .. } => None,
+        Look::Tied { .. } => None,
         Look::Refuted(_) => None,
     }
 }
 
+/// The least bound, in nanoseconds, by which a node may be pruned where this is the least flowspan solved.
+fn beyond(timing: &Timing, best: u64) -> u64
+    ensures { result ≡ beyond timing.now best }
+{
+    best.min(timing.cycle()) + 1
+}
+
 /// Settles the open node at a place, as a look found it.
-fn record(book: &mut Book, place: usize, look: Look) -> Result<(), NoMemory>
+fn record(book: &mut Book, place: usize, path: &[Decision], look: Look) -> Result<(), NoMemory>
     requires teller { book.old.tellers ≡ 1 }
     requires some_left { length book.old.history < book.old.limit }
     requires place { place < length (made_paths book.old.history) }
+    requires path { path.now ≡ path_made book.old.history place }
     requires node_open { Contains (open_paths book.old.history) (path_made book.old.history place) }
     requires proof { HasProof book.old.network (path_made book.old.history place) (outcome_of look) }
     requires undecided { SplitsUndecided book.old.network (path_made book.old.history place) (outcome_of look) }
-    requires met { PrunesFrom (best_bound book.old.network book.old.history) (outcome_of look) }
+    requires met { IsMet book.old.network book.old.history (path_made book.old.history place) (outcome_of look) }
     ensures settled { OnOk result (book.new ≡ record book.old {
       history = book.old.history
           ++ record { teller = 0; event = record { path = path_made book.old.history place; outcome = outcome_of look } } ∷ [];
     }) }
     ensures lawful { OnOk result (IsLawful book.new) }
 {
-    match book.settle_at(0, place, look) {
+    match book.settle_at(0, place, path, look) {
         Ok(()) => Ok(()),
         Err((BookFault::Memory, _)) => Err(NoMemory),
         Err((_, _)) => unreachable!(),

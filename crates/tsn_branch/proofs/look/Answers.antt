@@ -1,10 +1,11 @@
 use Rattle.std.proofs.Common.{◌≡◌, ap, ◌∙◌}
 use Rattle.std.proofs.lemmas.Result.{IfOk-weaker}
+use Rattle.std.specs.Prelude.{option_copied}
 use Rattle.tsn_model.specs.Arcs.{arcs_of}
 use Rattle.tsn_branch.specs.declared.outcome.Look.{Look}
 use Rattle.tsn_branch.specs.Outcome.{outcome_of}
 use Rattle.tsn_branch.proofs.Leasts.{answers_on}
-use Rattle.tsn_branch.proofs.Rights.{HasProof-from, SplitsUndecided-from, PrunesFrom-from}
+use Rattle.tsn_branch.proofs.Rights.{HasProof-from, SplitsUndecided-from, PrunesFrom-from, TiesWith-from}
 use Rattle.tsn_branch.proofs.look.Goals as goal
 
 pub judge-requires-clause-some_path : goal.judge-requires-clause-some_path
@@ -25,12 +26,16 @@ returns-clause-first_case c =
 
 pub returns-clause-proof : goal.returns-clause-proof
 returns-clause-proof c =
-    IfOk-weaker c.judge.result _ _ (λ (look : Look). HasProof-from c.args.timing.now c.args.node.now c.args.target (outcome_of look)) (returns-clause-first_case c)
+    IfOk-weaker c.judge.result _ _ (λ (look : Look). HasProof-from c.args.timing.now c.args.node.now c.args.target (option_copied c.args.best) (outcome_of look)) (returns-clause-first_case c)
 
 pub returns-clause-undecided : goal.returns-clause-undecided
 returns-clause-undecided c =
-    IfOk-weaker c.judge.result _ _ (λ (look : Look). SplitsUndecided-from c.args.timing.now c.args.node.now c.args.target (outcome_of look)) (returns-clause-first_case c)
+    IfOk-weaker c.judge.result _ _ (λ (look : Look). SplitsUndecided-from c.args.timing.now c.args.node.now c.args.target (option_copied c.args.best) (outcome_of look)) (returns-clause-first_case c)
 
 pub returns-clause-met : goal.returns-clause-met
 returns-clause-met c =
-    IfOk-weaker c.judge.result _ _ (λ (look : Look). PrunesFrom-from c.args.timing.now c.args.node.now c.args.target (outcome_of look)) (returns-clause-first_case c)
+    IfOk-weaker c.judge.result _ _ (λ (look : Look). PrunesFrom-from c.args.timing.now c.args.node.now c.args.target (option_copied c.args.best) (outcome_of look)) (returns-clause-first_case c)
+
+pub returns-clause-ties : goal.returns-clause-ties
+returns-clause-ties c =
+    IfOk-weaker c.judge.result _ _ (λ (look : Look). TiesWith-from c.args.timing.now c.args.node.now c.args.target (option_copied c.args.best) c.requires.best (outcome_of look)) (returns-clause-first_case c)

@@ -1,4 +1,5 @@
 use Rattle.std.proofs.Common.{◌≤◌, ◌<◌, List, length, ℕ, All, sym, ap, ◌∙◌, subst, arith}
+use Rattle.std.specs.Prelude.{option_copied, IfNone, IfSome}
 use Rattle.tsn_model.specs.declared.Triple.{Triple}
 use Rattle.tsn_model.specs.Schedule.{IsFirstOverlap}
 use Rattle.tsn_model.specs.Arcs.{conflicts_of}
@@ -6,10 +7,10 @@ use Rattle.tsn_conflict.specs.Raised.{OnlyRaisedOverlap, triple_at}
 use Rattle.tsn_branch.specs.Links.{shared_links, IsUnloaded}
 use Rattle.tsn_branch.specs.Loads.{IsFirstLoad}
 use Rattle.tsn_branch.specs.Ends.{AreEnds}
-use Rattle.tsn_branch.specs.Look.{IsFirstOverrun, IsShownBy}
+use Rattle.tsn_branch.specs.Look.{IsFirstOverrun, IsShownBy, IsUntied}
 use Rattle.tsn_branch.proofs.Leasts.{count, AreLeast-from, IsShownBy-from, small_offsets, least_same}
 use Rattle.tsn_branch.specs.Outcome.{outcome_of}
-use Rattle.tsn_branch.specs.Descent.{IsSeenBy}
+use Rattle.tsn_branch.specs.Descent.{IsSeenBy, IsSolution, IsTieBy}
 use Rattle.tsn_branch.proofs.Findings.{solution_found}
 use Rattle.tsn_branch.proofs.judge.judge_ends.Goals as goal
 
@@ -73,7 +74,7 @@ returns-in-Some c =
     let offsets = c.args.least.now.offsets in
     let (fit, last, end) = subst (AreEnds network offsets) c.in-Within.is c.requires.ends in
     let found = subst (λ (list : List ℕ). IsFirstLoad network list c.args.target c.in-Some.found) c.offsets.ensures c.in-Some.ensures in
-    (c.in_ok-look.ensures.closes, c.in_ok-look.ensures.look path c.args.target solves fit (omega (arith, end, c.if-end-target.false)) found)
+    (c.in_ok-look.ensures.closes, c.in_ok-look.ensures.look path c.args.target solves fit (omega (arith, end, c.if-end-target.false)) found (option_copied c.args.best))
 
 pub first_violated_from-requires-clause-small : goal.first_violated_from-requires-clause-small
 first_violated_from-requires-clause-small c =
@@ -100,6 +101,7 @@ returns-in-Some-first_violated_from c =
     subst (λ (ts : List Triple). IsFirstOverlap network labels.offsets (triple_at ts place)) conflicts.triples
     (subst (λ (offsets : List ℕ). IsFirstOverlap network offsets (triple_at c.args.conflicts.now.triples place)) c.offsets-2.ensures found.1) in
     let unloaded = subst (λ (offsets : List ℕ). All (IsUnloaded network offsets c.args.target) (shared_links network)) c.offsets.ensures c.in_default.ensures in
+    let untied = subst (λ o. IfNone o (IsUntied network labels.offsets (option_copied c.args.best))) c.in_default-tie.is c.in_ok-tie.ensures.none in
     let least = AreLeast-from network path labels solves in (
       record {
         within = subst (λ (ts : List Triple). place < length ts) conflicts.triples found.0;
@@ -107,7 +109,7 @@ returns-in-Some-first_violated_from c =
             subst (λ list. IsSeenBy network list (record { place = place; last = c.in-Within.last; end = c.in-Within.end })) (least_same network path labels.offsets offsets least other)
             (record { ended = record { fit = fit; last_first = last; end_is = end }; overlap = overlap });
       },
-      (labels.offsets, least, fit, omega (arith, end, c.if-end-target.false), overlap, unloaded),
+      (labels.offsets, least, fit, omega (arith, end, c.if-end-target.false), overlap, unloaded, untied),
     )
 
 pub returns : goal.returns
@@ -117,5 +119,30 @@ returns c =
     let labels = c.args.least.now in
     let (fit, last, end) = subst (AreEnds network labels.offsets) c.in-Within.is c.requires.ends in
     let unloaded = subst (λ (offsets : List ℕ). All (IsUnloaded network offsets c.args.target) (shared_links network)) c.offsets.ensures c.in_default.ensures in
-    solution_found network path labels.offsets c.in-Within.end c.args.target (outcome_of c.in_ok-look-2.look) (omega (arith, c.if-end-target.false)) (AreLeast-from network path labels solves) unloaded
-    (c.in_ok-look-2.ensures path solves)
+    let untied = subst (λ o. IfNone o (IsUntied network labels.offsets (option_copied c.args.best))) c.in_default-tie.is c.in_ok-tie.ensures.none in
+    solution_found network path labels.offsets c.in-Within.end c.args.target (option_copied c.args.best) (outcome_of c.in_ok-look-2.look) (omega (arith, c.if-end-target.false)) (AreLeast-from network path labels solves) unloaded untied
+    (subst (λ n. IsSolution network path n (outcome_of c.in_ok-look-2.look)) (sym end) (c.in_ok-look-2.ensures path solves))
+
+pub solved-requires-clause-fit : goal.solved-requires-clause-fit
+solved-requires-clause-fit c =
+    let (fit, last, end) = subst (AreEnds c.args.timing.now c.args.least.now.offsets) c.in-Within.is c.requires.ends in
+    fit
+
+pub solved-requires-clause-last : goal.solved-requires-clause-last
+solved-requires-clause-last c =
+    let (fit, last, end) = subst (AreEnds c.args.timing.now c.args.least.now.offsets) c.in-Within.is c.requires.ends in
+    last
+
+pub find_tie-requires-clause-within : goal.find_tie-requires-clause-within
+find_tie-requires-clause-within c =
+    (c.args.target, subst (λ (offsets : List ℕ). All (IsUnloaded c.args.timing.now offsets c.args.target) (shared_links c.args.timing.now)) c.offsets.ensures c.in_default.ensures)
+
+pub returns-in-Some-tie : goal.returns-in-Some-tie
+returns-in-Some-tie c =
+    λ path solves.
+    let network = c.args.timing.now in
+    let labels = c.args.least.now in
+    let (fit, last, end) = subst (AreEnds network labels.offsets) c.in-Within.is c.requires.ends in
+    let unloaded = subst (λ (offsets : List ℕ). All (IsUnloaded network offsets c.args.target) (shared_links network)) c.offsets.ensures c.in_default.ensures in
+    let found = subst (λ o. IfSome o (IsTieBy network labels (option_copied c.args.best))) c.in-Some-tie.is c.in_ok-tie.ensures.some in
+    (found.0, found.1 path c.args.target solves (omega (arith, end, c.if-end-target.false)) unloaded)

@@ -5,7 +5,7 @@ use Rattle.tsn_branch.proofs.Leasts.{AreLeast-from}
 use Rattle.tsn_branch.proofs.judge.judge_load.Goals as goal
 
 pub returns-in_ok-link-in-Overload-clause-look : goal.returns-in_ok-link-in-Overload-clause-look
-returns-in_ok-link-in-Overload-clause-look c path target solves fit below found =
+returns-in_ok-link-in-Overload-clause-look c path target solves fit below found best =
     let network = c.args.timing.now in
     let offsets = c.args.least.now.offsets in
     let place = c.in-Overload.place in
@@ -22,7 +22,7 @@ returns-in_ok-link-in-Overload-clause-look c path target solves fit below found 
     )
 
 pub returns-in_ok-link-in-Load-clause-look : goal.returns-in_ok-link-in-Load-clause-look
-returns-in_ok-link-in-Load-clause-look c path target solves fit below found =
+returns-in_ok-link-in-Load-clause-look c path target solves fit below found best =
     let network = c.args.timing.now in
     let offsets = c.args.least.now.offsets in
     let place = c.in-Load.place in

@@ -1,8 +1,12 @@
-use Rattle.std.proofs.Common.{◌≡◌, List, ℕ, refl, sym, ap, ◌∙◌, subst}
+use Rattle.std.proofs.Common.{◌≡◌, List, ℕ, sym, ap, ◌∙◌, subst, arith}
 use Rattle.tsn_model.specs.Schedule.{flowspan}
+use Rattle.tsn_model.specs.Network.{stream_count}
+use Rattle.tsn_model.specs.Search.{ShowsOffsets}
 use Rattle.tsn_diff.specs.Forest.{chain_of}
+use Rattle.tsn_branch.specs.Chains.{chains_upto}
+use Rattle.tsn_branch.proofs.Tying.{upto_shows}
 use Rattle.tsn_branch.specs.Look.{AreLeast, IsFirstLast, IsShownBy}
-use Rattle.tsn_branch.proofs.Leasts.{AreLeast-from, IsShownBy-from, no_violation}
+use Rattle.tsn_branch.proofs.Leasts.{AreLeast-from, IsShownBy-from, short, no_violation}
 use Rattle.tsn_branch.proofs.judge.solved.Goals as goal
 
 pub returns : goal.returns
@@ -10,22 +14,29 @@ returns c =
     λ path solves.
     let network = c.args.timing.now in
     let labels = c.args.least.now in
-    let same : labels.offsets ≡ c.in-Ok.valid = sym c.offsets.ensures ∙ sym c.in_ok-from_slice.ensures.items ∙ sym c.in-Ok.ensures.same in
-    let (fit, last, end) = c.requires.ends in (
+    let found = c.of-solved.result in
+    let last = c.requires.last in
+    let same : labels.offsets ≡ found.offsets = sym c.offsets.ensures ∙ sym c.in_ok-from_slice.ensures.items ∙ sym c.in-Ok.ensures.same ∙ sym c.of-solved.ensures.schedule in (
       subst (AreLeast network path) same (AreLeast-from network path labels solves),
-      c.in-Ok.ensures.valid,
-      refl,
-      end ∙ ap (flowspan network) same,
+      c.of-solved.ensures.solved.0,
+      sym c.of-solved.ensures.solved.1 ∙ ap (flowspan network) (sym same),
+      sym c.of-solved.ensures.solved.1,
       (
         subst (λ (offsets : List ℕ). IsFirstLast network offsets c.args.last) same last,
-        subst (λ (chain : List ℕ). IsShownBy network path c.in-Ok.valid c.args.last chain) (sym c.in_ok-chain_to.ensures)
+        subst (λ (chain : List ℕ). IsShownBy network path found.offsets c.args.last chain) (sym c.in_ok-chain_to.ensures)
             (subst (λ (offsets : List ℕ). IsShownBy network path offsets c.args.last (chain_of labels c.args.last)) same (IsShownBy-from network path labels solves c.args.last last.counted)),
       ),
+      subst (λ (chains : List (List ℕ)). ShowsOffsets network path chains found.offsets) (sym (c.in_ok-chains.ensures ∙ ap (chains_upto labels) c.streams.ensures.value))
+          (subst (λ (offsets : List ℕ). ShowsOffsets network path (chains_upto labels (stream_count network)) offsets) same (upto_shows network path labels solves)),
     )
 
 pub unreachable-requires : goal.unreachable-requires
 unreachable-requires c =
     let (path, solves) = c.requires.some_path in
-    let (fit, last, end) = c.requires.ends in
-    no_violation c.args.timing.now path c.args.least.now solves fit c.requires.apart c.in_ok-from_slice.field-0.items (c.in_ok-from_slice.ensures.items ∙ c.offsets.ensures)
+    no_violation c.args.timing.now path c.args.least.now solves c.requires.fit c.requires.apart c.in_ok-from_slice.field-0.items (c.in_ok-from_slice.ensures.items ∙ c.offsets.ensures)
     c.in_default.field-0.0 c.in_default.ensures.refused
+
+pub chains_to-requires-clause-short : goal.chains_to-requires-clause-short
+chains_to-requires-clause-short c i below =
+    let (path, solves) = c.requires.some_path in
+    short c.args.timing.now path c.args.least.now solves c.requires.formed i (omega (arith, below, c.streams.ensures.value))

@@ -13,7 +13,7 @@ returns-clause-text c =
     c.in_ok-file_text.ensures.text (ap has_float is ∙ has_float-cert_value c.args.cert.now) ∙ ap file_text is
 
 pub returns-clause-reads_back : goal.returns-clause-reads_back
-returns-clause-reads_back c fits =
+returns-clause-reads_back c of fits =
     let is : view c.in_ok-value.value ≡ cert_value c.args.cert.now = grind (arith, common_steps) in
     let read = c.in_ok-file_text.ensures.reads_back (rw is (depth-cert_value c.args.cert.now)) ∙ ap Some is in
-    cert_in-printed _ c.args.cert.now read (rw c.list.ensures at c.in_ok-nodes.ensures.reads_back) fits
+    cert_in-printed _ c.args.cert.now read (rw c.list.ensures at c.in_ok-nodes.ensures.reads_back) of fits

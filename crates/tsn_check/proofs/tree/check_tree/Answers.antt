@@ -3,7 +3,9 @@ use Rattle.std.proofs.lemmas.List.{length-map}
 use Rattle.tsn_model.specs.declared.Decision.{Decision}
 use Rattle.tsn_model.specs.Certificate as tree
 use Rattle.tsn_cert.specs.Node.{tree_node}
-use Rattle.tsn_model.specs.Places.{IsNodeRight, next_places, pending}
+use Rattle.tsn_model.specs.Certificate.{IsNodeShown}
+use Rattle.tsn_model.specs.Places.{next_places, pending}
+use Rattle.tsn_check.specs.Faults.{offsets_in}
 use Rattle.tsn_check.specs.Turns.{decisions, places_at}
 use Rattle.tsn_check.specs.Steps.{HasFault}
 use Rattle.tsn_check.proofs.Walks.{start_places, node_there, walk_more, all_filled, fault_there, unfinished_there}
@@ -35,13 +37,13 @@ returns-in-Err-clause-err c =
     let path : List Decision = decisions c.loop-number.path.items in
     let node : tree.Node = tree_node c.index-nodes-number.result in
     let there = node_there c.args.nodes.now c.loop-number.number c.index-nodes-number.result c.loop-number-test.true ∙ ap (λ n. Some (tree_node n)) (sym c.index-nodes-number.is) in
-    let wrong : HasFault c.args.timing.now c.args.target path node c.in-Err.fault = rw c.deref.ensures.value at c.in-Err.ensures in
-    rw c.at.ensures (inr (fault_there c.args.timing.now c.args.target (map tree_node c.args.nodes.now) c.loop-number.number path node c.in-Err.fault
+    let wrong : HasFault c.args.timing.now c.args.target (offsets_in c.args.plan.now) path node c.in-Err.fault = rw c.deref.ensures.value at c.in-Err.ensures in
+    rw c.at.ensures (inr (fault_there c.args.timing.now c.args.target (offsets_in c.args.plan.now) (map tree_node c.args.nodes.now) c.loop-number.number path node c.in-Err.fault
     c.loop-number.invariant.right (c.loop-number.invariant.places ∙ ap (λ is_open. places_at is_open path) c.if-not-open.false) there wrong))
 
 pub go_on-requires-clause-conflict : goal.go_on-requires-clause-conflict
 go_on-requires-clause-conflict c =
-    branch_of c.args.timing.now c.args.conflicts.now c.requires.conflicts c.args.target (decisions c.deref.result.now) (tree_node c.index-nodes-number.result) c.in_default.ensures
+    branch_of c.args.timing.now c.args.conflicts.now c.requires.conflicts c.args.target (offsets_in c.args.plan.now) (decisions c.deref.result.now) (tree_node c.index-nodes-number.result) c.in_default.ensures
 
 pub go_on-requires-clause-turns : goal.go_on-requires-clause-turns
 go_on-requires-clause-turns c = c.loop-number.invariant.turns
@@ -51,10 +53,10 @@ loop-number-preserved c =
     let path : List Decision = decisions c.loop-number.path.items in
     let node : tree.Node = tree_node c.index-nodes-number.result in
     let same : node ≡ tree_node (get_or c.args.nodes.now c.loop-number.number c.index-nodes-number.result) = ap tree_node c.index-nodes-number.is in
-    let right : IsNodeRight c.args.timing.now c.args.target path node = rw c.deref.ensures.value at c.in_default.ensures in
-    let walked = walk_more c.args.timing.now c.args.target c.args.nodes.now c.loop-number.number c.index-nodes-number.result path c.loop-number-test.true
+    let right : IsNodeShown c.args.timing.now c.args.target (offsets_in c.args.plan.now) path node = rw c.deref.ensures.value at c.in_default.ensures in
+    let walked = walk_more c.args.timing.now c.args.target (offsets_in c.args.plan.now) c.args.nodes.now c.loop-number.number c.index-nodes-number.result path c.loop-number-test.true
     c.loop-number.invariant.right (c.loop-number.invariant.places ∙ ap (λ is_open. places_at is_open path) c.if-not-open.false)
-    (subst (IsNodeRight c.args.timing.now c.args.target path) same right) in
+    (subst (IsNodeShown c.args.timing.now c.args.target (offsets_in c.args.plan.now) path) same right) in
     record {
       turns = c.in_ok-open.ensures.turns;
       right = walked.right;
@@ -65,12 +67,12 @@ pub returns-then-open-clause-err : goal.returns-then-open-clause-err
 returns-then-open-clause-err c =
     let past = c.loop-number-test.false in
     let path : List Decision = decisions c.loop-number.path.items in
-    let found = unfinished_there c.args.timing.now c.args.target (map tree_node c.args.nodes.now) c.loop-number.number path (omega (arith, length-map c.args.nodes.now tree_node))
+    let found = unfinished_there c.args.timing.now c.args.target (offsets_in c.args.plan.now) (map tree_node c.args.nodes.now) c.loop-number.number path (omega (arith, length-map c.args.nodes.now tree_node))
     c.loop-number.invariant.right (c.loop-number.invariant.places ∙ ap (λ is_open. places_at is_open path) c.if-open.true) in
     inr (omega (arith, length-map c.args.nodes.now tree_node), found.0, found.1)
 
 pub returns-clause-ok : goal.returns-clause-ok
 returns-clause-ok c =
     let past = c.loop-number-test.false in
-    all_filled c.args.timing.now c.args.target (map tree_node c.args.nodes.now) c.loop-number.number (omega (arith, length-map c.args.nodes.now tree_node))
+    all_filled c.args.timing.now c.args.target (offsets_in c.args.plan.now) (map tree_node c.args.nodes.now) c.loop-number.number (omega (arith, length-map c.args.nodes.now tree_node))
     c.loop-number.invariant.right (c.loop-number.invariant.places ∙ ap (λ is_open. places_at is_open (decisions c.loop-number.path.items)) c.if-open.false)

@@ -1,12 +1,14 @@
 use Rattle.std.proofs.Common.{◌≡◌, [], ◌∷◌, map, take}
 use Rattle.tsn_cert.specs.Node.{tree_node}
+use Rattle.tsn_model.specs.Certificate.{IsNodeShown}
 use Rattle.tsn_model.specs.Places.{AreRight, places_after}
+use Rattle.tsn_check.specs.Faults.{offsets_in}
 use Rattle.tsn_check.specs.Turns.{AreTurnsOf, decisions, places_at}
 use Rattle.tsn_check.proofs.tree.check_tree.Given as goal
 
 abbrev pub invariant-loop-number : goal.invariant-loop-number
 invariant-loop-number l = record {
   turns : AreTurnsOf l.conflicts l.path.items;
-  right : AreRight l.timing l.target ([] ∷ []) (take l.number (map tree_node l.nodes));
+  right : AreRight (IsNodeShown l.timing l.target (offsets_in l.plan)) ([] ∷ []) (take l.number (map tree_node l.nodes));
   places : places_after (take l.number (map tree_node l.nodes)) ≡ places_at l.open (decisions l.path.items);
 }

@@ -5,7 +5,7 @@ use Rattle.tsn_model.specs.Certificate.{decided, late, overrun, positive_cycle, 
 use Rattle.tsn_check.specs.declared.path.Turn.{Turn}
 use Rattle.tsn_model.specs.Places.{pending}
 use Rattle.tsn_check.specs.Turns.{decisions}
-use Rattle.tsn_check.proofs.Walks.{after_branch, after_leaf}
+use Rattle.tsn_check.proofs.Walks.{after_branch, after_leaf, after_tie}
 use Rattle.tsn_check.proofs.tree.go_on.Goals as goal
 
 pub returns-in_ok-push-in-Branch-clause-places : goal.returns-in_ok-push-in-Branch-clause-places
@@ -29,7 +29,13 @@ returns-in-Late-clause-places c =
           | inl is ↦ rw is.1 (after_leaf path (positive_cycle is.0) c.next_place.result next c.next_place.ensures.next)
           | inr last ↦ elim last [
             | inl is ↦ rw is.2 (after_leaf path (load is.0 is.1) c.next_place.result next c.next_place.ensures.next)
-            | inr is ↦ rw is.2 (after_leaf path (overload is.0 is.1) c.next_place.result next c.next_place.ensures.next)
+            | inr more ↦ elim more [
+              | inl is ↦ rw is.2 (after_leaf path (overload is.0 is.1) c.next_place.result next c.next_place.ensures.next)
+              | inr ties ↦ elim ties [
+                | inl is ↦ rw is.3 (after_tie path (late is.0 is.1) is.2 c.next_place.result next c.next_place.ensures.next)
+                | inr is ↦ rw is.3 (after_tie path (load is.0 is.1) is.2 c.next_place.result next c.next_place.ensures.next)
+              ]
+            ]
           ]
         ]
       ]

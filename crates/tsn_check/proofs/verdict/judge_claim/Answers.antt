@@ -1,4 +1,4 @@
-use Rattle.std.proofs.Common.{◌+◌, ap, refl, arith}
+use Rattle.std.proofs.Common.{◌+◌, ap, arith}
 use Rattle.tsn_model.specs.Schedule.{target_of}
 use Rattle.tsn_check.proofs.verdict.judge_claim.Goals as goal
 
@@ -10,8 +10,7 @@ returns-in_ok-judge_schedule-in-Schedule-clause-claim c =
     rw (c.in-Schedule.is, ← c.list.ensures) (record {
       formed = c.cycle-past_cycle.ensures.well_formed;
       right = (c.in_ok-judge_schedule-in-Schedule.ensures.valid, c.in_ok-judge_schedule-in-Schedule.ensures.span);
-      verdict = refl;
-      target = c.in_ok-judge_schedule-in-Schedule.ensures.span;
+      aim = c.in_ok-judge_schedule-in-Schedule.ensures.span;
       small = omega arith;
     })
 
@@ -22,7 +21,6 @@ returns-in-None-clause-claim c =
     rw c.in-None.is (record {
       formed = c.cycle-past_cycle.ensures.well_formed;
       right = tt;
-      verdict = refl;
-      target = ap (λ n. n + 1) c.cycle-past_cycle.ensures.value;
+      aim = ap (λ n. n + 1) c.cycle-past_cycle.ensures.value;
       small = omega arith;
     })

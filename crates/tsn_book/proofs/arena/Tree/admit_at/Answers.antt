@@ -1,13 +1,17 @@
+use Rattle.std.proofs.Common.{subst}
 use Rattle.std.proofs.lemmas.Result.{err_from_is_err_and}
 use Rattle.tsn_branch.specs.Outcome.{outcome_of}
 use Rattle.tsn_book.specs.Arena.{path_at, paths_of, history_of}
+use Rattle.tsn_book.specs.Book.{IsFault, IsMet}
 use Rattle.tsn_book.proofs.Asking.{open_stop, right_from}
 use Rattle.tsn_book.proofs.arena.Tree.admit_at.Goals as goal
 
 pub returns-in_err-admit : goal.returns-in_err-admit
 returns-in_err-admit c =
+    let self = c.args.self.now in
+    let history = history_of self.origins.items self.events.items in
     let p = err_from_is_err_and c.from_residual.result c.from_residual.ensures.1 in
-    rw (p.1, p.2) (c.in_err-admit.ensures (path_at (paths_of c.args.self.now.origins.items) c.args.place) c.stop_at.ensures)
+    rw (p.1, p.2) (subst (λ path. IsFault self.network c.args.limit history (record { path = path; outcome = outcome_of c.args.look.now }) c.in_err-admit.field-0.0) c.requires.path c.in_err-admit.ensures)
 
 pub returns : goal.returns
 returns c =
@@ -18,6 +22,7 @@ returns c =
       admitted.1,
       record {
         is_open = open_stop self.network self.origins.items self.standings.items self.events.items c.requires.tree path c.stop_at.result _ admitted.0 c.stop_at.ensures;
-        is_right = right_from self.network history path (outcome_of c.args.look.now) c.requires.proof c.requires.undecided admitted.2;
+        is_right = right_from self.network history path (outcome_of c.args.look.now) c.requires.proof c.requires.undecided
+            (subst (λ met. IsMet self.network history met (outcome_of c.args.look.now)) c.requires.path admitted.2);
       },
     )

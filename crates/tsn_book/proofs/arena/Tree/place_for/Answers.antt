@@ -5,15 +5,16 @@ use Rattle.tsn_search_laws.specs.Replies.{SplitsNone, SplitsAgain}
 use Rattle.tsn_branch.specs.Outcome.{outcome_of}
 use Rattle.tsn_branch.specs.Look.{SplitsUndecided}
 use Rattle.tsn_book.specs.Arena.{path_at, paths_of, history_of, IsOpenPlace, IsStop}
+use Rattle.tsn_book.specs.Book.{IsFault, IsMet}
 use Rattle.tsn_book.proofs.Asking.{open_stop, undecided, right_from, splits_nothing}
 use Rattle.tsn_book.proofs.arena.Tree.place_for.Goals as goal
 
 pub returns-in_err-place : goal.returns-in_err-place
 returns-in_err-place c =
     let self = c.args.self.now in
-    let ends : IsStop self.origins.items self.standings.items self.events.items c.args.event.now.node c.find-stop.result = search rules in
+    let history = history_of self.origins.items self.events.items in
     let p = err_from_is_err_and c.from_residual.result c.from_residual.ensures.1 in
-    rw (p.1, p.2) (c.in_err-place.ensures c.args.event.now.node ends)
+    rw (p.1, p.2) (subst (λ path. IsFault self.network c.args.limit history (record { path = path; outcome = outcome_of c.args.event.now.look }) c.in_err-place.field-0.0) c.path-path.ensures.value c.in_err-place.ensures)
 
 pub returns-then-not-is_conflict : goal.returns-then-not-is_conflict
 returns-then-not-is_conflict c =
@@ -54,7 +55,8 @@ returns-else-decides c =
       c.in_ok-place.ensures.1,
       record {
         is_open = open_stop self.network self.origins.items self.standings.items self.events.items c.requires.tree path c.find-stop.result _ c.in_ok-place.ensures.0 ends;
-        is_right = right_from self.network history path (outcome_of c.args.event.now.look) c.requires.proof splits c.in_ok-place.ensures.2;
+        is_right = right_from self.network history path (outcome_of c.args.event.now.look) c.requires.proof splits
+            (subst (λ met. IsMet self.network history met (outcome_of c.args.event.now.look)) c.path-path.ensures.value c.in_ok-place.ensures.2);
       },
     )
 
@@ -72,6 +74,7 @@ returns-in_default c =
       c.in_ok-place.ensures.1,
       record {
         is_open = open_stop self.network self.origins.items self.standings.items self.events.items c.requires.tree path c.find-stop.result _ c.in_ok-place.ensures.0 ends;
-        is_right = right_from self.network history path (outcome_of c.args.event.now.look) c.requires.proof splits c.in_ok-place.ensures.2;
+        is_right = right_from self.network history path (outcome_of c.args.event.now.look) c.requires.proof splits
+            (subst (λ met. IsMet self.network history met (outcome_of c.args.event.now.look)) c.path-path.ensures.value c.in_ok-place.ensures.2);
       },
     )

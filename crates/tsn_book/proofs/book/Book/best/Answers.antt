@@ -17,5 +17,5 @@ returns-clause-target c =
     let inside = c.self.inside in
     let tree = inside.tree in
     let history = history_of tree.origins.items tree.events.items in
-    subst (λ (p : Progress). IsBelowBounds inside.best p.history) c.self.view_is
-    (subst (λ best. IsBelowBounds best history) (sym c.self.invariant.summary.lowest) (best_target tree.network history c.self.invariant.tree.legal))
+    subst (λ (p : Progress). IsBelowBounds p.network inside.best p.history) c.self.view_is
+    (subst (λ best. IsBelowBounds tree.network best history) (sym c.self.invariant.summary.lowest) (best_target tree.network history c.self.invariant.tree.legal))

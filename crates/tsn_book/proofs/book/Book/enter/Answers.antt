@@ -7,7 +7,7 @@ use Rattle.tsn_search_laws.specs.Walk.{path_made}
 use Rattle.tsn_branch.specs.Outcome.{outcome_of}
 use Rattle.tsn_book.specs.declared.arena.Tree.{Tree}
 use Rattle.tsn_book.specs.Arena.{path_at, paths_of, history_of, IsArena, IsOpenPlace}
-use Rattle.tsn_book.specs.Book.{Progress, tally_after}
+use Rattle.tsn_book.specs.Book.{Progress, kept_after, tally_after}
 use Rattle.tsn_book.proofs.Asking.{length-history_of, length-made, path_made-at, place_open}
 use Rattle.tsn_book.proofs.Bookkeeping.{lawful, book_grows, open_few, tally_few}
 use Rattle.tsn_book.proofs.book.Book.enter.Goals as goal
@@ -91,7 +91,7 @@ invariant_of-self-2 c =
     c.args.teller path outcome is_teller below allowed
     after.network after.origins.items after.standings.items after.events.items c.settle.new.closed.items (c.settle.ensures.network ∙ c.reserve.ensures.network) c.settle.ensures.tree c.settle.ensures.closed longer
     c.open_after-self-inside.result c.best_after-self-inside.result c.kept_after-self-inside.result c.tally_after.result c.len-number.result number
-    c.open_after-self-inside.ensures c.best_after-self-inside.ensures c.kept_after-self-inside.ensures
+    c.open_after-self-inside.ensures c.best_after-self-inside.ensures (c.kept_after-self-inside.ensures ∙ ap (λ better. kept_after better inside.kept c.len-number.result) c.is_better-better.ensures)
     (c.tally_after.ensures ∙ ap (λ t. tally_after t outcome) before)
 
 pub returns-clause-ok : goal.returns-clause-ok

@@ -1,4 +1,4 @@
-use Rattle.std.proofs.Common.{◌<◌, length, arith, sym, ap, subst}
+use Rattle.std.proofs.Common.{◌<◌, length, arith, sym, ap, ◌∙◌, subst}
 use Rattle.tsn_model.specs.Search.{made_paths, IsAllowed}
 use Rattle.tsn_search_laws.specs.Walk.{path_made}
 use Rattle.tsn_branch.specs.Outcome.{outcome_of}
@@ -8,19 +8,25 @@ use Rattle.tsn_book.specs.Book.{Progress, IsFault}
 use Rattle.tsn_book.proofs.Asking.{length-made, path_made-at}
 use Rattle.tsn_book.proofs.book.Book.settle_at.Goals as goal
 
-pub admit_at-requires-clause-place : goal.admit_at-requires-clause-place
-admit_at-requires-clause-place c =
+pub admit_at-admitted-requires-clause-place : goal.admit_at-admitted-requires-clause-place
+admit_at-admitted-requires-clause-place c =
     let tree = c.self.inside.tree in
     omega (arith, c.requires.place, length-made tree.network tree.origins.items tree.standings.items tree.events.items c.self.invariant.tree, ap (λ (p : Progress). length (made_paths p.history)) c.self.view_is)
 
-pub admit_at-requires-clause-proof : goal.admit_at-requires-clause-proof
-admit_at-requires-clause-proof c =
+pub admit_at-admitted-requires-clause-path : goal.admit_at-admitted-requires-clause-path
+admit_at-admitted-requires-clause-path c =
+    let tree = c.self.inside.tree in
+    c.requires.path ∙ ap (λ (p : Progress). path_made p.history c.args.place) (sym c.self.view_is)
+    ∙ sym (path_made-at tree.network tree.origins.items tree.standings.items tree.events.items c.self.invariant.tree c.args.place)
+
+pub admit_at-admitted-requires-clause-proof : goal.admit_at-admitted-requires-clause-proof
+admit_at-admitted-requires-clause-proof c =
     let tree = c.self.inside.tree in
     subst (λ path. HasProof tree.network path (outcome_of c.args.look)) (sym (path_made-at tree.network tree.origins.items tree.standings.items tree.events.items c.self.invariant.tree c.args.place))
     (subst (λ (p : Progress). HasProof p.network (path_made p.history c.args.place) (outcome_of c.args.look)) (sym c.self.view_is) c.requires.proof)
 
-pub admit_at-requires-clause-undecided : goal.admit_at-requires-clause-undecided
-admit_at-requires-clause-undecided c =
+pub admit_at-admitted-requires-clause-undecided : goal.admit_at-admitted-requires-clause-undecided
+admit_at-admitted-requires-clause-undecided c =
     let tree = c.self.inside.tree in
     subst (λ path. SplitsUndecided tree.network path (outcome_of c.args.look)) (sym (path_made-at tree.network tree.origins.items tree.standings.items tree.events.items c.self.invariant.tree c.args.place))
     (subst (λ (p : Progress). SplitsUndecided p.network (path_made p.history c.args.place) (outcome_of c.args.look)) (sym c.self.view_is) c.requires.undecided)

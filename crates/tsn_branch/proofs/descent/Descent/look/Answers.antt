@@ -1,4 +1,5 @@
 use Rattle.std.proofs.Common.{◌≡◌, ℕ, List, sym, ◌∙◌, subst}
+use Rattle.std.specs.Prelude.{option_copied}
 use Rattle.tsn_model.specs.Certificate.{positive_cycle}
 use Rattle.tsn_model.specs.declared.Triple.{Triple}
 use Rattle.tsn_model.specs.Arcs.{conflicts_of}
@@ -6,9 +7,9 @@ use Rattle.tsn_model.specs.Search.{split}
 use Rattle.tsn_conflict.specs.Raised.{triple_at}
 use Rattle.tsn_branch.specs.Outcome.{outcome_of}
 use Rattle.tsn_branch.specs.Descent.{IsFinding}
-use Rattle.tsn_branch.specs.Look.{IsRefutation, HasProof, SplitsUndecided}
+use Rattle.tsn_branch.specs.Look.{IsRefutation, HasProof, SplitsUndecided, TiesWith}
 use Rattle.tsn_branch.proofs.Leasts.{IsRefutation-from}
-use Rattle.tsn_branch.proofs.Rights.{HasProof-from, SplitsUndecided-from}
+use Rattle.tsn_branch.proofs.Rights.{HasProof-from, SplitsUndecided-from, TiesWith-from}
 use Rattle.tsn_branch.proofs.Ways.{of_some}
 use Rattle.tsn_branch.proofs.descent.Descent.look.Goals as goal
 
@@ -26,15 +27,22 @@ pub returns-in-Ok-Split-clause-undecided : goal.returns-in-Ok-Split-clause-undec
 returns-in-Ok-Split-clause-undecided c =
     let network = c.args.timing.now in
     let target = c.args.target in
-    let found = subst (IsFinding network c.lead.new.self.path target) c.in-Ok-Split.field-0-is c.in-Ok-Split.ensures in
+    let found = subst (IsFinding network c.lead.new.self.path target (option_copied c.args.best)) c.in-Ok-Split.field-0-is c.in-Ok-Split.ensures in
     let path : c.lead.new.self.path ≡ c.args.self.now.path = c.lead.ensures.path in
     let triples = c.triples.ensures ∙ c.requires.conflicts.triples in
-    let right = SplitsUndecided-from network c.lead.new.self.path target (split (triple_at (conflicts_of network) c.in-Ok-Split.seen.place)) found.1 in
+    let right = SplitsUndecided-from network c.lead.new.self.path target (option_copied c.args.best) (split (triple_at (conflicts_of network) c.in-Ok-Split.seen.place)) found.1 in
     subst (λ p. SplitsUndecided network p (split (triple_at c.triples.result.now c.in-Ok-Split.seen.place))) path
     (subst (λ (ts : List Triple). SplitsUndecided network c.lead.new.self.path (split (triple_at ts c.in-Ok-Split.seen.place))) (sym triples) right)
 
 pub returns-in-Ok-Closed-clause-proof : goal.returns-in-Ok-Closed-clause-proof
 returns-in-Ok-Closed-clause-proof c =
     let network = c.args.timing.now in
-    let found = subst (IsFinding network c.lead.new.self.path c.args.target) c.in-Ok-Closed.field-0-is c.in-Ok-Closed.ensures in
-    subst (λ p. HasProof network p (outcome_of c.in-Ok-Closed.look)) c.lead.ensures.path (HasProof-from network c.lead.new.self.path c.args.target (outcome_of c.in-Ok-Closed.look) found.1)
+    let found = subst (IsFinding network c.lead.new.self.path c.args.target (option_copied c.args.best)) c.in-Ok-Closed.field-0-is c.in-Ok-Closed.ensures in
+    subst (λ p. HasProof network p (outcome_of c.in-Ok-Closed.look)) c.lead.ensures.path (HasProof-from network c.lead.new.self.path c.args.target (option_copied c.args.best) (outcome_of c.in-Ok-Closed.look) found.1)
+
+pub returns-in-Ok-Closed-clause-ties : goal.returns-in-Ok-Closed-clause-ties
+returns-in-Ok-Closed-clause-ties c =
+    let network = c.args.timing.now in
+    let found = subst (IsFinding network c.lead.new.self.path c.args.target (option_copied c.args.best)) c.in-Ok-Closed.field-0-is c.in-Ok-Closed.ensures in
+    subst (λ p. TiesWith network p (option_copied c.args.best) (outcome_of c.in-Ok-Closed.look)) c.lead.ensures.path
+    (TiesWith-from network c.lead.new.self.path c.args.target (option_copied c.args.best) c.requires.best (outcome_of c.in-Ok-Closed.look) found.1)

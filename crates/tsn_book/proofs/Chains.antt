@@ -1,0 +1,111 @@
+-- The arcs of decisions, and a chain of a path's arcs, walked back from its end.
+use Rattle.std.proofs.Common.{◌≡◌, ℕ, ◌+◌, ◌<◌, List, [], ◌∷◌, length, drop, get_or, All, Some, ℤ, pos, ◌+ℤ◌, refl, sym, ap, ◌∙◌, subst, arith}
+use Rattle.std.specs.Prelude.{◌-ℤ◌}
+use Rattle.std.proofs.lemmas.Int.{ints}
+use Rattle.std.proofs.lemmas.List.{drop_more, get_or-map, length-map}
+use Rattle.std.proofs.Math.ListN.{drop_of_length-le}
+use Rattle.tsn_model.specs.declared.Arc.{Arc}
+use Rattle.tsn_model.specs.declared.Triple.{Triple}
+use Rattle.tsn_model.specs.declared.Side.{Side}
+use Rattle.tsn_model.specs.declared.Side.TheVariants.{Left, Right}
+use Rattle.tsn_model.specs.declared.Decision.{Decision}
+use Rattle.tsn_model.specs.Network.{Network, stream_count, route_link, release_of}
+use Rattle.tsn_model.specs.Timing.{occupancy, start, hop_on, start_on}
+use Rattle.tsn_model.specs.Schedule.{IsConflict}
+use Rattle.tsn_model.specs.Certificate.{LeadsTo, sum_on}
+use Rattle.tsn_model.specs.Arcs.{arc_between, arc_on, arc_of, arcs_of, arc_at, start_of, chain_sum}
+use Rattle.tsn_model.proofs.Routes.{hop_on_found, hop_on_link}
+
+-- ---- the arc of a decision
+
+pub arc_left : (network : Network) (decision : Decision) (pair : ℕ × ℕ) → decision.side ≡ Left → pair ≡ (decision.triple.left, decision.triple.right)
+    → arc_of network decision ≡ arc_between network pair.0 pair.1 decision.triple.link
+unfolding arc_of arc_on
+arc_left network decision pair is_left ends =
+    ap (arc_on network decision.triple) is_left ∙ ap (λ (p : ℕ × ℕ). arc_between network p.0 p.1 decision.triple.link) (sym ends)
+
+pub arc_right : (network : Network) (decision : Decision) (pair : ℕ × ℕ) → decision.side ≡ Right → pair ≡ (decision.triple.right, decision.triple.left)
+    → arc_of network decision ≡ arc_between network pair.0 pair.1 decision.triple.link
+unfolding arc_of arc_on
+arc_right network decision pair is_right ends =
+    ap (arc_on network decision.triple) is_right ∙ ap (λ (p : ℕ × ℕ). arc_between network p.0 p.1 decision.triple.link) (sym ends)
+
+pub arc_from : (network : Network) (i j link : ℕ) → (arc_between network i j link).from ≡ i
+unfolding arc_between
+arc_from network i j link = refl
+
+-- by the hops on which its two streams use the link
+pub arc_weighs : (network : Network) (i j link first second : ℕ) → Some first ≡ hop_on network i link → Some second ≡ hop_on network j link
+    → pos (start network i first + occupancy network i (route_link network i first)) -ℤ pos (start network j second) ≡ (arc_between network i j link).weight
+unfolding arc_between
+arc_weighs network i j link first second on_first on_second =
+    let starts : start network i first ≡ start_on network i link = (hop_on_found network i link first (sym on_first)).2 in
+    let same_link : route_link network i first ≡ link = hop_on_link network i link first (sym on_first) in
+    let other_starts : start network j second ≡ start_on network j link = (hop_on_found network j link second (sym on_second)).2 in
+    λ k. pos (starts k + occupancy network i (same_link k)) -ℤ pos (other_starts k)
+
+-- an arc begins at one of its conflict's streams
+arc_on_counted : (network : Network) (triple : Triple) (side : Side) → IsConflict network triple → (arc_on network triple side).from < stream_count network
+unfolding arc_on arc_between
+arc_on_counted network triple Left conflict = let ordered = conflict.ordered in let counted = conflict.counted in omega arith
+arc_on_counted network triple Right conflict = conflict.counted
+
+pub arc_counted : (network : Network) (decision : Decision) → IsConflict network decision.triple → (arc_of network decision).from < stream_count network
+unfolding arc_of
+arc_counted network decision conflict = arc_on_counted network decision.triple decision.side conflict
+
+-- the arc at a depth of the path is that of the decision there
+pub arc_there : (network : Network) (path : List Decision) (depth : ℕ) (decision : Decision) → depth < length path → decision ≡ get_or path depth decision
+    → arc_at (arcs_of network path) depth ≡ arc_of network decision
+unfolding arcs_of
+arc_there network path depth decision below is =
+    get_or-map (arc_of network) path depth decision (record { from = 0; to = 0; weight = pos 0 }) below ∙ ap (arc_of network) (sym is)
+
+pub length-arcs_of : (network : Network) (path : List Decision) → length (arcs_of network path) ≡ length path
+unfolding arcs_of
+length-arcs_of network path = length-map path (arc_of network)
+
+-- ---- a chain, walked back
+
+-- the chain from place k on begins at a stream, and its weights are added
+pub record SummedTo (network : Network) (path : List Decision) (chain : List ℕ) (k i start : ℕ) (sum : ℤ) : Type 0 where
+  pub begins : start ≡ start_of (arcs_of network path) (drop k chain) i
+  pub adds : sum ≡ chain_sum (arcs_of network path) (drop k chain)
+
+pub none_summed : (network : Network) (path : List Decision) (chain : List ℕ) (k i : ℕ) → k ≡ length chain → SummedTo network path chain k i i (pos 0)
+none_summed network path chain k i past =
+    let nothing : [] ≡ drop k chain = sym (drop_of_length-le chain (omega arith)) in
+    record { begins = ap (λ rest. start_of (arcs_of network path) rest i) nothing; adds = ap (chain_sum (arcs_of network path)) nothing }
+
+-- one more arc
+pub one_summed : (network : Network) (path : List Decision) (chain : List ℕ) (k i start : ℕ) (sum more : ℤ) (decision : Decision) → k < length chain → get_or chain k 0 < length path
+    → decision ≡ get_or path (get_or chain k 0) decision → more ≡ sum +ℤ (arc_of network decision).weight
+    → SummedTo network path chain (k + 1) i start sum → SummedTo network path chain k i (arc_of network decision).from more
+one_summed network path chain k i start sum more decision below on_path is added summed =
+    let arcs : List Arc = arcs_of network path in
+    let depth : ℕ = get_or chain k 0 in
+    let longer : depth ∷ drop (k + 1) chain ≡ drop k chain = sym (drop_more chain k 0 below) in
+    let arc : arc_at arcs depth ≡ arc_of network decision = arc_there network path depth decision on_path is in
+    let weighs : (arc_at arcs depth).weight ≡ (arc_of network decision).weight = ap (λ (a : Arc). a.weight) arc in
+    let rest = summed.adds in
+    record {
+      begins = ap (λ (a : Arc). a.from) (sym arc) ∙ ap (λ ds. start_of arcs ds i) longer;
+      adds = omega (arith, ints, weighs, rest, added) ∙ ap (chain_sum arcs) longer;
+    }
+
+-- with the release of the stream where it begins
+pub all_summed : (network : Network) (path : List Decision) (chain : List ℕ) (k i start : ℕ) (sum : ℤ) → k ≡ 0 → SummedTo network path chain k i start sum
+    → pos (release_of network start) +ℤ sum ≡ sum_on network path chain i
+unfolding sum_on
+all_summed network path chain k i start sum none summed =
+    let first : SummedTo network path chain 0 i start sum = subst (λ n. SummedTo network path chain n i start sum) none summed in
+    let begins : start ≡ start_of (arcs_of network path) chain i = first.begins in
+    let adds : sum ≡ chain_sum (arcs_of network path) chain = first.adds in
+    λ k. pos (release_of network (begins k)) +ℤ adds k
+
+-- the depths of a chain of the path are within it
+pub on_path : (network : Network) (path : List Decision) (chain depths : List ℕ) (i k : ℕ) → depths ≡ chain → LeadsTo network path chain i → k < length depths → get_or depths k 0 < length path
+on_path network path chain depths i k same leads below =
+    let places : All (λ place. place < length (arcs_of network path)) depths = subst (All (λ place. place < length (arcs_of network path))) (sym same) leads.chain_to.places in
+    let within = places k 0 below in
+    omega (arith, within, length-arcs_of network path)

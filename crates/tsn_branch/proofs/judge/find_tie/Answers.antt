@@ -1,0 +1,9 @@
+use Rattle.std.proofs.Common.{Option, sym, ap, subst}
+use Rattle.std.specs.Prelude.{option_copied, IfOk, IfSome}
+use Rattle.tsn_timing.specs.Solution.{Solution}
+use Rattle.tsn_branch.specs.Descent.{IsTieBy}
+use Rattle.tsn_branch.proofs.judge.find_tie.Goals as goal
+
+pub returns-in-Some-clause-some : goal.returns-in-Some-clause-some
+returns-in-Some-clause-some c =
+    subst (λ (best : Option Solution). IfOk c.judge_tie.result (λ found. IfSome found (IsTieBy c.args.timing.now c.args.least.now best))) (ap option_copied (sym c.in-Some.is)) c.judge_tie.ensures.some

@@ -1,0 +1,23 @@
+use Rattle.std.proofs.Common.{◌≡◌, ◌⊎◌, ◌+◌, [], ◌∷◌, map, ap, ◌∙◌, subst}
+use Rattle.std.specs.Prelude.{OnOk, IfErr, min}
+use Rattle.tsn_model.specs.Certificate.{beyond, IsNodeShown}
+use Rattle.tsn_model.specs.Places.{Fills}
+use Rattle.tsn_cert.specs.Node.{tree_node}
+use Rattle.tsn_check.specs.Faults.{offsets_in, IsTreeFault}
+use Rattle.tsn_check.specs.declared.fault.CheckFault.TheVariants.{Memory}
+use Rattle.tsn_check.proofs.verdict.check_nodes.Goals as goal
+
+pub returns-in-One-clause-ok : goal.returns-in-One-clause-ok
+returns-in-One-clause-ok c = rw c.in-One.is c.check_tree.ensures.ok
+
+pub returns-in-Two-clause-ok : goal.returns-in-Two-clause-ok
+unfolding beyond
+returns-in-Two-clause-ok c =
+    let worse : c.min-worse.result ≡ beyond c.args.timing.now c.args.target = c.min-worse.ensures ∙ ap (λ n. min (c.args.target + 1) (n + 1)) c.cycle.ensures.value in
+    rw c.in-Two.is (subst (λ t. OnOk c.check_tree-in-Two.result (Fills (IsNodeShown c.args.timing.now t (offsets_in c.args.plan.now)) ([] ∷ []) (map tree_node c.args.nodes.now))) worse c.check_tree-in-Two.ensures.ok)
+
+pub returns-in-Two-clause-err : goal.returns-in-Two-clause-err
+unfolding beyond
+returns-in-Two-clause-err c =
+    let worse : c.min-worse.result ≡ beyond c.args.timing.now c.args.target = c.min-worse.ensures ∙ ap (λ n. min (c.args.target + 1) (n + 1)) c.cycle.ensures.value in
+    rw c.in-Two.is (subst (λ t. IfErr c.check_tree-in-Two.result (λ fault. (fault ≡ Memory) ⊎ IsTreeFault c.args.timing.now t (offsets_in c.args.plan.now) (map tree_node c.args.nodes.now) fault)) worse c.check_tree-in-Two.ensures.err)

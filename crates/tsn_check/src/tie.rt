@@ -1,0 +1,109 @@
+//! Whether a tie is one with the plan: its leaf has the plan's flowspan for its bound, and no schedule on its path comes
+//! before the plan.
+ghost use Rattle.std.specs.Prelude.{◌≡◌, ℕ, List, MatchBool};
+ghost use Rattle.tsn_model.specs.Network.{Network, IsWellFormed};
+ghost use Rattle.tsn_model.specs.Schedule.{IsValid};
+ghost use Rattle.tsn_model.specs.Certificate.{Leaf, HasBound, AreChains, ShowsAfter, tie_node};
+ghost use Rattle.tsn_model.specs.declared.Decision.{Decision};
+ghost use Rattle.tsn_check.specs.Faults.{offsets_in, span_in, IsPlanRight};
+ghost use Rattle.tsn_check.specs.Turns.{AreTurns, decisions};
+ghost use Rattle.tsn_check.specs.Steps.{Judges, JudgesLeaf, FindsBound, FindsChains};
+
+use crate::fault::NodeFault;
+use crate::leaf::sum_to;
+use crate::path::Turn;
+use tsn_cert::{Chain, Chains, Plan};
+use tsn_timing::Timing;
+
+/// The flowspan of the plan, 0 where it is that there is no schedule, in nanoseconds.
+pub fn span_of(plan: &Plan) -> u64
+    ensures { result ≡ span_in plan.now }
+{
+    match plan {
+        Plan::Schedule { flowspan, .. } => *flowspan,
+        Plan::None => 0,
+    }
+}
+
+/// Whether a leaf proves its target, where its chains and entries are right.
+fn is_proved(judged: Result<(), NodeFault>) -> Result<bool, NodeFault>
+    ensures { (network : Network) (target : ℕ) (path : List Decision) (proof : Leaf) → JudgesLeaf network target path proof judged → FindsBound network target path proof result }
+{
+    match judged {
+        Ok(()) => Ok(true),
+        Err(NodeFault::BoundTooLow) => Ok(false),
+        Err(NodeFault::NotConflict) => Err(NodeFault::NotConflict),
+        Err(NodeFault::ChainBroken) => Err(NodeFault::ChainBroken),
+        Err(NodeFault::StreamRepeated) => Err(NodeFault::StreamRepeated),
+        Err(NodeFault::NotOnLink) => Err(NodeFault::NotOnLink),
+    }
+}
+
+/// Whether each chain leads to the stream of its place.
+fn all_lead(timing: &Timing, path: &[Turn], chains: &[Chain]) -> Result<(), NodeFault>
+    requires { AreTurns timing.now path.now }
+    ensures { FindsChains timing.now (decisions path.now) chains.now result }
+{
+    for stream in 0..chains.len() {
+        sum_to(timing, path, stream, &chains[stream])?;
+    }
+    Ok(())
+}
+
+/// Whether the chains show that no schedule on the path comes before the offsets.
+fn comes_after(timing: &Timing, path: &[Turn], chains: &[Chain], offsets: &[u64]) -> bool
+    requires turns { AreTurns timing.now path.now }
+    requires formed { IsWellFormed timing.now }
+    requires chains { AreChains timing.now (decisions path.now) chains.now }
+    requires valid { IsValid timing.now offsets.now }
+    ensures { MatchBool result
+        (ShowsAfter timing.now (decisions path.now) chains.now offsets.now)
+        (ShowsAfter timing.now (decisions path.now) chains.now offsets.now → ⊥) }
+{
+    for stream in 0..chains.len() {
+        let Ok(sum) = sum_to(timing, path, stream, &chains[stream]) else {
+            return false;
+        };
+        let offset = offsets[stream] as i64;
+        if sum > offset {
+            return true;
+        }
+        if sum < offset {
+            return false;
+        }
+    }
+    if chains.len() == timing.streams() {
+        true
+    } else {
+        false
+    }
+}
+
+/// Whether the leaf, judged by the plan's flowspan, and the chains are a tie with the plan.
+pub fn judge_tie(
+    timing: &Timing,
+    path: &[Turn],
+    judged: Result<(), NodeFault>,
+    chains: &Chains,
+    plan: &Plan,
+) -> Result<(), NodeFault>
+    requires turns { AreTurns timing.now path.now }
+    requires formed { IsWellFormed timing.now }
+    requires plan { IsPlanRight timing.now plan.now }
+    ensures { (proof : Leaf) (target : ℕ) → HasBound proof → JudgesLeaf timing.now (span_in plan.now) (decisions path.now) proof judged
+        → Judges timing.now target (offsets_in plan.now) (decisions path.now) (tie_node proof chains.now) result }
+{
+    let proved = is_proved(judged)?;
+    all_lead(timing, path, chains.list())?;
+    let Plan::Schedule { offsets, .. } = plan else {
+        return Err(NodeFault::BoundTooLow);
+    };
+    if !proved {
+        return Err(NodeFault::BoundTooLow);
+    }
+    if comes_after(timing, path, chains.list(), offsets.list()) {
+        Ok(())
+    } else {
+        Err(NodeFault::BoundTooLow)
+    }
+}
