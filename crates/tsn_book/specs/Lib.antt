@@ -3,3 +3,5 @@ pub mod Event
 pub mod Arena
 pub mod Book
 pub mod Spelling
+pub mod Solving
+pub mod Shared

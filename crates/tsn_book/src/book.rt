@@ -1,16 +1,17 @@
 //! The book of a search, as its callers see it: what was settled so far.
-ghost use Rattle.std.specs.Prelude.{◌≡◌, ◌<◌, ◌≤◌, ◌+◌, ◌++◌, ◌∷◌, [], length, fold, min, replicate, IfOk, IfErr, OnErr, OnOk, MatchOption, Some, None};
+ghost use Rattle.std.specs.Prelude.{◌≡◌, ◌<◌, ◌≤◌, ◌+◌, ◌++◌, ◌∷◌, [], length, fold, min, replicate, IfOk, IfErr, OnErr, OnOk, MatchOption, Some, None, IsTrue, ◌↔◌, Any, Contains};
 ghost use Rattle.tsn_cert.specs.declared.cert.Format.{Format};
 ghost use Rattle.tsn_timing.specs.Solution.{IsSolved};
-ghost use Rattle.tsn_model.specs.Search.{made_paths, open_paths, best_bound, kept_of, tally_of, solved_bound, IsAllowed, IsFirstOpen};
+ghost use Rattle.tsn_model.specs.Search.{made_paths, open_paths, best_bound, kept_of, tally_of, solved_bound, solved_bounds, settled_by, IsAllowed, IsFirstOpen};
 ghost use Rattle.tsn_branch.specs.Outcome.{outcome_of};
 ghost use Rattle.tsn_branch.specs.Look.{HasProof, SplitsUndecided};
 ghost use Rattle.tsn_book.specs.Event.{event_of};
 ghost use Rattle.tsn_search_laws.specs.Laws.{IsBelowBounds};
 ghost use Rattle.tsn_search_laws.specs.Walk.{path_made};
 ghost use Rattle.tsn_book.specs.Book.{Progress, IsLawful, IsFault, SpellsAccepted, child_count, kept_after, tally_after};
+ghost use Rattle.tsn_book.specs.Solving.{IsSolvedBy};
 
-use crate::arena::Tree;
+use crate::arena::{Settled, Tree};
 use crate::event::Event;
 use crate::fault::BookFault;
 use crate::spelling::nodes_of;
@@ -231,6 +232,21 @@ impl Book {
         self.tallies[teller]
     }
 
+    /// Whether a teller settled a solved leaf of that flowspan, in nanoseconds.
+    pub fn has_solved(&self, teller: usize, flowspan: u64) -> bool
+        ensures solved { IsTrue result ↔ Contains (solved_bounds (settled_by teller self.now.history)) flowspan }
+        ensures lawful { IsLawful self.now }
+    {
+        any_solved(&self.tree.events, teller, flowspan)
+    }
+
+    // What the network says of times.
+    pub(crate) fn timing(&self) -> &Timing
+        ensures { result.now ≡ self.now.network }
+    {
+        &self.tree.network
+    }
+
     /// The least flowspan solved, in nanoseconds, or one more than the cycle where none is: a target for the certificate.
     pub fn best(&self) -> u64
         ensures best { result ≡ best_bound self.now.network self.now.history }
@@ -288,6 +304,28 @@ fn tallies_of(alloc: Global, tellers: usize, past_cycle: u64) -> Result<Vec<Tall
         tallies.push((0, past_cycle, past_cycle))?;
     }
     Ok(tallies)
+}
+
+/// Whether a solved leaf of that teller and flowspan was settled.
+fn any_solved(events: &[Settled], teller: usize, flowspan: u64) -> bool
+    ensures { IsTrue result ↔ Any (IsSolvedBy teller flowspan) events.now }
+{
+    events
+        .iter()
+        .any(|settled| is_solved_by(settled, teller, flowspan))
+}
+
+/// Whether what was settled is a solved leaf of that teller and flowspan.
+fn is_solved_by(settled: &Settled, teller: usize, flowspan: u64) -> bool
+    ensures { IsTrue result ↔ IsSolvedBy teller flowspan settled.now }
+{
+    match &settled.look {
+        Look::Solved { solved, .. } => settled.teller == teller && solved.flowspan() == flowspan,
+        Look::Split(_) => false,
+        Look::Pruned { .. } => false,
+        Look::Tied { .. } => false,
+        Look::Refuted(_) => false,
+    }
 }
 
 fn open_after(count: usize, look: &Look) -> usize

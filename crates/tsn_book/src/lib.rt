@@ -5,9 +5,11 @@ mod arena;
 pub mod book;
 pub mod event;
 pub mod fault;
+pub mod shared;
 mod spelling;
 mod ties;
 
 pub use book::{Book, Tally};
 pub use event::Event;
 pub use fault::BookFault;
+pub use shared::{Core, Reply, Step};

@@ -12,3 +12,5 @@ mod networks;
 mod planner;
 #[cfg(test)]
 mod shared_links;
+#[cfg(test)]
+mod shared_search;

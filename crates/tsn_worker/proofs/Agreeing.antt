@@ -1,5 +1,5 @@
 -- The first optimal schedule is one, and so is its plan.
-use Rattle.std.proofs.Common.{◌≡◌, ℕ, List, refl, sym, ap, ◌∙◌, subst}
+use Rattle.std.proofs.Common.{◌≡◌, sym, ap, ◌∙◌}
 use Rattle.tsn_model.specs.Network.{Network}
 use Rattle.tsn_model.specs.Schedule.{flowspan}
 use Rattle.tsn_model.proofs.Firsts.{first_once}

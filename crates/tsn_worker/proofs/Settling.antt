@@ -7,7 +7,7 @@ use Rattle.tsn_model.specs.declared.Side.TheVariants.{Left}
 use Rattle.tsn_model.specs.declared.Decision.{Decision}
 use Rattle.tsn_model.specs.Network.{Network}
 use Rattle.tsn_model.specs.Certificate.{decided, beyond, ShowsAfter}
-use Rattle.tsn_model.specs.Search.{Outcome, split, solved, pruned, tied, refuted, Settlement, children_of, made_paths, open_paths, best_bound, kept_of, IsNoBetter, IsLegal}
+use Rattle.tsn_model.specs.Search.{Outcome, split, solved, pruned, tied, refuted, Settlement, children_of, made_paths, open_paths, best_bound, kept_of, IsLegal}
 use Rattle.tsn_model.proofs.Conflicts.{conflict_listed}
 use Rattle.tsn_conflict.specs.Kept.{Kept, AreConflictsOf}
 use Rattle.tsn_search_laws.specs.Walk.{IsWalk}

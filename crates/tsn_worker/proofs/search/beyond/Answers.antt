@@ -1,4 +1,4 @@
-use Rattle.std.proofs.Common.{◌≡◌, ◌+◌, min, arith}
+use Rattle.std.proofs.Common.{arith}
 use Rattle.tsn_model.specs.Certificate.{beyond}
 use Rattle.tsn_worker.proofs.search.beyond.Goals as goal
 

@@ -1,0 +1,24 @@
+use Rattle.std.proofs.Common.{Any, Contains, sym, subst}
+use Rattle.tsn_model.specs.Search.{solved_bounds, settled_by}
+use Rattle.tsn_book.specs.Book.{Progress, IsLawful}
+use Rattle.tsn_book.specs.Solving.{IsSolvedBy}
+use Rattle.tsn_book.proofs.Bookkeeping.{lawful}
+use Rattle.tsn_book.proofs.Solving.{solved_found, found_solved}
+use Rattle.tsn_book.proofs.book.Book.has_solved.Goals as goal
+
+pub returns-clause-solved : goal.returns-clause-solved
+returns-clause-solved c =
+    let tree = c.self.inside.tree in
+    let k = c.args.teller in
+    let flowspan = c.args.flowspan in (
+      λ is. subst (λ (p : Progress). Contains (solved_bounds (settled_by k p.history)) flowspan) c.self.view_is (solved_found tree.origins.items tree.events.items k flowspan (subst (Any (IsSolvedBy k flowspan)) c.deref.ensures.value (c.any_solved.ensures.0 is))),
+      λ found. c.any_solved.ensures.1
+          (subst (Any (IsSolvedBy k flowspan)) (sym c.deref.ensures.value) (found_solved tree.origins.items tree.events.items k flowspan (subst (λ (p : Progress). Contains (solved_bounds (settled_by k p.history)) flowspan) (sym c.self.view_is) found))),
+    )
+
+pub returns-clause-lawful : goal.returns-clause-lawful
+returns-clause-lawful c =
+    let inside = c.self.inside in
+    let tree = inside.tree in
+    subst IsLawful c.self.view_is
+    (lawful tree.network tree.origins.items tree.standings.items tree.events.items inside.closed.items inside.limit inside.open_nodes inside.best inside.kept inside.tallies.items c.self.invariant)
