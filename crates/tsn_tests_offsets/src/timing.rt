@@ -1,10 +1,10 @@
-//! The times of streams, and the judgement of offsets.
+//! The times of streams, and agreement with the plain program.
 
 use std::alloc::Global;
 use std::process::Abort;
 use std::test::Fail;
 use tsn_net::read_problem;
-use tsn_timing::{Timing, Triple, Validity, Violation};
+use tsn_timing::Timing;
 
 /// Stations A, B and C, and a bridge.
 const NODES: &str = "node = [
@@ -157,74 +157,6 @@ fn tells_hops(rt: HostRuntime) -> Result<(), Fail> {
     Ok(())
 }
 
-/// The judgement of some offsets, by the plain program too, and that `valid` hands the list back.
-fn judges(
-    rt: &impl Abort,
-    alloc: Global,
-    timing: &Timing,
-    offsets: &[u64],
-    validity: Validity,
-) -> Result<(), Fail> {
-    assert!(rt; timing.validity(offsets) == validity, "of {offsets:?}");
-    assert_eq!(rt; timing.is_valid(offsets), validity == Validity::Valid);
-    assert_eq!(rt;
-        timing.plain().is_valid(offsets),
-        validity == Validity::Valid
-    );
-    match timing.valid(offsets.to_vec(alloc)?) {
-        Ok(valid) => {
-            assert!(rt; validity == Validity::Valid);
-            assert!(rt; valid.offsets() == offsets);
-        }
-        Err((violation, back)) => {
-            assert!(rt; validity == Validity::Refused(violation));
-            assert!(rt; back.as_slice() == offsets);
-        }
-    }
-    Ok(())
-}
-
-const TOO_MANY: Validity = Validity::Refused(Violation::WrongCount);
-
-const fn past_cycle(stream: usize) -> Validity {
-    Validity::Refused(Violation::PastCycle(stream))
-}
-
-const fn overlap(left: usize, right: usize, link: usize) -> Validity {
-    Validity::Refused(Violation::Overlap(Triple { left, right, link }))
-}
-
-#[test]
-fn judges_offsets(rt: HostRuntime) -> Result<(), Fail> {
-    let alloc = rt.alloc();
-    let two = star(alloc, 1_000_000, FAST, TWO)?;
-    for (offsets, validity) in [
-        ([0, 672].as_slice(), Validity::Valid),
-        (&[0, 671], overlap(0, 1, 4)),
-        (&[671, 0], overlap(0, 1, 4)),
-        (&[672, 0], Validity::Valid),
-        (&[0], TOO_MANY),
-        (&[], TOO_MANY),
-        (&[0, 672, 0], TOO_MANY),
-        (&[997_702, 0], Validity::Valid),
-        (&[997_703, 0], past_cycle(0)),
-        (&[0, 997_703], past_cycle(1)),
-        (&[u64::MAX, u64::MAX], past_cycle(0)),
-        (&[0, u64::MAX], past_cycle(1)),
-        (&[0, 2_000_000_000], past_cycle(1)),
-    ] {
-        judges(&rt, alloc, &two, offsets, validity)?;
-    }
-    let tight = star(alloc, 2298, FAST, ONE)?;
-    judges(&rt, alloc, &tight, &[0], Validity::Valid)?;
-    judges(&rt, alloc, &tight, &[1], past_cycle(0))?;
-    let round = timing_of(alloc, LOOP)?;
-    judges(&rt, alloc, &round, &[0, 672], Validity::Valid)?;
-    judges(&rt, alloc, &round, &[0, 671], overlap(0, 1, 4))?;
-    judges(&rt, alloc, &round, &[0, 1344], overlap(0, 1, 12))?;
-    Ok(())
-}
-
 /// Two streams, the first from 700 on, the second to arrive by 3000.
 const TIMED: &str = "stream = [
     {name = 'one', octets = 64, route = ['A', 'S', 'C'], release = 700},
@@ -232,16 +164,8 @@ const TIMED: &str = "stream = [
 ]
 ";
 
-const fn early(stream: usize) -> Validity {
-    Validity::Refused(Violation::Early(stream))
-}
-
-const fn too_late(stream: usize) -> Validity {
-    Validity::Refused(Violation::TooLate(stream))
-}
-
 #[test]
-fn judges_releases_and_latest_instants(rt: HostRuntime) -> Result<(), Fail> {
+fn tells_releases_and_latest_instants(rt: HostRuntime) -> Result<(), Fail> {
     let alloc = rt.alloc();
     let timed = star(alloc, 1_000_000, FAST, TIMED)?;
     assert!(rt; timed.streams() == 2);
@@ -249,18 +173,6 @@ fn judges_releases_and_latest_instants(rt: HostRuntime) -> Result<(), Fail> {
     assert_eq!(rt; timed.release(1), 0);
     assert_eq!(rt; timed.latest(0), 1_000_000);
     assert_eq!(rt; timed.latest(1), 3000);
-    for (offsets, validity) in [
-        ([700, 0].as_slice(), Validity::Valid),
-        (&[699, 0], early(0)),
-        (&[1420, 748], Validity::Valid),
-        (&[1421, 749], too_late(1)),
-        (&[699, 1371], early(0)),
-        (&[0, 0], overlap(0, 1, 4)),
-        (&[0, 997_703], past_cycle(1)),
-        (&[0], TOO_MANY),
-    ] {
-        judges(&rt, alloc, &timed, offsets, validity)?;
-    }
     Ok(())
 }
 
