@@ -43,7 +43,6 @@ fn run<R: Env + Files + Input + Print + Eprint + AllocGlobal + Threads + Wait + 
         Ok(Words::Gates(words)) => Ok(gates(rt, alloc, words)),
         Ok(Words::Replay(words)) => Ok(replay(rt, alloc, words)),
         Err(WordsFault::Refused(text)) => Ok(refuse(rt, text.as_str())),
-        Err(WordsFault::Unknown) => Ok(refuse(rt, "error: no command has these words\n")),
         Err(WordsFault::Memory) => Ok(no_memory(rt)),
     }
 }

@@ -41,7 +41,6 @@ pub fn run<R: AllocGlobal + Threads + Wait + Sync>(
         Ok(Words::Gates(words)) => Ok(gates(alloc, words, folder)),
         Ok(Words::Replay(words)) => Ok(replay(alloc, words, folder)),
         Err(WordsFault::Refused(told)) => Ok(refused(alloc, told)),
-        Err(WordsFault::Unknown) => Ok(refused(alloc, String::new(alloc))),
         Err(WordsFault::Memory) => Err(AllocError),
     }
 }

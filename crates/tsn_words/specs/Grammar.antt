@@ -2,11 +2,13 @@
 --     tsn, valid, plan, check, gates, replay    the commands
 --     IsNumber, number_of, offsets_in      numbers
 --     AsksFor, IsRefused                   what the words ask for, and that they are refused
-use Rattle.std.specs.Prelude.{◌≡◌, ℕ, List, map, codes, Option, Some, None, option_map, Bool, true, false, All}
+--     IsGiven, IsWithin, HasOffsets, HasCommand, IsWhole      what a parse without a fault finds
+use Rattle.std.specs.Prelude.{◌≡◌, ◌≤◌, ◌⊎◌, ℕ, List, map, length, codes, Option, Some, None, IfSome, MatchOption, is_some, option_map, Bool, true, false, All}
 use Rattle.std.specs.Str.Parse.{IsNumeral, digits_value, without_leading_plus}
-use Rattle.clap.specs.Words.{App, Row, Rule, Text, all_of, first_of, one_of, new_app, new_rule, subcommand_of, with_rule, with_subcommand}
+use Rattle.clap.specs.Words.{App, IsUnsignedIn, Row, Rule, Text, all_of, first_of, one_of, new_app, new_rule, subcommand_of, with_rule, with_subcommand}
 use Rattle.clap.specs.declared.builder.ArgAction.TheVariants.{Set, Append, SetTrue}
 use Rattle.clap.specs.declared.builder.value_parser.ValueParser.TheVariants.{Unsigned}
+use Rattle.tsn_words.specs.declared.words.TheConstants.{MAX_WORKERS}
 use Rattle.tsn_words.specs.declared.words.Words.{Words}
 use Rattle.tsn_words.specs.declared.words.Words.TheVariants.{Valid, Plan, Check, Gates, Replay}
 use Rattle.tsn_words.specs.declared.words.ValidWords.{ValidWords}
@@ -45,7 +47,7 @@ file_option id = record (new_rule id) { long = Some id; action = Some Set }
 -- plan NET [--workers W] [--steps N] [--plan FILE] [--cert FILE]
 abbrev pub plan : App
 plan =
-    with_rule (with_rule (with_rule (with_rule (with_rule (new_app (codes "plan")) (file (codes "NET"))) (number_option (codes "workers") 1))
+    with_rule (with_rule (with_rule (with_rule (with_rule (new_app (codes "plan")) (file (codes "NET"))) (number_option (codes "workers") MAX_WORKERS))
     (number_option (codes "steps") 1000000000))
     (file_option (codes "plan")))
     (file_option (codes "cert"))
@@ -130,6 +132,31 @@ IsAsked found (Replay asked) = (rows : List Row) × (found ≡ Some (codes "repl
 -- the words ask for this
 abbrev pub AsksFor : List Text → Words → Type 0
 AsksFor words asked = IsAsked (subcommand_of tsn words) asked
+
+-- the argument has a value
+abbrev pub IsGiven : Text → List Row → Type 0
+IsGiven id rows = is_some (first_of id rows) ≡ true
+
+-- the word of an option, where there is one, is a number from 1 to `most`
+abbrev pub IsWithin : Text → ℕ → List Row → Type 0
+IsWithin id most rows = IfSome (first_of id rows) (IsUnsignedIn 1 most)
+
+-- there is an offset, and each is a number up to the greatest offset
+abbrev pub HasOffsets : List Row → Type 0
+HasOffsets rows = MatchOption (all_of (codes "OFFSET") rows) ⊥ (λ words. (1 ≤ length words) × All (IsUnsignedIn 0 2000000000) words)
+
+-- a command that was met is one of the five, and has what it requires, each value within its range
+pub record HasCommand (name : Text) (rows : List Row) : Type 0 where
+  pub valid : name ≡ codes "valid" → IsGiven (codes "NET") rows × HasOffsets rows
+  pub plan : name ≡ codes "plan" → IsGiven (codes "NET") rows × IsWithin (codes "workers") MAX_WORKERS rows × IsWithin (codes "steps") 1000000000 rows
+  pub check : name ≡ codes "check" → IsGiven (codes "NET") rows × IsGiven (codes "PLAN") rows × IsGiven (codes "CERT") rows
+  pub gates : name ≡ codes "gates" → IsGiven (codes "NET") rows × IsGiven (codes "PLAN") rows
+  pub replay : name ≡ codes "replay" → IsGiven (codes "NET") rows × IsGiven (codes "PLAN") rows × IsWithin (codes "cycles") 16 rows
+  pub known : (name ≡ codes "valid") ⊎ ((name ≡ codes "plan") ⊎ ((name ≡ codes "check") ⊎ ((name ≡ codes "gates") ⊎ (name ≡ codes "replay"))))
+
+-- what a parse without a fault finds
+abbrev pub IsWhole : Option (Text × List Row) → Type 0
+IsWhole found = MatchOption found ⊥ (λ command. HasCommand command.0 command.1)
 
 -- the words are refused as words
 abbrev pub IsRefused : WordsFault → Type 0

@@ -1,13 +1,13 @@
 //! The words as `clap` reads them.
-ghost use Rattle.std.specs.Prelude.{◌≡◌, ◌≢◌, ◌≤◌, All, IfErr, IfOk, codes, false, map, option_map, true};
-ghost use Rattle.clap.specs.Words.{app_of, found_of, kind_of, rows_of, rule_of, subcommand_rows_of, takes};
+ghost use Rattle.std.specs.Prelude.{◌≡◌, ◌≢◌, ◌≤◌, ◌⊎◌, All, IfErr, IfOk, IfSome, codes, false, map, option_map, true};
+ghost use Rattle.clap.specs.Words.{IsUnsignedIn, app_of, first_of, found_of, kind_of, rows_of, rule_of, subcommand_rows_of, takes};
 ghost use Rattle.clap.specs.declared.builder.command.Command.TheViews.{out-Command as fields_of};
-ghost use Rattle.tsn_words.specs.Grammar.{AsksFor, IsAsked, IsCheckOf, IsGatesOf, IsNumber, IsNumberOr, IsPlanOf, IsRefused, IsReplayOf, IsValidOf, number_of};
+ghost use Rattle.tsn_words.specs.Grammar.{AsksFor, HasOffsets, IsAsked, IsCheckOf, IsGatesOf, IsGiven, IsNumberOr, IsPlanOf, IsRefused, IsReplayOf, IsValidOf, IsWhole, IsWithin, number_of};
 ghost use Rattle.tsn_words.specs.Grammar as grammar;
 
 use crate::words::{
-    CheckWords, DEFAULT_STEPS, GatesWords, MAX_CYCLES, MAX_OFFSET, MAX_STEPS, PlanWords,
-    ReplayWords, ValidWords, Words, WordsFault,
+    CheckWords, DEFAULT_STEPS, GatesWords, MAX_CYCLES, MAX_OFFSET, MAX_STEPS, MAX_WORKERS,
+    PlanWords, ReplayWords, ValidWords, Words, WordsFault,
 };
 use clap::error::ErrorKind;
 use clap::{Arg, ArgAction, ArgMatches, Command, Error, value_parser};
@@ -16,11 +16,14 @@ use std::alloc::{AllocError, Global};
 /// The command that the words ask for; the first word is the program's name.
 pub fn words_from<'a>(alloc: Global, words: &'a [&'a str]) -> Result<Words<'a>, WordsFault>
     ensures asked { IfOk result (AsksFor (map (λ word. word.now) words.entry.now)) }
+    ensures taken { IfOk result (λ _. takes grammar.tsn (map (λ word. word.now) words.entry.now) ≡ true) }
     ensures refused { IfErr result (λ fault. IsRefused fault
         → takes grammar.tsn (map (λ word. word.now) words.entry.now) ≢ true) }
+    ensures memory { takes grammar.tsn (map (λ word. word.now) words.entry.now) ≡ true
+        → IfErr result (λ fault. fault ≡ WordsFault.Memory) }
 {
     match program(alloc)?.try_get_matches_from(words) {
-        Ok(matches) => command_of(alloc, &matches),
+        Ok(matches) => Ok(command_of(alloc, &matches)?),
         Err(error) => Err(fault_of(alloc, &error)),
     }
 }
@@ -137,14 +140,14 @@ fn offsets_argument<'a>(alloc: Global) -> Arg<'a>
 }
 
 fn workers_option<'a>(alloc: Global) -> Arg<'a>
-    ensures rule { rule_of result ≡ grammar.number_option (codes "workers") 1 }
+    ensures rule { rule_of result ≡ grammar.number_option (codes "workers") MAX_WORKERS }
     ensures local { result.global ≡ false }
 {
     Arg::new(alloc, "workers")
         .long("workers")
         .action(ArgAction::Set)
-        .value_parser(value_parser!(u64).range(1..=1))
-        .help("How many workers plan: 1")
+        .value_parser(value_parser!(u64).range(1..=MAX_WORKERS as i64))
+        .help("How many workers plan, 1 if not given")
 }
 
 fn steps_option<'a>(alloc: Global) -> Arg<'a>
@@ -212,138 +215,136 @@ fn fault_of(alloc: Global, error: &Error) -> WordsFault
     }
 }
 
-fn command_of<'a>(alloc: Global, matches: &ArgMatches<'a>) -> Result<Words<'a>, WordsFault>
-    ensures asked { IfOk result (IsAsked (subcommand_rows_of matches.now)) }
-    ensures not_refused { IfErr result (λ fault. IsRefused fault → ⊥) }
+/// The command that was met, with its words.
+fn command_of<'a>(alloc: Global, matches: &ArgMatches<'a>) -> Result<Words<'a>, AllocError>
+    requires { IsWhole (subcommand_rows_of matches.now) }
+    ensures { IfOk result (IsAsked (subcommand_rows_of matches.now)) }
 {
     match matches.subcommand() {
         Some(("valid", words)) => Ok(Words::Valid(valid_words(alloc, words)?)),
-        Some(("plan", words)) => Ok(Words::Plan(plan_words(words)?)),
-        Some(("check", words)) => Ok(Words::Check(check_words(words)?)),
-        Some(("gates", words)) => Ok(Words::Gates(gates_words(words)?)),
-        Some(("replay", words)) => Ok(Words::Replay(replay_words(words)?)),
-        _ => Err(WordsFault::Unknown),
+        Some(("plan", words)) => Ok(Words::Plan(plan_words(words))),
+        Some(("check", words)) => Ok(Words::Check(check_words(words))),
+        Some(("gates", words)) => Ok(Words::Gates(gates_words(words))),
+        Some(("replay", words)) => Ok(Words::Replay(replay_words(words))),
+        _ => unreachable!(),
     }
 }
 
-fn valid_words<'a>(alloc: Global, words: &ArgMatches<'a>) -> Result<ValidWords<'a>, WordsFault>
-    ensures read { IfOk result (IsValidOf (rows_of (found_of words.now))) }
-    ensures not_refused { IfErr result (λ fault. IsRefused fault → ⊥) }
+fn valid_words<'a>(alloc: Global, words: &ArgMatches<'a>) -> Result<ValidWords<'a>, AllocError>
+    requires network { IsGiven (codes "NET") (rows_of (found_of words.now)) }
+    requires offsets { HasOffsets (rows_of (found_of words.now)) }
+    ensures { IfOk result (IsValidOf (rows_of (found_of words.now))) }
 {
-    let (Some(network), Some(texts)) = (words.get_str("NET"), words.get_strs("OFFSET")) else {
-        return Err(WordsFault::Unknown);
+    let network = text_of(words, "NET");
+    let Some(texts) = words.get_strs("OFFSET") else {
+        unreachable!()
     };
     let offsets = offsets_of(alloc, texts)?;
-    if offsets.is_empty() {
-        return Err(WordsFault::Unknown);
-    }
     Ok(ValidWords { network, offsets })
 }
 
-fn plan_words<'a>(words: &ArgMatches<'a>) -> Result<PlanWords<'a>, WordsFault>
-    ensures read { IfOk result (IsPlanOf (rows_of (found_of words.now))) }
-    ensures not_refused { IfErr result (λ fault. IsRefused fault → ⊥) }
+fn plan_words<'a>(words: &ArgMatches<'a>) -> PlanWords<'a>
+    requires network { IsGiven (codes "NET") (rows_of (found_of words.now)) }
+    requires workers { IsWithin (codes "workers") MAX_WORKERS (rows_of (found_of words.now)) }
+    requires steps { IsWithin (codes "steps") MAX_STEPS (rows_of (found_of words.now)) }
+    ensures { IsPlanOf (rows_of (found_of words.now)) result }
 {
-    let Some(network) = words.get_str("NET") else {
-        return Err(WordsFault::Unknown);
-    };
-    let workers = number_or(words.get_str("workers"), 1, 1)?;
-    let steps = number_or(words.get_str("steps"), MAX_STEPS, DEFAULT_STEPS)?;
-    Ok(PlanWords {
-        network,
-        workers,
-        steps,
+    PlanWords {
+        network: text_of(words, "NET"),
+        workers: number_or(words.get_str("workers"), MAX_WORKERS, 1),
+        steps: number_or(words.get_str("steps"), MAX_STEPS, DEFAULT_STEPS),
         plan: words.get_str("plan"),
         cert: words.get_str("cert"),
-    })
-}
-
-/// The number that a word is, from 1 to `most`; the default where there is no word.
-fn number_or(word: Option<&str>, most: usize, default: usize) -> Result<usize, WordsFault>
-    requires some { 1 ≤ default }
-    requires within { default ≤ most }
-    ensures some { IfOk result (λ number. 1 ≤ number) }
-    ensures most { IfOk result (λ number. number ≤ most) }
-    ensures value { IfOk result (IsNumberOr (option_map (λ word. word.now) word.entry) default) }
-    ensures not_refused { IfErr result (λ fault. IsRefused fault → ⊥) }
-{
-    let Some(word) = word else {
-        return Ok(default);
-    };
-    match word.parse::<usize>() {
-        Ok(number) if 1 <= number && number <= most => Ok(number),
-        _ => Err(WordsFault::Unknown),
     }
 }
 
-fn check_words<'a>(words: &ArgMatches<'a>) -> Result<CheckWords<'a>, WordsFault>
-    ensures read { IfOk result (IsCheckOf (rows_of (found_of words.now))) }
-    ensures not_refused { IfErr result (λ fault. IsRefused fault → ⊥) }
+/// The word of an argument that is given.
+fn text_of<'a>(words: &ArgMatches<'a>, id: &str) -> &'a str
+    requires { IsGiven id.now (rows_of (found_of words.now)) }
+    ensures { first_of id.now (rows_of (found_of words.now)) ≡ Some result.now }
 {
-    let (Some(network), Some(plan), Some(cert)) = (
-        words.get_str("NET"),
-        words.get_str("PLAN"),
-        words.get_str("CERT"),
-    ) else {
-        return Err(WordsFault::Unknown);
-    };
-    Ok(CheckWords {
-        network,
-        plan,
-        cert,
-    })
+    match words.get_str(id) {
+        Some(text) => text,
+        None => unreachable!(),
+    }
 }
 
-fn gates_words<'a>(words: &ArgMatches<'a>) -> Result<GatesWords<'a>, WordsFault>
-    ensures read { IfOk result (IsGatesOf (rows_of (found_of words.now))) }
-    ensures not_refused { IfErr result (λ fault. IsRefused fault → ⊥) }
+/// The number that a word is, from 1 to `most`; the default where there is no word.
+fn number_or(word: Option<&str>, most: usize, default: usize) -> usize
+    requires some { 1 ≤ default }
+    requires within { default ≤ most }
+    requires number { IfSome (option_map (λ word. word.now) word) (IsUnsignedIn 1 most) }
+    ensures some { 1 ≤ result }
+    ensures most { result ≤ most }
+    ensures value { IsNumberOr (option_map (λ word. word.now) word.entry) default result }
 {
-    let (Some(network), Some(plan)) = (words.get_str("NET"), words.get_str("PLAN")) else {
-        return Err(WordsFault::Unknown);
+    let Some(word) = word else {
+        return default;
     };
-    Ok(GatesWords { network, plan })
+    match word.parse::<usize>() {
+        Ok(number) => number,
+        Err(_) => unreachable!(),
+    }
 }
 
-fn replay_words<'a>(words: &ArgMatches<'a>) -> Result<ReplayWords<'a>, WordsFault>
-    ensures read { IfOk result (IsReplayOf (rows_of (found_of words.now))) }
-    ensures not_refused { IfErr result (λ fault. IsRefused fault → ⊥) }
+fn check_words<'a>(words: &ArgMatches<'a>) -> CheckWords<'a>
+    requires network { IsGiven (codes "NET") (rows_of (found_of words.now)) }
+    requires plan { IsGiven (codes "PLAN") (rows_of (found_of words.now)) }
+    requires cert { IsGiven (codes "CERT") (rows_of (found_of words.now)) }
+    ensures { IsCheckOf (rows_of (found_of words.now)) result }
 {
-    let (Some(network), Some(plan)) = (words.get_str("NET"), words.get_str("PLAN")) else {
-        return Err(WordsFault::Unknown);
-    };
-    let cycles = number_or(words.get_str("cycles"), MAX_CYCLES, 1)?;
-    Ok(ReplayWords {
-        network,
-        plan,
-        cycles,
+    CheckWords {
+        network: text_of(words, "NET"),
+        plan: text_of(words, "PLAN"),
+        cert: text_of(words, "CERT"),
+    }
+}
+
+fn gates_words<'a>(words: &ArgMatches<'a>) -> GatesWords<'a>
+    requires network { IsGiven (codes "NET") (rows_of (found_of words.now)) }
+    requires plan { IsGiven (codes "PLAN") (rows_of (found_of words.now)) }
+    ensures { IsGatesOf (rows_of (found_of words.now)) result }
+{
+    GatesWords {
+        network: text_of(words, "NET"),
+        plan: text_of(words, "PLAN"),
+    }
+}
+
+fn replay_words<'a>(words: &ArgMatches<'a>) -> ReplayWords<'a>
+    requires network { IsGiven (codes "NET") (rows_of (found_of words.now)) }
+    requires plan { IsGiven (codes "PLAN") (rows_of (found_of words.now)) }
+    requires cycles { IsWithin (codes "cycles") MAX_CYCLES (rows_of (found_of words.now)) }
+    ensures { IsReplayOf (rows_of (found_of words.now)) result }
+{
+    ReplayWords {
+        network: text_of(words, "NET"),
+        plan: text_of(words, "PLAN"),
+        cycles: number_or(words.get_str("cycles"), MAX_CYCLES, 1),
         greedy: words.get_flag("greedy"),
-    })
+    }
 }
 
-fn offsets_of(alloc: Global, words: &[&str]) -> Result<Vec<u64>, WordsFault>
+fn offsets_of(alloc: Global, words: &[&str]) -> Result<Vec<u64>, AllocError>
+    requires { All (IsUnsignedIn 0 MAX_OFFSET) (map (λ word. word.now) words.now) }
     ensures small { IfOk result (λ offsets. All (λ offset. offset ≤ MAX_OFFSET) offsets.items) }
-    ensures numbers { IfOk result (λ _. All IsNumber (map (λ word. word.now) words.now)) }
     ensures values { IfOk result (λ offsets. offsets.items ≡ map number_of (map (λ word. word.now) words.now)) }
-    ensures not_refused { IfErr result (λ fault. IsRefused fault → ⊥) }
 {
     let mut offsets = Vec::new(alloc);
     for word in words {
-        let offset = offset_of(word)?;
-        if offsets.push(offset).is_err() {
-            return Err(WordsFault::Memory);
-        }
+        let offset = offset_of(word);
+        offsets.push(offset)?;
     }
     Ok(offsets)
 }
 
-fn offset_of(word: &str) -> Result<u64, WordsFault>
-    ensures small { IfOk result (λ offset. offset ≤ MAX_OFFSET) }
-    ensures number { IfOk result (λ _. IsNumber word.now) }
-    ensures value { IfOk result (λ offset. offset ≡ number_of word.now) }
-    ensures not_refused { IfErr result (λ fault. IsRefused fault → ⊥) }
+fn offset_of(word: &str) -> u64
+    requires { IsUnsignedIn 0 MAX_OFFSET word.now }
+    ensures small { result ≤ MAX_OFFSET }
+    ensures value { result ≡ number_of word.now }
 {
     match word.parse::<u64>() {
-        Ok(offset) if offset <= MAX_OFFSET => Ok(offset),
-        _ => Err(WordsFault::Unknown),
+        Ok(offset) => offset,
+        Err(_) => unreachable!(),
     }
 }

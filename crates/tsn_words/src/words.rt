@@ -1,11 +1,15 @@
 //! What the words of the command line ask for.
 ghost use Rattle.std.specs.Prelude.{◌≡◌, ◌≤◌, All, vec_len};
+ghost use Rattle.tsn_words.specs.declared.words.TheConstants.{MAX_WORKERS};
 
 use std::alloc::AllocError;
 use thiserror::Error;
 
 /// The greatest offset, in nanoseconds.
 pub const MAX_OFFSET: u64 = 2_000_000_000;
+
+/// The most workers that plan.
+pub const MAX_WORKERS: usize = 1;
 
 /// The most nodes that a run may be asked to settle.
 pub const MAX_STEPS: usize = 1_000_000_000;
@@ -52,7 +56,7 @@ pub struct GatesWords<'a> {
 pub struct PlanWords<'a> {
     /// The network file, or `-` for standard input.
     pub network: &'a str,
-    /// How many workers plan: one.
+    /// How many workers plan, 1 to `MAX_WORKERS`.
     pub workers: usize,
     /// The most nodes that may be settled, 1 to `MAX_STEPS`.
     pub steps: usize,
@@ -60,7 +64,8 @@ pub struct PlanWords<'a> {
     pub plan: Option<&'a str>,
     /// The file that the certificate is written to, if any.
     pub cert: Option<&'a str>,
-    pub ghost one: { workers ≡ 1 },
+    pub ghost some_workers: { 1 ≤ workers },
+    pub ghost few_workers: { workers ≤ MAX_WORKERS },
     pub ghost some: { 1 ≤ steps },
     pub ghost few: { steps ≤ 1000000000 },
 }
@@ -96,9 +101,6 @@ pub enum WordsFault {
     /// The words are refused, with a text that says why. A request for help is refused too, with the help as its text.
     #[error("{0}")]
     Refused(String),
-    /// The grammar takes the words, and no command was made of them. No words are known for which this is so.
-    #[error("error: no command has these words")]
-    Unknown,
     /// A growth was refused.
     #[error("no memory")]
     Memory,

@@ -1,10 +1,10 @@
 use Rattle.std.proofs.Common.{◌≤◌, ◌≡◌, All, map, take}
-use Rattle.tsn_words.specs.Grammar.{IsNumber, number_of}
+use Rattle.tsn_words.specs.Grammar.{number_of}
+use Rattle.tsn_words.specs.declared.words.TheConstants.{MAX_OFFSET}
 use Rattle.tsn_words.proofs.command.offsets_of.Given as goal
 
 abbrev pub invariant-loop-word : goal.invariant-loop-word
 invariant-loop-word l = record {
-  small : All (λ offset. offset ≤ 2000000000) l.offsets.items;
-  numbers : All IsNumber (take l.word-index (map (λ word. word.now) l.words));
+  small : All (λ offset. offset ≤ MAX_OFFSET) l.offsets.items;
   values : l.offsets.items ≡ map number_of (take l.word-index (map (λ word. word.now) l.words));
 }
