@@ -1,0 +1,4 @@
+pub mod Flowspans
+pub mod Standings
+pub mod Running
+pub mod Halves

@@ -1,0 +1,12 @@
+//! What tellers share: the least flowspan that any of them has posted, and halves of the tallies of what each has settled.
+#![tactic(auto)]
+
+pub mod halves;
+pub mod incumbent;
+mod share;
+mod view;
+
+pub use halves::{Half, Halves};
+pub use incumbent::{Incumbent, Seat};
+pub use share::Tally;
+pub use tsn_timing::NoMemory;

@@ -1,0 +1,41 @@
+//! The network of these tests: stations A, B and C, a bridge, and two streams that share the link from the bridge to C.
+ghost use Rattle.std.specs.Prelude.{IfOk};
+ghost use Rattle.tsn_timing.specs.Solution.{IsSolved};
+
+use std::alloc::Global;
+use std::test::Fail;
+use tsn_net::read_problem;
+use tsn_timing::{Solved, Timing};
+
+const TWO: &str = "cycle = 1000000
+node = [
+    {name = 'A', kind = 'station'},
+    {name = 'B', kind = 'station'},
+    {name = 'C', kind = 'station'},
+    {name = 'S', kind = 'bridge', proc = 1000},
+]
+link = [
+    {a = 'A', b = 'S', mbps = 1000, prop = 50},
+    {a = 'B', b = 'S', mbps = 1000, prop = 50},
+    {a = 'S', b = 'C', mbps = 1000, prop = 50},
+]
+stream = [
+    {name = 'one', octets = 64, route = ['A', 'S', 'C']},
+    {name = 'two', octets = 64, route = ['B', 'S', 'C']},
+]
+";
+
+pub fn two_streams(alloc: Global) -> Result<Timing, Fail> {
+    let problem = read_problem(alloc, TWO.as_bytes()).map_err(|_| "the network is refused")?;
+    Ok(Timing::of(alloc, &problem)?)
+}
+
+/// A schedule, which has to be valid, with its flowspan.
+pub fn solved(timing: &Timing, offsets: Vec<u64>) -> Result<Solved, Fail>
+    ensures solved { IfOk result (IsSolved timing.now) }
+{
+    match timing.valid(offsets) {
+        Ok(valid) => Ok(Solved::of(timing, valid)),
+        Err(_) => Err(Fail::from("no valid schedule")),
+    }
+}
