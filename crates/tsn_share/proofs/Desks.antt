@@ -1,0 +1,98 @@
+-- The halves behind the lock.
+use Rattle.std.proofs.Common.{◌≡◌, ◌≢◌, ℕ, ◌<◌, List, ◌∷◌, [], ◌++◌, length, get_or, set, true, sym, ap, ◌∙◌, subst, inl, inr, refl, not, arith, Result, Ok, Err}
+use Rattle.std.specs.Prelude.{◌≤◌, ◌==◌, IfOk, Option, Some, None}
+use Rattle.std.proofs.lemmas.Bool.{cases_eq}
+use Rattle.std.proofs.lemmas.List.{length-set, get_or-set_same, get_or-set_other}
+use Rattle.std.proofs.lemmas.List.Filters.{length-filter_both}
+use Rattle.tsn_model.specs.Network.{Network}
+use Rattle.tsn_model.specs.Search.{Settlement, tally_of, settled_by, solved_bounds, least_or_none}
+use Rattle.tsn_timing.specs.Solution.{Solution}
+use Rattle.tsn_search_laws.proofs.Numbers.{fold-min-le}
+use Rattle.tsn_search_laws.proofs.Gathering.{tally-another, best-le-tally}
+use Rattle.tsn_incumbent.specs.Flowspans.{no_flowspan}
+use Rattle.tsn_incumbent.specs.Halves.{Half, Tally, half}
+use Rattle.tsn_book.specs.Book.{Progress, IsLawful}
+use Rattle.tsn_share.specs.Names.{Names, progress_of, IsBookOf}
+use Rattle.tsn_share.specs.Teller.{Known}
+use Rattle.tsn_share.specs.Desk.{Halved, AreCounts, IsReading, IsKeptOf, IsNoWorse, IsBest}
+use Rattle.tsn_share.specs.declared.desk.Counts.{Counts}
+
+-- one half is set to its number's tally in another history, where the others have the tallies that they had
+pub halves_set : (names : Names) (halves : List Half) (history after : List Settlement) (teller : ℕ) (new : Half) → Halved names halves history → teller < length halves
+    → new ≡ half names.halves teller true (tally_of names.race.network teller after) → ((k : ℕ) → k ≢ teller → tally_of names.race.network k after ≡ tally_of names.race.network k history)
+    → Halved names (set halves teller new) after
+halves_set names halves history after teller new before within is others = record {
+  count = length-set halves teller new ∙ before.count;
+  each = λ k d low.
+      let below : k < length halves = omega (arith, low, length-set halves teller new) in
+      elim (cases_eq k teller) [
+        | inl same ↦ subst (λ j. get_or (set halves teller new) j d ≡ half names.halves j true (tally_of names.race.network j after)) (sym same) (get_or-set_same halves teller new d within ∙ is)
+        | inr other ↦ get_or-set_other halves teller k new d other ∙ before.each k d below ∙ ap (half names.halves k true) (sym (others k other))
+      ];
+}
+
+-- the half of the teller that settled an event takes it
+pub halves_settled : (names : Names) (halves : List Half) (history : List Settlement) (settlement : Settlement) (new : Half) → Halved names halves history → settlement.teller < length halves
+    → new ≡ half names.halves settlement.teller true (tally_of names.race.network settlement.teller (history ++ settlement ∷ [])) → Halved names (set halves settlement.teller new) (history ++ settlement ∷ [])
+halves_settled names halves history settlement new before within is =
+    halves_set names halves history (history ++ settlement ∷ []) settlement.teller new before within is
+    (λ k other. tally-another names.race.network k history settlement (λ same. other (sym same)))
+
+-- a half that is set to what it had
+pub halves_agree : (names : Names) (halves : List Half) (history : List Settlement) (teller : ℕ) (new : Half) → Halved names halves history → teller < length halves
+    → new ≡ half names.halves teller true (tally_of names.race.network teller history) → Halved names (set halves teller new) history
+halves_agree names halves history teller new before within is = halves_set names halves history history teller new before within is (λ k other. refl)
+
+-- a teller settled no more events than there are
+pub tally-le : (network : Network) (k : ℕ) (history : List Settlement) → (tally_of network k history).0 ≤ length history
+unfolding tally_of settled_by
+tally-le network k history = omega (arith, length-filter_both (λ (s : Settlement). s.teller == k) (λ (s : Settlement). not (s.teller == k)) (λ s. refl) history)
+
+-- what was read of the book
+pub reads : {E : Type 0} (names : Names) (known : Known) (book : Progress) → IsBookOf names book → IsLawful book → tally_of names.race.network known.standing.number book.history ≡ known.tally
+    → (answer : Result Counts E) → IfOk answer (AreCounts book.history) → IfOk answer (IsReading names known)
+reads names known book of lawful mine (Ok counts) told =
+    let is : book ≡ progress_of names book.history = (λ i. record { network = of.network i; tellers = of.tellers i; limit = of.limit i; history = book.history }) in
+    let count = told.count in
+    record {
+      history = book.history;
+      lawful = subst IsLawful is lawful;
+      mine = mine;
+      told = told;
+      at_least = omega (arith, tally-le names.race.network known.standing.number book.history, ap (λ (tally : Tally). tally.0) mine, count);
+    }
+reads names known book of lawful mine (Err e) told = tt
+
+-- a teller's least solved flowspan is no more than one past the cycle, and no less than the least that was solved
+tally-least : (network : Network) (k : ℕ) (history : List Settlement) → (tally_of network k history).2 ≤ no_flowspan network
+unfolding tally_of least_or_none
+tally-least network k history = fold-min-le (no_flowspan network) (solved_bounds (settled_by k history))
+
+-- what was copied of the book
+no_worse : (network : Network) (known : Known) (history : List Settlement) → tally_of network known.standing.number history ≡ known.tally
+    → (best : Option Solution) → IsKeptOf network history best → IsNoWorse network known best
+no_worse network known history mine None kept =
+    let share = ap (λ (tally : Tally). tally.2) mine in
+    let low = best-le-tally network history known.standing.number in
+    let high = tally-least network known.standing.number history in
+    let none = kept.1 in
+    omega (arith, share, low, high, none)
+no_worse network known history mine (Some solution) kept =
+    let share = ap (λ (tally : Tally). tally.2) mine in
+    let low = best-le-tally network history known.standing.number in
+    let is = kept.2 in
+    (kept.1, omega (arith, share, low, is))
+
+pub copies : {E : Type 0} (names : Names) (known : Known) (book : Progress) → IsBookOf names book → IsLawful book → tally_of names.race.network known.standing.number book.history ≡ known.tally
+    → (answer : Result (Option Solution) E) → IfOk answer (IsKeptOf book.network book.history) → IfOk answer (IsBest names known)
+copies names known book of lawful mine (Ok best) kept =
+    let is : book ≡ progress_of names book.history = (λ i. record { network = of.network i; tellers = of.tellers i; limit = of.limit i; history = book.history }) in
+    let kept' : IsKeptOf names.race.network book.history best = subst (λ (n : Network). IsKeptOf n book.history best) of.network kept in
+    record {
+      history = book.history;
+      lawful = subst IsLawful is lawful;
+      mine = mine;
+      kept = kept';
+      no_worse = no_worse names.race.network known book.history mine best kept';
+    }
+copies names known book of lawful mine (Err e) kept = tt

@@ -1,0 +1,4 @@
+pub mod Desks
+pub mod Joining
+pub mod Seats
+pub mod Tellers

@@ -1,0 +1,69 @@
+-- What a teller keeps to when it settles.
+use Rattle.std.proofs.Common.{◌≡◌, ℕ, ◌≤◌, min, sym, subst, arith, false, refl, Result, Ok, Err}
+use Rattle.std.specs.Prelude.{OnOk, OnErr}
+use Rattle.tsn_model.specs.Network.{Network}
+use Rattle.tsn_model.specs.Certificate.{beyond}
+use Rattle.tsn_model.specs.Search.{Outcome, split, solved, pruned, tied, refuted}
+use Rattle.tsn_model.specs.Core.{IsAboveSeen}
+use Rattle.tsn_search_laws.specs.Gathering.{tally_with}
+use Rattle.tsn_incumbent.specs.Standings.{Place, posted}
+use Rattle.tsn_incumbent.specs.Halves.{Half, Tally, half}
+use Rattle.tsn_share.specs.Names.{Names}
+use Rattle.tsn_share.specs.Teller.{head_of, Keeps, IsSolvedBy}
+
+-- what is worse than what was seen stays so where less is seen
+pub beyond_seen : (network : Network) (seen word bound : ℕ) → beyond network seen ≤ bound → beyond network (min seen word) ≤ bound
+unfolding beyond
+beyond_seen network seen word bound low = omega (arith, low)
+
+-- one more event prunes by nothing but what is worse than what was seen, and lowers no more than what is solved
+low_after : (network : Network) (seen : ℕ) (tally : Tally) (outcome : Outcome) → beyond network seen ≤ tally.1 → IsAboveSeen network seen outcome → beyond network seen ≤ (tally_with tally outcome).1
+unfolding tally_with
+low_after network seen tally (split triple) low above = low
+low_after network seen tally (solved offsets bound leaf chains) low above = low
+low_after network seen tally (pruned bound leaf) low above = omega (arith, low, above)
+low_after network seen tally (tied bound leaf chains) low above = low
+low_after network seen tally (refuted leaf) low above = low
+
+solved_after : (posted : ℕ) (tally : Tally) (outcome : Outcome) → tally.2 ≤ posted → (tally_with tally outcome).2 ≤ posted
+unfolding tally_with
+solved_after posted tally (split triple) high = high
+solved_after posted tally (solved offsets bound leaf chains) high = omega (arith, high)
+solved_after posted tally (pruned bound leaf) high = high
+solved_after posted tally (tied bound leaf chains) high = high
+solved_after posted tally (refuted leaf) high = high
+
+pub keeps_settled : (names : Names) (number : ℕ) (place : Place) (share : Half) (outcome : Outcome) (new : Half) → Keeps names number place share → IsAboveSeen names.race.network (head_of place.standings).seen outcome
+    → new ≡ half names.halves number false (tally_with share.tally outcome) → Keeps names number place new
+keeps_settled names number place share outcome new keeps above is =
+    subst (Keeps names number place) (sym is)
+    (record {
+      sits = keeps.sits;
+      shares = refl;
+      numbered = keeps.numbered;
+      within = keeps.within;
+      pruned = low_after names.race.network (head_of place.standings).seen share.tally outcome keeps.pruned above;
+      solved = solved_after (head_of place.standings).posted share.tally outcome keeps.solved;
+    })
+
+-- the event was settled, or the share is as it was
+pub keeps_answer : {X E : Type 0} (P : Type 0) (names : Names) (number : ℕ) (place : Place) (share : Half) (outcome : Outcome) (new : Half) → Keeps names number place share → IsAboveSeen names.race.network (head_of place.standings).seen outcome
+    → (answer : Result X E) → OnOk answer (new ≡ half names.halves number false (tally_with share.tally outcome)) → OnErr answer (P × (new ≡ share)) → Keeps names number place new
+keeps_answer P names number place share outcome new keeps above (Ok x) ok err = keeps_settled names number place share outcome new keeps above ok
+keeps_answer P names number place share outcome new keeps above (Err e) ok err = subst (Keeps names number place) (sym err.1) keeps
+
+-- a solved leaf prunes by nothing, and is the least that its teller solved where it is no more than that was
+pub above_solved : (network : Network) (seen flowspan : ℕ) (outcome : Outcome) → IsSolvedBy flowspan outcome → IsAboveSeen network seen outcome
+above_solved network seen flowspan (split triple) by = absurd by
+above_solved network seen flowspan (solved offsets bound leaf chains) by = tt
+above_solved network seen flowspan (pruned bound leaf) by = absurd by
+above_solved network seen flowspan (tied bound leaf chains) by = absurd by
+above_solved network seen flowspan (refuted leaf) by = absurd by
+
+pub least_after : (flowspan : ℕ) (tally : Tally) (outcome : Outcome) → IsSolvedBy flowspan outcome → flowspan ≤ tally.2 → flowspan ≡ (tally_with tally outcome).2
+unfolding tally_with
+least_after flowspan tally (split triple) by low = absurd by
+least_after flowspan tally (solved offsets bound leaf chains) by low = omega (arith, by, low)
+least_after flowspan tally (pruned bound leaf) by low = absurd by
+least_after flowspan tally (tied bound leaf chains) by low = absurd by
+least_after flowspan tally (refuted leaf) by low = absurd by

@@ -1,0 +1,13 @@
+use Rattle.std.proofs.Common.{ap, sym, subst}
+use Rattle.tsn_model.specs.Core.{IsAboveSeen}
+use Rattle.tsn_branch.specs.Outcome.{outcome_of}
+use Rattle.tsn_share.specs.Teller.{Known}
+use Rattle.tsn_share.proofs.Tellers.{keeps_answer}
+use Rattle.tsn_share.proofs.shared.settle_as.Goals as goal
+
+pub invariant_of-teller : goal.invariant_of-teller
+invariant_of-teller g c =
+    let seen = ap (λ (k : Known). k.standing.seen) c.teller.view_is in
+    keeps_answer _ g.K.Named.names c.teller.inside.number c.teller.inside.seat c.teller.inside.share (outcome_of c.args.event.look) c.settle.new.share c.teller.invariant
+    (subst (λ n. IsAboveSeen g.K.Named.names.race.network n (outcome_of c.args.event.look)) (sym seen) c.requires.seen)
+    c.settle.result c.settle.ensures.share c.settle.ensures.refused

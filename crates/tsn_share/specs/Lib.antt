@@ -1,0 +1,5 @@
+pub mod Names
+pub mod Teller
+pub mod Desk
+pub mod Parts
+pub mod Gathered

@@ -1,0 +1,69 @@
+-- What a teller knows.
+--     Known, IsEven, IsSolvedBy     what it has seen, posted and settled
+--     Keeps                         what every teller keeps to
+--     settled                       one more event
+--     fresh_teller, tellers_from    tellers that have settled nothing
+use Rattle.std.specs.Prelude.{◌≡◌, ℕ, zero, suc, ◌<◌, ◌≤◌, false, List, [], ◌∷◌}
+use Rattle.tsn_model.specs.Network.{Network}
+use Rattle.tsn_model.specs.Certificate.{beyond}
+use Rattle.tsn_model.specs.Search.{Outcome, split, solved, pruned, tied, refuted}
+use Rattle.tsn_search_laws.specs.Gathering.{tally_with}
+use Rattle.tsn_incumbent.specs.Flowspans.{no_flowspan}
+use Rattle.tsn_incumbent.specs.Standings.{Place, fresh, fresh_from}
+use Rattle.tsn_incumbent.specs.Halves.{Tally, Half, half}
+use Rattle.tsn_incumbent.specs.declared.view.Standing.{Standing}
+use Rattle.tsn_share.specs.Names.{Names}
+
+-- what a teller has seen and posted, and its share: how many events it settled, the least bound that it pruned by, and the least flowspan that it solved
+pub record Known : Type 0 where
+  pub standing : Standing
+  pub tally : Tally
+
+abbrev pub nothing : Standing
+nothing = record { number = 0; seen = 0; posted = 0; steps = 0 }
+
+-- the one standing of a seat
+abbrev pub head_of : List Standing → Standing
+head_of [] = nothing
+head_of (p ∷ ps) = p
+
+-- the seat and the half are those of one number of this search; the least bound pruned is worse than what was seen, and the least flowspan solved is at most what was posted
+pub record Keeps (names : Names) (number : ℕ) (place : Place) (share : Half) : Type 0 where
+  pub sits : place ≡ record { race = names.race; standings = head_of place.standings ∷ [] }
+  pub shares : share ≡ half names.halves number false share.tally
+  pub numbered : (head_of place.standings).number ≡ number
+  pub within : number < names.race.tellers
+  pub pruned : beyond names.race.network (head_of place.standings).seen ≤ share.tally.1
+  pub solved : share.tally.2 ≤ (head_of place.standings).posted
+
+-- it has posted the least flowspan that it solved
+abbrev pub IsEven : Known → Type 0
+IsEven known = known.tally.2 ≡ known.standing.posted
+
+-- the outcome is solved, with this flowspan
+abbrev pub IsSolvedBy : ℕ → Outcome → Type 0
+IsSolvedBy flowspan (split triple) = ⊥
+IsSolvedBy flowspan (solved offsets bound leaf chains) = flowspan ≡ bound
+IsSolvedBy flowspan (pruned bound leaf) = ⊥
+IsSolvedBy flowspan (tied bound leaf chains) = ⊥
+IsSolvedBy flowspan (refuted leaf) = ⊥
+
+-- its share takes an event
+abbrev pub settled : Outcome → Known → Known
+settled outcome known = record { standing = known.standing; tally = tally_with known.tally outcome }
+
+-- the tally of no event
+abbrev pub no_event : Network → Tally
+no_event network = (0, no_flowspan network, no_flowspan network)
+
+-- the seat of count numbers from first on, with nothing seen or posted
+abbrev pub rest_of : Names → ℕ → ℕ → Place
+rest_of names first count = record { race = names.race; standings = fresh_from (no_flowspan names.race.network) first count }
+
+abbrev pub fresh_teller : Network → ℕ → Known
+fresh_teller network number = record { standing = fresh (no_flowspan network) number; tally = no_event network }
+
+-- the count tellers from first on, in order, with nothing settled
+abbrev pub tellers_from : Names → ℕ → ℕ → List Known
+tellers_from names first zero = []
+tellers_from names first (suc count) = fresh_teller names.race.network first ∷ tellers_from names (suc first) count

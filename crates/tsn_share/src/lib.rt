@@ -1,0 +1,17 @@
+//! Tellers share the least flowspan posted, by one word, and the book of the search, behind one lock. No thread is started
+//! here.
+#![tactic(auto)]
+
+mod desk;
+pub mod gathering;
+pub mod names;
+pub mod parts;
+pub mod shared;
+pub mod teller;
+
+pub use desk::Counts;
+pub use gathering::gather;
+pub use names::Named;
+pub use parts::Parts;
+pub use shared::{Shared, best_as, observe_as, post_as, settle_and_post, settle_as, with_book};
+pub use teller::Teller;

@@ -1,0 +1,7 @@
+//! Tests of tellers that share a book. A crate with tests is proved twice, so they stand apart.
+#![tactic(auto)]
+
+#[cfg(test)]
+mod networks;
+#[cfg(test)]
+mod shares;
