@@ -24,10 +24,10 @@ use Rattle.tsn_model.specs.Search.{Outcome, split, solved, pruned, tied, refuted
 use Rattle.tsn_search_laws.proofs.Lists.{flat_map-snoc, length-Without, Contains-here, Contains-right}
 use Rattle.tsn_search_laws.proofs.Histories.{legal_snoc, open_paths-snoc, open_but, open_but-Without}
 use Rattle.tsn_search_laws.proofs.Following.{settled_by-this, settled_by-another, kept_lower_after, kept_even_after, kept_same_after}
-use Rattle.tsn_book.specs.declared.arena.Origin.{Origin}
-use Rattle.tsn_book.specs.declared.arena.Standing.{Standing}
-use Rattle.tsn_book.specs.declared.arena.Standing.TheVariants.{Open}
-use Rattle.tsn_book.specs.declared.arena.Settled.{Settled}
+use Rattle.tsn_book.specs.declared.standings.Origin.{Origin}
+use Rattle.tsn_book.specs.declared.standings.Standing.{Standing}
+use Rattle.tsn_book.specs.declared.standings.Standing.TheVariants.{Open}
+use Rattle.tsn_book.specs.declared.log.Settled.{Settled}
 use Rattle.tsn_branch.specs.Outcome.{outcome_of}
 use Rattle.tsn_book.specs.Arena.{paths_of, settlement_of, history_of, IsEvent, IsTree, AreClosed, ClosedAt}
 use Rattle.tsn_book.specs.Book.{child_count, is_better, before_kept, kept_after, tally_after, IsKept, IsSummary, IsBook, IsLawful}

@@ -11,11 +11,11 @@ use Rattle.tsn_model.specs.Network.{Network}
 use Rattle.tsn_model.specs.Certificate.{decided}
 use Rattle.tsn_model.specs.Search.{made_paths}
 use Rattle.tsn_search_laws.proofs.Paths.{decided-parts, nil-ne-decided}
-use Rattle.tsn_book.specs.declared.arena.Origin.{Origin}
-use Rattle.tsn_book.specs.declared.arena.Origin.TheVariants.{Root, Child}
-use Rattle.tsn_book.specs.declared.arena.Standing.{Standing}
-use Rattle.tsn_book.specs.declared.arena.Standing.TheVariants.{Open, Split, Leaf}
-use Rattle.tsn_book.specs.declared.arena.Settled.{Settled}
+use Rattle.tsn_book.specs.declared.standings.Origin.{Origin}
+use Rattle.tsn_book.specs.declared.standings.Origin.TheVariants.{Root, Child}
+use Rattle.tsn_book.specs.declared.standings.Standing.{Standing}
+use Rattle.tsn_book.specs.declared.standings.Standing.TheVariants.{Open, Split, Leaf}
+use Rattle.tsn_book.specs.declared.log.Settled.{Settled}
 use Rattle.tsn_book.specs.Arena.{path_at, paths_of, history_of, IsPlaced, IsTree, IsOpenPlace, IsChildOf, IsAfterParent, AreClosed, ClosedAt, IsNewLeaf, IsClosing, IsParentClosed, flag_at}
 use Rattle.tsn_book.proofs.Places.{length-paths_of, decided_by, nothing_below, child_path, root_path}
 use Rattle.tsn_book.proofs.Walking.{place_made, same_triple}

@@ -13,11 +13,11 @@ use Rattle.tsn_model.specs.Certificate.{decided}
 use Rattle.tsn_model.specs.Search.{Outcome, split, solved, pruned, tied, refuted, Event, Settlement, path_eq, children_of, made_paths, open_paths, is_settled, ends_of, IsRight, IsAllowed, IsLegal}
 use Rattle.tsn_search_laws.proofs.Paths.{path_eq-false}
 use Rattle.tsn_search_laws.proofs.Histories.{legal_nil, legal_snoc, made_paths-snoc, is_settled-snoc, open_from_made, made_apart, child_not_settled, child_ne_parent}
-use Rattle.tsn_book.specs.declared.arena.Origin.{Origin}
-use Rattle.tsn_book.specs.declared.arena.Origin.TheVariants.{Root, Child}
-use Rattle.tsn_book.specs.declared.arena.Standing.{Standing}
-use Rattle.tsn_book.specs.declared.arena.Standing.TheVariants.{Open, Split, Leaf}
-use Rattle.tsn_book.specs.declared.arena.Settled.{Settled}
+use Rattle.tsn_book.specs.declared.standings.Origin.{Origin}
+use Rattle.tsn_book.specs.declared.standings.Origin.TheVariants.{Root, Child}
+use Rattle.tsn_book.specs.declared.standings.Standing.{Standing}
+use Rattle.tsn_book.specs.declared.standings.Standing.TheVariants.{Open, Split, Leaf}
+use Rattle.tsn_book.specs.declared.log.Settled.{Settled}
 use Rattle.tsn_branch.specs.declared.outcome.Look.{Look}
 use Rattle.tsn_branch.specs.declared.outcome.Look.TheVariants.{Split as FoundSplit}
 use Rattle.tsn_branch.specs.Outcome.{outcome_of}

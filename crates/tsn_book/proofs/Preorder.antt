@@ -21,10 +21,10 @@ use Rattle.tsn_search_laws.proofs.Preorders.{SettledBefore, in_order_ordered, Pr
 use Rattle.tsn_search_laws.proofs.Finished.{history_backed}
 use Rattle.tsn_branch.specs.Outcome.{outcome_of}
 use Rattle.tsn_branch.specs.declared.outcome.Look.TheVariants.{Split as FoundSplit}
-use Rattle.tsn_book.specs.declared.arena.Origin.{Origin}
-use Rattle.tsn_book.specs.declared.arena.Standing.{Standing}
-use Rattle.tsn_book.specs.declared.arena.Standing.TheVariants.{Open, Split, Leaf}
-use Rattle.tsn_book.specs.declared.arena.Settled.{Settled}
+use Rattle.tsn_book.specs.declared.standings.Origin.{Origin}
+use Rattle.tsn_book.specs.declared.standings.Standing.{Standing}
+use Rattle.tsn_book.specs.declared.standings.Standing.TheVariants.{Open, Split, Leaf}
+use Rattle.tsn_book.specs.declared.log.Settled.{Settled}
 use Rattle.tsn_book.specs.Arena.{path_at, paths_of, history_of, IsEvent, IsPlaced, IsTree}
 use Rattle.tsn_book.specs.Book.{SpellsAccepted, planned, HasTie}
 use Rattle.tsn_book.specs.Spelling.{rest_of, IsGrown, Waits, settled_node, IsWalk}

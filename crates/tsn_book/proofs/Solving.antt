@@ -4,8 +4,8 @@ use Rattle.std.specs.Prelude.{◌==◌}
 use Rattle.std.proofs.lemmas.Bool.{eq-eqb, eqb-true}
 use Rattle.tsn_model.specs.Search.{Outcome, split, solved, pruned, tied, refuted, Settlement, solved_bound, solved_bounds, settled_by}
 use Rattle.tsn_search_laws.proofs.Lists.{Contains-here, Contains-there, Contains-cons, Contains-one, Contains-nil, Contains-flat_map, Contains-from_flat_map, Contains-filter, Contains-from_filter, Contains-from_Any, Any-from_Contains}
-use Rattle.tsn_book.specs.declared.arena.Origin.{Origin}
-use Rattle.tsn_book.specs.declared.arena.Settled.{Settled}
+use Rattle.tsn_book.specs.declared.standings.Origin.{Origin}
+use Rattle.tsn_book.specs.declared.log.Settled.{Settled}
 use Rattle.tsn_book.specs.Arena.{paths_of, settlement_of, history_of}
 use Rattle.tsn_book.specs.Solving.{Solves, IsSolvedBy}
 

@@ -14,10 +14,10 @@ use Rattle.tsn_model.specs.Search.{Outcome, split, solved, pruned, tied, refuted
 use Rattle.tsn_search_laws.proofs.Lists.{Contains-here}
 use Rattle.tsn_search_laws.proofs.Histories.{open_is_made}
 use Rattle.tsn_search_laws.proofs.Counting.{made_decides}
-use Rattle.tsn_book.specs.declared.arena.Origin.{Origin}
-use Rattle.tsn_book.specs.declared.arena.Standing.{Standing}
-use Rattle.tsn_book.specs.declared.arena.Standing.TheVariants.{Open, Split, Leaf}
-use Rattle.tsn_book.specs.declared.arena.Settled.{Settled}
+use Rattle.tsn_book.specs.declared.standings.Origin.{Origin}
+use Rattle.tsn_book.specs.declared.standings.Standing.{Standing}
+use Rattle.tsn_book.specs.declared.standings.Standing.TheVariants.{Open, Split, Leaf}
+use Rattle.tsn_book.specs.declared.log.Settled.{Settled}
 use Rattle.tsn_book.specs.Arena.{path_at, paths_of, history_of, IsEvent, IsPlaced, IsTree, IsOpenPlace, ClosedAt, AreClosed, IsAhead, flag_at}
 use Rattle.tsn_book.proofs.Places.{length-paths_of, event_among, same_settlement, split_of_made, nothing_below, left_child, right_child, made_beginning, settled_not_open, decided_by, root_place}
 use Rattle.tsn_book.proofs.Asking.{open_at}

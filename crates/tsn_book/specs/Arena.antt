@@ -14,11 +14,11 @@ use Rattle.tsn_model.specs.Certificate.{decided}
 use Rattle.tsn_model.specs.Search as search
 use Rattle.tsn_model.specs.Search.{Settlement, path_eq, made_paths, open_paths, is_settled, ends_of, PathBefore, IsLegal}
 use Rattle.tsn_branch.specs.Outcome.{outcome_of}
-use Rattle.tsn_book.specs.declared.arena.Origin.{Origin}
-use Rattle.tsn_book.specs.declared.arena.Origin.TheVariants.{Root, Child}
-use Rattle.tsn_book.specs.declared.arena.Standing.{Standing}
-use Rattle.tsn_book.specs.declared.arena.Standing.TheVariants.{Open, Split, Leaf}
-use Rattle.tsn_book.specs.declared.arena.Settled.{Settled}
+use Rattle.tsn_book.specs.declared.standings.Origin.{Origin}
+use Rattle.tsn_book.specs.declared.standings.Origin.TheVariants.{Root, Child}
+use Rattle.tsn_book.specs.declared.standings.Standing.{Standing}
+use Rattle.tsn_book.specs.declared.standings.Standing.TheVariants.{Open, Split, Leaf}
+use Rattle.tsn_book.specs.declared.log.Settled.{Settled}
 use Rattle.tsn_book.specs.declared.arena.Stop.{Stop}
 use Rattle.tsn_book.specs.declared.arena.Stop.TheVariants.{Open as AtOpen, Settled as AtSettled, Outside}
 use Rattle.tsn_book.specs.declared.arena.Tree.{Tree}
@@ -79,14 +79,14 @@ pub record IsTree (network : Network) (origins : List Origin) (standings : List 
 
 -- the same of an arena
 abbrev pub IsArena : Tree → Type 0
-IsArena tree = IsTree tree.network tree.origins.items tree.standings.items tree.events.items
+IsArena tree = IsTree tree.network tree.places.origins tree.places.standings tree.events.items
 
 -- what was settled in an arena, and the path of a place
 abbrev pub settled_in : Tree → List Settlement
-settled_in tree = history_of tree.origins.items tree.events.items
+settled_in tree = history_of tree.places.origins tree.events.items
 
 abbrev pub path_in : Tree → ℕ → List Decision
-path_in tree place = path_at (paths_of tree.origins.items) place
+path_in tree place = path_at (paths_of tree.places.origins) place
 
 -- the outcome ends its path
 abbrev pub IsLeafOutcome : search.Outcome → Type 0
@@ -111,9 +111,8 @@ IsStop origins standings events path Outside =
 
 -- there is room for a split
 pub record HasRoom (tree : Tree) : Type 0 where
-  pub origins : vec_len tree.origins + 2 ≤ vec_capacity tree.origins
-  pub standings : vec_len tree.standings + 2 ≤ vec_capacity tree.standings
-  pub events : vec_len tree.events + 1 ≤ vec_capacity tree.events
+  pub places : 1 ≤ tree.places.room
+  pub events : 1 ≤ tree.events.room
 
 -- ---- what is closed
 

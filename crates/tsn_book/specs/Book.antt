@@ -10,9 +10,9 @@ use Rattle.tsn_model.specs.Search.{Outcome, split, solved, pruned, tied, refuted
 use Rattle.tsn_timing.specs.Solution.{Solution, IsSolved}
 use Rattle.tsn_search_laws.specs.Replies.{not_open, limit_met, not_conflict, already_decided, not_met, IsFirstRefusal}
 use Rattle.tsn_book.specs.Arena.{IsEvent, IsTree, AreClosed, history_of}
-use Rattle.tsn_book.specs.declared.arena.Origin.{Origin}
-use Rattle.tsn_book.specs.declared.arena.Standing.{Standing}
-use Rattle.tsn_book.specs.declared.arena.Settled.{Settled}
+use Rattle.tsn_book.specs.declared.standings.Origin.{Origin}
+use Rattle.tsn_book.specs.declared.standings.Standing.{Standing}
+use Rattle.tsn_book.specs.declared.log.Settled.{Settled}
 use Rattle.tsn_book.specs.declared.fault.BookFault.{BookFault}
 use Rattle.tsn_book.specs.declared.fault.BookFault.TheVariants.{NotOpen, Limit, NotConflict, AlreadyDecided, NotMet, Memory}
 

@@ -1,7 +1,10 @@
 pub mod Numbers
 pub mod Event
+pub mod Log
+pub mod Places
 pub mod Arena
 pub mod Book
+pub mod Below
 pub mod Spelling
 pub mod Solving
 pub mod Shared

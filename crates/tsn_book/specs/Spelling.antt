@@ -8,7 +8,7 @@ use Rattle.tsn_model.specs.Search.{Settlement}
 use Rattle.tsn_search_laws.specs.Order.{node_of}
 use Rattle.tsn_search_laws.proofs.Growths.{Growth, in_order, open_in, Stands}
 use Rattle.tsn_book.specs.Arena.{path_at}
-use Rattle.tsn_book.specs.declared.arena.Settled.{Settled}
+use Rattle.tsn_book.specs.declared.log.Settled.{Settled}
 
 -- what the places that wait are to give, the last one first
 unfoldable pub rest_of : List Growth → List Settlement

@@ -1,52 +1,29 @@
 //! The tree of a search, in an arena. A place is known by its number, and the root has number 0.
-ghost use Rattle.std.specs.Prelude.{◌≡◌, ◌<◌, ◌≤◌, ◌+◌, ◌++◌, false, ◌∷◌, [], ◌↔◌, IsTrue, MatchBool, List, length, IfOk, MatchResult, OnOk, MatchOption, None, Some, All, Any, Contains, vec_len, vec_capacity};
+ghost use Rattle.std.specs.Prelude.{◌≡◌, ◌<◌, ◌≤◌, ◌+◌, ◌^◌, ◌++◌, false, ◌∷◌, [], ◌↔◌, IsTrue, MatchBool, List, length, IfOk, MatchResult, OnOk, MatchOption, None, Some, All, Any, Contains, vec_len, vec_capacity};
 ghost use Rattle.tsn_model.specs.declared.Decision.{Decision};
 ghost use Rattle.tsn_model.specs.Schedule.{IsConflict};
 ghost use Rattle.tsn_timing.specs.Solution.{IsSolved};
 ghost use Rattle.tsn_model.specs.Certificate.{AreChains};
 ghost use Rattle.tsn_model.specs.Search.{split, made_paths, open_paths, best_bound, kept_of, IsNoBetter, IsRight, IsAllowed, IsFirstOpen};
 ghost use Rattle.tsn_search_laws.specs.Replies.{IsUnmet};
+ghost use Rattle.tsn_search_laws.specs.Walk.{path_made};
 ghost use Rattle.tsn_branch.specs.Outcome.{outcome_of};
 ghost use Rattle.tsn_branch.specs.Look.{HasProof, SplitsUndecided};
 ghost use Rattle.tsn_book.specs.Event.{event_of};
+ghost use Rattle.tsn_book.specs.Below.{IsAbove};
 ghost use Rattle.tsn_book.specs.Book.{IsFault, IsMet, IsKept, is_better};
 ghost use Rattle.tsn_book.specs.Arena.{IsArena, IsStop, settled_in, path_in, IsOpenPlace, IsLeafOutcome, HasRoom, AreClosed, IsAhead, IsNewLeaf, IsClosing, IsParentClosed, flag_at};
 
 use crate::event::Event;
 use crate::fault::BookFault;
+use crate::log::{Log, Settled};
+use crate::standings::{Origin, Places, Standing};
 use crate::ties::{comes_before, shows_after};
 use std::alloc::{AllocError, Global};
 use tsn_branch::outcome::Look;
 use tsn_branch::{Decision, NoMemory, Node, Side, Triple};
 use tsn_cert::Chains;
 use tsn_timing::{Solved, Timing};
-
-/// How a place was made: a child has its parent's number, and the decision that leads to it.
-#[derive(Clone, Copy)]
-pub enum Origin {
-    Root,
-    Child(usize, Decision),
-}
-
-/// What is known of a place. The Left child of a split has the number `children`, and the Right child the next one.
-#[derive(Clone, Copy)]
-pub enum Standing {
-    Open,
-    Split {
-        triple: Triple,
-        children: usize,
-        event: usize,
-    },
-    Leaf(usize),
-}
-
-/// What was settled at a place, and by which teller.
-#[derive(Drop)]
-pub struct Settled {
-    pub teller: usize,
-    pub place: usize,
-    pub look: Look,
-}
 
 /// Where a walk along a path ends: at an open place, at one that an event settled, or outside the tree.
 #[derive(Clone, Copy)]
@@ -56,20 +33,19 @@ pub enum Stop {
     Outside,
 }
 
-/// The places and what was settled, oldest first. Origins and standings have one entry a place; origins never change.
+/// The places and what was settled, oldest first.
 #[derive(Drop)]
 pub struct Tree {
     pub network: Timing,
-    pub origins: Vec<Origin>,
-    pub standings: Vec<Standing>,
-    pub events: Vec<Settled>,
+    pub places: Places,
+    pub events: Log,
 }
 
 impl Tree {
     /// The place at the end of a path.
-    fn find(&self, path: &[Decision]) -> Stop
+    pub fn find(&self, path: &[Decision]) -> Stop
         requires { IsArena self.now }
-        ensures { IsStop self.now.origins.items self.now.standings.items self.now.events.items path.now result }
+        ensures { IsStop self.now.places.origins self.now.places.standings self.now.events.items path.now result }
     {
         let mut place = 0;
         for decision in path {
@@ -84,10 +60,11 @@ impl Tree {
     // What ends a walk at a place.
     fn stop_at(&self, place: usize) -> Stop
         requires tree { IsArena self.now }
-        requires place { place < length self.now.origins.items }
-        ensures { IsStop self.now.origins.items self.now.standings.items self.now.events.items (path_in self.now place) result }
+        requires place { place < length self.now.places.origins }
+        ensures { IsStop self.now.places.origins self.now.places.standings self.now.events.items (path_in self.now place) result }
     {
-        match self.standings[place] {
+        let standing = self.places.standing(place);
+        match standing {
             Standing::Open => Stop::Open(place),
             Standing::Split { event, .. } => Stop::Settled(event),
             Standing::Leaf(event) => Stop::Settled(event),
@@ -97,12 +74,12 @@ impl Tree {
     // The place one decision below another.
     fn child(&self, place: usize, decision: Decision) -> Option<usize>
         requires tree { IsArena self.now }
-        requires place { place < length self.now.origins.items }
+        requires place { place < length self.now.places.origins }
         ensures { MatchOption result
             (Contains (made_paths (settled_in self.now)) (path_in self.now place ++ decision ∷ []) → ⊥)
-            (λ child. (child < length self.now.origins.items) × (path_in self.now child ≡ path_in self.now place ++ decision ∷ [])) }
+            (λ child. (child < length self.now.places.origins) × (path_in self.now child ≡ path_in self.now place ++ decision ∷ [])) }
     {
-        let standing = self.standings[place];
+        let standing = self.places.standing(place);
         match standing {
             Standing::Open => None,
             Standing::Leaf(_) => None,
@@ -122,10 +99,27 @@ impl Tree {
         }
     }
 
+    /// The place above another one, and the side by which that is below it; none for the root.
+    pub fn above(&self, place: usize) -> Option<(usize, Side)>
+        requires tree { IsArena self.now }
+        requires place { place < length self.now.places.origins }
+        ensures above { let history = settled_in self.now in
+            MatchOption result (path_made history place ≡ []) (λ up. IsAbove history place up.0 up.1) }
+        ensures few { place < 18446744073709551615 }
+    {
+        let origin = self.places.origin(place);
+        // All places can be counted, so each has a next number.
+        let _count = self.places.len();
+        match origin {
+            Origin::Root => None,
+            Origin::Child(parent, decision) => Some((parent, decision.side)),
+        }
+    }
+
     /// The open node that is first in preorder; `closed` marks each place with nothing open at it or below it.
     pub fn first_open(&self, alloc: Global, closed: &[bool]) -> Result<Option<Node>, NoMemory>
         requires tree { IsArena self.now }
-        requires closed { AreClosed self.now.standings.items closed.now }
+        requires closed { AreClosed self.now.places.standings closed.now }
         ensures { let history = settled_in self.now in
             IfOk result (λ first. MatchOption first (open_paths history ≡ []) (IsFirstOpen history)) }
     {
@@ -144,15 +138,15 @@ impl Tree {
     // The first child of a place that isn't closed, or none where the place is open itself.
     fn first_child(&self, closed: &[bool], place: usize) -> Option<(usize, Decision)>
         requires tree { IsArena self.now }
-        requires closed { AreClosed self.now.standings.items closed.now }
-        requires place { place < length self.now.origins.items }
+        requires closed { AreClosed self.now.places.standings closed.now }
+        requires place { place < length self.now.places.origins }
         requires some { flag_at closed.now place ≡ false }
         ensures { let history = settled_in self.now in
-            MatchOption result (IsOpenPlace self.now.standings.items place)
-            (λ next. (place < next.0) × (next.0 < length self.now.origins.items) × (path_in self.now next.0 ≡ path_in self.now place ++ next.1 ∷ [])
+            MatchOption result (IsOpenPlace self.now.places.standings place)
+            (λ next. (place < next.0) × (next.0 < length self.now.places.origins) × (path_in self.now next.0 ≡ path_in self.now place ++ next.1 ∷ [])
             × (flag_at closed.now next.0 ≡ false) × (IsAhead history (path_in self.now place) → IsAhead history (path_in self.now next.0))) }
     {
-        let standing = self.standings[place];
+        let standing = self.places.standing(place);
         match standing {
             Standing::Open => None,
             Standing::Leaf(_) => None,
@@ -174,52 +168,34 @@ impl Tree {
     /// Makes room for one more split.
     pub fn reserve(&mut self, closed: &mut Vec<bool>) -> Result<(), AllocError>
         ensures network { self.new.network ≡ self.old.network }
-        ensures origins { self.new.origins.items ≡ self.old.origins.items }
-        ensures standings { self.new.standings.items ≡ self.old.standings.items }
+        ensures origins { self.new.places.origins ≡ self.old.places.origins }
+        ensures standings { self.new.places.standings ≡ self.old.places.standings }
         ensures events { self.new.events.items ≡ self.old.events.items }
         ensures closed { closed.new.items ≡ closed.old.items }
+        ensures small { length self.new.places.origins < 2 ^ 63 }
         ensures room { OnOk result (HasRoom self.new) }
         ensures room_closed { OnOk result (vec_len closed.new + 2 ≤ vec_capacity closed.new) }
     {
-        self.origins.try_reserve(2)?;
-        self.standings.try_reserve(2)?;
-        self.events.try_reserve(1)?;
+        self.places.reserve()?;
+        self.events.reserve()?;
         closed.try_reserve(2)
     }
 
     /// Settles an open place as a split.
     fn split(&mut self, closed: &mut Vec<bool>, place: usize, teller: usize, triple: Triple)
         requires tree { IsArena self.old }
-        requires closed { AreClosed self.old.standings.items closed.old.items }
+        requires closed { AreClosed self.old.places.standings closed.old.items }
         requires room { HasRoom self.old }
         requires room_closed { vec_len closed.old + 2 ≤ vec_capacity closed.old }
-        requires open { IsOpenPlace self.old.standings.items place }
+        requires open { IsOpenPlace self.old.places.standings place }
         requires right { IsRight self.old.network (settled_in self.old) (path_in self.old place) (split triple) }
         ensures tree { IsArena self.new }
         ensures network { self.new.network ≡ self.old.network }
         ensures history { settled_in self.new ≡ settled_in self.old
             ++ record { teller = teller; event = record { path = path_in self.old place; outcome = split triple } } ∷ [] }
-        ensures closed { AreClosed self.new.standings.items closed.new.items }
+        ensures closed { AreClosed self.new.places.standings closed.new.items }
     {
-        let children = self.origins.len();
-        let event = self.events.len();
-        self.standings[place] = Standing::Split {
-            triple,
-            children,
-            event,
-        };
-        let left = Decision {
-            triple,
-            side: Side::Left,
-        };
-        let right = Decision {
-            triple,
-            side: Side::Right,
-        };
-        self.origins.push_reserved(Origin::Child(place, left));
-        self.origins.push_reserved(Origin::Child(place, right));
-        self.standings.push_reserved(Standing::Open);
-        self.standings.push_reserved(Standing::Open);
+        self.places.split(place, triple, self.events.len());
         closed.push_reserved(false);
         closed.push_reserved(false);
         self.events.push_reserved(Settled {
@@ -232,18 +208,18 @@ impl Tree {
     /// Settles an open place as a leaf.
     fn close(&mut self, closed: &mut Vec<bool>, place: usize, teller: usize, look: Look)
         requires tree { IsArena self.old }
-        requires closed { AreClosed self.old.standings.items closed.old.items }
+        requires closed { AreClosed self.old.places.standings closed.old.items }
         requires room { HasRoom self.old }
-        requires open { IsOpenPlace self.old.standings.items place }
+        requires open { IsOpenPlace self.old.places.standings place }
         requires right { IsRight self.old.network (settled_in self.old) (path_in self.old place) (outcome_of look) }
         requires leaf { IsLeafOutcome (outcome_of look) }
         ensures tree { IsArena self.new }
         ensures network { self.new.network ≡ self.old.network }
         ensures history { settled_in self.new ≡ settled_in self.old
             ++ record { teller = teller; event = record { path = path_in self.old place; outcome = outcome_of look } } ∷ [] }
-        ensures closed { AreClosed self.new.standings.items closed.new.items }
+        ensures closed { AreClosed self.new.places.standings closed.new.items }
     {
-        self.standings[place] = Standing::Leaf(self.events.len());
+        self.places.close(place, self.events.len());
         self.events.push_reserved(Settled {
             teller,
             place,
@@ -255,8 +231,8 @@ impl Tree {
     // Marks a new leaf as closed, and each place above it whose children are both closed now.
     fn mark(&self, closed: &mut [bool], leaf: usize)
         requires tree { IsArena self.now }
-        requires leaf { IsNewLeaf self.now.standings.items closed.old leaf }
-        ensures { AreClosed self.now.standings.items closed.new }
+        requires leaf { IsNewLeaf self.now.places.standings closed.old leaf }
+        ensures { AreClosed self.now.places.standings closed.new }
     {
         let mut place = leaf;
         closed[place] = true;
@@ -269,14 +245,15 @@ impl Tree {
     // The parent of a place, where both its children are closed.
     fn next_closed(&self, closed: &[bool], place: usize) -> Option<usize>
         requires tree { IsArena self.now }
-        requires closing { IsClosing self.now.standings.items closed.now place }
-        ensures { MatchOption result (AreClosed self.now.standings.items closed.now)
-            (λ parent. (parent < place) × IsParentClosed self.now.standings.items closed.now parent place) }
+        requires closing { IsClosing self.now.places.standings closed.now place }
+        ensures { MatchOption result (AreClosed self.now.places.standings closed.now)
+            (λ parent. (parent < place) × IsParentClosed self.now.places.standings closed.now parent place) }
     {
-        let Origin::Child(parent, _) = self.origins[place] else {
+        let origin = self.places.origin(place);
+        let Origin::Child(parent, _) = origin else {
             return None;
         };
-        let standing = self.standings[parent];
+        let standing = self.places.standing(parent);
         let Standing::Split { children, .. } = standing else {
             unreachable!();
         };
@@ -293,16 +270,16 @@ impl Tree {
     /// Settles an open place.
     pub fn settle(&mut self, closed: &mut Vec<bool>, place: usize, teller: usize, look: Look)
         requires tree { IsArena self.old }
-        requires closed { AreClosed self.old.standings.items closed.old.items }
+        requires closed { AreClosed self.old.places.standings closed.old.items }
         requires room { HasRoom self.old }
         requires room_closed { vec_len closed.old + 2 ≤ vec_capacity closed.old }
-        requires open { IsOpenPlace self.old.standings.items place }
+        requires open { IsOpenPlace self.old.places.standings place }
         requires right { IsRight self.old.network (settled_in self.old) (path_in self.old place) (outcome_of look) }
         ensures tree { IsArena self.new }
         ensures network { self.new.network ≡ self.old.network }
         ensures history { settled_in self.new ≡ settled_in self.old
             ++ record { teller = teller; event = record { path = path_in self.old place; outcome = outcome_of look } } ∷ [] }
-        ensures closed { AreClosed self.new.standings.items closed.new.items }
+        ensures closed { AreClosed self.new.places.standings closed.new.items }
     {
         match look {
             Look::Split(triple) => self.split(closed, place, teller, triple),
@@ -352,7 +329,7 @@ impl Tree {
         requires kept { IsKept self.now.network (settled_in self.now) kept }
         requires proof { HasProof self.now.network event.now.node (outcome_of event.now.look) }
         ensures { let history = settled_in self.now in MatchResult result
-            (λ place. IsOpenPlace self.now.standings.items place × (path_in self.now place ≡ event.now.node)
+            (λ place. IsOpenPlace self.now.places.standings place × (path_in self.now place ≡ event.now.node)
             × (length history < limit) × IsAllowed self.now.network history (event_of event.now))
             (λ fault. IsFault self.now.network limit history (event_of event.now) fault) }
     {
@@ -382,7 +359,7 @@ impl Tree {
         look: &Look,
     ) -> Result<(), BookFault>
         requires tree { IsArena self.now }
-        requires place { place < length self.now.origins.items }
+        requires place { place < length self.now.places.origins }
         requires path { path.now ≡ path_in self.now place }
         requires best { best ≡ best_bound self.now.network (settled_in self.now) }
         requires kept { IsKept self.now.network (settled_in self.now) kept }
@@ -411,7 +388,7 @@ impl Tree {
         requires best { best ≡ best_bound self.now.network (settled_in self.now) }
         requires kept { IsKept self.now.network (settled_in self.now) kept }
         requires proof { HasProof self.now.network path.now (outcome_of look.now) }
-        requires stop { IsStop self.now.origins.items self.now.standings.items self.now.events.items path.now stop }
+        requires stop { IsStop self.now.places.origins self.now.places.standings self.now.events.items path.now stop }
         ensures { let history = settled_in self.now in MatchResult result
             (λ place. (stop ≡ Stop.Open place) × (length history < limit) × IsMet self.now.network history path.now (outcome_of look.now))
             (λ fault. IsFault self.now.network limit history (record { path = path.now; outcome = outcome_of look.now }) fault) }
@@ -493,7 +470,7 @@ impl Tree {
             × (solved.now.flowspan ≡ best_bound self.now.network (settled_in self.now))) }
     {
         let number = kept?;
-        match &self.events[number].look {
+        match &self.events.get(number).look {
             Look::Solved { solved, .. } => Some(solved),
             Look::Split(_) => None,
             Look::Pruned { .. } => None,
@@ -526,13 +503,12 @@ impl Tree {
         ensures network { IfOk result (λ tree. tree.network ≡ network) }
         ensures history { IfOk result (λ tree. settled_in tree ≡ []) }
         ensures events { IfOk result (λ tree. tree.events.items ≡ []) }
-        ensures standings { IfOk result (λ tree. tree.standings.items ≡ Standing.Open ∷ []) }
+        ensures standings { IfOk result (λ tree. tree.places.standings ≡ Standing.Open ∷ []) }
     {
         Ok(Tree {
             network,
-            origins: vec![in alloc; Origin::Root]?,
-            standings: vec![in alloc; Standing::Open]?,
-            events: Vec::new(alloc),
+            places: Places::new(alloc)?,
+            events: Log::new(alloc)?,
         })
     }
 }

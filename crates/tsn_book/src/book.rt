@@ -1,24 +1,26 @@
 //! The book of a search, as its callers see it: what was settled so far.
-ghost use Rattle.std.specs.Prelude.{◌≡◌, ◌<◌, ◌≤◌, ◌+◌, ◌++◌, ◌∷◌, [], length, fold, min, replicate, IfOk, IfErr, OnErr, OnOk, MatchOption, Some, None, IsTrue, ◌↔◌, Any, Contains};
+ghost use Rattle.std.specs.Prelude.{◌≡◌, ◌<◌, ◌≤◌, ◌+◌, ◌++◌, ◌∷◌, [], length, fold, min, replicate, IfOk, IfErr, OnErr, OnOk, MatchOption, MatchResult, Some, None, IsTrue, ◌↔◌, Any, Contains};
 ghost use Rattle.tsn_cert.specs.declared.cert.Format.{Format};
 ghost use Rattle.tsn_timing.specs.Solution.{IsSolved};
-ghost use Rattle.tsn_model.specs.Search.{made_paths, open_paths, best_bound, kept_of, tally_of, solved_bound, solved_bounds, settled_by, IsAllowed, IsFirstOpen};
+ghost use Rattle.tsn_model.specs.Search.{Outcome, made_paths, open_paths, best_bound, kept_of, tally_of, solved_bound, solved_bounds, settled_by, IsAllowed, IsFirstOpen};
 ghost use Rattle.tsn_branch.specs.Outcome.{outcome_of};
 ghost use Rattle.tsn_branch.specs.Look.{HasProof, SplitsUndecided};
 ghost use Rattle.tsn_book.specs.Event.{event_of};
 ghost use Rattle.tsn_search_laws.specs.Laws.{IsBelowBounds};
-ghost use Rattle.tsn_search_laws.specs.Walk.{path_made};
+ghost use Rattle.tsn_search_laws.specs.Walk.{path_made, IsPlaceOf};
 ghost use Rattle.tsn_book.specs.Book.{Progress, IsLawful, IsFault, SpellsAccepted, child_count, kept_after, tally_after};
+ghost use Rattle.tsn_book.specs.Below.{IsAbove};
 ghost use Rattle.tsn_book.specs.Solving.{IsSolvedBy};
 
-use crate::arena::{Settled, Tree};
+use crate::arena::{Stop, Tree};
 use crate::event::Event;
 use crate::fault::BookFault;
+use crate::log::{Log, Settled};
 use crate::spelling::nodes_of;
 use std::alloc::{AllocError, Global};
 use std::marker::Model;
 use tsn_branch::outcome::Look;
-use tsn_branch::{Decision, NoMemory, Node};
+use tsn_branch::{Decision, NoMemory, Node, Side};
 use tsn_cert::{Cert, Format, Nodes};
 use tsn_timing::{Solved, Timing};
 
@@ -51,10 +53,10 @@ impl Model for Book {
       network = b.tree.network;
       tellers = length b.tallies.items;
       limit = b.limit;
-      history = history_of b.tree.origins.items b.tree.events.items;
+      history = history_of b.tree.places.origins b.tree.events.items;
     } };
 
-    ghost invariant = { λ b. IsBook b.tree.network b.tree.origins.items b.tree.standings.items b.tree.events.items b.closed.items
+    ghost invariant = { λ b. IsBook b.tree.network b.tree.places.origins b.tree.places.standings b.tree.events.items b.closed.items
         b.limit b.open_nodes b.best b.kept b.tallies.items };
 }
 
@@ -159,6 +161,45 @@ impl Book {
         }
     }
 
+    // The first reason why what was found at a place isn't settled where there is no memory for it.
+    pub(crate) fn fault_at(&self, place: usize, path: &[Decision], look: &Look) -> BookFault
+        requires place { place < length (made_paths self.now.history) }
+        requires proof { HasProof self.now.network (path_made self.now.history place) (outcome_of look.now) }
+        requires path { path.now ≡ path_made self.now.history place }
+        requires undecided { SplitsUndecided self.now.network (path_made self.now.history place) (outcome_of look.now) }
+        ensures { IsFault self.now.network self.now.limit self.now.history
+            (record { path = path_made self.now.history place; outcome = outcome_of look.now }) result }
+    {
+        let admitted = self
+            .tree
+            .admit_at(self.limit, self.best, self.kept, place, path, look);
+        match admitted {
+            Ok(()) => BookFault::Memory,
+            Err(fault) => fault,
+        }
+    }
+
+    // The open place at the end of a path, or why nothing is settled there.
+    pub(crate) fn open_place(&self, path: &[Decision]) -> Result<usize, BookFault>
+        ensures { let book = self.now in MatchResult result (IsPlaceOf book.history path.now)
+            (λ fault. (outcome : Outcome) → IsFault book.network book.limit book.history (record { path = path.now; outcome = outcome }) fault) }
+    {
+        match self.tree.find(path) {
+            Stop::Open(place) => Ok(place),
+            Stop::Settled(number) => Err(BookFault::NotOpen(Some(number))),
+            Stop::Outside => Err(BookFault::NotOpen(None)),
+        }
+    }
+
+    // The place above another one, and the side by which that is below it; none for the root.
+    pub(crate) fn above(&self, place: usize) -> Option<(usize, Side)>
+        requires place { place < length (made_paths self.now.history) }
+        ensures above { MatchOption result (path_made self.now.history place ≡ []) (λ up. IsAbove self.now.history place up.0 up.1) }
+        ensures few { place < 18446744073709551615 }
+    {
+        self.tree.above(place)
+    }
+
     // Settles at a place what may be settled there, where there is memory for it; else gives it back.
     fn enter(&mut self, teller: usize, place: usize, look: Look) -> Result<(), Look>
         requires teller { teller < self.old.tellers }
@@ -195,7 +236,7 @@ impl Book {
         ensures places { result ≡ length (made_paths self.now.history) }
         ensures lawful { IsLawful self.now }
     {
-        self.tree.origins.len()
+        self.tree.places.len()
     }
 
     /// How many events were settled.
@@ -307,12 +348,15 @@ fn tallies_of(alloc: Global, tellers: usize, past_cycle: u64) -> Result<Vec<Tall
 }
 
 /// Whether a solved leaf of that teller and flowspan was settled.
-fn any_solved(events: &[Settled], teller: usize, flowspan: u64) -> bool
-    ensures { IsTrue result ↔ Any (IsSolvedBy teller flowspan) events.now }
+fn any_solved(events: &Log, teller: usize, flowspan: u64) -> bool
+    ensures { IsTrue result ↔ Any (IsSolvedBy teller flowspan) events.now.items }
 {
-    events
-        .iter()
-        .any(|settled| is_solved_by(settled, teller, flowspan))
+    for number in 0..events.len() {
+        if is_solved_by(events.get(number), teller, flowspan) {
+            return true;
+        }
+    }
+    false
 }
 
 /// Whether what was settled is a solved leaf of that teller and flowspan.

@@ -2,11 +2,14 @@
 #![tactic(auto)]
 
 mod arena;
+pub mod batch;
 pub mod book;
 pub mod event;
 pub mod fault;
+mod log;
 pub mod shared;
 mod spelling;
+mod standings;
 mod ties;
 
 pub use book::{Book, Tally};

@@ -9,14 +9,14 @@ ghost use Rattle.tsn_branch.specs.Leaf.{leaf_of};
 ghost use Rattle.tsn_branch.specs.Outcome.{outcome_of};
 ghost use Rattle.tsn_book.specs.Arena.{IsArena, settled_in};
 ghost use Rattle.tsn_book.specs.Book.{SpellsAccepted, planned, IsPlan, IsPlanOf, HasTie};
-ghost use Rattle.tsn_book.specs.declared.arena.Settled.{Settled};
+ghost use Rattle.tsn_book.specs.declared.log.Settled.{Settled};
 
-use crate::arena::{Settled, Standing, Tree};
+use crate::arena::Tree;
+use crate::log::Log;
+use crate::standings::Standing;
 use std::alloc::AllocError;
-use std::mem;
 use tsn_branch::outcome::{Leaf, Look};
 use tsn_cert::{Chain, Chains, Node};
-use tsn_model::Triple;
 use tsn_timing::{Solved, Timing};
 
 /// The nodes of a tree in which nothing is open, in format 2 for what is kept: a split's node stands before those of its Left
@@ -30,7 +30,7 @@ pub fn nodes_of(tree: Tree, plan: Option<&Solved>) -> Result<Vec<Node>, AllocErr
 {
     let Tree {
         network,
-        standings,
+        places,
         mut events,
         ..
     } = tree;
@@ -38,7 +38,7 @@ pub fn nodes_of(tree: Tree, plan: Option<&Solved>) -> Result<Vec<Node>, AllocErr
     let mut nodes = Vec::with_capacity(alloc, events.len())?;
     let mut stack = vec![in alloc; 0]?;
     while let Some(place) = stack.pop() {
-        let standing = standings[place];
+        let standing = places.standing(place);
         match standing {
             Standing::Open => unreachable!(),
             Standing::Split {
@@ -57,21 +57,16 @@ pub fn nodes_of(tree: Tree, plan: Option<&Solved>) -> Result<Vec<Node>, AllocErr
 }
 
 /// Takes the node of an event out.
-fn take_node(network: &Timing, events: &mut [Settled], event: usize, plan: Option<&Solved>) -> Node
-    requires within { event < length events.old }
+fn take_node(network: &Timing, events: &mut Log, event: usize, plan: Option<&Solved>) -> Node
+    requires within { event < length events.old.items }
     requires plan { IsPlan network.now (option_copied plan) }
-    requires tie { (d : Settled) → HasTie network.now (option_copied plan) (outcome_of (slice_index_or events.old event d).look) }
+    requires tie { (d : Settled) → HasTie network.now (option_copied plan) (outcome_of (slice_index_or events.old.items event d).look) }
     ensures node { (d : Settled)
-        → tree_node result ≡ node_of network.now (planned (option_copied plan.entry)) (outcome_of (slice_index_or events.old event d).look) }
-    ensures counted { length events.new ≡ length events.old }
-    ensures others { (other : ℕ) → other ≢ event → (d : Settled) → slice_index_or events.new other d ≡ slice_index_or events.old other d }
+        → tree_node result ≡ node_of network.now (planned (option_copied plan.entry)) (outcome_of (slice_index_or events.old.items event d).look) }
+    ensures counted { length events.new.items ≡ length events.old.items }
+    ensures others { (other : ℕ) → other ≢ event → (d : Settled) → slice_index_or events.new.items other d ≡ slice_index_or events.old.items other d }
 {
-    let taken = Look::Split(Triple {
-        left: 0,
-        right: 0,
-        link: 0,
-    });
-    node_from(network, mem::replace(&mut events[event].look, taken), plan)
+    node_from(network, events.take(event), plan)
 }
 
 /// The node of what a look found.

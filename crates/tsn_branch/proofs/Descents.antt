@@ -1,10 +1,12 @@
 -- Descents, a decision more or fewer.
-use Rattle.std.proofs.Common.{◌≡◌, ℕ, zero, suc, ◌+◌, ◌-◌, ◌≤◌, ◌<◌, List, [], ◌∷◌, ◌++◌, length, get_or, take, refl, sym, ap, ◌∙◌, subst, arith, inl, inr}
+use Rattle.std.proofs.Common.{◌≡◌, ℕ, zero, suc, ◌+◌, ◌-◌, ◌≤◌, ◌<◌, List, [], ◌∷◌, ◌++◌, length, get_or, take, Some, refl, sym, ap, ◌∙◌, subst, arith, inl, inr}
 use Rattle.std.specs.List.{slice_index_or}
-use Rattle.std.specs.Prelude.{slice_set}
+use Rattle.std.specs.Prelude.{slice_set, slice_get, Contains}
+use Rattle.std.proofs.lemmas.List.Elements.{All-pop, All-push}
 use Rattle.std.proofs.Math.Seq.{set-append_seam, get_or-append_seam}
 use Rattle.std.proofs.lemmas.Bool.{cases_lt}
-use Rattle.std.proofs.lemmas.List.{take_all, take_more, length-append, length-take, take-append-le, get_or_append_left, get_or-append-add, map-append, get_or-take}
+use Rattle.std.proofs.lemmas.Option.{slice_get_within, get_or_from_slice_get}
+use Rattle.std.proofs.lemmas.List.{take_all, take_more, length-append, length-take, length-take-le, take-append-le, get_or_append_left, get_or-append-add, map-append, get_or-take}
 use Rattle.tsn_model.specs.declared.Triple.{Triple}
 use Rattle.tsn_model.specs.declared.Side.{Side}
 use Rattle.tsn_model.specs.declared.Decision.{Decision}
@@ -12,6 +14,7 @@ use Rattle.tsn_model.specs.Network.{Network}
 use Rattle.tsn_model.specs.Arcs.{arcs_of, arc_of, arc_on}
 use Rattle.tsn_model.specs.Certificate.{decided}
 use Rattle.tsn_branch.specs.declared.seen.Seen.{Seen}
+use Rattle.tsn_branch.specs.Path.{DecidesOnce, Fits}
 use Rattle.tsn_branch.specs.Descent.{IsSeen, AllSeen}
 
 -- ---- paths
@@ -45,32 +48,37 @@ arcs-nil network = refl
 
 -- ---- what was seen
 
-pub seen_none : (network : Network) → AllSeen network [] []
-seen_none network = record { count = refl; each = λ k d below. absurd (omega arith) }
+-- where nothing was seen
+pub seen_none : (network : Network) (path : List Decision) → AllSeen network path []
+seen_none network path = record { base = length path; count = omega arith; each = λ k d below. absurd (omega arith) }
 
 pub seen_more : (network : Network) (path : List Decision) (seen : List Seen) (here : Seen) (triple : Triple) (side : Side) → AllSeen network path seen → IsSeen network path here
     → AllSeen network (decided path triple side) (seen ++ here ∷ [])
 unfolding decided
-seen_more network path seen here triple side all is = record {
-  count = length-append seen (here ∷ []) ∙ ap (λ n. n + 1) all.count ∙ sym (length-append path (record { triple = triple; side = side } ∷ []));
-  each = λ k d below.
-      let more = length-append seen (here ∷ []) in
-      let count = all.count in
-      elim (cases_lt k (length seen)) [
-        | inl earlier ↦
-            let front : take k (path ++ record { triple = triple; side = side } ∷ []) ≡ take k path = take-append-le k path (record { triple = triple; side = side } ∷ []) (omega arith) in
-            let at : slice_index_or (seen ++ here ∷ []) k d ≡ slice_index_or seen k d = get_or_append_left seen (here ∷ []) d k earlier in
-            subst (λ p. IsSeen network p (slice_index_or (seen ++ here ∷ []) k d)) (sym front) (subst (IsSeen network (take k path)) (sym at) (all.each k d earlier))
-        | inr past ↦
-            let last : k ≡ length seen + 0 = omega arith in
-            let at : slice_index_or (seen ++ here ∷ []) k d ≡ here = ap (λ n. slice_index_or (seen ++ here ∷ []) n d) last ∙ get_or-append-add seen (here ∷ []) 0 d in
-            let whole : take k (path ++ record { triple = triple; side = side } ∷ []) ≡ path =
-            take-append-le k path (record { triple = triple; side = side } ∷ []) (omega arith) ∙ take_all k path (omega arith) in
-            subst (λ p. IsSeen network p (slice_index_or (seen ++ here ∷ []) k d)) (sym whole) (subst (IsSeen network path) (sym at) is)
-      ];
-}
+seen_more network path seen here triple side all is =
+    let base : ℕ = all.base in
+    let count = all.count in
+    let more = length-append seen (here ∷ []) in
+    let longer = length-append path (record { triple = triple; side = side } ∷ []) in
+    record {
+      base = base;
+      count = omega arith;
+      each = λ k d below.
+          elim (cases_lt k (length seen)) [
+            | inl earlier ↦
+                let front : take (base + k) (path ++ record { triple = triple; side = side } ∷ []) ≡ take (base + k) path = take-append-le (base + k) path (record { triple = triple; side = side } ∷ []) (omega arith) in
+                let at : slice_index_or (seen ++ here ∷ []) k d ≡ slice_index_or seen k d = get_or_append_left seen (here ∷ []) d k earlier in
+                subst (λ p. IsSeen network p (slice_index_or (seen ++ here ∷ []) k d)) (sym front) (subst (IsSeen network (take (base + k) path)) (sym at) (all.each k d earlier))
+            | inr past ↦
+                let last : k ≡ length seen + 0 = omega arith in
+                let at : slice_index_or (seen ++ here ∷ []) k d ≡ here = ap (λ n. slice_index_or (seen ++ here ∷ []) n d) last ∙ get_or-append-add seen (here ∷ []) 0 d in
+                let whole : take (base + k) (path ++ record { triple = triple; side = side } ∷ []) ≡ path =
+                take-append-le (base + k) path (record { triple = triple; side = side } ∷ []) (omega arith) ∙ take_all (base + k) path (omega arith) in
+                subst (λ p. IsSeen network p (slice_index_or (seen ++ here ∷ []) k d)) (sym whole) (subst (IsSeen network path) (sym at) is)
+          ];
+    }
 
-take-inner : {X : Type 0} (k n : ℕ) (xs : List X) → k ≤ n → take k (take n xs) ≡ take k xs
+pub take-inner : {X : Type 0} (k n : ℕ) (xs : List X) → k ≤ n → take k (take n xs) ≡ take k xs
 take-inner zero n xs order = refl
 take-inner (suc k) zero xs order = absurd (omega arith)
 take-inner (suc k) (suc n) [] order = refl
@@ -78,43 +86,89 @@ take-inner (suc k) (suc n) (x ∷ xs) order = ap (λ ys. x ∷ ys) (take-inner k
 
 pub seen_above : (network : Network) (path : List Decision) (seen : List Seen) → AllSeen network path seen → AllSeen network (take (length path - 1) path) (take (length seen - 1) seen)
 seen_above network path seen all =
+    let base : ℕ = all.base in
     let count = all.count in
     let of_seen = length-take (length seen - 1) seen in
     let of_path = length-take (length path - 1) path in
     record {
+      base = (length path - 1) - (length seen - 1);
       count = omega arith;
       each = λ k d below.
-          let within : k < length path - 1 = omega arith in
-          let front : take k (take (length path - 1) path) ≡ take k path = take-inner k (length path - 1) path (omega arith) in
+          let same : ((length path - 1) - (length seen - 1)) + k ≡ base + k = omega arith in
+          let front : take (((length path - 1) - (length seen - 1)) + k) (take (length path - 1) path) ≡ take (base + k) path =
+          ap (λ n. take n (take (length path - 1) path)) same ∙ take-inner (base + k) (length path - 1) path (omega arith) in
           let at : slice_index_or (take (length seen - 1) seen) k d ≡ slice_index_or seen k d = get_or-take (length seen - 1) seen k d (omega arith) in
-          subst (λ p. IsSeen network p (slice_index_or (take (length seen - 1) seen) k d)) (sym front) (subst (IsSeen network (take k path)) (sym at) (all.each k d (omega arith)));
+          subst (λ p. IsSeen network p (slice_index_or (take (length seen - 1) seen) k d)) (sym front) (subst (IsSeen network (take (base + k) path)) (sym at) (all.each k d (omega arith)));
     }
 
 -- what was seen above the last decision doesn't depend on its side
 pub seen_turned : (network : Network) (front : List Decision) (triple : Triple) (a b : Side) (seen : List Seen) → AllSeen network (decided front triple a) seen → AllSeen network (decided front triple b) seen
 unfolding decided
 seen_turned network front triple a b seen all =
+    let base : ℕ = all.base in
+    let count = all.count in
     let first = length-append front (record { triple = triple; side = a } ∷ []) in
     let second = length-append front (record { triple = triple; side = b } ∷ []) in
     record {
-      count = all.count ∙ first ∙ sym second;
+      base = base;
+      count = omega arith;
       each = λ k d below.
-          let count = all.count in
-          let was : take k (front ++ record { triple = triple; side = a } ∷ []) ≡ take k front = take-append-le k front (record { triple = triple; side = a } ∷ []) (omega arith) in
-          let now : take k (front ++ record { triple = triple; side = b } ∷ []) ≡ take k front = take-append-le k front (record { triple = triple; side = b } ∷ []) (omega arith) in
+          let was : take (base + k) (front ++ record { triple = triple; side = a } ∷ []) ≡ take (base + k) front = take-append-le (base + k) front (record { triple = triple; side = a } ∷ []) (omega arith) in
+          let now : take (base + k) (front ++ record { triple = triple; side = b } ∷ []) ≡ take (base + k) front = take-append-le (base + k) front (record { triple = triple; side = b } ∷ []) (omega arith) in
           subst (λ p. IsSeen network p (slice_index_or seen k d)) (was ∙ sym now) (all.each k d below);
     }
 
-pub seen_last : (network : Network) (front : List Decision) (triple : Triple) (side : Side) (seen : List Seen) (last : Seen) → AllSeen network (decided front triple side) seen → last ≡ get_or seen (length seen - 1) last
+pub seen_last : (network : Network) (front : List Decision) (triple : Triple) (side : Side) (seen : List Seen) (last : Seen) → AllSeen network (decided front triple side) seen → 0 < length seen → last ≡ get_or seen (length seen - 1) last
     → IsSeen network front last
 unfolding decided
-seen_last network front triple side seen last all is =
+seen_last network front triple side seen last all some is =
     let long = length-append front (record { triple = triple; side = side } ∷ []) in
+    let base : ℕ = all.base in
     let count = all.count in
     let k : ℕ = length seen - 1 in
-    let front_is : take k (front ++ record { triple = triple; side = side } ∷ []) ≡ front =
-    take-append-le k front (record { triple = triple; side = side } ∷ []) (omega arith) ∙ take_all k front (omega arith) in
-    subst (λ p. IsSeen network p last) front_is (subst (IsSeen network (take k (front ++ record { triple = triple; side = side } ∷ []))) (sym is) (all.each k last (omega arith)))
+    let front_is : take (base + k) (front ++ record { triple = triple; side = side } ∷ []) ≡ front =
+    take-append-le (base + k) front (record { triple = triple; side = side } ∷ []) (omega arith) ∙ take_all (base + k) front (omega arith) in
+    subst (λ p. IsSeen network p last) front_is (subst (IsSeen network (take (base + k) (front ++ record { triple = triple; side = side } ∷ []))) (sym is) (all.each k last (omega arith)))
+
+-- the triples of a path that goes on otherwise are the same, or fewer
+pub fits_turned : (triples : List Triple) (front : List Decision) (triple : Triple) (a b : Side) → Fits triples (decided front triple a) → Fits triples (decided front triple b)
+unfolding decided
+fits_turned triples front triple a b fits =
+    let P : Decision → Type 0 = λ d. Contains triples d.triple in
+    let both = All-pop P (front ++ record { triple = triple; side = a } ∷ []) front (Some (record { triple = triple; side = a })) refl fits in
+    All-push P front (record { triple = triple; side = b }) both.0 both.1
+
+-- a turn leaves the decisions above it
+pub kept_turned : (front : List Decision) (triple : Triple) (a b : Side) (n : ℕ) → n ≤ length front → take n (decided front triple b) ≡ take n (decided front triple a)
+unfolding decided
+kept_turned front triple a b n within =
+    take-append-le n front (record { triple = triple; side = b } ∷ []) within ∙ sym (take-append-le n front (record { triple = triple; side = a } ∷ []) within)
+
+-- a decision more on one of the triples
+pub fits_more : (triples : List Triple) (path : List Decision) (triple : Triple) (side : Side) → Contains triples triple → Fits triples path → Fits triples (decided path triple side)
+unfolding decided
+fits_more triples path triple side among fits = All-push (λ (d : Decision). Contains triples d.triple) path (record { triple = triple; side = side }) fits among
+
+-- a turn at some depth decides no triple twice
+pub once_turned : (path : List Decision) (depth : ℕ) (triple : Triple) (a b : Side) → DecidesOnce path → slice_get path depth ≡ Some (record { triple = triple; side = a }) → DecidesOnce (decided (take depth path) triple b)
+unfolding decided
+once_turned path depth triple a b once at =
+    λ i j d less below same.
+    let last : Decision = record { triple = triple; side = b } in
+    let within = slice_get_within path depth (record { triple = triple; side = a }) at in
+    let front = length-take-le depth path (omega arith) in
+    let whole = length-append (take depth path) (last ∷ []) in
+    let first : slice_index_or (take depth path ++ last ∷ []) i d ≡ slice_index_or path i d = get_or_append_left (take depth path) (last ∷ []) d i (omega arith) ∙ get_or-take depth path i d (omega arith) in
+    elim (cases_lt j depth) [
+      | inl earlier ↦
+          let second : slice_index_or (take depth path ++ last ∷ []) j d ≡ slice_index_or path j d = get_or_append_left (take depth path) (last ∷ []) d j (omega arith) ∙ get_or-take depth path j d earlier in
+          once i j d less (omega arith) (ap (λ (e : Decision). e.triple) (sym first) ∙ same ∙ ap (λ (e : Decision). e.triple) second)
+      | inr past ↦
+          let end : j ≡ length (take depth path) + 0 = omega arith in
+          let second : slice_index_or (take depth path ++ last ∷ []) j d ≡ last = ap (λ n. slice_index_or (take depth path ++ last ∷ []) n d) end ∙ get_or-append-add (take depth path) (last ∷ []) 0 d in
+          let there = get_or_from_slice_get path depth (record { triple = triple; side = a }) d at in
+          once i depth d (omega arith) within (ap (λ (e : Decision). e.triple) (sym first) ∙ same ∙ ap (λ (e : Decision). e.triple) second ∙ sym (ap (λ (e : Decision). e.triple) there))
+    ]
 
 last_place : (front : List Decision) (triple : Triple) (a : Side) (path : List Decision) → path ≡ decided front triple a → length path - 1 ≡ length front
 last_place front triple a path is = let long = ap length is ∙ length-decided front triple a in omega arith

@@ -1,16 +1,13 @@
--- Findings as looks.
-use Rattle.std.proofs.Common.{ℕ, ◌<◌, List, All, Option, length, subst, arith}
+-- A schedule that was found, as a look.
+use Rattle.std.proofs.Common.{ℕ, ◌<◌, List, All, Option, subst, arith}
 use Rattle.tsn_model.specs.declared.Decision.{Decision}
 use Rattle.tsn_model.specs.Network.{Network}
-use Rattle.tsn_model.specs.Arcs.{conflicts_of}
 use Rattle.tsn_model.specs.Search.{Outcome, split, solved, pruned, tied, refuted}
 use Rattle.tsn_timing.specs.Solution.{Solution}
 use Rattle.tsn_branch.specs.Links.{shared_links, IsUnloaded}
 use Rattle.tsn_branch.specs.Look.{AreLeast, IsLook, IsUntied}
 use Rattle.tsn_branch.proofs.Leasts.{least_same}
-use Rattle.tsn_branch.specs.declared.seen.Finding.{Finding}
-use Rattle.tsn_branch.specs.declared.seen.Finding.TheVariants.{Split, Closed}
-use Rattle.tsn_branch.specs.Descent.{Closes, IsFinding, IsPlaced, IsSolution, outcome_found}
+use Rattle.tsn_branch.specs.Descent.{Closes, IsSolution}
 
 -- where no link is loaded
 module _ (network : Network) (path : List Decision) (least_offsets : List ℕ) (end target : ℕ) (best : Option Solution) where
@@ -34,11 +31,3 @@ module _ (network : Network) (path : List Decision) (least_offsets : List ℕ) (
   solution_found (pruned bound leaf) below is unloaded untied never = absurd never
   solution_found (tied bound leaf chains) below is unloaded untied never = absurd never
   solution_found (refuted leaf) below is unloaded untied never = absurd never
-
-pub placed : (network : Network) (path : List Decision) (target : ℕ) (best : Option Solution) (finding : Finding) → IsFinding network path target best finding → IsPlaced (length (conflicts_of network)) finding
-placed network path target best (Split seen) (is, look) = is.within
-placed network path target best (Closed look) found = tt
-
-pub look_found : (network : Network) (path : List Decision) (target : ℕ) (best : Option Solution) (finding : Finding) → IsFinding network path target best finding → IsLook network path target best (outcome_found (conflicts_of network) finding)
-look_found network path target best (Split seen) (is, look) = look
-look_found network path target best (Closed look) (closes, is) = is

@@ -1,23 +1,24 @@
 -- What a look finds is right whatever was settled before.
 use Rattle.std.proofs.Common.{◌≡◌, ◌≢◌, ℕ, ◌≤◌, List, Option, None, Some, sym, subst, arith, inl, inr}
-use Rattle.std.specs.Prelude.{IfSome, IsSomeAnd}
+use Rattle.std.specs.Prelude.{IfSome, IsSomeAnd, Contains}
 use Rattle.std.proofs.lemmas.Int.{ints}
 use Rattle.std.proofs.lemmas.List.Elements.{All-weaker}
 use Rattle.tsn_model.specs.declared.Triple.{Triple}
 use Rattle.tsn_model.specs.declared.Side.{Side}
 use Rattle.tsn_model.specs.declared.Side.TheVariants.{Left, Right}
 use Rattle.tsn_model.specs.declared.Decision.{Decision}
-use Rattle.tsn_model.specs.Network.{Network}
+use Rattle.tsn_model.specs.Network.{Network, IsWellFormed}
 use Rattle.tsn_model.specs.Schedule.{flowspan, Overlaps}
-use Rattle.tsn_model.specs.Arcs.{arc_between, arc_on, arc_of, arcs_of, Holds, HoldsAll}
+use Rattle.tsn_model.specs.Arcs.{arc_between, arc_on, arc_of, arcs_of, conflicts_of, Holds, HoldsAll}
 use Rattle.tsn_model.specs.Certificate.{Leaf, late, overrun, positive_cycle, load, overload, late_bound, Overruns, Proves, HasBound, AreChains, ShowsAfter}
 use Rattle.tsn_model.specs.Search.{Outcome, split, solved, pruned, tied, refuted, Refutes}
+use Rattle.tsn_model.proofs.Conflicts.{conflict_listed}
 use Rattle.tsn_model.proofs.Lists.{All-unmap}
 use Rattle.tsn_model.proofs.Ties.{shown_chains, shown_after}
 use Rattle.tsn_timing.specs.Solution.{Solution, IsSolved}
 use Rattle.tsn_branch.specs.Path.{IsUndecided}
 use Rattle.tsn_branch.proofs.Shown.{entries_shown, busy_shown, load_shown}
-use Rattle.tsn_branch.specs.Look.{IsLook, IsRefutation, IsPruning, IsTie, ShowsFlowspan, HasProof, SplitsUndecided, PrunesFrom, TiesWith}
+use Rattle.tsn_branch.specs.Look.{IsLook, IsRefutation, IsPruning, IsTie, ShowsFlowspan, HasProof, SplitsUndecided, SplitsAmong, PrunesFrom, TiesWith}
 
 -- offsets that hold the arc of one side put the two streams apart
 held_apart : (network : Network) (offsets : List ℕ) (triple : Triple) (side : Side) → Holds offsets (arc_on network triple side) → Overlaps network offsets triple → ⊥
@@ -136,3 +137,12 @@ TiesWith-from network path target best is (solved offsets bound leaf chains) fou
 TiesWith-from network path target best is (pruned bound leaf) found = tt
 TiesWith-from network path target best is (tied bound leaf chains) found = ties_with network path target bound leaf chains best is found
 TiesWith-from network path target best is (refuted leaf) found = tt
+
+-- a conflict on which a node is split is among those of the network
+pub SplitsAmong-from : (network : Network) (path : List Decision) (triples : List Triple) → IsWellFormed network → triples ≡ conflicts_of network → (outcome : Outcome) → SplitsUndecided network path outcome
+    → SplitsAmong triples outcome
+SplitsAmong-from network path triples formed is (split triple) right = subst (λ ts. Contains ts triple) (sym is) (conflict_listed network formed triple right.0)
+SplitsAmong-from network path triples formed is (solved offsets bound leaf chains) right = tt
+SplitsAmong-from network path triples formed is (pruned bound leaf) right = tt
+SplitsAmong-from network path triples formed is (tied bound leaf chains) right = tt
+SplitsAmong-from network path triples formed is (refuted leaf) right = tt

@@ -1,6 +1,8 @@
 -- A tie with the best schedule, by its flowspan or by the load of a link.
-use Rattle.std.proofs.Common.{◌≡◌, ℕ, ◌≤◌, ◌<◌, List, All, slice_get, Some, pos, ◌≤ℤ◌, sym, ◌∙◌, subst, arith}
+use Rattle.std.proofs.Common.{◌≡◌, ℕ, ◌≤◌, ◌<◌, List, All, take, slice_get, Option, None, Some, MatchOption, pos, ◌≤ℤ◌, sym, ◌∙◌, subst, arith}
+use Rattle.std.specs.Prelude.{IfSome}
 use Rattle.std.proofs.lemmas.Int.{ints}
+use Rattle.std.proofs.lemmas.List.Elements.{All-weaker}
 use Rattle.std.proofs.lemmas.Option.{slice_get_within, get_or_from_slice_get}
 use Rattle.tsn_model.specs.declared.Decision.{Decision}
 use Rattle.tsn_model.specs.Network.{Network}
@@ -10,10 +12,11 @@ use Rattle.tsn_model.specs.Certificate.{Leaf, late, load, Entry}
 use Rattle.tsn_timing.specs.Solution.{Solution}
 use Rattle.tsn_diff.specs.Forest.{Labelling, chain_of}
 use Rattle.tsn_diff.specs.Answers.{Solves}
+use Rattle.tsn_branch.specs.declared.loads.FirstLoad.{FirstLoad}
 use Rattle.tsn_branch.specs.declared.loads.FirstLoad.TheVariants.{Overload, Load}
 use Rattle.tsn_branch.specs.Releases.{releases_of}
 use Rattle.tsn_branch.specs.Links.{shared_links, busy_by, load_by, IsUnloaded}
-use Rattle.tsn_branch.specs.Loads.{IsFirstLoad}
+use Rattle.tsn_branch.specs.Loads.{IsFirstLoad, IsTightest, Reaches}
 use Rattle.tsn_branch.specs.Look.{AllFit, IsFirstLast, IsShownBy, ShowsLink, ShowsUpto, IsPruning, IsTie}
 use Rattle.tsn_branch.proofs.Leasts.{AreLeast-from, IsShownBy-from}
 
@@ -76,3 +79,27 @@ not_overloaded network offsets target other place unloaded is =
     let within = here.within_cycle in
     let past = is.2 in
     omega (arith, ints, within, past)
+
+-- a link that isn't loaded for a target isn't for a greater one
+pub unloaded_for_more : (network : Network) (offsets : List ℕ) (low high : ℕ) → low ≤ high → (links : List ℕ) → All (IsUnloaded network offsets low) links → All (IsUnloaded network offsets high) links
+unloaded_for_more network offsets low high order links =
+    All-weaker (IsUnloaded network offsets low) (IsUnloaded network offsets high)
+    (λ link here. let below = here.below_target in record { within_cycle = here.within_cycle; below_target = omega (arith, ints) }) links
+
+-- the first link that is loaded for a target is the first for a greater one, where it is loaded for that
+pub first_for_more : (network : Network) (offsets : List ℕ) (low high : ℕ) (found : FirstLoad) → low ≤ high → Reaches high found → IsFirstLoad network offsets low found → IsFirstLoad network offsets high found
+first_for_more network offsets low high (Overload place) order reaches (link, at, busy) =
+    (link, record { there = at.there; unloaded_before = unloaded_for_more network offsets low high order (take place (shared_links network)) at.unloaded_before }, busy)
+first_for_more network offsets low high (Load place bound) order reaches (link, at, busy, is, met) =
+    (link, record { there = at.there; unloaded_before = unloaded_for_more network offsets low high order (take place (shared_links network)) at.unloaded_before }, busy, is, reaches)
+
+-- the first link that is loaded for a target is loaded for that target
+pub reached_by : (network : Network) (offsets : List ℕ) (target : ℕ) (found : FirstLoad) → IsFirstLoad network offsets target found → Reaches target found
+reached_by network offsets target (Overload place) is = tt
+reached_by network offsets target (Load place bound) is = is.4
+
+-- what is the first for the limit is the first for the best schedule, where there is one
+pub tightest_for : (network : Network) (offsets : List ℕ) (target limit : ℕ) (best : Option Solution) (found : Option FirstLoad) → MatchOption best (limit ≡ target) (λ solution. limit ≡ solution.flowspan)
+    → IsTightest network offsets limit found → IfSome best (λ solution. IsTightest network offsets solution.flowspan found)
+tightest_for network offsets target limit None found same is = tt
+tightest_for network offsets target limit (Some solution) found same is = subst (λ n. IsTightest network offsets n found) same is

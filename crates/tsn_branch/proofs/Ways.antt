@@ -1,7 +1,8 @@
 -- Descents, a step down or up.
-use Rattle.std.proofs.Common.{◌≡◌, ℕ, ◌-◌, ◌≤◌, ◌<◌, List, [], ◌∷◌, ◌++◌, length, get_or, take, Option, Some, MatchOption, sym, ap, ◌∙◌, subst, arith, inl, inr}
+use Rattle.std.proofs.Common.{◌≡◌, ℕ, pos, ◌+◌, ◌-◌, ◌≤◌, ◌<◌, List, [], ◌∷◌, ◌++◌, map, length, get_or, take, Option, Some, MatchOption, sym, ap, ◌∙◌, subst, arith, inl, inr}
 use Rattle.std.proofs.lemmas.Bool.{cases_lt}
-use Rattle.std.proofs.lemmas.List.{get_or_past, get_or_append_left, get_or_default, length-append, length-map, nil_from_length}
+use Rattle.std.proofs.lemmas.List.{get_or_past, get_or_append_left, get_or_default, length-append, length-map, map-append, take_more, take-map, nil_from_length}
+use Rattle.std.proofs.lemmas.List.Elements.{All-take}
 use Rattle.std.proofs.lemmas.Option.{get_or_from_slice_get, slice_get_within}
 use Rattle.tsn_model.specs.declared.Triple.{Triple}
 use Rattle.tsn_model.specs.declared.Side.{Side}
@@ -9,18 +10,20 @@ use Rattle.tsn_model.specs.declared.Side.TheVariants.{Left, Right}
 use Rattle.tsn_model.specs.declared.Decision.{Decision}
 use Rattle.tsn_model.specs.declared.Arc.{Arc}
 use Rattle.tsn_model.specs.Network.{Network, stream_count}
+use Rattle.tsn_model.specs.Schedule.{offset_of}
 use Rattle.tsn_model.specs.Arcs.{arcs_of, arc_of, arc_on, Holds, HoldsAll}
 use Rattle.tsn_model.specs.Certificate.{decided}
 use Rattle.tsn_diff.specs.Answers.{Solves, Refutes}
 use Rattle.tsn_diff.specs.Stack.{Stack, RisesAt}
 use Rattle.tsn_branch.specs.Releases.{releases_of}
+use Rattle.tsn_branch.specs.Look.{HasNoOffsets}
 use Rattle.tsn_branch.specs.declared.seen.Seen.{Seen}
 use Rattle.tsn_branch.specs.Descent.{Way, IsSeen, WasSeen, AllSeen, Stands, Splits, Leads}
 use Rattle.tsn_branch.proofs.Leasts.{AreLeast-from}
-use Rattle.tsn_branch.proofs.Descents.{by_last, above, arcs-decided, arcs-nil, seen_none, seen_more, seen_above, seen_turned, seen_last}
+use Rattle.tsn_branch.proofs.Descents.{by_last, above, arcs-decided, arcs-nil, seen_none, seen_more, seen_above, seen_turned, seen_last, take-inner}
 
 pub stands_root : (network : Network) (stack : Stack) (found : Option Seen) → stack.releases ≡ releases_of network → stack.arcs ≡ [] → Stands network (record { path = []; stack = stack; seen = []; found = found })
-stands_root network stack found none is = record { releases = none; arcs = is ∙ sym (arcs-nil network); split_above = seen_none network }
+stands_root network stack found none is = record { releases = none; arcs = is ∙ sym (arcs-nil network); split_above = seen_none network [] }
 
 pub stands_down : (network : Network) (triple : Triple) (way : Way) (here : Seen) (found : Option Seen) → Splits network triple way → way.found ≡ Some here
     → Stands network (record { path = decided way.path triple Left; stack = way.stack; seen = way.seen ++ here ∷ []; found = found })
@@ -103,7 +106,8 @@ leads_down network front triple side path old new seen found whole none same is 
       arcs = puts.arcs ∙ ap (λ as'. as' ++ arc_on network triple side ∷ []) is_front ∙ sym (ap (arcs_of network) whole ∙ arcs-decided network front triple side);
       split_above = all;
       raised = λ last at.
-          let here = seen_last network front triple side seen last (subst (λ p. AllSeen network p seen) whole all) (sym (get_or_from_slice_get seen (length seen - 1) last last at)) in
+          let within = slice_get_within seen (length seen - 1) last at in
+          let here = seen_last network front triple side seen last (subst (λ p. AllSeen network p seen) whole all) (omega arith) (sym (get_or_from_slice_get seen (length seen - 1) last last at)) in
           was_seen network front triple side old new last none same is_front puts here;
     }
 
@@ -181,3 +185,29 @@ refutes_down network front triple side path old chain whole none is refutes =
 
 pub of_some : {X : Type 0} (A : Type 0) (B : X → Type 0) (o : Option X) (x : X) → o ≡ Some x → MatchOption o A B → B x
 of_some A B o x is holds = subst (λ p. MatchOption p A B) is holds
+
+-- one more decision of a path is put in
+pub arcs_more : (network : Network) (path : List Decision) (depth : ℕ) (d : Decision) → depth < length path → arcs_of network (take (depth + 1) path) ≡ arcs_of network (take depth path) ++ arc_on network (get_or path depth d).triple (get_or path depth d).side ∷ []
+unfolding arcs_of arc_of
+arcs_more network path depth d within = ap (map (arc_of network)) (take_more path depth d within) ∙ map-append (arc_of network) (take depth path) (get_or path depth d ∷ [])
+
+-- the arcs of a path but the last are those of its decisions but the last
+pub arcs_above : (network : Network) (path : List Decision) → take (length (arcs_of network path) - 1) (arcs_of network path) ≡ arcs_of network (take (length path - 1) path)
+unfolding arcs_of
+arcs_above network path = ap (λ n. take (n - 1) (map (arc_of network) path)) (length-map path (arc_of network)) ∙ take-map (arc_of network) (length path - 1) path
+
+-- no offsets hold the arcs of a path, where none hold those of its front and of one decision more
+pub none_hold : (network : Network) (path : List Decision) (depth above n : ℕ) (d : Decision) (chain : List ℕ) → depth < above → above ≤ length path
+    → Refutes n (arcs_of network (take depth path) ++ arc_on network (get_or path depth d).triple (get_or path depth d).side ∷ []) chain → HasNoOffsets network (take above path)
+unfolding arcs_of
+none_hold network path depth above n d chain within order refutes =
+    λ offsets held.
+    let inner : take (depth + 1) (arcs_of network (take above path)) ≡ arcs_of network (take (depth + 1) path) =
+    take-map (arc_of network) (depth + 1) (take above path) ∙ ap (map (arc_of network)) (take-inner (depth + 1) above path (omega arith)) in
+    let front : HoldsAll offsets (arcs_of network (take (depth + 1) path)) = subst (HoldsAll offsets) inner (All-take (Holds offsets) (depth + 1) (arcs_of network (take above path)) held) in
+    refutes.none (λ i. pos (offset_of offsets i)) (subst (HoldsAll offsets) (arcs_more network path depth d (omega arith)) front)
+
+-- a way to a node, of which nothing was seen above
+pub stands_at : (network : Network) (path : List Decision) (stack : Stack) (found : Option Seen) → stack.releases ≡ releases_of network → stack.arcs ≡ arcs_of network (take (length path - 1) path)
+    → Stands network (record { path = path; stack = stack; seen = []; found = found })
+stands_at network path stack found none is = record { releases = none; arcs = is; split_above = seen_none network path }

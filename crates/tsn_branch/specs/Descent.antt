@@ -2,7 +2,7 @@
 --     IsSeenBy, IsSeen      what a split node has by its least offsets
 --     IsFinding            what is found at a node
 --     Stands, Splits       a descent to a node that is to be looked at, or that is to be split
-use Rattle.std.specs.Prelude.{◌≡◌, ℕ, ◌-◌, ◌<◌, List, All, length, take, slice_get, slice_index_or, Option, Some}
+use Rattle.std.specs.Prelude.{◌≡◌, ℕ, ◌+◌, ◌-◌, ◌<◌, List, All, length, take, slice_get, slice_index_or, Option, Some}
 use Rattle.tsn_model.specs.declared.Triple.{Triple}
 use Rattle.tsn_model.specs.declared.Decision.{Decision}
 use Rattle.tsn_model.specs.Network.{Network}
@@ -61,16 +61,6 @@ abbrev pub IsFinding : Network → List Decision → ℕ → Option Solution →
 IsFinding network path target best (Split seen) = IsSeen network path seen × IsLook network path target best (split (triple_at (conflicts_of network) seen.place))
 IsFinding network path target best (Closed look) = Closes (outcome_of look) × IsLook network path target best (outcome_of look)
 
--- the triple of a finding is one of the first n
-abbrev pub IsPlaced : ℕ → Finding → Type 0
-IsPlaced n (Split seen) = seen.place < n
-IsPlaced n (Closed look) = Unit {0}
-
--- the outcome that a finding is
-abbrev pub outcome_found : List Triple → Finding → Outcome
-outcome_found triples (Split seen) = split (triple_at triples seen.place)
-outcome_found triples (Closed look) = outcome_of look
-
 -- the least offsets of the path are a valid schedule of this flowspan
 abbrev pub IsSolution : Network → List Decision → ℕ → Outcome → Type 0
 IsSolution network path end (split triple) = ⊥
@@ -88,10 +78,11 @@ IsTieBy network labels best look =
     × ((path : List Decision) (target : ℕ) → Solves (releases_of network) (arcs_of network path) labels → flowspan network labels.offsets < target
     → All (IsUnloaded network labels.offsets target) (shared_links network) → IsLook network path target best (outcome_of look))
 
--- the nodes above the end of the path were split so
+-- the nodes above the end of the path, from that depth on, were split so
 pub record AllSeen (network : Network) (path : List Decision) (seen : List Seen) : Type 0 where
-  pub count : length seen ≡ length path
-  pub each : (k : ℕ) (d : Seen) → k < length seen → IsSeen network (take k path) (slice_index_or seen k d)
+  pub base : ℕ
+  pub count : base + length seen ≡ length path
+  pub each : (k : ℕ) (d : Seen) → k < length seen → IsSeen network (take (base + k) path) (slice_index_or seen k d)
 
 -- the arcs are those of the decisions above the last one
 pub record Stands (network : Network) (way : Way) : Type 0 where

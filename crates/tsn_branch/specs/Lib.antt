@@ -5,6 +5,7 @@ pub mod Links
 pub mod Loads
 pub mod Look
 pub mod Releases
+pub mod Least
 pub mod Chains
 pub mod Ends
 pub mod Descent

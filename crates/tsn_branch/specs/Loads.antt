@@ -3,7 +3,8 @@
 --     AreLoadsOf                  what is kept is that of a network
 --     IsCalm                      a link that one of its users shows not to be loaded
 --     IsFirstLoad                 the first link that is loaded by a list of offsets, and how
-use Rattle.std.specs.Prelude.{◌≡◌, ℕ, ◌+◌, ◌≤◌, ◌<◌, nat_le, List, map, take, filter, length, is_some, sum_by, slice_get, Some, All, Contains, ℤ, pos, ◌+ℤ◌, ◌-ℤ◌, ◌≤ℤ◌, ◌<ℤ◌}
+--     IsTightest, IsLoading       the same where there is one, and for a target and a limit at once
+use Rattle.std.specs.Prelude.{◌≡◌, ℕ, ◌+◌, ◌≤◌, ◌<◌, nat_le, List, map, take, filter, length, is_some, sum_by, slice_get, Some, Option, MatchOption, All, Contains, ℤ, pos, ◌+ℤ◌, ◌-ℤ◌, ◌≤ℤ◌, ◌<ℤ◌}
 use Rattle.std.specs.List.{range_with_len}
 use Rattle.tsn_model.specs.Network.{Network}
 use Rattle.tsn_model.specs.Timing.{occupancy, arrival, hop_on, start_on}
@@ -15,6 +16,8 @@ use Rattle.tsn_branch.specs.declared.loads.User.{User}
 use Rattle.tsn_branch.specs.declared.loads.LinkTable.{LinkTable}
 use Rattle.tsn_branch.specs.declared.loads.FirstLoad.{FirstLoad}
 use Rattle.tsn_branch.specs.declared.loads.FirstLoad.TheVariants.{Overload, Load}
+use Rattle.tsn_branch.specs.declared.loads.Loading.{Loading}
+use Rattle.tsn_branch.specs.declared.loads.Loading.TheVariants.{Closed, Open}
 
 -- a link, when its streams start there from their offsets on, how long they occupy it, and their least tail
 pub record SharedLink : Type 0 where
@@ -87,3 +90,17 @@ IsFirstLoad network offsets target (Overload place) =
 IsFirstLoad network offsets target (Load place bound) =
     (link : ℕ) × IsLoadedAt network offsets target place link × (busy_by network offsets link ≤ℤ pos network.cycle)
     × (pos bound ≡ load_by network offsets link) × (target ≤ bound)
+
+-- the first shared link that is loaded, where one is
+abbrev pub IsTightest : Network → List ℕ → ℕ → Option FirstLoad → Type 0
+IsTightest network offsets target found = MatchOption found (All (IsUnloaded network offsets target) (shared_links network)) (IsFirstLoad network offsets target)
+
+-- a link that is loaded for a lesser target is so for this one
+abbrev pub Reaches : ℕ → FirstLoad → Type 0
+Reaches target (Overload place) = Unit {0}
+Reaches target (Load place bound) = target ≤ bound
+
+-- the first shared link that is loaded for the target; or where none is, the first that is for the limit
+abbrev pub IsLoading : Network → List ℕ → ℕ → ℕ → Loading → Type 0
+IsLoading network offsets target limit (Closed found) = IsFirstLoad network offsets target found
+IsLoading network offsets target limit (Open found) = All (IsUnloaded network offsets target) (shared_links network) × IsTightest network offsets limit found

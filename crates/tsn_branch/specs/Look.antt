@@ -4,10 +4,11 @@
 --     ShowsLink                             the entries of a link's streams
 --     IsTie, IsUntied                       a tie with the best schedule
 --     IsLook                                the first case that holds, and what it holds
---     HasProof, SplitsUndecided, PrunesFrom what is right of an outcome whatever was settled before
+--     HasProof, SplitsUndecided, SplitsAmong, PrunesFrom   what is right of an outcome whatever was settled before
 --     TiesWith                              what a tie says of the best schedule
-use Rattle.std.specs.Prelude.{◌≡◌, ℕ, ◌+◌, ◌≤◌, ◌<◌, ◌⊎◌, List, length, map, take, All, Option, MatchOption, IsSomeAnd, pos, ◌≤ℤ◌, ◌<ℤ◌}
+use Rattle.std.specs.Prelude.{◌≡◌, ℕ, ◌+◌, ◌≤◌, ◌<◌, ◌⊎◌, List, length, map, take, All, Contains, Option, MatchOption, IsSomeAnd, pos, ◌≤ℤ◌, ◌<ℤ◌}
 use Rattle.tsn_model.specs.declared.Decision.{Decision}
+use Rattle.tsn_model.specs.declared.Triple.{Triple}
 use Rattle.tsn_model.specs.Network.{Network, stream_count, latest_of}
 use Rattle.tsn_model.specs.Timing.{arrival, span}
 use Rattle.tsn_model.specs.Schedule.{IsValid, flowspan, offset_of, IsConflict, FitsCycle, IsReleased, IsInTime, IsFirstOverlap, ComesBefore, IsNotAfter, common}
@@ -167,6 +168,14 @@ SplitsUndecided network path (solved offsets bound leaf chains) = Unit {0}
 SplitsUndecided network path (pruned bound leaf) = Unit {0}
 SplitsUndecided network path (tied bound leaf chains) = Unit {0}
 SplitsUndecided network path (refuted leaf) = Unit {0}
+
+-- a split is on one of these triples
+abbrev pub SplitsAmong : List Triple → Outcome → Type 0
+SplitsAmong triples (split triple) = Contains triples triple
+SplitsAmong triples (solved offsets bound leaf chains) = Unit {0}
+SplitsAmong triples (pruned bound leaf) = Unit {0}
+SplitsAmong triples (tied bound leaf chains) = Unit {0}
+SplitsAmong triples (refuted leaf) = Unit {0}
 
 -- a pruned bound is at least the target
 abbrev pub PrunesFrom : ℕ → Outcome → Type 0

@@ -1,17 +1,19 @@
-//! The arcs of a path.
-ghost use Rattle.std.specs.Prelude.{◌≡◌, ◌↔◌, IsTrue, IfOk, All, Contains, length};
+//! The arcs of a path, and what they come to.
+ghost use Rattle.std.specs.Prelude.{◌≡◌, ◌↔◌, ◌-◌, IsTrue, IfOk, IfSome, All, Contains, length, take, option_copied};
 ghost use Rattle.tsn_model.specs.Network.{Network};
 ghost use Rattle.tsn_model.specs.Arcs as model;
 ghost use Rattle.tsn_conflict.specs.Kept.{AreConflictsOf};
 ghost use Rattle.tsn_diff.specs.Limits.{IsArcAmong};
+ghost use Rattle.tsn_diff.specs.Answers.{Answers, Solves};
 ghost use Rattle.tsn_branch.specs.Path.{Fits};
 ghost use Rattle.tsn_branch.specs.Releases.{releases_of};
+ghost use Rattle.tsn_branch.specs.Least.{IsLeastAbove};
 
 use crate::node::Node;
 use std::alloc::{AllocError, Global};
 use tsn_conflict::sharing::Conflicts;
-use tsn_diff::Net;
-use tsn_model::{Arc, Decision};
+use tsn_diff::{Least, Net, Outcome};
+use tsn_model::{Arc, Decision, NoMemory};
 use tsn_timing::Timing;
 
 /// Whether each triple of the node's path is one of the conflicts. It takes no memory.
@@ -57,4 +59,37 @@ pub fn arcs_of(
         arcs.push(conflicts.arc(decision.triple, decision.side))?;
     }
     Ok(arcs)
+}
+
+/// What the arcs of the node's path come to, from the least offsets of the node above where they are at hand.
+pub fn least_at(
+    alloc: Global,
+    timing: &Timing,
+    conflicts: &Conflicts,
+    node: &Node,
+    parent: Option<&Least>,
+) -> Result<Outcome, NoMemory>
+    requires conflicts { AreConflictsOf timing.now conflicts.now }
+    requires fits { Fits conflicts.now.triples node.now }
+    requires parent { IfSome (option_copied parent) (IsLeastAbove timing.now node.now) }
+    ensures { IfOk result (Answers (releases_of timing.now) (model.arcs_of timing.now node.now)) }
+{
+    let net = net_of(alloc, timing)?;
+    let arcs = arcs_of(alloc, conflicts, node.path())?;
+    match parent {
+        Some(parent) => least_below(alloc, &net, parent, &arcs),
+        None => net.least(alloc, &arcs),
+    }
+}
+
+/// What the arcs come to, from the least offsets by all but the last.
+fn least_below(alloc: Global, net: &Net, above: &Least, arcs: &[Arc]) -> Result<Outcome, NoMemory>
+    requires arcs { All (IsArcAmong (length net.now)) arcs.now }
+    requires above { Solves net.now (take (length arcs.now - 1) arcs.now) above.now }
+    ensures { IfOk result (Answers net.now arcs.now) }
+{
+    match arcs.split_last() {
+        Some((last, front)) => net.least_from(alloc, above, front, *last),
+        None => net.least(alloc, arcs),
+    }
 }

@@ -1,7 +1,8 @@
 //! A way down to a node of the search, for looks that go on from what is known of the nodes above.
-ghost use Rattle.std.specs.Prelude.{◌≡◌, ◌-◌, [], ◌∷◌, take, IfOk, IfSome, OnOk, OnErr, length, MatchBool, MatchOption, option_copied};
+ghost use Rattle.std.specs.Prelude.{◌≡◌, ◌-◌, ◌≤◌, List, [], ◌∷◌, take, IfOk, IfNone, IfSome, OnOk, OnErr, length, Contains, MatchBool, MatchOption, option_copied};
 ghost use Rattle.tsn_timing.specs.Solution.{IsSolved};
 ghost use Rattle.tsn_model.specs.declared.Side.TheVariants.{Left};
+ghost use Rattle.tsn_model.specs.declared.Triple.{Triple};
 ghost use Rattle.tsn_model.specs.Network.{Network};
 ghost use Rattle.tsn_model.specs.Places.{pending};
 ghost use Rattle.tsn_model.specs.Arcs.{arcs_of};
@@ -11,7 +12,7 @@ ghost use Rattle.tsn_conflict.specs.Kept.{AreConflictsOf};
 ghost use Rattle.tsn_branch.specs.Outcome.{outcome_of};
 ghost use Rattle.tsn_branch.specs.Path.{Fits, IsUndecided};
 ghost use Rattle.tsn_branch.specs.Loads.{AreLoadsOf};
-ghost use Rattle.tsn_branch.specs.Look.{IsLook, HasProof, SplitsUndecided, PrunesFrom, TiesWith};
+ghost use Rattle.tsn_branch.specs.Look.{HasNoOffsets, IsLook, HasProof, SplitsUndecided, SplitsAmong, PrunesFrom, TiesWith};
 ghost use Rattle.tsn_branch.specs.Releases.{releases_of};
 ghost use Rattle.tsn_branch.specs.Descent.{Stands, Splits, IsAfter, Leads, IsFinding};
 
@@ -62,6 +63,37 @@ impl Descent {
         })
     }
 
+    /// At a node. None where the decisions above its last one contradict one another. The error says that there was no memory.
+    pub fn at(
+        alloc: Global,
+        timing: &Timing,
+        conflicts: &Conflicts,
+        node: Node,
+    ) -> Result<Option<Descent>, NoMemory>
+        requires conflicts { AreConflictsOf timing.now conflicts.now }
+        requires fits { Fits conflicts.now.triples node }
+        ensures none { IfOk result (λ found. IfNone found (HasNoOffsets timing.now (take (length node - 1) node))) }
+        ensures path { IfOk result (λ found. MatchOption found (Unit {0}) (λ way. way.path ≡ node)) }
+        ensures stands { IfOk result (λ found. MatchOption found (Unit {0}) (Stands timing.now)) }
+    {
+        let mut stack = ArcStack::new(alloc, net_of(alloc, timing)?)?;
+        let path = node.path();
+        let above = path.len().saturating_sub(1);
+        for depth in 0..above {
+            let decision = path[depth];
+            let arc = conflicts.arc(decision.triple, decision.side);
+            if let Some(_closed) = stack.push(arc)? {
+                return Ok(None);
+            }
+        }
+        Ok(Some(Descent {
+            node,
+            stack,
+            seen: Vec::new(alloc),
+            found: None,
+        }))
+    }
+
     /// The node.
     pub fn node(&self) -> &Node
         ensures { result.now ≡ self.now.path }
@@ -88,6 +120,7 @@ impl Descent {
         ensures first_case { IfOk result (λ look. IsLook timing.now self.old.path target (option_copied best.entry) (outcome_of look)) }
         ensures proof { IfOk result (λ look. HasProof timing.now self.old.path (outcome_of look)) }
         ensures undecided { IfOk result (λ look. SplitsUndecided timing.now self.old.path (outcome_of look)) }
+        ensures among { IfOk result (λ look. SplitsAmong conflicts.now.triples (outcome_of look)) }
         ensures met { IfOk result (λ look. PrunesFrom target (outcome_of look)) }
         ensures ties { IfOk result (λ look. TiesWith timing.now self.old.path (option_copied best.entry) (outcome_of look)) }
         ensures after { IfOk result (λ look. IsAfter timing.now (outcome_of look) self.new) }
@@ -119,6 +152,7 @@ impl Descent {
         requires undecided { IsUndecided self.old.path triple }
         ensures path { OnOk result (self.new.path ≡ decided self.old.path triple Left) }
         ensures stands { OnOk result ((network : Network) → Splits network triple self.old → Stands network self.new) }
+        ensures fits { OnOk result ((triples : List Triple) → Contains triples triple → Fits triples self.old.path → Fits triples self.new.path) }
         ensures err { OnErr result (self.new ≡ self.old) }
     {
         let Some(seen) = self.found else {
@@ -135,11 +169,27 @@ impl Descent {
     /// Goes on to the right side of the last left turn of the path. False where it has none.
     pub fn next(&mut self) -> bool
         ensures stands { (network : Network) → Stands network self.old → Stands network self.new }
+        ensures fits { (triples : List Triple) → Fits triples self.old.path → Fits triples self.new.path }
         ensures next { MatchBool result
             (pending self.old.path ≡ self.new.path ∷ pending self.new.path)
             (pending self.old.path ≡ []) }
     {
+        self.next_under(0)
+    }
+
+    /// Goes on to the right side of the last left turn of the path that is at this depth or further down; the decisions before
+    /// it stay. False where there is none; the way then ends at that depth, where it was longer.
+    pub fn next_under(&mut self, floor: usize) -> bool
+        ensures stands { (network : Network) → Stands network self.old → Stands network self.new }
+        ensures fits { (triples : List Triple) → Fits triples self.old.path → Fits triples self.new.path }
+        ensures kept { take floor self.new.path ≡ take floor self.old.path }
+        ensures next { MatchBool result (pending self.old.path ≡ self.new.path ∷ pending self.new.path) (Unit {0}) }
+        ensures none { MatchBool result (Unit {0}) ((pending self.old.path ≡ pending self.new.path) × (length self.new.path ≤ floor)) }
+    {
         while let Some(side) = self.node.last_side() {
+            if self.node.path().len() <= floor {
+                return false;
+            }
             match side {
                 Side::Left => {
                     self.node.turn();

@@ -1,5 +1,5 @@
 //! What the least offsets of a path, or a cycle of its arcs, come to.
-ghost use Rattle.std.specs.Prelude.{◌≡◌, ◌≤◌, ◌<◌, ℕ, List, All, Option, Some, IfOk, IfSome, IfNone, length, map, slice_get, option_copied};
+ghost use Rattle.std.specs.Prelude.{◌≡◌, ◌≤◌, ◌<◌, ℕ, List, All, Option, Some, IfOk, IfSome, IfNone, MatchOption, length, map, slice_get, option_copied};
 ghost use Rattle.tsn_model.specs.declared.Decision.{Decision};
 ghost use Rattle.tsn_model.specs.Network.{IsWellFormed, stream_count};
 ghost use Rattle.tsn_model.specs.Schedule.{flowspan, AreApart};
@@ -12,15 +12,16 @@ ghost use Rattle.tsn_diff.specs.Forest.{chain_of};
 ghost use Rattle.tsn_branch.specs.Outcome.{outcome_of};
 ghost use Rattle.tsn_branch.specs.Look.{IsLook, AllFit, IsFirstLast, IsUntied, ShowsLink};
 ghost use Rattle.tsn_branch.specs.Links.{shared_links, IsUnloaded};
-ghost use Rattle.tsn_branch.specs.Loads.{AreLoadsOf, IsFirstLoad, entry_by};
+ghost use Rattle.tsn_branch.specs.Loads.{AreLoadsOf, IsFirstLoad, IsTightest, entry_by};
 ghost use Rattle.tsn_branch.specs.Ends.{AreEnds};
-ghost use Rattle.tsn_branch.specs.Descent.{Closes, IsFinding, IsTieBy, WasSeen, IsSolution, IsPlaced, outcome_found};
+ghost use Rattle.tsn_branch.specs.Descent.{Closes, IsFinding, IsTieBy, WasSeen, IsSolution};
 ghost use Rattle.tsn_branch.specs.declared.instants.Ends.TheVariants as ends;
 ghost use Rattle.tsn_branch.specs.Releases.{releases_of};
+ghost use Rattle.tsn_branch.specs.Least.{ComesWithSplit};
 
 use crate::chains::{chain_to, chains_to, tie_chains};
 use crate::instants::{Ends, ends_after, ends_of};
-use crate::loads::{FirstLoad, Loads, User, first_load};
+use crate::loads::{FirstLoad, Loading, Loads, User, find_loads};
 use crate::outcome::{Leaf, Look};
 use crate::seen::{Finding, Seen};
 use std::alloc::Global;
@@ -30,29 +31,39 @@ use tsn_diff::{Least, Outcome};
 use tsn_model::NoMemory;
 use tsn_timing::{Solved, Timing};
 
-/// What the arcs of a path come to, as a look at the node.
+/// What the arcs of a path come to, as a look at the node. A split comes with the least offsets.
 pub fn judge(
     alloc: Global,
     timing: &Timing,
     conflicts: &Conflicts,
     loads: &Loads,
-    outcome: &Outcome,
+    outcome: Outcome,
     target: u64,
     best: Option<&Solved>,
-) -> Result<Look, NoMemory>
+) -> Result<(Look, Option<Least>), NoMemory>
     requires conflicts { AreConflictsOf timing.now conflicts.now }
     requires loads { AreLoadsOf timing.now loads.now }
     requires best { IfSome (option_copied best) (IsSolved timing.now) }
-    requires some_path { (path : List Decision) × Answers (releases_of timing.now) (arcs_of timing.now path) outcome.now }
-    ensures { IfOk result (λ look. (path : List Decision) → Answers (releases_of timing.now) (arcs_of timing.now path) outcome.now
-        → IsLook timing.now path target (option_copied best.entry) (outcome_of look)) }
+    requires some_path { (path : List Decision) × Answers (releases_of timing.now) (arcs_of timing.now path) outcome }
+    ensures look { IfOk result (λ found. (path : List Decision) → Answers (releases_of timing.now) (arcs_of timing.now path) outcome
+        → IsLook timing.now path target (option_copied best.entry) (outcome_of found.0)) }
+    ensures least { IfOk result (λ found. (path : List Decision) → Answers (releases_of timing.now) (arcs_of timing.now path) outcome
+        → ComesWithSplit timing.now path (outcome_of found.0) found.1) }
 {
     match outcome {
         Outcome::Least(least) => {
-            let finding = judge_least(alloc, timing, conflicts, loads, least, target, best)?;
-            Ok(look_of(conflicts, finding))
+            let finding = judge_least(alloc, timing, conflicts, loads, &least, target, best)?;
+            match finding {
+                Finding::Split(seen) => {
+                    Ok((Look::Split(conflicts.triples()[seen.place]), Some(least)))
+                }
+                Finding::Closed(look) => Ok((look, None)),
+            }
         }
-        Outcome::Positive(cycle) => Ok(Look::Refuted(Leaf::Cycle(Chain::of(alloc, cycle)?))),
+        Outcome::Positive(cycle) => {
+            let leaf = Leaf::Cycle(Chain::of(alloc, &cycle)?);
+            Ok((Look::Refuted(leaf), None))
+        }
     }
 }
 
@@ -160,11 +171,15 @@ fn judge_ends(
         let leaf = Leaf::Late(last, chain_to(alloc, least, last)?);
         return Ok(Finding::Closed(Look::Pruned { bound: end, leaf }));
     }
-    if let Some(found) = first_load(loads, timing, least.offsets(), target) {
-        let look = judge_load(alloc, timing, loads, least, found)?;
-        return Ok(Finding::Closed(look));
-    }
-    let tie = find_tie(alloc, timing, loads, least, last, end, best)?;
+    let limit = tie_limit(target, best);
+    let tightest = match find_loads(loads, timing, least.offsets(), target, limit) {
+        Loading::Closed(found) => {
+            let look = judge_load(alloc, timing, loads, least, found)?;
+            return Ok(Finding::Closed(look));
+        }
+        Loading::Open(tightest) => tightest,
+    };
+    let tie = find_tie(alloc, timing, loads, least, last, end, tightest, best)?;
     if let Some(look) = tie {
         return Ok(Finding::Closed(look));
     }
@@ -198,6 +213,16 @@ fn solved(alloc: Global, timing: &Timing, least: &Least, last: usize) -> Result<
     })
 }
 
+/// The flowspan from which on a node may be tied with the best schedule; where there is none, the target.
+fn tie_limit(target: u64, best: Option<&Solved>) -> u64
+    ensures { MatchOption (option_copied best.entry) (result ≡ target) (λ solution. result ≡ solution.flowspan) }
+{
+    match best {
+        Some(best) => best.flowspan(),
+        None => target,
+    }
+}
+
 /// The node as a tie with the best schedule: by the least offsets, which don't come before it, the flowspan or else the load of a
 /// link is at least its flowspan.
 fn find_tie(
@@ -207,6 +232,7 @@ fn find_tie(
     least: &Least,
     last: usize,
     end: u64,
+    tightest: Option<FirstLoad>,
     best: Option<&Solved>,
 ) -> Result<Option<Look>, NoMemory>
     requires formed { IsWellFormed timing.now }
@@ -215,16 +241,17 @@ fn find_tie(
     requires some_path { (path : List Decision) × Solves (releases_of timing.now) (arcs_of timing.now path) least.now }
     requires ends { AreEnds timing.now least.now.offsets (ends.Within last end) }
     requires within { (target : ℕ) × All (IsUnloaded timing.now least.now.offsets target) (shared_links timing.now) }
+    requires tightest { IfSome (option_copied best) (λ solution. IsTightest timing.now least.now.offsets solution.flowspan tightest) }
     ensures none { IfOk result (λ found. IfNone found (IsUntied timing.now least.now.offsets (option_copied best.entry))) }
     ensures some { IfOk result (λ found. IfSome found (IsTieBy timing.now least.now (option_copied best.entry))) }
 {
     match best {
-        Some(best) => judge_tie(alloc, timing, loads, least, last, end, best),
+        Some(best) => judge_tie(alloc, timing, loads, least, last, end, tightest, best),
         None => Ok(None),
     }
 }
 
-/// The node as a tie with this schedule.
+/// The node as a tie with this schedule, where the first link that is loaded for its flowspan is found.
 fn judge_tie(
     alloc: Global,
     timing: &Timing,
@@ -232,6 +259,7 @@ fn judge_tie(
     least: &Least,
     last: usize,
     end: u64,
+    tightest: Option<FirstLoad>,
     best: &Solved,
 ) -> Result<Option<Look>, NoMemory>
     requires formed { IsWellFormed timing.now }
@@ -240,6 +268,7 @@ fn judge_tie(
     requires some_path { (path : List Decision) × Solves (releases_of timing.now) (arcs_of timing.now path) least.now }
     requires ends { AreEnds timing.now least.now.offsets (ends.Within last end) }
     requires within { (target : ℕ) × All (IsUnloaded timing.now least.now.offsets target) (shared_links timing.now) }
+    requires tightest { IsTightest timing.now least.now.offsets best.now.flowspan tightest }
     ensures none { IfOk result (λ found. IfNone found (IsUntied timing.now least.now.offsets (Some best.now))) }
     ensures some { IfOk result (λ found. IfSome found (IsTieBy timing.now least.now (Some best.now))) }
 {
@@ -255,32 +284,21 @@ fn judge_tie(
             chains,
         }));
     }
-    match first_load(loads, timing, least.offsets(), limit) {
-        None => Ok(None),
-        Some(FirstLoad::Overload(_)) => unreachable!(),
-        Some(FirstLoad::Load(place, bound)) => {
-            let Some(chains) = tie_chains(alloc, timing, least, best.valid())? else {
-                return Ok(None);
-            };
-            let (link, entries) = entries_at(alloc, timing, loads, least, place)?;
-            Ok(Some(Look::Tied {
-                bound,
-                leaf: Leaf::Load(link, entries),
-                chains,
-            }))
-        }
-    }
-}
-
-/// A finding as a look.
-pub fn look_of(conflicts: &Conflicts, finding: Finding) -> Look
-    requires { IsPlaced (length conflicts.now.triples) finding }
-    ensures { outcome_of result ≡ outcome_found conflicts.now.triples finding }
-{
-    match finding {
-        Finding::Split(seen) => Look::Split(conflicts.triples()[seen.place]),
-        Finding::Closed(look) => look,
-    }
+    let Some(found) = tightest else {
+        return Ok(None);
+    };
+    let FirstLoad::Load(place, bound) = found else {
+        unreachable!();
+    };
+    let Some(chains) = tie_chains(alloc, timing, least, best.valid())? else {
+        return Ok(None);
+    };
+    let (link, entries) = entries_at(alloc, timing, loads, least, place)?;
+    Ok(Some(Look::Tied {
+        bound,
+        leaf: Leaf::Load(link, entries),
+        chains,
+    }))
 }
 
 /// The look at a node where a link is loaded.

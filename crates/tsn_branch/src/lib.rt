@@ -6,8 +6,8 @@ ghost use Rattle.tsn_timing.specs.Solution.{IsSolved};
 ghost use Rattle.tsn_conflict.specs.Kept.{AreConflictsOf};
 ghost use Rattle.tsn_branch.specs.Outcome.{outcome_of};
 ghost use Rattle.tsn_branch.specs.Path.{Fits};
-ghost use Rattle.tsn_branch.specs.Loads.{AreLoadsOf};
-ghost use Rattle.tsn_branch.specs.Look.{IsLook, HasProof, SplitsUndecided, PrunesFrom, TiesWith};
+ghost use Rattle.tsn_branch.specs.Look.{IsLook, HasProof, SplitsUndecided, SplitsAmong, PrunesFrom, TiesWith};
+ghost use Rattle.tsn_branch.specs.Least.{IsLeastAbove, ComesWithSplit};
 
 mod arcs;
 mod chains;
@@ -19,7 +19,7 @@ pub mod node;
 pub mod outcome;
 mod seen;
 
-use crate::arcs::{arcs_of, net_of};
+use crate::arcs::least_at;
 use crate::judge::judge;
 use crate::outcome::Look;
 pub use arcs::fits;
@@ -29,6 +29,7 @@ pub use node::Node;
 pub use outcome::Leaf;
 use std::alloc::Global;
 use tsn_conflict::sharing::Conflicts;
+pub use tsn_diff::Least;
 pub use tsn_model::{Decision, NoMemory, Side, Triple};
 use tsn_timing::{Solved, Timing};
 
@@ -53,22 +54,51 @@ pub fn look(
     alloc: Global,
     timing: &Timing,
     conflicts: &Conflicts,
-    loads: &Loads,
     node: &Node,
     target: u64,
     best: Option<&Solved>,
 ) -> Result<Look, NoMemory>
     requires conflicts { AreConflictsOf timing.now conflicts.now }
-    requires loads { AreLoadsOf timing.now loads.now }
     requires best { IfSome (option_copied best) (IsSolved timing.now) }
     requires fits { Fits conflicts.now.triples node.now }
     ensures first_case { IfOk result (λ look. IsLook timing.now node.now target (option_copied best.entry) (outcome_of look)) }
     ensures proof { IfOk result (λ look. HasProof timing.now node.now (outcome_of look)) }
     ensures undecided { IfOk result (λ look. SplitsUndecided timing.now node.now (outcome_of look)) }
+    ensures among { IfOk result (λ look. SplitsAmong conflicts.now.triples (outcome_of look)) }
     ensures met { IfOk result (λ look. PrunesFrom target (outcome_of look)) }
     ensures ties { IfOk result (λ look. TiesWith timing.now node.now (option_copied best.entry) (outcome_of look)) }
 {
-    let arcs = arcs_of(alloc, conflicts, node.path())?;
-    let outcome = net_of(alloc, timing)?.least(alloc, &arcs)?;
-    judge(alloc, timing, conflicts, loads, &outcome, target, best)
+    let (look, _) = look_from(alloc, timing, conflicts, node, None, target, best)?;
+    Ok(look)
+}
+
+/// Looks at a node as `look` does, from the least offsets of the node above it where they are at hand: `parent`, by the path
+/// without its last decision. A look that finds a split comes with the least offsets of the node, from which its children may
+/// be looked at. Which of several chains shows an offset may hang on what was at hand.
+///
+/// The target is in nanoseconds. The error says that there was no memory.
+pub fn look_from(
+    alloc: Global,
+    timing: &Timing,
+    conflicts: &Conflicts,
+    node: &Node,
+    parent: Option<&Least>,
+    target: u64,
+    best: Option<&Solved>,
+) -> Result<(Look, Option<Least>), NoMemory>
+    requires conflicts { AreConflictsOf timing.now conflicts.now }
+    requires best { IfSome (option_copied best) (IsSolved timing.now) }
+    requires fits { Fits conflicts.now.triples node.now }
+    requires parent { IfSome (option_copied parent) (IsLeastAbove timing.now node.now) }
+    ensures first_case { IfOk result (λ found. IsLook timing.now node.now target (option_copied best.entry) (outcome_of found.0)) }
+    ensures proof { IfOk result (λ found. HasProof timing.now node.now (outcome_of found.0)) }
+    ensures undecided { IfOk result (λ found. SplitsUndecided timing.now node.now (outcome_of found.0)) }
+    ensures among { IfOk result (λ found. SplitsAmong conflicts.now.triples (outcome_of found.0)) }
+    ensures met { IfOk result (λ found. PrunesFrom target (outcome_of found.0)) }
+    ensures ties { IfOk result (λ found. TiesWith timing.now node.now (option_copied best.entry) (outcome_of found.0)) }
+    ensures least { IfOk result (λ found. ComesWithSplit timing.now node.now (outcome_of found.0) found.1) }
+{
+    let loads = Loads::of(alloc, timing)?;
+    let outcome = least_at(alloc, timing, conflicts, node, parent)?;
+    judge(alloc, timing, conflicts, &loads, outcome, target, best)
 }

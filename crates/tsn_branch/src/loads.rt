@@ -1,8 +1,8 @@
 //! The links that several streams share, and how busy they are by a list of offsets.
-ghost use Rattle.std.specs.Prelude.{◌≡◌, ◌≤◌, ◌<◌, ◌+◌, ◌*◌, ◌+ℤ◌, ◌≤ℤ◌, pos, map, length, All, IsTrue, IfOk, OnOk, MatchOption};
+ghost use Rattle.std.specs.Prelude.{◌≡◌, ◌≤◌, ◌<◌, ◌+◌, ◌*◌, ◌+ℤ◌, ◌≤ℤ◌, pos, map, length, All, IsTrue, ◌↔◌, IfOk, OnOk, MatchOption};
 ghost use Rattle.tsn_model.specs.Network.{stream_count};
 ghost use Rattle.tsn_branch.specs.Links.{shared_links, IsUnloaded};
-ghost use Rattle.tsn_branch.specs.Loads.{AreLoadsOf, IsFirstLoad, IsCalm, IsEarly, head_in, link_in, link_with, shared_link, users_upto, shared_upto};
+ghost use Rattle.tsn_branch.specs.Loads.{AreLoadsOf, IsFirstLoad, IsLoading, Reaches, IsCalm, IsEarly, head_in, link_in, link_with, shared_link, users_upto, shared_upto};
 
 use std::alloc::{AllocError, Global};
 use std::marker::Model;
@@ -51,6 +51,15 @@ pub enum FirstLoad {
     Overload(usize),
     /// Its streams are busy on it for so long that no flowspan is below the bound, in nanoseconds.
     Load(usize, u64),
+}
+
+/// How the links are loaded at a node.
+#[derive(Clone, Copy, Debug)]
+pub enum Loading {
+    /// Some are for the target, this one first.
+    Closed(FirstLoad),
+    /// None is for the target; this one is the first for the limit, if one is.
+    Open(Option<FirstLoad>),
 }
 
 impl Loads {
@@ -204,4 +213,40 @@ pub fn first_load(loads: &Loads, timing: &Timing, offsets: &[u64], target: u64) 
         }
     }
     None
+}
+
+/// How the links are loaded by the offsets, for a target and for a limit. A link that isn't loaded for the lesser of them isn't
+/// for the greater one, so that most often one pass over the links tells.
+pub fn find_loads(
+    loads: &Loads,
+    timing: &Timing,
+    offsets: &[u64],
+    target: u64,
+    limit: u64,
+) -> Loading
+    requires loads { AreLoadsOf timing.now loads.now }
+    requires count { length offsets.now ≡ stream_count timing.now }
+    requires small { All (λ offset. offset ≤ 1_000_000_000) offsets.now }
+    ensures { IsLoading timing.now offsets.now target limit result }
+{
+    let Some(found) = first_load(loads, timing, offsets, target.min(limit)) else {
+        return Loading::Open(None);
+    };
+    if reaches(found, target) {
+        return Loading::Closed(found);
+    }
+    match first_load(loads, timing, offsets, target) {
+        Some(first) => Loading::Closed(first),
+        None => Loading::Open(Some(found)),
+    }
+}
+
+/// Whether a link that is loaded for a lesser target is so for this one.
+fn reaches(found: FirstLoad, target: u64) -> bool
+    ensures { IsTrue result ↔ Reaches target found }
+{
+    match found {
+        FirstLoad::Overload(_) => true,
+        FirstLoad::Load(_, bound) => bound >= target,
+    }
 }

@@ -4,7 +4,7 @@ ghost use Rattle.tsn_model.specs.declared.Decision.{Decision};
 ghost use Rattle.tsn_model.specs.declared.Triple.{Triple};
 ghost use Rattle.tsn_model.specs.declared.Side.TheVariants.{Left, Right};
 ghost use Rattle.tsn_model.specs.Certificate.{decided};
-ghost use Rattle.tsn_branch.specs.Path.{DecidesOnce, IsUndecided, IsLastSide};
+ghost use Rattle.tsn_branch.specs.Path.{DecidesOnce, IsUndecided, IsLastSide, TurnsLeftAt, IsOtherSide};
 
 use std::alloc::{AllocError, Global};
 use std::marker::Model;
@@ -44,9 +44,32 @@ impl Node {
         requires { IsUndecided self.now triple }
         ensures { IfOk result (λ child. child ≡ decided self.now triple side) }
     {
-        Ok(Node {
-            path: longer(&self.path, Decision { triple, side })?,
-        })
+        let decision = Decision { triple, side };
+        let path = longer(*self.path.allocator(), &self.path, decision)?;
+        Ok(Node { path })
+    }
+
+    /// The node that turns right where this one turns left at that depth, with the same decisions before it. None where this one
+    /// turns right there or ends before. The error says that there was no memory.
+    pub fn other_side(&self, depth: usize) -> Result<Option<Node>, NoMemory>
+        ensures { IfOk result (λ found. MatchOption found
+            ((triple : Triple) → TurnsLeftAt self.now depth triple → ⊥)
+            (IsOtherSide self.now depth)) }
+    {
+        let Some(decision) = self.path.get(depth) else {
+            return Ok(None);
+        };
+        match decision.side {
+            Side::Right => Ok(None),
+            Side::Left => {
+                let right = Decision {
+                    triple: decision.triple,
+                    side: Side::Right,
+                };
+                let path = longer(*self.path.allocator(), &self.path[..depth], right)?;
+                Ok(Some(Node { path }))
+            }
+        }
     }
 
     /// Goes one decision down, to the side where this stream of the triple goes first. The error says that there was no
@@ -63,8 +86,8 @@ impl Node {
         }
     }
 
-    // The side of the last decision.
-    pub(crate) fn last_side(&self) -> Option<Side>
+    /// The side of the last decision. None at the root.
+    pub fn last_side(&self) -> Option<Side>
         ensures { MatchOption result (self.now ≡ []) (IsLastSide self.now) }
     {
         match self.path.last() {
@@ -73,8 +96,8 @@ impl Node {
         }
     }
 
-    // Turns the last decision to its right side.
-    pub(crate) fn turn(&mut self)
+    /// Turns the last decision, which is to the left, to the right.
+    pub fn turn(&mut self)
         requires { IsLastSide self.old Left }
         ensures { (front : List Decision) (triple : Triple) → self.old ≡ decided front triple Left → self.new ≡ decided front triple Right }
     {
@@ -86,8 +109,8 @@ impl Node {
         };
     }
 
-    // Takes back the last decision.
-    pub(crate) fn pop(&mut self)
+    /// Takes back the last decision; the root stays as it is.
+    pub fn pop(&mut self)
         ensures { self.new ≡ take (length self.old - 1) self.old }
     {
         self.path.pop();
@@ -112,10 +135,10 @@ impl Node {
 }
 
 /// The path with one more decision.
-fn longer(path: &Vec<Decision>, decision: Decision) -> Result<Vec<Decision>, AllocError>
-    ensures { IfOk result (λ all. all.items ≡ path.now.items ++ decision ∷ []) }
+fn longer(alloc: Global, path: &[Decision], decision: Decision) -> Result<Vec<Decision>, AllocError>
+    ensures { IfOk result (λ all. all.items ≡ path.now ++ decision ∷ []) }
 {
-    let mut all = Vec::with_capacity(*path.allocator(), path.len() + 1)?;
+    let mut all = Vec::with_capacity(alloc, path.len() + 1)?;
     all.extend_from_slice(path)?;
     all.push(decision)?;
     Ok(all)

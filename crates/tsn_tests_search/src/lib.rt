@@ -9,6 +9,8 @@ mod branch;
 #[cfg(test)]
 mod networks;
 #[cfg(test)]
+mod nodes;
+#[cfg(test)]
 mod planner;
 #[cfg(test)]
 mod shared_links;

@@ -2,7 +2,7 @@
 
 use std::alloc::Global;
 use std::test::Fail;
-use tsn_net::read_problem;
+use tsn_net::{Problem, read_problem};
 use tsn_timing::Timing;
 
 /// Stations A, B and C, and a bridge.
@@ -38,8 +38,20 @@ pub fn star_text(alloc: Global, cycle: u64, cables: &str, streams: &str) -> Resu
 }
 
 pub fn timing_of(alloc: Global, text: &str) -> Result<Timing, Fail> {
-    let problem = read_problem(alloc, text.as_bytes()).map_err(|_| "the network is refused")?;
+    let problem = problem_of(alloc, text)?;
     Ok(Timing::of(alloc, &problem)?)
+}
+
+pub fn problem_of(alloc: Global, text: &str) -> Result<Problem, Fail> {
+    match read_problem(alloc, text.as_bytes()) {
+        Ok(problem) => Ok(problem),
+        Err(_) => Err(Fail::from("the network is refused")),
+    }
+}
+
+/// Two streams that share link 4, where the cycle has a million nanoseconds.
+pub fn two_streams(alloc: Global) -> Result<Timing, Fail> {
+    star(alloc, 1_000_000, FAST, TWO)
 }
 
 pub const ONE: &str = "stream = [{name = 'one', octets = 64, route = ['A', 'S', 'C']}]
@@ -101,5 +113,48 @@ link = [
 stream = [
     {name = 'one', octets = 64, route = ['A', 'S', 'T', 'C']},
     {name = 'two', octets = 64, route = ['B', 'S', 'T', 'C']},
+]
+";
+
+/// Ten streams of 64 octets, each from a station of its own over one bridge to the same station.
+pub const TEN: &str = "cycle = 1000000
+node = [
+    {name = 'A0', kind = 'station'},
+    {name = 'A1', kind = 'station'},
+    {name = 'A2', kind = 'station'},
+    {name = 'A3', kind = 'station'},
+    {name = 'A4', kind = 'station'},
+    {name = 'A5', kind = 'station'},
+    {name = 'A6', kind = 'station'},
+    {name = 'A7', kind = 'station'},
+    {name = 'A8', kind = 'station'},
+    {name = 'A9', kind = 'station'},
+    {name = 'C', kind = 'station'},
+    {name = 'S', kind = 'bridge', proc = 1000},
+]
+link = [
+    {a = 'A0', b = 'S', mbps = 1000, prop = 50},
+    {a = 'A1', b = 'S', mbps = 1000, prop = 50},
+    {a = 'A2', b = 'S', mbps = 1000, prop = 50},
+    {a = 'A3', b = 'S', mbps = 1000, prop = 50},
+    {a = 'A4', b = 'S', mbps = 1000, prop = 50},
+    {a = 'A5', b = 'S', mbps = 1000, prop = 50},
+    {a = 'A6', b = 'S', mbps = 1000, prop = 50},
+    {a = 'A7', b = 'S', mbps = 1000, prop = 50},
+    {a = 'A8', b = 'S', mbps = 1000, prop = 50},
+    {a = 'A9', b = 'S', mbps = 1000, prop = 50},
+    {a = 'S', b = 'C', mbps = 1000, prop = 50},
+]
+stream = [
+    {name = 's0', octets = 64, route = ['A0', 'S', 'C']},
+    {name = 's1', octets = 64, route = ['A1', 'S', 'C']},
+    {name = 's2', octets = 64, route = ['A2', 'S', 'C']},
+    {name = 's3', octets = 64, route = ['A3', 'S', 'C']},
+    {name = 's4', octets = 64, route = ['A4', 'S', 'C']},
+    {name = 's5', octets = 64, route = ['A5', 'S', 'C']},
+    {name = 's6', octets = 64, route = ['A6', 'S', 'C']},
+    {name = 's7', octets = 64, route = ['A7', 'S', 'C']},
+    {name = 's8', octets = 64, route = ['A8', 'S', 'C']},
+    {name = 's9', octets = 64, route = ['A9', 'S', 'C']},
 ]
 ";

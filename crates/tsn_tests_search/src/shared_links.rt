@@ -1,11 +1,12 @@
 //! The links that streams share, and the arcs of going first on them.
 
-use crate::networks::{FAST, LONG, LOOP, TWO, star, timing_of};
+use crate::networks::{FAST, LONG, LOOP, TEN, star, timing_of, two_streams};
+use crate::nodes::{first_two, give_up};
 use std::alloc::Global;
 use std::process::Abort;
 use std::test::Fail;
 use tsn_conflict::sharing::Conflicts;
-use tsn_conflict::{Arc, Side, Triple, conflicts};
+use tsn_conflict::{Arc, NoMemory, Side, Triple, conflicts};
 use tsn_timing::Timing;
 
 const THERE_AND_BACK: &str = "stream = [
@@ -14,174 +15,166 @@ const THERE_AND_BACK: &str = "stream = [
 ]
 ";
 
-fn triple(left: usize, right: usize, link: usize) -> Triple {
-    Triple { left, right, link }
-}
-
-/// Ten streams of 64 octets, each from a station of its own over one bridge to the same station.
-fn ten_to_one(alloc: Global) -> Result<Timing, Fail> {
-    let mut text = format!(in alloc; "cycle = 1000000\n")?;
-    for sender in 0..10u64 {
-        text.push_str(format!(in alloc;
-            "[[node]]\nname = 'A{sender}'\nkind = 'station'\n"
-        )?.as_str())?;
+/// The shared links are to be these.
+fn expect_triples<R: Abort + AllocGlobal>(rt: &R, timing: &Timing, wanted: &[Triple]) {
+    match conflicts(rt.alloc(), timing) {
+        Ok(found) => assert_eq!(rt; found.triples(), wanted),
+        Err(_) => give_up(rt),
     }
-    text.push_str(
-        "[[node]]\nname = 'C'\nkind = 'station'\n[[node]]\nname = 'S'\nkind = 'bridge'\nproc = 1000\n",
-    )?;
-    for sender in 0..10u64 {
-        text.push_str(format!(in alloc;
-            "[[link]]\na = 'A{sender}'\nb = 'S'\nmbps = 1000\nprop = 50\n"
-        )?.as_str())?;
-    }
-    text.push_str("[[link]]\na = 'S'\nb = 'C'\nmbps = 1000\nprop = 50\n")?;
-    for sender in 0..10u64 {
-        text.push_str(format!(in alloc;
-            "[[stream]]\nname = 's{sender}'\noctets = 64\nroute = ['A{sender}', 'S', 'C']\n"
-        )?.as_str())?;
-    }
-    timing_of(alloc, text.as_str())
-}
-
-fn expect_arc(rt: &impl Abort, found: &Conflicts, on: Triple, side: Side, arc: Arc) {
-    assert!(rt; found.has(on));
-    assert_eq!(rt; found.arc(on, side), arc);
-}
-
-fn expect_first<R: Abort + AllocGlobal>(
-    rt: &R,
-    timing: &Timing,
-    offsets: &[u64],
-    first: Option<Triple>,
-) -> Result<(), Fail> {
-    let found = conflicts(rt.alloc(), timing)?;
-    assert!(rt; offsets.len() == timing.streams());
-    assert!(rt; offsets.iter().all(|&offset| offset <= 1_000_000_000));
-    assert_eq!(rt; found.first_violated(offsets), first);
-    Ok(())
 }
 
 #[test]
 fn lists_triples(rt: HostRuntime) -> Result<(), Fail> {
-    let alloc = rt.alloc();
-    let two = conflicts(alloc, &star(alloc, 1_000_000, FAST, TWO)?)?;
-    assert_eq!(rt; two.triples(), [triple(0, 1, 4)].as_slice());
-    let none = conflicts(alloc, &star(alloc, 1_000_000, FAST, THERE_AND_BACK)?)?;
-    assert_eq!(rt; none.triples().len(), 0);
-    let apart_between = conflicts(alloc, &timing_of(alloc, LOOP)?)?;
-    assert_eq!(rt;
-        apart_between.triples(),
-        [triple(0, 1, 4), triple(0, 1, 12)].as_slice()
-    );
-
-    let ten = conflicts(alloc, &ten_to_one(alloc)?)?;
-    let mut pairs = Vec::new(alloc);
-    for left in 0..10usize {
-        for right in left + 1..10 {
-            pairs.push(triple(left, right, 20))?;
-        }
-    }
-    assert_eq!(rt; pairs.len(), 45);
-    assert_eq!(rt; ten.triples(), pairs.as_slice());
+    let two = two_streams(rt.alloc())?;
+    expect_triples(&rt, &two, &[first_two(4)]);
     Ok(())
 }
 
 #[test]
-fn has_its_triples_alone(rt: HostRuntime) -> Result<(), Fail> {
-    let alloc = rt.alloc();
-    let two = conflicts(alloc, &star(alloc, 1_000_000, FAST, TWO)?)?;
-    assert!(rt; two.has(triple(0, 1, 4)));
-    let others = [
-        triple(1, 0, 4),
-        triple(0, 0, 4),
-        triple(0, 1, 0),
-        triple(0, 1, 5),
-        triple(0, 1, 6),
-        triple(0, 2, 4),
-        triple(0, usize::MAX, usize::MAX),
-    ];
-    for other in others {
-        assert!(rt; !two.has(other));
-    }
+fn lists_no_triples(rt: HostRuntime) -> Result<(), Fail> {
+    let none = star(rt.alloc(), 1_000_000, FAST, THERE_AND_BACK)?;
+    expect_triples(&rt, &none, &[]);
     Ok(())
+}
+
+#[test]
+fn lists_links_that_lie_apart(rt: HostRuntime) -> Result<(), Fail> {
+    let apart_between = timing_of(rt.alloc(), LOOP)?;
+    expect_triples(&rt, &apart_between, &[first_two(4), first_two(12)]);
+    Ok(())
+}
+
+/// Each pair of ten streams, on the link from the bridge.
+fn pairs_of_ten(alloc: Global) -> Result<Vec<Triple>, Fail> {
+    let mut pairs = Vec::new(alloc);
+    for left in 0..10usize {
+        for right in left + 1..10 {
+            pairs.push(Triple {
+                left,
+                right,
+                link: 20,
+            })?;
+        }
+    }
+    Ok(pairs)
+}
+
+#[test]
+fn lists_each_pair_of_ten(rt: HostRuntime) -> Result<(), Fail> {
+    let pairs = pairs_of_ten(rt.alloc())?;
+    assert_eq!(rt; pairs.len(), 45);
+    expect_triples(&rt, &timing_of(rt.alloc(), TEN)?, pairs.as_slice());
+    Ok(())
+}
+
+/// The arc of going first on a link is to weigh so much.
+fn expect_arc(rt: &impl Abort, found: &Conflicts, link: usize, side: Side, weight: i64) {
+    let on = first_two(link);
+    assert!(rt; found.has(on));
+    expect_same_arc(rt, found.arc(on, side), arc_to(side, weight));
+}
+
+/// The arc from the stream that goes first to the other one.
+fn arc_to(side: Side, weight: i64) -> Arc {
+    match side {
+        Side::Left => Arc {
+            from: 0,
+            to: 1,
+            weight,
+        },
+        Side::Right => Arc {
+            from: 1,
+            to: 0,
+            weight,
+        },
+    }
+}
+
+fn expect_same_arc(rt: &impl Abort, found: Arc, wanted: Arc) {
+    assert_eq!(rt; found, wanted);
 }
 
 #[test]
 fn weighs_arcs(rt: HostRuntime) -> Result<(), Fail> {
-    let alloc = rt.alloc();
-    let long = conflicts(alloc, &star(alloc, 1_000_000, FAST, LONG)?)?;
-    let on = triple(0, 1, 4);
-    expect_arc(
-        &rt,
-        &long,
-        on,
-        Side::Left,
-        Arc {
-            from: 0,
-            to: 1,
-            weight: -10_992,
-        },
-    );
-    expect_arc(
-        &rt,
-        &long,
-        on,
-        Side::Right,
-        Arc {
-            from: 1,
-            to: 0,
-            weight: 24_000,
-        },
-    );
-    let apart_between = conflicts(alloc, &timing_of(alloc, LOOP)?)?;
-    expect_arc(
-        &rt,
-        &apart_between,
-        on,
-        Side::Left,
-        Arc {
-            from: 0,
-            to: 1,
-            weight: 672,
-        },
-    );
-    let later = triple(0, 1, 12);
-    expect_arc(
-        &rt,
-        &apart_between,
-        later,
-        Side::Right,
-        Arc {
-            from: 1,
-            to: 0,
-            weight: -672,
-        },
-    );
+    let long = conflicts(rt.alloc(), &star(rt.alloc(), 1_000_000, FAST, LONG)?)?;
+    expect_arc(&rt, &long, 4, Side::Left, -10_992);
+    expect_arc(&rt, &long, 4, Side::Right, 24_000);
     Ok(())
 }
 
 #[test]
-fn finds_the_first_overlap(rt: HostRuntime) -> Result<(), Fail> {
-    let alloc = rt.alloc();
-    let two = star(alloc, 1_000_000, FAST, TWO)?;
-    expect_first(&rt, &two, &[0, 672], None)?;
-    expect_first(&rt, &two, &[0, 671], Some(triple(0, 1, 4)))?;
-    expect_first(&rt, &two, &[1_000_000_000, 0], None)?;
-    let apart_between = timing_of(alloc, LOOP)?;
-    expect_first(&rt, &apart_between, &[0, 672], None)?;
-    expect_first(&rt, &apart_between, &[0, 671], Some(triple(0, 1, 4)))?;
-    expect_first(&rt, &apart_between, &[0, 673], Some(triple(0, 1, 12)))?;
-    expect_first(&rt, &apart_between, &[0, 2015], Some(triple(0, 1, 12)))?;
-    expect_first(&rt, &apart_between, &[0, 2016], None)?;
+fn weighs_arcs_of_links_that_lie_apart(rt: HostRuntime) -> Result<(), Fail> {
+    let apart_between = conflicts(rt.alloc(), &timing_of(rt.alloc(), LOOP)?)?;
+    expect_arc(&rt, &apart_between, 4, Side::Left, 672);
+    expect_arc(&rt, &apart_between, 12, Side::Right, -672);
+    Ok(())
+}
 
-    let ten = ten_to_one(alloc)?;
-    let mut offsets = Vec::new(alloc);
-    for stream in 0..10u64 {
-        offsets.push(stream * 672)?;
+/// The first overlap of these offsets is to be this.
+fn expect_first<R: Abort + AllocGlobal>(
+    rt: &R,
+    timing: &Timing,
+    offsets: &[u64],
+    wanted: Option<Triple>,
+) {
+    match first_overlap(rt, timing, offsets) {
+        Ok(found) => assert_eq!(rt; found, wanted),
+        Err(_) => give_up(rt),
     }
-    expect_first(&rt, &ten, &offsets, None)?;
-    let _last = offsets.pop();
-    offsets.push(8 * 672)?;
-    expect_first(&rt, &ten, &offsets, Some(triple(8, 9, 20)))?;
-    expect_first(&rt, &ten, &[0; 10], Some(triple(0, 1, 20)))
+}
+
+fn first_overlap<R: Abort + AllocGlobal>(
+    rt: &R,
+    timing: &Timing,
+    offsets: &[u64],
+) -> Result<Option<Triple>, NoMemory> {
+    let found = conflicts(rt.alloc(), timing)?;
+    assert!(rt; offsets.len() == timing.streams());
+    assert!(rt; offsets.iter().all(|&offset| offset <= 1_000_000_000));
+    Ok(found.first_violated(offsets))
+}
+
+#[test]
+fn finds_the_first_overlap(rt: HostRuntime) -> Result<(), Fail> {
+    let two = two_streams(rt.alloc())?;
+    expect_first(&rt, &two, &[0, 672], None);
+    expect_first(&rt, &two, &[0, 671], Some(first_two(4)));
+    expect_first(&rt, &two, &[1_000_000_000, 0], None);
+    Ok(())
+}
+
+#[test]
+fn finds_the_first_overlap_of_links_that_lie_apart(rt: HostRuntime) -> Result<(), Fail> {
+    let apart_between = timing_of(rt.alloc(), LOOP)?;
+    expect_first(&rt, &apart_between, &[0, 672], None);
+    expect_first(&rt, &apart_between, &[0, 671], Some(first_two(4)));
+    expect_first(&rt, &apart_between, &[0, 673], Some(first_two(12)));
+    expect_first(&rt, &apart_between, &[0, 2015], Some(first_two(12)));
+    expect_first(&rt, &apart_between, &[0, 2016], None);
+    Ok(())
+}
+
+#[test]
+fn finds_the_first_overlap_of_ten(rt: HostRuntime) -> Result<(), Fail> {
+    let ten = timing_of(rt.alloc(), TEN)?;
+    let apart = [
+        0, 672, 1_344, 2_016, 2_688, 3_360, 4_032, 4_704, 5_376, 6_048,
+    ];
+    expect_first(&rt, &ten, &apart, None);
+    let last_two = [
+        0, 672, 1_344, 2_016, 2_688, 3_360, 4_032, 4_704, 5_376, 5_376,
+    ];
+    let eight = Triple {
+        left: 8,
+        right: 9,
+        link: 20,
+    };
+    expect_first(&rt, &ten, &last_two, Some(eight));
+    let none = Triple {
+        left: 0,
+        right: 1,
+        link: 20,
+    };
+    expect_first(&rt, &ten, &[0; 10], Some(none));
+    Ok(())
 }

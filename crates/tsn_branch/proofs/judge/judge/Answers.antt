@@ -1,35 +1,74 @@
-use Rattle.std.proofs.Common.{List, length, ℕ, sym, ap, ◌∙◌, subst}
+use Rattle.std.proofs.Common.{◌≡◌, ◌<◌, ◌*◌, List, None, length, ℕ, Fits, w64, refl, sym, ap, ◌∙◌, subst, arith}
 use Rattle.std.specs.Prelude.{option_copied}
 use Rattle.tsn_model.specs.declared.Triple.{Triple}
+use Rattle.tsn_model.specs.declared.Decision.{Decision}
+use Rattle.tsn_model.specs.Network.{Network}
 use Rattle.tsn_model.specs.Arcs.{arcs_of}
 use Rattle.tsn_model.specs.Certificate.{positive_cycle}
+use Rattle.tsn_model.specs.Search.{Outcome, split, solved, pruned, tied, refuted}
+use Rattle.tsn_conflict.specs.Raised.{triple_at}
 use Rattle.tsn_diff.specs.Answers.{Answers}
 use Rattle.tsn_branch.specs.Releases.{releases_of}
+use Rattle.tsn_branch.specs.Least.{ComesWithSplit}
+use Rattle.tsn_branch.specs.Outcome.{outcome_of}
 use Rattle.tsn_branch.specs.Look.{IsLook, IsRefutation}
-use Rattle.tsn_branch.specs.Descent.{IsPlaced, outcome_found}
-use Rattle.tsn_branch.proofs.Findings.{placed, look_found}
+use Rattle.tsn_branch.specs.Descent.{Closes, IsFinding}
 use Rattle.tsn_branch.proofs.Leasts.{IsRefutation-from}
 use Rattle.tsn_branch.proofs.judge.judge.Goals as goal
 
-pub look_of-requires : goal.look_of-requires
-look_of-requires c =
+-- what closes its path comes with no least offsets
+comes_alone : (network : Network) (path : List Decision) (outcome : Outcome) → Closes outcome → ComesWithSplit network path outcome None
+comes_alone network path (split triple) never = absurd never
+comes_alone network path (solved offsets bound leaf chains) closes = refl
+comes_alone network path (pruned bound leaf) closes = refl
+comes_alone network path (tied bound leaf chains) closes = refl
+comes_alone network path (refuted leaf) closes = refl
+
+pub bounds-triples-seen : goal.bounds-triples-seen
+bounds-triples-seen c =
     let network = c.args.timing.now in
     let (path, answers) = c.requires.some_path in
     let solves = subst (Answers (releases_of network) (arcs_of network path)) c.in-Least.is answers in
-    let found = placed network path c.args.target (option_copied c.args.best) c.in_ok-finding-in-Least.finding (c.in_ok-finding-in-Least.ensures path solves) in
-    subst (λ (ts : List Triple). IsPlaced (length ts) c.in_ok-finding-in-Least.finding) (sym c.requires.conflicts.triples) found
+    let found = subst (IsFinding network path c.args.target (option_copied c.args.best)) c.in-Split.is (c.in_ok-finding-in-Least.ensures path solves) in
+    subst (λ (ts : List Triple). c.in-Split.seen.place < length ts) (sym (c.triples.ensures ∙ c.requires.conflicts.triples)) found.0.within
 
-pub returns-in_ok-finding-in-Least : goal.returns-in_ok-finding-in-Least
-returns-in_ok-finding-in-Least c =
+pub offset_bounds-triples-seen : goal.offset_bounds-triples-seen
+offset_bounds-triples-seen c =
+    let network = c.args.timing.now in
+    let (path, answers) = c.requires.some_path in
+    let solves = subst (Answers (releases_of network) (arcs_of network path)) c.in-Least.is answers in
+    let found = subst (IsFinding network path c.args.target (option_copied c.args.best)) c.in-Split.is (c.in_ok-finding-in-Least.ensures path solves) in
+    let below : c.in-Split.seen.place < length c.triples.result.now =
+    subst (λ (ts : List Triple). c.in-Split.seen.place < length ts) (sym (c.triples.ensures ∙ c.requires.conflicts.triples)) found.0.within in
+    let long = c.triples.type_inv in
+    omega arith
+
+pub returns-in-Split-clause-look : goal.returns-in-Split-clause-look
+returns-in-Split-clause-look c =
     λ path answers.
     let network = c.args.timing.now in
     let solves = subst (Answers (releases_of network) (arcs_of network path)) c.in-Least.is answers in
-    let found = look_found network path c.args.target (option_copied c.args.best) c.in_ok-finding-in-Least.finding (c.in_ok-finding-in-Least.ensures path solves) in
-    let same = c.look_of.ensures ∙ ap (λ (ts : List Triple). outcome_found ts c.in_ok-finding-in-Least.finding) c.requires.conflicts.triples in
-    subst (IsLook network path c.args.target (option_copied c.args.best)) (sym same) found
+    let found = subst (IsFinding network path c.args.target (option_copied c.args.best)) c.in-Split.is (c.in_ok-finding-in-Least.ensures path solves) in
+    subst (λ (ts : List Triple). IsLook network path c.args.target (option_copied c.args.best) (split (triple_at ts c.in-Split.seen.place))) (sym (c.triples.ensures ∙ c.requires.conflicts.triples)) found.1
 
-pub returns-in_ok-of-in-Positive : goal.returns-in_ok-of-in-Positive
-returns-in_ok-of-in-Positive c =
+pub returns-in-Closed-clause-look : goal.returns-in-Closed-clause-look
+returns-in-Closed-clause-look c =
+    λ path answers.
+    let network = c.args.timing.now in
+    let solves = subst (Answers (releases_of network) (arcs_of network path)) c.in-Least.is answers in
+    let found = subst (IsFinding network path c.args.target (option_copied c.args.best)) c.in-Closed.is (c.in_ok-finding-in-Least.ensures path solves) in
+    found.1
+
+pub returns-in-Closed-clause-least : goal.returns-in-Closed-clause-least
+returns-in-Closed-clause-least c =
+    λ path answers.
+    let network = c.args.timing.now in
+    let solves = subst (Answers (releases_of network) (arcs_of network path)) c.in-Least.is answers in
+    let found = subst (IsFinding network path c.args.target (option_copied c.args.best)) c.in-Closed.is (c.in_ok-finding-in-Least.ensures path solves) in
+    comes_alone network path (outcome_of c.in-Closed.look) found.0
+
+pub returns-in_ok-of-in-Positive-clause-look : goal.returns-in_ok-of-in-Positive-clause-look
+returns-in_ok-of-in-Positive-clause-look c =
     λ path answers.
     let network = c.args.timing.now in
     let refutes = subst (Answers (releases_of network) (arcs_of network path)) c.in-Positive.is answers in

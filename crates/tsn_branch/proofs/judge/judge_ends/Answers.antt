@@ -5,13 +5,14 @@ use Rattle.tsn_model.specs.Schedule.{IsFirstOverlap}
 use Rattle.tsn_model.specs.Arcs.{conflicts_of}
 use Rattle.tsn_conflict.specs.Raised.{OnlyRaisedOverlap, triple_at}
 use Rattle.tsn_branch.specs.Links.{shared_links, IsUnloaded}
-use Rattle.tsn_branch.specs.Loads.{IsFirstLoad}
+use Rattle.tsn_branch.specs.Loads.{IsFirstLoad, IsTightest}
 use Rattle.tsn_branch.specs.Ends.{AreEnds}
 use Rattle.tsn_branch.specs.Look.{IsFirstOverrun, IsShownBy, IsUntied}
 use Rattle.tsn_branch.proofs.Leasts.{count, AreLeast-from, IsShownBy-from, small_offsets, least_same}
 use Rattle.tsn_branch.specs.Outcome.{outcome_of}
 use Rattle.tsn_branch.specs.Descent.{IsSeenBy, IsSolution, IsTieBy}
 use Rattle.tsn_branch.proofs.Findings.{solution_found}
+use Rattle.tsn_branch.proofs.Tied.{tightest_for}
 use Rattle.tsn_branch.proofs.judge.judge_ends.Goals as goal
 
 pub returns-in-Overrun : goal.returns-in-Overrun
@@ -50,13 +51,13 @@ returns-then-end-target c =
       ),
     )
 
-pub first_load-requires-clause-count : goal.first_load-requires-clause-count
-first_load-requires-clause-count c =
+pub find_loads-requires-clause-count : goal.find_loads-requires-clause-count
+find_loads-requires-clause-count c =
     let path = c.requires.some_path in
     ap (λ (offsets : List ℕ). length offsets) c.offsets.ensures ∙ count c.args.timing.now path.0 c.args.least.now path.1
 
-pub first_load-requires-clause-small : goal.first_load-requires-clause-small
-first_load-requires-clause-small c =
+pub find_loads-requires-clause-small : goal.find_loads-requires-clause-small
+find_loads-requires-clause-small c =
     let network = c.args.timing.now in
     let path = c.requires.some_path in
     let (fit, last, end) = subst (AreEnds network c.args.least.now.offsets) c.in-Within.is c.requires.ends in
@@ -65,16 +66,16 @@ first_load-requires-clause-small c =
 
 pub judge_load-requires-clause-found : goal.judge_load-requires-clause-found
 judge_load-requires-clause-found c =
-    (c.args.target, subst (λ (offsets : List ℕ). IsFirstLoad c.args.timing.now offsets c.args.target c.in-Some.found) c.offsets.ensures c.in-Some.ensures)
+    (c.args.target, subst (λ (offsets : List ℕ). IsFirstLoad c.args.timing.now offsets c.args.target c.in-Closed.found) c.offsets.ensures c.in-Closed.ensures)
 
-pub returns-in-Some : goal.returns-in-Some
-returns-in-Some c =
+pub returns-in-Closed : goal.returns-in-Closed
+returns-in-Closed c =
     λ path solves.
     let network = c.args.timing.now in
     let offsets = c.args.least.now.offsets in
     let (fit, last, end) = subst (AreEnds network offsets) c.in-Within.is c.requires.ends in
-    let found = subst (λ (list : List ℕ). IsFirstLoad network list c.args.target c.in-Some.found) c.offsets.ensures c.in-Some.ensures in
-    (c.in_ok-look.ensures.closes, c.in_ok-look.ensures.look path c.args.target solves fit (omega (arith, end, c.if-end-target.false)) found (option_copied c.args.best))
+    let found = subst (λ (list : List ℕ). IsFirstLoad network list c.args.target c.in-Closed.found) c.offsets.ensures c.in-Closed.ensures in
+    (c.in_ok-look-in-Closed.ensures.closes, c.in_ok-look-in-Closed.ensures.look path c.args.target solves fit (omega (arith, end, c.if-end-target.false)) found (option_copied c.args.best))
 
 pub first_violated_from-requires-clause-small : goal.first_violated_from-requires-clause-small
 first_violated_from-requires-clause-small c =
@@ -100,8 +101,8 @@ returns-in-Some-first_violated_from c =
     let overlap : IsFirstOverlap network labels.offsets (triple_at (conflicts_of network) place) =
     subst (λ (ts : List Triple). IsFirstOverlap network labels.offsets (triple_at ts place)) conflicts.triples
     (subst (λ (offsets : List ℕ). IsFirstOverlap network offsets (triple_at c.args.conflicts.now.triples place)) c.offsets-2.ensures found.1) in
-    let unloaded = subst (λ (offsets : List ℕ). All (IsUnloaded network offsets c.args.target) (shared_links network)) c.offsets.ensures c.in_default.ensures in
-    let untied = subst (λ o. IfNone o (IsUntied network labels.offsets (option_copied c.args.best))) c.in_default-tie.is c.in_ok-tie.ensures.none in
+    let unloaded = subst (λ (offsets : List ℕ). All (IsUnloaded network offsets c.args.target) (shared_links network)) c.offsets.ensures c.in-Open.ensures.0 in
+    let untied = subst (λ o. IfNone o (IsUntied network labels.offsets (option_copied c.args.best))) c.in_default.is c.in_ok-tie.ensures.none in
     let least = AreLeast-from network path labels solves in (
       record {
         within = subst (λ (ts : List Triple). place < length ts) conflicts.triples found.0;
@@ -118,10 +119,10 @@ returns c =
     let network = c.args.timing.now in
     let labels = c.args.least.now in
     let (fit, last, end) = subst (AreEnds network labels.offsets) c.in-Within.is c.requires.ends in
-    let unloaded = subst (λ (offsets : List ℕ). All (IsUnloaded network offsets c.args.target) (shared_links network)) c.offsets.ensures c.in_default.ensures in
-    let untied = subst (λ o. IfNone o (IsUntied network labels.offsets (option_copied c.args.best))) c.in_default-tie.is c.in_ok-tie.ensures.none in
-    solution_found network path labels.offsets c.in-Within.end c.args.target (option_copied c.args.best) (outcome_of c.in_ok-look-2.look) (omega (arith, c.if-end-target.false)) (AreLeast-from network path labels solves) unloaded untied
-    (subst (λ n. IsSolution network path n (outcome_of c.in_ok-look-2.look)) (sym end) (c.in_ok-look-2.ensures path solves))
+    let unloaded = subst (λ (offsets : List ℕ). All (IsUnloaded network offsets c.args.target) (shared_links network)) c.offsets.ensures c.in-Open.ensures.0 in
+    let untied = subst (λ o. IfNone o (IsUntied network labels.offsets (option_copied c.args.best))) c.in_default.is c.in_ok-tie.ensures.none in
+    solution_found network path labels.offsets c.in-Within.end c.args.target (option_copied c.args.best) (outcome_of c.in_ok-look.look) (omega (arith, c.if-end-target.false)) (AreLeast-from network path labels solves) unloaded untied
+    (subst (λ n. IsSolution network path n (outcome_of c.in_ok-look.look)) (sym end) (c.in_ok-look.ensures path solves))
 
 pub solved-requires-clause-fit : goal.solved-requires-clause-fit
 solved-requires-clause-fit c =
@@ -135,14 +136,20 @@ solved-requires-clause-last c =
 
 pub find_tie-requires-clause-within : goal.find_tie-requires-clause-within
 find_tie-requires-clause-within c =
-    (c.args.target, subst (λ (offsets : List ℕ). All (IsUnloaded c.args.timing.now offsets c.args.target) (shared_links c.args.timing.now)) c.offsets.ensures c.in_default.ensures)
+    (c.args.target, subst (λ (offsets : List ℕ). All (IsUnloaded c.args.timing.now offsets c.args.target) (shared_links c.args.timing.now)) c.offsets.ensures c.in-Open.ensures.0)
 
-pub returns-in-Some-tie : goal.returns-in-Some-tie
-returns-in-Some-tie c =
+pub find_tie-requires-clause-tightest : goal.find_tie-requires-clause-tightest
+find_tie-requires-clause-tightest c =
+    let network = c.args.timing.now in
+    let tightest = subst (λ (offsets : List ℕ). IsTightest network offsets c.tie_limit-limit.result c.in-Open.tightest) c.offsets.ensures c.in-Open.ensures.1 in
+    tightest_for network c.args.least.now.offsets c.args.target c.tie_limit-limit.result (option_copied c.args.best) c.in-Open.tightest c.tie_limit-limit.ensures tightest
+
+pub returns-in-Some : goal.returns-in-Some
+returns-in-Some c =
     λ path solves.
     let network = c.args.timing.now in
     let labels = c.args.least.now in
     let (fit, last, end) = subst (AreEnds network labels.offsets) c.in-Within.is c.requires.ends in
-    let unloaded = subst (λ (offsets : List ℕ). All (IsUnloaded network offsets c.args.target) (shared_links network)) c.offsets.ensures c.in_default.ensures in
-    let found = subst (λ o. IfSome o (IsTieBy network labels (option_copied c.args.best))) c.in-Some-tie.is c.in_ok-tie.ensures.some in
+    let unloaded = subst (λ (offsets : List ℕ). All (IsUnloaded network offsets c.args.target) (shared_links network)) c.offsets.ensures c.in-Open.ensures.0 in
+    let found = subst (λ o. IfSome o (IsTieBy network labels (option_copied c.args.best))) c.in-Some.is c.in_ok-tie.ensures.some in
     (found.0, found.1 path c.args.target solves (omega (arith, end, c.if-end-target.false)) unloaded)

@@ -1,12 +1,10 @@
-use Rattle.std.proofs.Common.{◌≤◌, List, ℕ, All, sym, subst, arith}
+use Rattle.std.proofs.Common.{List, ℕ, subst, arith}
 use Rattle.std.proofs.lemmas.Option.{slice_get_within}
 use Rattle.tsn_model.specs.Schedule.{IsNotAfter}
 use Rattle.tsn_model.specs.Certificate.{load}
-use Rattle.tsn_branch.specs.declared.loads.FirstLoad.TheVariants.{Load}
 use Rattle.tsn_branch.specs.Links.{shared_links}
-use Rattle.tsn_branch.specs.Loads.{IsFirstLoad}
+use Rattle.tsn_branch.specs.Loads.{IsFirstLoad, IsTightest}
 use Rattle.tsn_branch.specs.Look.{ShowsUpto, IsTie}
-use Rattle.tsn_branch.proofs.Leasts.{count, small_offsets}
 use Rattle.tsn_branch.proofs.Ways.{of_some}
 use Rattle.tsn_branch.proofs.Tied.{late_tie, load_tie, not_overloaded}
 use Rattle.tsn_branch.proofs.judge.judge_tie.Goals as goal
@@ -32,54 +30,46 @@ returns-then-end-limit-clause-some c =
           c.args.last c.args.end c.in_ok-chain_to.field-0 last end (omega (arith, c.if-end-limit.true, c.flowspan-limit.ensures)) c.in_ok-chain_to.ensures,
     )
 
-pub first_load-requires-clause-small : goal.first_load-requires-clause-small
-first_load-requires-clause-small c =
-    let network = c.args.timing.now in
-    let path = c.requires.some_path in
-    let (fit, last, end) = c.requires.ends in
-    subst (All (λ offset. offset ≤ 1000000000)) (sym c.offsets.ensures)
-    (small_offsets network c.args.least.now.offsets c.requires.formed (count network path.0 c.args.least.now path.1) fit)
-
 pub unreachable-requires : goal.unreachable-requires
 unreachable-requires c =
     let network = c.args.timing.now in
     let offsets = c.args.least.now.offsets in
-    let limit = c.flowspan-limit.result in
-    let found = subst (λ (list : List ℕ). IsFirstLoad network list limit c.in-Some-Overload.field-0) c.offsets.ensures c.in-Some-Overload.ensures in
-    not_overloaded network offsets c.requires.within.0 limit c.in-Some-Overload.field-0-0 c.requires.within.1 (subst (IsFirstLoad network offsets limit) c.in-Some-Overload.field-0-is found)
+    let limit = c.args.best.now.flowspan in
+    let found = subst (IsTightest network offsets limit) c.in-Some-tightest.is c.requires.tightest in
+    not_overloaded network offsets c.requires.within.0 limit c.in_default-found.field-0 c.requires.within.1 (subst (IsFirstLoad network offsets limit) c.in_default-found.is found)
 
 pub entries_at-requires-clause-place : goal.entries_at-requires-clause-place
 entries_at-requires-clause-place c =
     let network = c.args.timing.now in
     let offsets = c.args.least.now.offsets in
-    let limit = c.flowspan-limit.result in
-    let found = subst (λ (list : List ℕ). IsFirstLoad network list limit c.in-Some-Load.field-0) c.offsets.ensures c.in-Some-Load.ensures in
-    let is = subst (IsFirstLoad network offsets limit) c.in-Some-Load.field-0-is found in
-    slice_get_within (shared_links network) c.in-Some-Load.place is.0 is.1.there
+    let limit = c.args.best.now.flowspan in
+    let found = subst (IsTightest network offsets limit) c.in-Some-tightest.is c.requires.tightest in
+    let is = subst (IsFirstLoad network offsets limit) c.in-Load.is found in
+    slice_get_within (shared_links network) c.in-Load.place is.0 is.1.there
 
-pub returns-in_ok-link-in-Some-Load-clause-some : goal.returns-in_ok-link-in-Some-Load-clause-some
-returns-in_ok-link-in-Some-Load-clause-some c =
+pub returns-clause-some : goal.returns-clause-some
+returns-clause-some c =
     let network = c.args.timing.now in
     let labels = c.args.least.now in
     let best = c.args.best.now in
     let chains = c.in-Some-2.chains in
-    let place = c.in-Some-Load.place in
-    let bound = c.in-Some-Load.bound in
-    let found = of_some _ _ c.in_ok-chains-in-Some-Load.field-0 chains c.in-Some-2.is c.in_ok-chains-in-Some-Load.ensures in
+    let place = c.in-Load.place in
+    let bound = c.in-Load.bound in
+    let found = of_some _ _ c.in_ok-chains-2.field-0 chains c.in-Some-2.is c.in_ok-chains-2.ensures in
     let (fit, last, end) = c.requires.ends in
-    let first = subst (λ (list : List ℕ). IsFirstLoad network list c.flowspan-limit.result c.in-Some-Load.field-0) c.offsets.ensures c.in-Some-Load.ensures in
-    let is = subst (λ n. IsFirstLoad network labels.offsets n (Load place bound)) c.flowspan-limit.ensures (subst (IsFirstLoad network labels.offsets c.flowspan-limit.result) c.in-Some-Load.field-0-is first) in (
+    let first = subst (IsTightest network labels.offsets best.flowspan) c.in-Some-tightest.is c.requires.tightest in
+    let is = subst (IsFirstLoad network labels.offsets best.flowspan) c.in-Load.is first in (
       tt,
       λ path target solves below unloaded.
-          subst (λ (link : ℕ). IsTie network path target best bound (load link c.in_ok-link-in-Some-Load.entries) chains) (omega arith)
+          subst (λ (link : ℕ). IsTie network path target best bound (load link c.in_ok-link.entries) chains) (omega arith)
           (load_tie network path labels solves target best chains
           (record {
             fit = fit;
             below = below;
             unloaded = unloaded;
-            not_before = subst (λ (others : List ℕ). IsNotAfter others labels.offsets) c.valid-in-Some-Load.ensures found.0;
-            shown = subst (λ (others : List ℕ). ShowsUpto network path labels.offsets others chains) c.valid-in-Some-Load.ensures (found.1 path solves);
+            not_before = subst (λ (others : List ℕ). IsNotAfter others labels.offsets) c.valid-2.ensures found.0;
+            shown = subst (λ (others : List ℕ). ShowsUpto network path labels.offsets others chains) c.valid-2.ensures (found.1 path solves);
           })
-          place bound c.in_ok-link-in-Some-Load.link c.in_ok-link-in-Some-Load.entries (omega (arith, end, c.if-end-limit.false, c.flowspan-limit.ensures)) is c.in_ok-link-in-Some-Load.ensures.link
-          (c.in_ok-link-in-Some-Load.ensures.shown path solves)),
+          place bound c.in_ok-link.link c.in_ok-link.entries (omega (arith, end, c.if-end-limit.false, c.flowspan-limit.ensures)) is c.in_ok-link.ensures.link
+          (c.in_ok-link.ensures.shown path solves)),
     )

@@ -6,29 +6,29 @@ use Rattle.tsn_book.proofs.arena.Tree.admit.Goals as goal
 pub returns-then-len-limit : goal.returns-then-len-limit
 returns-then-len-limit c =
     let self = c.args.self.now in
-    let history = history_of self.origins.items self.events.items in
-    let is_open = open_stop self.network self.origins.items self.standings.items self.events.items c.requires.tree c.args.path.now c.args.stop c.in-Open.place c.in-Open.is c.requires.stop in
-    let count : length history ≡ length self.events.items = length-history_of self.origins.items self.events.items in
-    (is_open, omega (arith, count, c.len.ensures, c.if-len-limit.true, self.events.ok), omega (arith, count, c.len-then-len-limit.ensures, self.events.ok))
+    let history = history_of self.places.origins self.events.items in
+    let is_open = open_stop self.network self.places.origins self.places.standings self.events.items c.requires.tree c.args.path.now c.args.stop c.in-Open.place c.in-Open.is c.requires.stop in
+    let count : length history ≡ length self.events.items = length-history_of self.places.origins self.events.items in
+    (is_open, omega (arith, count, c.len.ensures.count, c.if-len-limit.true), omega (arith, count, c.len-then-len-limit.ensures.count))
 
 pub is_met-requires-clause-decided : goal.is_met-requires-clause-decided
 is_met-requires-clause-decided c =
     let self = c.args.self.now in
-    stop_decides self.network self.origins.items self.standings.items self.events.items c.requires.tree c.args.path.now c.args.stop c.in-Open.place c.in-Open.is c.requires.stop
+    stop_decides self.network self.places.origins self.places.standings self.events.items c.requires.tree c.args.path.now c.args.stop c.in-Open.place c.in-Open.is c.requires.stop
 
 pub returns-then-is_met : goal.returns-then-is_met
 returns-then-is_met c =
     let self = c.args.self.now in
-    let history = history_of self.origins.items self.events.items in
-    let count : length history ≡ length self.events.items = length-history_of self.origins.items self.events.items in
-    let below : length history < c.args.limit = omega (arith, count, c.len.ensures, c.if-len-limit.false, self.events.ok) in
+    let history = history_of self.places.origins self.events.items in
+    let count : length history ≡ length self.events.items = length-history_of self.places.origins self.events.items in
+    let below : length history < c.args.limit = omega (arith, count, c.len.ensures.count, c.if-len-limit.false) in
     (c.in-Open.is, below, c.if-is_met.ensures)
 
 pub returns-else-is_met : goal.returns-else-is_met
 returns-else-is_met c =
     let self = c.args.self.now in
-    let history = history_of self.origins.items self.events.items in
-    let is_open = open_stop self.network self.origins.items self.standings.items self.events.items c.requires.tree c.args.path.now c.args.stop c.in-Open.place c.in-Open.is c.requires.stop in
-    let count : length history ≡ length self.events.items = length-history_of self.origins.items self.events.items in
-    let below : length history < c.args.limit = omega (arith, count, c.len.ensures, c.if-len-limit.false, self.events.ok) in
+    let history = history_of self.places.origins self.events.items in
+    let is_open = open_stop self.network self.places.origins self.places.standings self.events.items c.requires.tree c.args.path.now c.args.stop c.in-Open.place c.in-Open.is c.requires.stop in
+    let count : length history ≡ length self.events.items = length-history_of self.places.origins self.events.items in
+    let below : length history < c.args.limit = omega (arith, count, c.len.ensures.count, c.if-len-limit.false) in
     (is_open, below, c.if-is_met.ensures, c.requires.best)

@@ -10,7 +10,7 @@ pub returns-in_default-kept : goal.returns-in_default-kept
 unfolding before_kept
 returns-in_default-kept c =
     let tree = c.args.self.now in
-    let first = kept_of tree.network (history_of tree.origins.items tree.events.items) in
+    let first = kept_of tree.network (history_of tree.places.origins tree.events.items) in
     let solved = c.in-Solved.solved in
     let none : first ≡ None = c.in_default-kept.ensures in
     rw c.in-Solved.is (sym (even_better first solved.offsets solved.flowspan c.args.best (sym c.flowspan.ensures ∙ c.if-flowspan-best.false) ∙ ap (λ f. before_kept f solved.offsets) none))
@@ -19,7 +19,7 @@ pub returns : goal.returns
 unfolding before_kept
 returns c =
     let tree = c.args.self.now in
-    let first = kept_of tree.network (history_of tree.origins.items tree.events.items) in
+    let first = kept_of tree.network (history_of tree.places.origins tree.events.items) in
     let solved = c.in-Solved.solved in
     let some : first ≡ Some c.in-Some.best_solved.now.offsets = c.in-Some.ensures.0 in
     let mine : c.offsets.result.now ≡ solved.offsets = c.offsets.ensures ∙ c.valid.ensures in

@@ -11,7 +11,7 @@ use Rattle.tsn_book.proofs.arena.Tree.is_met.Goals as goal
 pub returns-in-Pruned : goal.returns-in-Pruned
 returns-in-Pruned c =
     let self = c.args.self.now in
-    let history = history_of self.origins.items self.events.items in
+    let history = history_of self.places.origins self.events.items in
     let path = c.args.path.now in
     let least : c.min.result ≡ min (best_bound self.network history) self.network.cycle =
     c.min.ensures ∙ ap (λ best. min best c.cycle.result) c.requires.best ∙ ap (min (best_bound self.network history)) c.cycle.ensures.value in

@@ -10,12 +10,12 @@ returns-clause-lawful c =
     let inside = c.self.inside in
     let tree = inside.tree in
     subst IsLawful c.self.view_is
-    (lawful tree.network tree.origins.items tree.standings.items tree.events.items inside.closed.items inside.limit inside.open_nodes inside.best inside.kept inside.tallies.items c.self.invariant)
+    (lawful tree.network tree.places.origins tree.places.standings tree.events.items inside.closed.items inside.limit inside.open_nodes inside.best inside.kept inside.tallies.items c.self.invariant)
 
 pub returns-clause-target : goal.returns-clause-target
 returns-clause-target c =
     let inside = c.self.inside in
     let tree = inside.tree in
-    let history = history_of tree.origins.items tree.events.items in
+    let history = history_of tree.places.origins tree.events.items in
     subst (λ (p : Progress). IsBelowBounds p.network inside.best p.history) c.self.view_is
     (subst (λ best. IsBelowBounds tree.network best history) (sym c.self.invariant.summary.lowest) (best_target tree.network history c.self.invariant.tree.legal))

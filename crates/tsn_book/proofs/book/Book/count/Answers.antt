@@ -7,11 +7,11 @@ use Rattle.tsn_book.proofs.book.Book.count.Goals as goal
 pub returns-clause-count : goal.returns-clause-count
 returns-clause-count c =
     let tree = c.self.inside.tree in
-    omega (arith, c.len.ensures, length-history_of tree.origins.items tree.events.items, ap (λ (p : Progress). length p.history) c.self.view_is, tree.events.ok)
+    omega (arith, c.len.ensures.count, length-history_of tree.places.origins tree.events.items, ap (λ (p : Progress). length p.history) c.self.view_is)
 
 pub returns-clause-lawful : goal.returns-clause-lawful
 returns-clause-lawful c =
     let inside = c.self.inside in
     let tree = inside.tree in
     subst IsLawful c.self.view_is
-    (lawful tree.network tree.origins.items tree.standings.items tree.events.items inside.closed.items inside.limit inside.open_nodes inside.best inside.kept inside.tallies.items c.self.invariant)
+    (lawful tree.network tree.places.origins tree.places.standings tree.events.items inside.closed.items inside.limit inside.open_nodes inside.best inside.kept inside.tallies.items c.self.invariant)

@@ -11,9 +11,9 @@ returns-clause-solved c =
     let tree = c.self.inside.tree in
     let k = c.args.teller in
     let flowspan = c.args.flowspan in (
-      λ is. subst (λ (p : Progress). Contains (solved_bounds (settled_by k p.history)) flowspan) c.self.view_is (solved_found tree.origins.items tree.events.items k flowspan (subst (Any (IsSolvedBy k flowspan)) c.deref.ensures.value (c.any_solved.ensures.0 is))),
+      λ is. subst (λ (p : Progress). Contains (solved_bounds (settled_by k p.history)) flowspan) c.self.view_is (solved_found tree.places.origins tree.events.items k flowspan (c.any_solved.ensures.0 is)),
       λ found. c.any_solved.ensures.1
-          (subst (Any (IsSolvedBy k flowspan)) (sym c.deref.ensures.value) (found_solved tree.origins.items tree.events.items k flowspan (subst (λ (p : Progress). Contains (solved_bounds (settled_by k p.history)) flowspan) (sym c.self.view_is) found))),
+          (found_solved tree.places.origins tree.events.items k flowspan (subst (λ (p : Progress). Contains (solved_bounds (settled_by k p.history)) flowspan) (sym c.self.view_is) found)),
     )
 
 pub returns-clause-lawful : goal.returns-clause-lawful
@@ -21,4 +21,4 @@ returns-clause-lawful c =
     let inside = c.self.inside in
     let tree = inside.tree in
     subst IsLawful c.self.view_is
-    (lawful tree.network tree.origins.items tree.standings.items tree.events.items inside.closed.items inside.limit inside.open_nodes inside.best inside.kept inside.tallies.items c.self.invariant)
+    (lawful tree.network tree.places.origins tree.places.standings tree.events.items inside.closed.items inside.limit inside.open_nodes inside.best inside.kept inside.tallies.items c.self.invariant)

@@ -12,4 +12,4 @@ returns-clause-lawful c =
     let inside = c.self.inside in
     let tree = inside.tree in
     subst IsLawful c.self.view_is
-    (lawful tree.network tree.origins.items tree.standings.items tree.events.items inside.closed.items inside.limit inside.open_nodes inside.best inside.kept inside.tallies.items c.self.invariant)
+    (lawful tree.network tree.places.origins tree.places.standings tree.events.items inside.closed.items inside.limit inside.open_nodes inside.best inside.kept inside.tallies.items c.self.invariant)

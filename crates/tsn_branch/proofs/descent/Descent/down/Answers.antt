@@ -1,7 +1,9 @@
 use Rattle.std.proofs.Common.{◌≡◌, ◌++◌, ◌∷◌, [], sym, ap, ◌∙◌, subst}
 use Rattle.tsn_model.specs.declared.Side.TheVariants.{Left}
 use Rattle.tsn_model.specs.Certificate.{decided}
+use Rattle.tsn_branch.specs.Path.{Fits}
 use Rattle.tsn_branch.specs.Descent.{Way, Stands, Splits}
+use Rattle.tsn_branch.proofs.Descents.{fits_more}
 use Rattle.tsn_branch.proofs.Ways.{stands_down}
 use Rattle.tsn_branch.proofs.descent.Descent.down.Goals as goal
 
@@ -15,3 +17,10 @@ returns-clause-stands c =
     let seen : c.push_reserved.new.self.items ≡ c.self.inside.seen.items ++ c.in-Some.seen ∷ [] = c.push_reserved.ensures.items ∙ ap (λ xs. xs ++ c.in-Some.seen ∷ []) c.reserve.ensures.items in
     subst (λ p. Stands network (record { path = p; stack = c.self.inside.stack; seen = c.push_reserved.new.self.items; found = c.self.inside.found })) (sym path)
     (subst (λ s. Stands network (record { path = decided c.self.inside.node c.args.triple Left; stack = c.self.inside.stack; seen = s; found = c.self.inside.found })) (sym seen) down)
+
+pub returns-clause-fits : goal.returns-clause-fits
+returns-clause-fits c =
+    λ triples among fits.
+    let path : c.push.new.self ≡ decided c.self.inside.node c.args.triple Left = c.in_ok-push.ensures.ok in
+    let whole : c.args.self.now.path ≡ c.self.inside.node = ap (λ (way : Way). way.path) (sym c.self.view_is) in
+    subst (Fits triples) (sym path) (fits_more triples c.self.inside.node c.args.triple Left among (subst (Fits triples) whole fits))

@@ -7,9 +7,9 @@ use Rattle.tsn_model.specs.Search.{split}
 use Rattle.tsn_conflict.specs.Raised.{triple_at}
 use Rattle.tsn_branch.specs.Outcome.{outcome_of}
 use Rattle.tsn_branch.specs.Descent.{IsFinding}
-use Rattle.tsn_branch.specs.Look.{IsRefutation, HasProof, SplitsUndecided, TiesWith}
+use Rattle.tsn_branch.specs.Look.{IsRefutation, HasProof, SplitsUndecided, SplitsAmong, TiesWith}
 use Rattle.tsn_branch.proofs.Leasts.{IsRefutation-from}
-use Rattle.tsn_branch.proofs.Rights.{HasProof-from, SplitsUndecided-from, TiesWith-from}
+use Rattle.tsn_branch.proofs.Rights.{HasProof-from, SplitsUndecided-from, SplitsAmong-from, TiesWith-from}
 use Rattle.tsn_branch.proofs.Ways.{of_some}
 use Rattle.tsn_branch.proofs.descent.Descent.look.Goals as goal
 
@@ -46,3 +46,11 @@ returns-in-Ok-Closed-clause-ties c =
     let found = subst (IsFinding network c.lead.new.self.path c.args.target (option_copied c.args.best)) c.in-Ok-Closed.field-0-is c.in-Ok-Closed.ensures in
     subst (λ p. TiesWith network p (option_copied c.args.best) (outcome_of c.in-Ok-Closed.look)) c.lead.ensures.path
     (TiesWith-from network c.lead.new.self.path c.args.target (option_copied c.args.best) c.requires.best (outcome_of c.in-Ok-Closed.look) found.1)
+
+pub returns-in-Ok-Split-clause-among : goal.returns-in-Ok-Split-clause-among
+returns-in-Ok-Split-clause-among c =
+    let network = c.args.timing.now in
+    let conflicts = c.requires.conflicts in
+    subst (λ ts. SplitsAmong ts (split (triple_at c.triples.result.now c.in-Ok-Split.seen.place))) c.triples.ensures
+    (SplitsAmong-from network c.args.self.now.path c.triples.result.now conflicts.formed (c.triples.ensures ∙ conflicts.triples) (split (triple_at c.triples.result.now c.in-Ok-Split.seen.place))
+    (returns-in-Ok-Split-clause-undecided c))

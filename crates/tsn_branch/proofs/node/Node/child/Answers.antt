@@ -6,5 +6,5 @@ use Rattle.tsn_branch.proofs.node.Node.child.Goals as goal
 pub returns : goal.returns
 unfolding decided
 returns c =
-    c.in_ok-longer.ensures
-    ∙ ap (λ (path : List Decision). path ++ record { triple = c.args.triple; side = c.args.side } ∷ []) c.self.view_is
+    c.in_ok-path.ensures
+    ∙ ap (λ (path : List Decision). path ++ record { triple = c.args.triple; side = c.args.side } ∷ []) (c.deref.ensures.value ∙ c.self.view_is)
