@@ -1,20 +1,23 @@
 -- The halves behind the lock.
-use Rattle.std.proofs.Common.{◌≡◌, ◌≢◌, ℕ, ◌<◌, List, ◌∷◌, [], ◌++◌, length, get_or, set, true, sym, ap, ◌∙◌, subst, inl, inr, refl, not, arith, Result, Ok, Err}
-use Rattle.std.specs.Prelude.{◌≤◌, ◌==◌, IfOk, Option, Some, None}
+use Rattle.std.proofs.Common.{◌≡◌, ◌≢◌, ℕ, ◌<◌, List, ◌∷◌, [], ◌++◌, length, get_or, set, true, false, sym, ap, ◌∙◌, subst, inl, inr, refl, not, arith, Result, Ok, Err}
+use Rattle.std.specs.Prelude.{◌≤◌, ◌==◌, IfOk, IfErr, OnOk, OnErr, Option, Some, None, IsSomeAnd, slice_get}
 use Rattle.std.proofs.lemmas.Bool.{cases_eq}
 use Rattle.std.proofs.lemmas.List.{length-set, get_or-set_same, get_or-set_other}
 use Rattle.std.proofs.lemmas.List.Filters.{length-filter_both}
 use Rattle.tsn_model.specs.Network.{Network}
-use Rattle.tsn_model.specs.Search.{Settlement, tally_of, settled_by, solved_bounds, least_or_none}
+use Rattle.tsn_model.specs.Search.{Event, Settlement, tally_of, settled_by, solved_bounds, least_or_none}
 use Rattle.tsn_timing.specs.Solution.{Solution}
 use Rattle.tsn_search_laws.proofs.Numbers.{fold-min-le}
-use Rattle.tsn_search_laws.proofs.Gathering.{tally-another, best-le-tally}
+use Rattle.tsn_search_laws.specs.Gathering.{tally_with}
+use Rattle.tsn_search_laws.proofs.Gathering.{tally-this, tally-another, best-le-tally}
 use Rattle.tsn_incumbent.specs.Flowspans.{no_flowspan}
 use Rattle.tsn_incumbent.specs.Halves.{Half, Tally, half}
-use Rattle.tsn_book.specs.Book.{Progress, IsLawful}
+use Rattle.tsn_book.specs.Book.{Progress, IsLawful, IsFault}
+use Rattle.tsn_book.specs.Below.{IsFaultAt}
+use Rattle.tsn_book.specs.declared.fault.BookFault.{BookFault}
 use Rattle.tsn_share.specs.Names.{Names, progress_of, IsBookOf}
 use Rattle.tsn_share.specs.Teller.{Known}
-use Rattle.tsn_share.specs.Desk.{Halved, AreCounts, IsReading, IsKeptOf, IsNoWorse, IsBest}
+use Rattle.tsn_share.specs.Desk.{Halved, AreCounts, IsReading, IsKeptOf, IsNoWorse, IsBest, IsRefused, IsRefusedAt}
 use Rattle.tsn_share.specs.declared.desk.Counts.{Counts}
 
 -- one half is set to its number's tally in another history, where the others have the tallies that they had
@@ -42,6 +45,40 @@ halves_settled names halves history settlement new before within is =
 pub halves_agree : (names : Names) (halves : List Half) (history : List Settlement) (teller : ℕ) (new : Half) → Halved names halves history → teller < length halves
     → new ≡ half names.halves teller true (tally_of names.race.network teller history) → Halved names (set halves teller new) history
 halves_agree names halves history teller new before within is = halves_set names halves history history teller new before within is (λ k other. refl)
+
+-- what one event does to them, where it may have been refused
+pub halves_answer : {X E : Type 0} (answer : Result X E) (names : Names) (halves : List Half) (before after : Progress) (settlement : Settlement) (new : Half)
+    → OnOk answer (after ≡ record before { history = before.history ++ settlement ∷ [] }) → OnErr answer (after ≡ before) → Halved names halves before.history → settlement.teller < length halves
+    → new ≡ half names.halves settlement.teller true (tally_of names.race.network settlement.teller after.history) → Halved names (set halves settlement.teller new) after.history
+halves_answer (Ok x) names halves before after settlement new settled same halved within is =
+    let history = ap (λ (p : Progress). p.history) settled in
+    subst (Halved names (set halves settlement.teller new)) (sym history)
+    (halves_settled names halves before.history settlement new halved within (is ∙ ap (λ h. half names.halves settlement.teller true (tally_of names.race.network settlement.teller h)) history))
+halves_answer (Err e) names halves before after settlement new settled same halved within is =
+    let history = ap (λ (p : Progress). p.history) same in
+    subst (Halved names (set halves settlement.teller new)) (sym history)
+    (halves_agree names halves before.history settlement.teller new halved within (is ∙ ap (λ h. half names.halves settlement.teller true (tally_of names.race.network settlement.teller h)) history))
+
+-- and to its teller's share
+pub share_settled : {X E : Type 0} (answer : Result X E) (names : Names) (before after : Progress) (settlement : Settlement) (share new : Half) → OnOk answer (after ≡ record before { history = before.history ++ settlement ∷ [] })
+    → share.tally ≡ tally_of names.race.network settlement.teller before.history → new ≡ half names.halves settlement.teller false (tally_of names.race.network settlement.teller after.history)
+    → OnOk answer (new ≡ half names.halves settlement.teller false (tally_with share.tally settlement.event.outcome))
+share_settled (Ok x) names before after settlement share new settled mine is =
+    let history = ap (λ (p : Progress). p.history) settled in
+    let tally =
+    ap (tally_of names.race.network settlement.teller) history
+    ∙ tally-this names.race.network settlement.teller before.history settlement refl
+    ∙ ap (λ (t : Tally). tally_with t settlement.event.outcome) (sym mine) in
+    is ∙ ap (half names.halves settlement.teller false) tally
+share_settled (Err e) names before after settlement share new settled mine is = tt
+
+pub share_refused : {X E : Type 0} (answer : Result X E) (names : Names) (before after : Progress) (k : ℕ) (share new : Half) → OnErr answer (after ≡ before)
+    → share ≡ half names.halves k false share.tally → share.tally ≡ tally_of names.race.network k before.history → new ≡ half names.halves k false (tally_of names.race.network k after.history)
+    → OnErr answer ((after ≡ before) × (new ≡ share))
+share_refused (Ok x) names before after k share new same shares mine is = tt
+share_refused (Err e) names before after k share new same shares mine is =
+    let tally = ap (λ (p : Progress). tally_of names.race.network k p.history) same ∙ sym mine in
+    (same, is ∙ ap (half names.halves k false) tally ∙ sym shares)
 
 -- a teller settled no more events than there are
 pub tally-le : (network : Network) (k : ℕ) (history : List Settlement) → (tally_of network k history).0 ≤ length history
@@ -96,3 +133,24 @@ copies names known book of lawful mine (Ok best) kept =
       no_worse = no_worse names.race.network known book.history mine best kept';
     }
 copies names known book of lawful mine (Err e) kept = tt
+
+-- why an event wasn't settled
+module _ (names : Names) (known : Known) (book : Progress) (of : IsBookOf names book) (lawful : IsLawful book) (mine : tally_of names.race.network known.standing.number book.history ≡ known.tally) where
+  refused : (event : Event) (fault : BookFault) → IsFault names.race.network names.limit book.history event fault → IsRefused names known event fault
+  refused event fault is =
+      let same : book ≡ progress_of names book.history = (λ i. record { network = of.network i; tellers = of.tellers i; limit = of.limit i; history = book.history }) in
+      record { history = book.history; lawful = subst IsLawful same lawful; mine = mine; first_reason = is }
+
+  pub refuses : {X E : Type 0} (answer : Result X E) (fault_of : E → BookFault) (event : Event)
+      → IfErr answer (λ e. IsFault names.race.network names.limit book.history event (fault_of e)) → IfErr answer (λ e. IsRefused names known event (fault_of e))
+  refuses (Ok x) fault_of event told = tt
+  refuses (Err e) fault_of event told = refused event (fault_of e) told
+
+  refused_some : (found : Option Event) (fault : BookFault) → IsSomeAnd found (λ event. IsFault names.race.network names.limit book.history event fault) → IsSomeAnd found (λ event. IsRefused names known event fault)
+  refused_some None fault told = told
+  refused_some (Some event) fault told = refused event fault told
+
+  pub refuses_at : {X E : Type 0} (answer : Result X E) (count : E → ℕ) (fault_of : E → BookFault) (events : List Event)
+      → IfErr answer (λ e. IsFaultAt names.race.network names.limit book.history events (count e) (fault_of e)) → IfErr answer (λ e. IsRefusedAt names known events (count e) (fault_of e))
+  refuses_at (Ok x) count fault_of events told = tt
+  refuses_at (Err e) count fault_of events told = refused_some (slice_get events (count e)) (fault_of e) told

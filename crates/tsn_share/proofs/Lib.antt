@@ -1,3 +1,4 @@
+pub mod Batching
 pub mod Desks
 pub mod Joining
 pub mod Seats

@@ -1,6 +1,7 @@
 -- What a teller keeps to when it settles.
-use Rattle.std.proofs.Common.{◌≡◌, ℕ, ◌≤◌, min, sym, subst, arith, false, refl, Result, Ok, Err}
-use Rattle.std.specs.Prelude.{OnOk, OnErr}
+use Rattle.std.proofs.Common.{◌≡◌, ℕ, ◌≤◌, min, sym, ap, subst, arith, false, refl, List, [], ◌∷◌, take, All, Result, Ok, Err}
+use Rattle.std.specs.Prelude.{OnOk, OnErr, IfErr}
+use Rattle.std.proofs.lemmas.List.Elements.{All-head, All-tail, All-take}
 use Rattle.tsn_model.specs.Network.{Network}
 use Rattle.tsn_model.specs.Certificate.{beyond}
 use Rattle.tsn_model.specs.Search.{Outcome, split, solved, pruned, tied, refuted}
@@ -9,7 +10,7 @@ use Rattle.tsn_search_laws.specs.Gathering.{tally_with}
 use Rattle.tsn_incumbent.specs.Standings.{Place, posted}
 use Rattle.tsn_incumbent.specs.Halves.{Half, Tally, half}
 use Rattle.tsn_share.specs.Names.{Names}
-use Rattle.tsn_share.specs.Teller.{head_of, Keeps, IsSolvedBy}
+use Rattle.tsn_share.specs.Teller.{head_of, Keeps, IsSolvedBy, tally_with_all}
 
 -- what is worse than what was seen stays so where less is seen
 pub beyond_seen : (network : Network) (seen word bound : ℕ) → beyond network seen ≤ bound → beyond network (min seen word) ≤ bound
@@ -51,6 +52,37 @@ pub keeps_answer : {X E : Type 0} (P : Type 0) (names : Names) (number : ℕ) (p
     → (answer : Result X E) → OnOk answer (new ≡ half names.halves number false (tally_with share.tally outcome)) → OnErr answer (P × (new ≡ share)) → Keeps names number place new
 keeps_answer P names number place share outcome new keeps above (Ok x) ok err = keeps_settled names number place share outcome new keeps above ok
 keeps_answer P names number place share outcome new keeps above (Err e) ok err = subst (Keeps names number place) (sym err.1) keeps
+
+-- nor do several events
+low_after_all : (network : Network) (seen : ℕ) (tally : Tally) (outcomes : List Outcome) → beyond network seen ≤ tally.1 → All (IsAboveSeen network seen) outcomes → beyond network seen ≤ (tally_with_all tally outcomes).1
+low_after_all network seen tally [] low above = low
+low_after_all network seen tally (outcome ∷ outcomes) low above =
+    low_after_all network seen (tally_with tally outcome) outcomes (low_after network seen tally outcome low (All-head (IsAboveSeen network seen) outcome outcomes above)) (All-tail (IsAboveSeen network seen) outcome outcomes above)
+
+solved_after_all : (posted : ℕ) (tally : Tally) (outcomes : List Outcome) → tally.2 ≤ posted → (tally_with_all tally outcomes).2 ≤ posted
+solved_after_all posted tally [] high = high
+solved_after_all posted tally (outcome ∷ outcomes) high = solved_after_all posted (tally_with tally outcome) outcomes (solved_after posted tally outcome high)
+
+module _ (names : Names) (number : ℕ) (place : Place) (share new : Half) (keeps : Keeps names number place share) where
+  keeps_settled_all : (outcomes : List Outcome) → All (IsAboveSeen names.race.network (head_of place.standings).seen) outcomes → new ≡ half names.halves number false (tally_with_all share.tally outcomes) → Keeps names number place new
+  keeps_settled_all outcomes above is =
+      subst (Keeps names number place) (sym is)
+      (record {
+        sits = keeps.sits;
+        shares = refl;
+        numbered = keeps.numbered;
+        within = keeps.within;
+        pruned = low_after_all names.race.network (head_of place.standings).seen share.tally outcomes keeps.pruned above;
+        solved = solved_after_all (head_of place.standings).posted share.tally outcomes keeps.solved;
+      })
+
+  -- all events were settled, or as many as a refusal counts
+  pub keeps_taken : {U E : Type 0} (answer : Result U E) (count : E → ℕ) (A C : E → Type 0) (outcomes : List Outcome) → All (IsAboveSeen names.race.network (head_of place.standings).seen) outcomes
+      → OnOk answer (new ≡ half names.halves number false (tally_with_all share.tally outcomes))
+      → IfErr answer (λ e. A e × (new ≡ half names.halves number false (tally_with_all share.tally (take (count e) outcomes))) × C e)
+      → Keeps names number place new
+  keeps_taken (Ok u) count A C outcomes above all some = keeps_settled_all outcomes above all
+  keeps_taken (Err e) count A C outcomes above all some = keeps_settled_all (take (count e) outcomes) (All-take (IsAboveSeen names.race.network (head_of place.standings).seen) (count e) outcomes above) some.1
 
 -- a solved leaf prunes by nothing, and is the least that its teller solved where it is no more than that was
 pub above_solved : (network : Network) (seen flowspan : ℕ) (outcome : Outcome) → IsSolvedBy flowspan outcome → IsAboveSeen network seen outcome

@@ -1,11 +1,12 @@
 -- What lies behind the lock.
-use Rattle.std.specs.Prelude.{◌≡◌, ℕ, zero, suc, ◌<◌, ◌≤◌, true, List, [], ◌∷◌, length, slice_index_or, Option, Some, None, MatchOption}
+use Rattle.std.specs.Prelude.{◌≡◌, ℕ, zero, suc, ◌<◌, ◌≤◌, true, List, [], ◌∷◌, length, slice_index_or, slice_get, Option, Some, None, MatchOption, IsSomeAnd}
 use Rattle.tsn_model.specs.Network.{Network}
-use Rattle.tsn_model.specs.Search.{Settlement, open_paths, tally_of, best_bound, kept_of, IsFirstOpen}
+use Rattle.tsn_model.specs.Search.{Event, Settlement, open_paths, tally_of, best_bound, kept_of, IsFirstOpen}
 use Rattle.tsn_timing.specs.Solution.{Solution, IsSolved}
 use Rattle.tsn_incumbent.specs.Flowspans.{no_flowspan}
 use Rattle.tsn_incumbent.specs.Halves.{Half, half}
-use Rattle.tsn_book.specs.Book.{IsLawful}
+use Rattle.tsn_book.specs.Book.{IsLawful, IsFault}
+use Rattle.tsn_book.specs.declared.fault.BookFault.{BookFault}
 use Rattle.tsn_share.specs.Names.{Names, progress_of}
 use Rattle.tsn_share.specs.Teller.{Known, no_event}
 use Rattle.tsn_share.specs.declared.desk.Counts.{Counts}
@@ -50,3 +51,14 @@ pub record IsBest (names : Names) (known : Known) (best : Option Solution) : Typ
   pub mine : tally_of names.race.network known.standing.number history ≡ known.tally
   pub kept : IsKeptOf names.race.network history best
   pub no_worse : IsNoWorse names.race.network known best
+
+-- why an event isn't settled, after a lawful history of this search in which the teller's tally is its share
+pub record IsRefused (names : Names) (known : Known) (event : Event) (fault : BookFault) : Type 0 where
+  pub history : List Settlement
+  pub lawful : IsLawful (progress_of names history)
+  pub mine : tally_of names.race.network known.standing.number history ≡ known.tally
+  pub first_reason : IsFault names.race.network names.limit history event fault
+
+-- why the event of that number isn't
+abbrev pub IsRefusedAt : Names → Known → List Event → ℕ → BookFault → Type 0
+IsRefusedAt names known events number fault = IsSomeAnd (slice_get events number) (λ event. IsRefused names known event fault)

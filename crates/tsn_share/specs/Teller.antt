@@ -1,9 +1,10 @@
 -- What a teller knows.
 --     Known, IsEven, IsSolvedBy     what it has seen, posted and settled
 --     Keeps                         what every teller keeps to
---     settled                       one more event
+--     settled, settled_all          one more event, and several
+--     OnlyLastSolved                outcomes of which at most the last is solved
 --     fresh_teller, tellers_from    tellers that have settled nothing
-use Rattle.std.specs.Prelude.{◌≡◌, ℕ, zero, suc, ◌<◌, ◌≤◌, false, List, [], ◌∷◌}
+use Rattle.std.specs.Prelude.{◌≡◌, ℕ, zero, suc, ◌<◌, ◌≤◌, false, List, [], ◌∷◌, ◌++◌, All}
 use Rattle.tsn_model.specs.Network.{Network}
 use Rattle.tsn_model.specs.Certificate.{beyond}
 use Rattle.tsn_model.specs.Search.{Outcome, split, solved, pruned, tied, refuted}
@@ -51,6 +52,29 @@ IsSolvedBy flowspan (refuted leaf) = ⊥
 -- its share takes an event
 abbrev pub settled : Outcome → Known → Known
 settled outcome known = record { standing = known.standing; tally = tally_with known.tally outcome }
+
+-- a tally with several more events
+abbrev pub tally_with_all : Tally → List Outcome → Tally
+tally_with_all tally [] = tally
+tally_with_all tally (outcome ∷ outcomes) = tally_with_all (tally_with tally outcome) outcomes
+
+-- its share takes several events, one after another
+abbrev pub settled_all : List Outcome → Known → Known
+settled_all outcomes known = record { standing = known.standing; tally = tally_with_all known.tally outcomes }
+
+abbrev pub IsUnsolved : Outcome → Type 0
+IsUnsolved (split triple) = Unit {0}
+IsUnsolved (solved offsets bound leaf chains) = ⊥
+IsUnsolved (pruned bound leaf) = Unit {0}
+IsUnsolved (tied bound leaf chains) = Unit {0}
+IsUnsolved (refuted leaf) = Unit {0}
+
+-- there is a last outcome, and none before it is solved
+pub record OnlyLastSolved (outcomes : List Outcome) : Type 0 where
+  pub front : List Outcome
+  pub last : Outcome
+  pub is : outcomes ≡ front ++ last ∷ []
+  pub unsolved : All IsUnsolved front
 
 -- the tally of no event
 abbrev pub no_event : Network → Tally

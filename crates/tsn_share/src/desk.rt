@@ -1,19 +1,22 @@
 //! What lies behind the lock: the book, and one half of each number's tally.
-ghost use Rattle.std.specs.Prelude.{◌≡◌, ◌<◌, ◌++◌, ◌∷◌, [], false, IfOk, IfErr, OnOk, OnErr};
+ghost use Rattle.std.specs.Prelude.{◌≡◌, ◌<◌, ◌++◌, ◌∷◌, [], false, length, map, take, drop, All, IfOk, IfErr, OnOk, OnErr};
 ghost use Rattle.tsn_model.specs.Search.{tally_of};
 ghost use Rattle.tsn_search_laws.specs.Gathering.{tally_with};
 ghost use Rattle.tsn_branch.specs.Outcome.{outcome_of};
-ghost use Rattle.tsn_branch.specs.Look.{HasProof};
+ghost use Rattle.tsn_branch.specs.Look.{HasProof, SplitsUndecided};
 ghost use Rattle.tsn_incumbent.specs.Halves.{half};
 ghost use Rattle.tsn_book.specs.Event.{event_of};
-ghost use Rattle.tsn_book.specs.Book.{IsLawful};
+ghost use Rattle.tsn_book.specs.Book.{IsLawful, IsFault};
+ghost use Rattle.tsn_book.specs.Below.{path_after, events_below, IsFaultAt};
 ghost use Rattle.tsn_share.specs.Names.{IsBookOf};
 ghost use Rattle.tsn_share.specs.Desk.{AreCounts, IsKeptOf};
+ghost use Rattle.tsn_share.specs.Teller.{tally_with_all};
 
 use crate::names::Named;
 use std::alloc::Global;
 use std::marker::{Model, PhantomData};
 use tsn_book::{Book, BookFault, Event};
+use tsn_branch::outcome::Look;
 use tsn_branch::{NoMemory, Node};
 use tsn_incumbent::{Half, Halves};
 use tsn_timing::Solved;
@@ -63,12 +66,75 @@ impl<K: Named> Desk<K> {
         ensures share { OnOk result (share.new ≡ half K.names.halves teller false (tally_with share.old.tally (outcome_of event.look))) }
         ensures refused { OnErr result ((self.new ≡ self.old) × (share.new ≡ share.old)) }
         ensures returned { IfErr result (λ refusal. refusal.1 ≡ event) }
+        ensures fault { IfErr result (λ refusal. IsFault K.names.race.network K.names.limit self.new.history (event_of event) refusal.0) }
+        ensures agrees { tally_of K.names.race.network teller self.new.history ≡ share.new.tally }
+        ensures book { IsBookOf K.names self.new }
+        ensures lawful { IsLawful self.new }
     {
-        self.book.settle(teller, event)?;
+        let settled = self.book.settle(teller, event);
         let tally = self.book.tally(teller);
         let mine = &mut self.halves[teller];
         halves.set_in_place(share, mine, tally);
-        Ok(())
+        settled
+    }
+
+    /// Settles events in order, up to the first refusal, and sets both halves of the teller's tally.
+    pub fn settle_all(
+        &mut self,
+        halves: &Halves,
+        teller: usize,
+        share: &mut Half,
+        events: Vec<Event>,
+    ) -> Result<(), (usize, BookFault, Vec<Event>)>
+        requires table { halves.now ≡ K.names.halves }
+        requires share { share.old ≡ half K.names.halves teller false share.old.tally }
+        requires within { teller < K.names.race.tellers }
+        requires proofs { All (λ event. HasProof K.names.race.network event.node (outcome_of event.look)) events.items }
+        ensures all { OnOk result (share.new ≡ half K.names.halves teller false (tally_with_all share.old.tally (map (λ event. outcome_of event.look) events.items))) }
+        ensures some { IfErr result (λ refusal. (refusal.0 < length events.items)
+            × (share.new ≡ half K.names.halves teller false (tally_with_all share.old.tally (take refusal.0 (map (λ event. outcome_of event.look) events.items))))
+            × (refusal.2.items ≡ drop refusal.0 events.items)) }
+        ensures fault { IfErr result (λ refusal. IsFaultAt K.names.race.network K.names.limit self.new.history (map event_of events.items) refusal.0 refusal.1) }
+        ensures agrees { tally_of K.names.race.network teller self.new.history ≡ share.new.tally }
+        ensures book { IsBookOf K.names self.new }
+        ensures lawful { IsLawful self.new }
+    {
+        let settled = self.book.settle_all(teller, events);
+        let tally = self.book.tally(teller);
+        let mine = &mut self.halves[teller];
+        halves.set_in_place(share, mine, tally);
+        settled
+    }
+
+    /// Settles the nodes of a walk from a node on, up to the first refusal, and sets both halves of the teller's tally.
+    pub fn settle_below(
+        &mut self,
+        halves: &Halves,
+        teller: usize,
+        share: &mut Half,
+        from: &mut Node,
+        looks: Vec<Look>,
+    ) -> Result<(), (usize, BookFault)>
+        requires table { halves.now ≡ K.names.halves }
+        requires share { share.old ≡ half K.names.halves teller false share.old.tally }
+        requires within { teller < K.names.race.tellers }
+        requires proofs { All (λ event. HasProof K.names.race.network event.path event.outcome × SplitsUndecided K.names.race.network event.path event.outcome)
+            (events_below from.old (map outcome_of looks.items)) }
+        ensures all { OnOk result (share.new ≡ half K.names.halves teller false (tally_with_all share.old.tally (map outcome_of looks.items))) }
+        ensures from { OnOk result (from.new ≡ path_after from.old (map outcome_of looks.items)) }
+        ensures some { IfErr result (λ refusal. (refusal.0 < length looks.items)
+            × (share.new ≡ half K.names.halves teller false (tally_with_all share.old.tally (take refusal.0 (map outcome_of looks.items))))
+            × (from.new ≡ path_after from.old (take refusal.0 (map outcome_of looks.items)))) }
+        ensures fault { IfErr result (λ refusal. IsFaultAt K.names.race.network K.names.limit self.new.history (events_below from.old (map outcome_of looks.items)) refusal.0 refusal.1) }
+        ensures agrees { tally_of K.names.race.network teller self.new.history ≡ share.new.tally }
+        ensures book { IsBookOf K.names self.new }
+        ensures lawful { IsLawful self.new }
+    {
+        let settled = self.book.settle_below(teller, from, looks);
+        let tally = self.book.tally(teller);
+        let mine = &mut self.halves[teller];
+        halves.set_in_place(share, mine, tally);
+        settled
     }
 
     /// Tells that the teller's share is its tally in the book.

@@ -13,5 +13,8 @@ pub use desk::Counts;
 pub use gathering::gather;
 pub use names::Named;
 pub use parts::Parts;
-pub use shared::{Shared, best_as, observe_as, post_as, settle_and_post, settle_as, with_book};
+pub use shared::{
+    Shared, best_as, observe_as, post_as, settle_all_as, settle_and_post, settle_as,
+    settle_below_as, with_book,
+};
 pub use teller::Teller;

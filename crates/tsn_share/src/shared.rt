@@ -1,25 +1,32 @@
 //! What tellers share.
-ghost use Rattle.std.specs.Prelude.{◌≡◌, ◌≤◌, IfOk, IfErr, OnOk, OnErr};
+ghost use Rattle.std.specs.Prelude.{◌≡◌, ◌≤◌, ◌<◌, length, map, take, drop, All, IfOk, IfErr, OnOk, OnErr};
 ghost use Rattle.tsn_model.specs.Core.{IsAboveSeen};
 ghost use Rattle.tsn_timing.specs.Solution.{IsSolved};
 ghost use Rattle.tsn_branch.specs.Outcome.{outcome_of};
-ghost use Rattle.tsn_branch.specs.Look.{HasProof};
+ghost use Rattle.tsn_branch.specs.Look.{HasProof, SplitsUndecided};
 ghost use Rattle.tsn_incumbent.specs.Flowspans.{IsIncumbent};
 ghost use Rattle.tsn_incumbent.specs.Standings.{saw, put};
 ghost use Rattle.tsn_search_laws.specs.Gathering.{tally_with};
-ghost use Rattle.tsn_share.specs.Teller.{IsEven, IsSolvedBy, settled};
-ghost use Rattle.tsn_share.specs.Desk.{IsReading, IsBest};
+ghost use Rattle.tsn_book.specs.Event.{event_of};
+ghost use Rattle.tsn_book.specs.Below.{path_after, events_below};
+ghost use Rattle.tsn_share.specs.Teller.{IsEven, IsSolvedBy, settled, settled_all, OnlyLastSolved};
+ghost use Rattle.tsn_share.specs.Desk.{IsReading, IsBest, IsRefused, IsRefusedAt};
 
 use crate::desk::{Counts, Desk};
 use crate::names::Named;
 use crate::teller::Teller;
 use std::alloc::Global;
+use std::hint::spin_loop;
 use std::marker::Model;
-use std::sync::{Mutex, Wait};
+use std::sync::{Mutex, MutexGuard, Wait};
 use tsn_book::{BookFault, Event};
-use tsn_branch::NoMemory;
+use tsn_branch::outcome::Look;
+use tsn_branch::{NoMemory, Node};
 use tsn_incumbent::{Halves, Incumbent};
 use tsn_timing::Solved;
+
+/// How often the lock is tried before a thread sleeps: for some tens of microseconds.
+const TRIES: usize = 500;
 
 /// The shared word, and behind a lock the book with one half of each teller's tally.
 #[derive(Drop)]
@@ -84,12 +91,82 @@ pub fn settle_as<K: Named>(
     ensures settled { OnOk result (teller.new ≡ settled (outcome_of event.look) teller.old) }
     ensures refused { OnErr result (teller.new ≡ teller.old) }
     ensures returned { IfErr result (λ refusal. refusal.1 ≡ event) }
+    ensures fault { IfErr result (λ refusal. IsRefused K.names teller.new (event_of event) refusal.0) }
 {
     let number = teller.number;
     shared
         .desk
         .lock(rt)
         .settle(&shared.halves, number, &mut teller.share, event)
+}
+
+/// Settles 1 to 64 events, of which at most the last is solved, in one critical section, in order, up to the first that may
+/// not be settled; then how many were settled, the reason why the next one was not, and that one with all behind it. The
+/// teller's share takes those that were settled.
+///
+/// Each event has to be such as `settle_as` asks for.
+pub fn settle_all_as<K: Named>(
+    rt: &impl Wait,
+    shared: &Shared<K>,
+    teller: &mut Teller<K>,
+    events: Vec<Event>,
+) -> Result<(), (usize, BookFault, Vec<Event>)>
+    requires count { (1 ≤ length events.items) × (length events.items ≤ 64) }
+    requires proofs { All (λ event. HasProof K.names.race.network event.node (outcome_of event.look)) events.items }
+    requires seen { All (λ event. IsAboveSeen K.names.race.network teller.old.standing.seen (outcome_of event.look)) events.items }
+    requires last_solved { OnlyLastSolved (map (λ event. outcome_of event.look) events.items) }
+    ensures all { OnOk result (teller.new ≡ settled_all (map (λ event. outcome_of event.look) events.items) teller.old) }
+    ensures some { IfErr result (λ refusal. (refusal.0 < length events.items)
+        × (teller.new ≡ settled_all (take refusal.0 (map (λ event. outcome_of event.look) events.items)) teller.old)
+        × (refusal.2.items ≡ drop refusal.0 events.items)) }
+    ensures fault { IfErr result (λ refusal. IsRefusedAt K.names teller.new (map event_of events.items) refusal.0 refusal.1) }
+{
+    let number = teller.number;
+    shared
+        .desk
+        .lock(rt)
+        .settle_all(&shared.halves, number, &mut teller.share, events)
+}
+
+/// Settles the nodes of a walk depth first from a node on, of which 1 to 64 looks are given in that order and at most the last
+/// is solved, in one critical section, up to the first that may not be settled; then how many were settled, and the reason why
+/// the next one was not. The node then stands where the walk goes on, and the teller's share takes what was settled.
+///
+/// After a split the walk goes on at the Left child, and after a leaf at the right side of the path's last left turn, or at the
+/// root where there is none. Each look has to be such as `settle_as` asks for, and a split on a conflict that the path doesn't
+/// decide.
+pub fn settle_below_as<K: Named>(
+    rt: &impl Wait,
+    shared: &Shared<K>,
+    teller: &mut Teller<K>,
+    from: &mut Node,
+    looks: Vec<Look>,
+) -> Result<(), (usize, BookFault)>
+    requires count { (1 ≤ length looks.items) × (length looks.items ≤ 64) }
+    requires proofs { All (λ event. HasProof K.names.race.network event.path event.outcome × SplitsUndecided K.names.race.network event.path event.outcome)
+        (events_below from.old (map outcome_of looks.items)) }
+    requires seen { All (IsAboveSeen K.names.race.network teller.old.standing.seen) (map outcome_of looks.items) }
+    requires last_solved { OnlyLastSolved (map outcome_of looks.items) }
+    ensures all { OnOk result (teller.new ≡ settled_all (map outcome_of looks.items) teller.old) }
+    ensures from { OnOk result (from.new ≡ path_after from.old (map outcome_of looks.items)) }
+    ensures some { IfErr result (λ refusal. (refusal.0 < length looks.items)
+        × (teller.new ≡ settled_all (take refusal.0 (map outcome_of looks.items)) teller.old)
+        × (from.new ≡ path_after from.old (take refusal.0 (map outcome_of looks.items)))) }
+    ensures fault { IfErr result (λ refusal. IsRefusedAt K.names teller.new (events_below from.old (map outcome_of looks.items)) refusal.0 refusal.1) }
+{
+    let number = teller.number;
+    desk_of(rt, shared).settle_below(&shared.halves, number, &mut teller.share, from, looks)
+}
+
+// Takes the lock. A section is much shorter than the sleep of a thread, so it is tried for a while before the thread sleeps.
+fn desk_of<'a, K: Named>(rt: &impl Wait, shared: &'a Shared<K>) -> MutexGuard<'a, Desk<K>> {
+    for _ in 0..TRIES {
+        if let Some(desk) = shared.desk.try_lock() {
+            return desk;
+        }
+        spin_loop();
+    }
+    shared.desk.lock(rt)
 }
 
 /// Settles a solved leaf, where it may be, and then posts its schedule, which leaves the teller even; else a reason why not,

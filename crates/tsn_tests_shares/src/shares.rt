@@ -2,9 +2,9 @@
 ghost use Rattle.std.specs.Prelude.{◌≡◌, ◌+◌, ◌<◌, ◌≤◌, IfOk, IfSome, OnOk, option_copied};
 ghost use Rattle.tsn_timing.specs.Solution.{IsSolved};
 ghost use Rattle.tsn_branch.specs.Outcome.{outcome_of};
-ghost use Rattle.tsn_branch.specs.Look.{HasProof, IsLook};
+ghost use Rattle.tsn_branch.specs.Look.{HasProof, IsLook, SplitsUndecided};
 ghost use Rattle.tsn_share.specs.Teller.{IsEven, IsSolvedBy, fresh_teller, tellers_from};
-ghost use Rattle.tsn_tests_shares.specs.Solving.{IsTied};
+ghost use Rattle.tsn_tests_shares.specs.Solving.{IsTied, the_conflict};
 
 use crate::networks::two_streams;
 use std::alloc::Global;
@@ -14,7 +14,7 @@ use std::sync::Wait;
 use std::test::*;
 use tsn_book::{Book, BookFault, Event};
 use tsn_branch::outcome::Look;
-use tsn_branch::{Loads, Node, Side, Triple, fits, look};
+use tsn_branch::{Node, Side, Triple, fits, look};
 use tsn_cert::cert_to_json;
 use tsn_conflict::conflicts;
 use tsn_share::{
@@ -24,7 +24,9 @@ use tsn_share::{
 use tsn_timing::{Solved, Timing};
 
 /// The link on which the two streams meet.
-fn conflict() -> Triple {
+pub fn conflict() -> Triple
+    ensures { result ≡ the_conflict }
+{
     Triple {
         left: 0,
         right: 1,
@@ -33,7 +35,7 @@ fn conflict() -> Triple {
 }
 
 /// A node below the root.
-fn below_root(rt: &impl Abort, alloc: Global, side: Side) -> Result<Node, Fail> {
+pub fn below_root(rt: &impl Abort, alloc: Global, side: Side) -> Result<Node, Fail> {
     let root = Node::root(alloc);
     let triple = conflict();
     assert!(rt; root.path().iter().all(|decision| decision.triple != triple));
@@ -90,7 +92,7 @@ fn beyond(timing: &Timing, seen: u64) -> u64
 }
 
 /// Observes that nothing is posted, and gives the bound from which a node may be pruned.
-fn first_target<K: Named>(
+pub fn first_target<K: Named>(
     rt: &impl Abort,
     timing: &Timing,
     shared: &Shared<K>,
@@ -107,25 +109,23 @@ fn first_target<K: Named>(
     beyond(timing, seen)
 }
 
-/// A node below the root with what a look at it finds.
-fn event_of<R: Abort + AllocGlobal>(
+/// What a look at a node finds.
+pub fn look_at<R: Abort + AllocGlobal>(
     rt: &R,
     timing: &Timing,
-    side: Side,
+    node: &Node,
     target: u64,
     best: Option<&Solved>,
-) -> Result<Event, Fail>
+) -> Result<Look, Fail>
     requires best { IfSome (option_copied best) (IsSolved timing.now) }
-    ensures proof { IfOk result (λ event. HasProof timing.now event.node (outcome_of event.look)) }
-    ensures found { IfOk result (λ event. IsLook timing.now event.node target (option_copied best.entry) (outcome_of event.look)) }
+    ensures proof { IfOk result (λ look. HasProof timing.now node.now (outcome_of look)) }
+    ensures undecided { IfOk result (λ look. SplitsUndecided timing.now node.now (outcome_of look)) }
+    ensures found { IfOk result (λ look. IsLook timing.now node.now target (option_copied best.entry) (outcome_of look)) }
 {
     let alloc = rt.alloc();
-    let node = below_root(rt, alloc, side)?;
     let shared = conflicts(alloc, timing)?;
-    assert!(rt; fits(&shared, &node));
-    let loads = Loads::of(alloc, timing)?;
-    let look = look(alloc, timing, &shared, &loads, &node, target, best)?;
-    Ok(Event { node, look })
+    assert!(rt; fits(&shared, node));
+    Ok(look(alloc, timing, &shared, node, target, best)?)
 }
 
 /// The schedule by which a look solved its node.
@@ -146,7 +146,32 @@ fn schedule_of(timing: &Timing, event: &Event) -> Result<Solved, Fail>
 
 /// A node that a look solves below the target, with its schedule.
 #[tactic(auto, using(crate::proofs::Solving::solved_below))]
-fn solved_event<R: Abort + AllocGlobal>(
+pub fn solved_at<R: Abort + AllocGlobal>(
+    rt: &R,
+    timing: &Timing,
+    node: Node,
+    target: u64,
+) -> Result<(Event, Solved), Fail>
+    ensures node { IfOk result (λ r. r.0.node ≡ node) }
+    ensures proof { IfOk result (λ r. HasProof timing.now r.0.node (outcome_of r.0.look)) }
+    ensures undecided { IfOk result (λ r. SplitsUndecided timing.now r.0.node (outcome_of r.0.look)) }
+    ensures solved { IfOk result (λ r. IsSolved timing.now r.1) }
+    ensures by { IfOk result (λ r. IsSolvedBy r.1.flowspan (outcome_of r.0.look)) }
+    ensures below { IfOk result (λ r. r.1.flowspan < target) }
+{
+    let look = look_at(rt, timing, &node, target, None)?;
+    let event = Event { node, look };
+    match schedule_of(timing, &event) {
+        Ok(schedule) => Ok((event, schedule)),
+        Err(fault) => {
+            give_up(event);
+            Err(fault)
+        }
+    }
+}
+
+/// A node below the root that a look solves below the target, with its schedule.
+pub fn solved_event<R: Abort + AllocGlobal>(
     rt: &R,
     timing: &Timing,
     side: Side,
@@ -157,14 +182,7 @@ fn solved_event<R: Abort + AllocGlobal>(
     ensures by { IfOk result (λ r. IsSolvedBy r.1.flowspan (outcome_of r.0.look)) }
     ensures below { IfOk result (λ r. r.1.flowspan < target) }
 {
-    let event = event_of(rt, timing, side, target, None)?;
-    match schedule_of(timing, &event) {
-        Ok(schedule) => Ok((event, schedule)),
-        Err(fault) => {
-            give_up(event);
-            Err(fault)
-        }
-    }
+    solved_at(rt, timing, below_root(rt, rt.alloc(), side)?, target)
 }
 
 /// Settles a node that a look solves below the target, and gives its schedule.
@@ -226,6 +244,33 @@ fn is_tied(look: &Look) -> Result<(), Fail>
     }
 }
 
+/// A look that ties its node with what the book keeps.
+pub fn tied_look<K: Named, R: Wait + Abort + AllocGlobal>(
+    rt: &R,
+    timing: &Timing,
+    shared: &Shared<K>,
+    teller: &mut Teller<K>,
+    node: &Node,
+) -> Result<Look, Fail>
+    requires network { timing.now ≡ K.names.race.network }
+    ensures number { teller.new.standing.number ≡ teller.old.standing.number }
+    ensures posted { teller.new.standing.posted ≡ teller.old.standing.posted }
+    ensures tally { teller.new.tally ≡ teller.old.tally }
+    ensures proof { IfOk result (λ look. HasProof timing.now node.now (outcome_of look)) }
+    ensures undecided { IfOk result (λ look. SplitsUndecided timing.now node.now (outcome_of look)) }
+    ensures tied { IfOk result (λ look. IsTied (outcome_of look)) }
+{
+    let seen = observe_as(shared, teller);
+    assert_eq!(rt; seen, 2_924);
+    let mut best = None;
+    best_as(rt, shared, teller, &mut best)?;
+    let look = look_at(rt, timing, node, beyond(timing, seen), best.as_ref())?;
+    match is_tied(&look) {
+        Ok(()) => Ok(look),
+        Err(fault) => Err(fault),
+    }
+}
+
 /// Settles the Right node as tied with what the book keeps.
 #[tactic(auto, using(crate::proofs::Solving::tied_above, crate::proofs::Solving::tied_least))]
 fn tie_right<K: Named, R: Wait + Abort + AllocGlobal>(
@@ -239,16 +284,9 @@ fn tie_right<K: Named, R: Wait + Abort + AllocGlobal>(
     ensures number { teller.new.standing.number ≡ teller.old.standing.number }
     ensures even { IsEven teller.new }
 {
-    let seen = observe_as(shared, teller);
-    assert_eq!(rt; seen, 2_924);
-    let mut best = None;
-    best_as(rt, shared, teller, &mut best)?;
-    let event = event_of(rt, timing, Side::Right, beyond(timing, seen), best.as_ref())?;
-    if let Err(fault) = is_tied(&event.look) {
-        give_up(event);
-        return Err(fault);
-    }
-    match settle_as(rt, shared, teller, event) {
+    let node = below_root(rt, rt.alloc(), Side::Right)?;
+    let look = tied_look(rt, timing, shared, teller, &node)?;
+    match settle_as(rt, shared, teller, Event { node, look }) {
         Ok(()) => Ok(()),
         Err(refusal) => Err(not_settled(refusal)),
     }
@@ -256,7 +294,7 @@ fn tie_right<K: Named, R: Wait + Abort + AllocGlobal>(
 
 /// The only teller.
 #[tactic(auto, using(crate::proofs::Solving::one_popped))]
-fn only<K: Named>(tellers: Vec<Teller<K>>) -> Result<Teller<K>, Fail>
+pub fn only<K: Named>(tellers: Vec<Teller<K>>) -> Result<Teller<K>, Fail>
     requires { tellers.items ≡ tellers_from K.names 0 1 }
     ensures { IfOk result (λ teller. teller ≡ fresh_teller K.names.race.network 0) }
 {
@@ -302,7 +340,7 @@ fn first_counts<K: Named, R: Wait + Abort + AllocGlobal>(
 
 /// Gathers the only teller.
 #[tactic(auto, using(crate::proofs::Solving::one_in_order))]
-fn gather_one<K: Named>(
+pub fn gather_one<K: Named>(
     alloc: Global,
     shared: Shared<K>,
     teller: Teller<K>,
@@ -343,7 +381,7 @@ fn certificate(alloc: Global, book: Book) -> Result<String, Fail> {
 }
 
 /// The search is finished: by offsets 0 and 672, and three settlements.
-fn is_finished<R: Abort + AllocGlobal>(rt: &R, word: u64, book: Book) -> Result<(), Fail> {
+pub fn is_finished<R: Abort + AllocGlobal>(rt: &R, word: u64, book: Book) -> Result<(), Fail> {
     assert_eq!(rt; word, 2_924);
     assert_eq!(rt; book.count(), 3);
     let kept = book.kept().ok_or("nothing is kept")?;
@@ -412,7 +450,7 @@ fn alone<K: Named, R: Wait + Abort + AllocGlobal>(
 }
 
 /// Whether the event splits the root.
-fn splits_root(event: &Event) -> bool {
+pub fn splits_root(event: &Event) -> bool {
     event.node.path().is_empty()
         && matches!(event.look, Look::Split(triple) if triple == conflict())
 }
