@@ -2,14 +2,17 @@
 #![tactic(auto)]
 
 pub mod fault;
+mod json;
 pub mod laws;
 pub mod list;
 pub mod lists;
 mod sweep;
+pub mod taprio;
 mod timeline;
 mod windows;
 
 pub use fault::GateFault;
 pub use list::GateList;
 pub use lists::gate_lists;
+pub use taprio::to_taprio;
 pub use tsn_model::{GateEntry, NoMemory};

@@ -5,8 +5,10 @@ ghost use Rattle.tsn_model.specs.Gates.{cycle_of, IsOctetAt};
 ghost use Rattle.tsn_gate.specs.Entries.{AllPositive, IsGateList};
 ghost use Rattle.tsn_gate.specs.Fault.{HasGateFault};
 ghost use Rattle.tsn_gate.specs.Table.{entry_text, head_text, table_text, name_at};
+ghost use Rattle.tsn_gate.specs.Json.{json_text};
 
 use crate::fault::GateFault;
+use crate::json::{line, list_value};
 use std::alloc::{AllocError, Global};
 use std::fmt::Write;
 use std::marker::Model;
@@ -104,6 +106,15 @@ impl GateList {
         unreachable!()
     }
 
+    /// The names of the nodes that the link joins: of the one that sends, and of the one that receives.
+    pub fn names<'a>(&self, problem: &'a Problem) -> (&'a str, &'a str)
+        requires { self.now.link < length problem.now.network.links }
+        ensures from { result.0.now ≡ name_at problem.now (link_at problem.now.network self.now.link).from }
+        ensures to { result.1.now ≡ name_at problem.now (link_at problem.now.network self.now.link).to }
+    {
+        names(problem, self.link)
+    }
+
     /// The list as a table: a line with the link, the names of the nodes that it joins and the number of entries, then a
     /// line for each entry.
     pub fn to_text(&self, alloc: Global, problem: &Problem) -> Result<String, NoMemory>
@@ -117,10 +128,20 @@ impl GateList {
         }
         Ok(text)
     }
+
+    /// The list as a line of JSON: an object with its cycle and entries (each an array of its octet and its interval in
+    /// nanoseconds), the link, and the names of the nodes that it joins.
+    pub fn to_json(&self, alloc: Global, problem: &Problem) -> Result<String, NoMemory>
+        requires { self.now.link < length problem.now.network.links }
+        ensures { IfOk result (λ text. string_bytes text ≡ json_text problem.now self.now) }
+    {
+        let value = list_value(alloc, problem, self)?;
+        Ok(line(alloc, &value)?)
+    }
 }
 
 /// The names of the nodes that a link joins.
-fn names(problem: &Problem, link: usize) -> (&str, &str)
+pub(crate) fn names(problem: &Problem, link: usize) -> (&str, &str)
     requires { link < length problem.now.network.links }
     ensures from { result.0.now ≡ name_at problem.now (link_at problem.now.network link).from }
     ensures to { result.1.now ≡ name_at problem.now (link_at problem.now.network link).to }

@@ -6,3 +6,4 @@ pub mod Ports
 pub mod Progress
 pub mod Faults
 pub mod Rows
+pub mod Csv

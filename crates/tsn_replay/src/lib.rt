@@ -3,6 +3,7 @@
 
 pub mod background;
 mod conditions;
+mod csv;
 pub mod cycles;
 mod engine;
 pub mod fault;

@@ -1,8 +1,10 @@
 //! What a replay shows.
 ghost use Rattle.std.specs.Prelude.{◌≡◌, ◌++◌, ◌<◌, length, filter, string_bytes, All, IfOk, OnOk};
 ghost use Rattle.tsn_net.specs.Problem.{NamedNetwork};
+ghost use Rattle.tsn_replay.specs.Csv.{csv_text};
 ghost use Rattle.tsn_replay.specs.Rows.{is_late, stream_name, row_text, late_text, table_text};
 
+use crate::csv::{HEADER, write_record};
 use crate::starts::{Sent, Starts};
 use std::alloc::{AllocError, Global};
 use std::fmt::Write;
@@ -82,6 +84,19 @@ impl Trace {
             write_row(&mut text, problem, row)?;
         }
         write_late(&mut text, late_count(&self.rows))?;
+        Ok(text)
+    }
+
+    /// The rows as comma-separated values (RFC 4180): a line with the columns' names, and one for each row with the stream's
+    /// name in quotes, the cycle, the hop, the planned and the actual start, which is empty where there is none.
+    pub fn to_csv(&self, alloc: Global, problem: &Problem) -> Result<String, NoMemory>
+        requires { All (λ (row : Row). row.stream < length problem.now.stream_names) self.now.rows }
+        ensures { IfOk result (λ text. string_bytes text ≡ csv_text problem.now self.now.rows) }
+    {
+        let mut text = String::from_str(alloc, HEADER)?;
+        for row in &self.rows {
+            write_record(&mut text, problem, row)?;
+        }
         Ok(text)
     }
 }

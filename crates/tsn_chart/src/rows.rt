@@ -1,0 +1,176 @@
+//! The rows of the links.
+ghost use Rattle.std.specs.Prelude.{◌≤◌, ◌<◌, length};
+ghost use Rattle.tsn_model.specs.Network.{stream_count, hop_count};
+
+use crate::picture::Sheet;
+use crate::scale::{LEFT, PAGE};
+use crate::words::{letters_in, write_colour, write_microseconds, write_name, write_whole};
+use std::alloc::AllocError;
+use std::fmt::Write;
+use tsn_gate::{GateEntry, GateList};
+
+/// The narrowest bar, in tenths of a pixel.
+const NARROWEST: u64 = 6;
+
+/// The gate of the scheduled class alone open.
+const SCHEDULED: u8 = 0x80;
+
+/// Writes a row: its label, its gates, and its frames.
+pub fn write_row(text: &mut String, sheet: Sheet<'_>, row: usize) -> Result<(), AllocError>
+    requires { row < length sheet.lists.now }
+{
+    write_label(text, sheet, row)?;
+    write_gates(text, sheet, row)?;
+    for stream in 0..sheet.timing.streams() {
+        write_frames(text, sheet, row, stream)?;
+    }
+    let y = sheet.scale.y(row);
+    write!(
+        text,
+        "<line x1=\"0\" y1=\"{y}\" x2=\"{PAGE}\" y2=\"{y}\" stroke=\"#cccccc\" stroke-width=\"5\"/>\n"
+    )
+}
+
+/// Writes the names of the nodes that the row's link joins.
+fn write_label(text: &mut String, sheet: Sheet<'_>, row: usize) -> Result<(), AllocError>
+    requires { row < length sheet.lists.now }
+{
+    let link = sheet.lists[row].link();
+    let (from, to) = sheet.lists[row].names(sheet.problem);
+    let x = LEFT - 100;
+    let y = sheet.scale.y(row) + sheet.scale.row_height() / 2 + sheet.scale.font() / 3;
+    let most = letters_in(LEFT - 200, sheet.scale.font()).saturating_sub(3) / 2;
+    write!(text, "<text x=\"{x}\" y=\"{y}\" text-anchor=\"end\">")?;
+    write_name(text, from, most)?;
+    text.push_str(" &#8594; ")?;
+    write_name(text, to, most)?;
+    write!(text, "<title>link {link}: ")?;
+    write_whole(text, from)?;
+    text.push_str(" to ")?;
+    write_whole(text, to)?;
+    text.push_str("</title></text>\n")
+}
+
+/// Writes the shades of a row's gates.
+fn write_gates(text: &mut String, sheet: Sheet<'_>, row: usize) -> Result<(), AllocError>
+    requires { row < length sheet.lists.now }
+{
+    let mut start: u64 = 0;
+    for entry in sheet.lists[row].entries() {
+        if start >= sheet.scale.until() {
+            break;
+        }
+        write_gate(text, sheet, row, start, *entry)?;
+        start = start.saturating_add(entry.interval);
+    }
+    Ok(())
+}
+
+/// Writes the shade of an entry that begins at an instant.
+fn write_gate(
+    text: &mut String,
+    sheet: Sheet<'_>,
+    row: usize,
+    start: u64,
+    entry: GateEntry,
+) -> Result<(), AllocError> {
+    let octet = entry.octet;
+    let end = start.saturating_add(entry.interval);
+    let x = sheet.scale.x(start);
+    let wide = sheet.scale.x(end).saturating_sub(x);
+    let y = sheet.scale.y(row);
+    let high = sheet.scale.row_height();
+    let shade = shade_of(octet);
+    write!(
+        text,
+        "<rect x=\"{x}\" y=\"{y}\" width=\"{wide}\" height=\"{high}\" fill=\"{shade}\"><title>gates {octet:02X}: {start} to {end} ns</title></rect>\n"
+    )
+}
+
+/// How gates are shaded.
+fn shade_of(octet: u8) -> &'static str {
+    match octet {
+        0 => "url(#guard)",
+        SCHEDULED => "#fff3c4",
+        0x01..=0x7F => "#d9ecd9",
+        _ => "#ffffff",
+    }
+}
+
+/// Writes the bars of a stream's frame on a row's link.
+fn write_frames(
+    text: &mut String,
+    sheet: Sheet<'_>,
+    row: usize,
+    stream: usize,
+) -> Result<(), AllocError>
+    requires row { row < length sheet.lists.now }
+    requires stream { stream < stream_count sheet.timing.now }
+{
+    let link = sheet.lists[row].link();
+    for hop in 0..sheet.timing.hops(stream) {
+        if sheet.timing.route_link(stream, hop) == link {
+            write_bar(text, sheet, row, stream, hop)?;
+        }
+    }
+    Ok(())
+}
+
+/// Writes the bar of a stream's frame on a hop, unless it is past the picture.
+fn write_bar(
+    text: &mut String,
+    sheet: Sheet<'_>,
+    row: usize,
+    stream: usize,
+    hop: usize,
+) -> Result<(), AllocError>
+    requires stream { stream < stream_count sheet.timing.now }
+    requires hop { hop < hop_count sheet.timing.now stream }
+{
+    let start = sheet.offsets[stream].saturating_add(sheet.timing.start(stream, hop));
+    let end = start.saturating_add(sheet.timing.occ(stream, hop));
+    if start >= sheet.scale.until() {
+        return Ok(());
+    }
+    let x = sheet.scale.x(start);
+    let wide = sheet.scale.x(end).saturating_sub(x).max(NARROWEST);
+    let y = sheet.scale.y(row) + 20;
+    let high = sheet.scale.row_height().saturating_sub(40);
+    write!(text, "<g><title>")?;
+    write_whole(text, sheet.name(stream))?;
+    write!(
+        text,
+        ": {start} to {end} ns</title><rect x=\"{x}\" y=\"{y}\" width=\"{wide}\" height=\"{high}\" fill=\""
+    )?;
+    write_colour(text, stream)?;
+    text.push_str("\"/>")?;
+    write_bar_name(text, sheet, row, stream, x, wide)?;
+    text.push_str("</g>\n")
+}
+
+/// Writes a stream's name into its bar, where there is room for some of it.
+fn write_bar_name(
+    text: &mut String,
+    sheet: Sheet<'_>,
+    row: usize,
+    stream: usize,
+    x: u64,
+    wide: u64,
+) -> Result<(), AllocError>
+    requires stream { stream < stream_count sheet.timing.now }
+    requires x { x ≤ 14_000 }
+    requires wide { wide ≤ 14_000 }
+{
+    let room = letters_in(wide.saturating_sub(40), sheet.scale.font());
+    if room < 3 {
+        return Ok(());
+    }
+    let middle = x + wide / 2;
+    let y = sheet.scale.y(row) + sheet.scale.row_height() / 2 + sheet.scale.font() / 3;
+    write!(
+        text,
+        "<text x=\"{middle}\" y=\"{y}\" fill=\"#ffffff\" text-anchor=\"middle\">"
+    )?;
+    write_name(text, sheet.name(stream), room)?;
+    text.push_str("</text>")
+}

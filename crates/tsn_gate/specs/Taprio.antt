@@ -1,0 +1,74 @@
+-- A shell script that hands gate control lists to Linux's taprio.
+--     escaped                       a name in a comment
+--     device_text, part_text        its parts
+--     script_text                   the whole
+use Rattle.std.specs.Prelude.{ℕ, ◌/◌, ◌%◌, ◌==◌, ◌&&◌, Bool, not, nat_le, nat_lt, if◌then◌else◌, true, List, [], ◌∷◌, ◌++◌, codes}
+use Rattle.std.specs.List.{flat_map}
+use Rattle.std.specs.Fmt.{decimal, digit_glyph}
+use Rattle.tsn_model.specs.declared.GateEntry.{GateEntry}
+use Rattle.tsn_model.specs.Network.{link_at}
+use Rattle.tsn_model.specs.Gates.{cycle_of}
+use Rattle.tsn_model.specs.Bridge.{LinkGates}
+use Rattle.tsn_net.specs.Problem.{NamedNetwork}
+use Rattle.tsn_gate.specs.Table.{name_at}
+
+-- a printable ASCII character but the backslash
+abbrev pub is_plain : ℕ → Bool
+is_plain byte = nat_le 32 byte && nat_lt byte 127 && not (byte == 92)
+
+-- which stands as it is, and each other byte as `\x` and two upper case hexadecimal digits
+unfoldable pub escaped_byte : ℕ → List ℕ
+escaped_byte byte = if is_plain byte then byte ∷ [] else codes "\\x" ++ (digit_glyph true (byte / 16) ∷ digit_glyph true (byte % 16) ∷ [])
+
+-- so a name has no line feed
+abbrev pub escaped : List ℕ → List ℕ
+escaped name = flat_map escaped_byte name
+
+-- `# link 4: S to C`
+unfoldable pub comment_text : ℕ → List ℕ → List ℕ → List ℕ
+comment_text link from to = codes "# link " ++ (decimal link ++ (codes ": " ++ (escaped from ++ (codes " to " ++ (escaped to ++ 10 ∷ [])))))
+
+-- that of a list's link
+abbrev pub link_comment : NamedNetwork → ℕ → List ℕ
+link_comment problem number =
+    let link = link_at problem.network number in
+    comment_text number (name_at problem link.from) (name_at problem link.to)
+
+-- the variable of a link's device, which is empty where the caller sets none
+unfoldable pub variable_text : ℕ → List ℕ
+variable_text link = codes "DEV_" ++ (decimal link ++ (codes "=${DEV_" ++ (decimal link ++ codes ":-}\n")))
+
+abbrev pub device_text : NamedNetwork → LinkGates → List ℕ
+device_text problem list = link_comment problem list.link ++ variable_text list.link
+
+-- an entry: its octet as two upper case hexadecimal digits, and its interval in nanoseconds
+unfoldable pub step_text : GateEntry → List ℕ
+step_text entry =
+    codes "    sched-entry S " ++ ((digit_glyph true (entry.octet / 16) ∷ digit_glyph true (entry.octet % 16) ∷ [])
+    ++ (codes " " ++ (decimal entry.interval ++ codes " \\\n")))
+
+-- the head of a link's command, up to the cycle
+unfoldable pub opening_text : ℕ → ℕ → List ℕ
+opening_text link cycle =
+    codes "[ -z \"$DEV_" ++ (decimal link ++ (codes "\" ] || tc qdisc replace dev \"$DEV_" ++ (decimal link
+    ++ (codes "\" parent root handle 100 taprio \\\n    num_tc 8 map 0 1 2 3 4 5 6 7 0 0 0 0 0 0 0 0 \\\n    queues 1@0 1@1 1@2 1@3 1@4 1@5 1@6 1@7 \\\n    base-time \"$BASE_TIME\" cycle-time "
+    ++ (decimal cycle ++ codes " \\\n")))))
+
+abbrev pub closing_text : List ℕ
+closing_text = codes "    clockid \"$CLOCKID\"\n"
+
+-- a list's command
+unfoldable pub command_text : LinkGates → List ℕ
+command_text list = opening_text list.link (cycle_of list.entries) ++ (flat_map step_text list.entries ++ closing_text)
+
+-- an empty line, the comment on the link, and the command
+abbrev pub part_text : NamedNetwork → LinkGates → List ℕ
+part_text problem list = (10 ∷ [] ++ link_comment problem list.link) ++ command_text list
+
+abbrev pub first_lines : List ℕ
+first_lines =
+    codes "#!/bin/sh\n# Each list is set on the device that its variable names, and none where that is empty.\nset -eu\nCLOCKID=${CLOCKID:-CLOCK_TAI}\nBASE_TIME=${BASE_TIME:-0}\n"
+
+-- the variables of all links, and the command of each
+abbrev pub script_text : NamedNetwork → List LinkGates → List ℕ
+script_text problem lists = first_lines ++ (flat_map (device_text problem) lists ++ flat_map (part_text problem) lists)
