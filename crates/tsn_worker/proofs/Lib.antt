@@ -1,3 +1,5 @@
 mod Settling
 mod Deciding
 pub mod Agreeing
+pub mod Batching
+pub mod Teams

@@ -1,5 +1,6 @@
 -- An open node of a search for a network fits its conflicts; and where a search goes on from a node that it settled.
-use Rattle.std.proofs.Common.{◌≡◌, ℕ, ◌+◌, ◌<◌, ◌≤◌, ◌⊎◌, inl, inr, List, [], ◌∷◌, ◌++◌, length, Contains, Option, Some, None, MatchOption, IsSomeAnd, slice_index_or, refl, sym, ap, ◌∙◌, subst, arith}
+use Rattle.std.proofs.Common.{◌≡◌, ℕ, ◌+◌, ◌<◌, ◌≤◌, ◌⊎◌, inl, inr, List, [], ◌∷◌, ◌++◌, length, Contains, Option, Some, None, MatchOption, IsSomeAnd, slice_index_or, Bor, refl, sym, ap, ◌∙◌, subst, arith}
+use Rattle.std.specs.Prelude.{option_copied}
 use Rattle.std.proofs.Math.Nat.{eq-or-lt_of_le}
 use Rattle.std.proofs.lemmas.List.{length-append}
 use Rattle.tsn_model.specs.declared.Triple.{Triple}
@@ -45,6 +46,15 @@ look_met network history path target (Some solution) (tied bound leaf chains) is
     let least : best_bound network history ≤ bound = rw flowspan.1 at ties.0 in
     subst P (sym kept) (elim (eq-or-lt_of_le least) [ inl same ↦ inr (sym same, ties.1) | inr less ↦ inl less ])
 look_met network history path target best (refuted leaf) is kept flowspan prunes ties = tt
+
+-- the same where the best schedule is lent
+pub lent_met : (network : Network) (history : List Settlement) (path : List Decision) (target : ℕ) (lent : Option (Bor Solution)) (outcome : Outcome)
+    → target ≡ beyond network (best_bound network history)
+    → MatchOption lent (kept_of network history ≡ None) (λ solution. kept_of network history ≡ Some solution.now.offsets)
+    → MatchOption lent (best_bound network history ≡ network.cycle + 1) (λ solution. IsSolved network solution.now × (solution.now.flowspan ≡ best_bound network history))
+    → PrunesFrom target outcome → TiesWith network path (option_copied lent) outcome → IsMet network history path outcome
+lent_met network history path target None outcome is kept flowspan prunes ties = look_met network history path target None outcome is kept flowspan prunes ties
+lent_met network history path target (Some solution) outcome is kept flowspan prunes ties = look_met network history path target (Some solution.now) outcome is kept flowspan prunes ties
 
 -- ---- where a search goes on
 

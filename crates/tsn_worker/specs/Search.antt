@@ -10,15 +10,15 @@ use Rattle.tsn_search_laws.specs.Walk.{IsWalk}
 use Rattle.tsn_branch.specs.Descent.{Way, Stands}
 use Rattle.tsn_book.specs.Book.{Progress}
 
--- the book is of a search for the network with that limit, by one teller
+-- the book is of a search for the network with that limit
 pub record IsSearchOf (network : Network) (limit : ℕ) (book : Progress) : Type 0 where
   pub same_network : book.network ≡ network
   pub same_limit : book.limit ≡ limit
-  pub one_teller : book.tellers ≡ 1
 
--- besides, the way leads to the open node that is first in preorder, which has this place; the other open nodes wait, the next one last
+-- besides, there is one teller, and the way leads to the open node that is first in preorder, which has this place; the other open nodes wait, the next one last
 pub record IsSearching (network : Network) (limit : ℕ) (book : Progress) (way : Way) (place : ℕ) (waiting : List ℕ) : Type 0 where
   pub search : IsSearchOf network limit book
+  pub one_teller : book.tellers ≡ 1
   pub stands : Stands network way
   pub walk : IsWalk book.history way.path place (reverse waiting)
 

@@ -1,12 +1,25 @@
-//! The planner: it settles open nodes until none is left, and hands out the schedule that it kept with its certificate.
+//! The planner: it settles open nodes until none is left, by one worker or by several, and hands out the schedule that it kept
+//! with its certificate.
 #![tactic(auto)]
 
 pub mod answer;
+pub mod bag;
+mod batch;
+mod below;
+mod best;
+mod board;
 pub mod gate;
 pub mod laws;
+mod news;
 pub mod planning;
+mod rest;
 mod search;
+mod start;
+mod team;
+mod threads;
+mod worker;
 
 pub use answer::Answer;
-pub use gate::{Gate, OpenGate};
-pub use planning::plan;
+pub use bag::{Bag, DequeBag};
+pub use gate::{Gate, News, OpenGate};
+pub use planning::{MAX_LIMIT, MAX_WORKERS, plan, plan_over};

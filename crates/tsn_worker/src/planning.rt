@@ -1,14 +1,18 @@
 //! Plans a network.
-ghost use Rattle.std.specs.Prelude.{◌≡◌, ◌≤◌, [], IfOk};
+ghost use Rattle.std.specs.Prelude.{◌≡◌, ◌≤◌, ◌⊎◌, [], length, IfOk};
 ghost use Rattle.tsn_model.specs.Network.{IsWellFormed};
 ghost use Rattle.tsn_model.specs.Search.{open_paths};
 ghost use Rattle.tsn_worker.specs.Answer.{IsAnswer};
 ghost use Rattle.tsn_worker.specs.Search.{IsSearchOf};
 
 use crate::answer::Answer;
+use crate::bag::{Bag, DequeBag};
 use crate::gate::Gate;
+use crate::rest::settle_rest;
 use crate::search::settle_open;
+use crate::threads::search;
 use std::alloc::Global;
+use std::marker::Brand;
 use std::sync::Wait;
 use std::thread::Threads;
 use tsn_book::Book;
@@ -17,24 +21,72 @@ use tsn_cert::{Offsets, Plan};
 use tsn_conflict::conflicts;
 use tsn_model::NoMemory;
 use tsn_net::Problem;
+use tsn_share::Parts;
 use tsn_timing::Timing;
 
 /// The most nodes that a run may settle.
 pub const MAX_LIMIT: usize = 1_000_000_000;
 
+/// The most workers that a run may have.
+pub const MAX_WORKERS: usize = 16;
+
 /// The schedule of least flowspan for the problem that is first in list order, or that there is none, each with a
 /// certificate that shows it; or, where `limit` nodes (1 to 1,000,000,000) were settled and one is still open, the book with the best schedule so far, if any.
-/// There is one worker: the caller, who starts no thread and waits for nobody but the gate. The error says that there was
-/// no memory.
+///
+/// There are 1 to 16 workers. One is the caller, who then starts no thread and waits for nobody but the gate. Two or more run in
+/// threads of their own, or one after another where no thread can be made; the caller settles the first nodes before they
+/// start, and what they leave open after they have ended. The error says that there was no memory for the caller.
 pub fn plan<R: Threads + Wait + Sync, G: Gate + Sync>(
-    _rt: &R,
+    rt: &R,
     alloc: Global,
     problem: &Problem,
     workers: usize,
     limit: usize,
     gate: &G,
 ) -> Result<Answer, NoMemory>
-    requires one { workers ≡ 1 }
+    requires workers { (1 ≤ workers) × (workers ≤ MAX_WORKERS) }
+    requires some { 1 ≤ limit }
+    requires few { limit ≤ MAX_LIMIT }
+    ensures { IfOk result (IsAnswer problem.now.network limit) }
+{
+    if workers == 1 {
+        return plan_alone(alloc, problem, limit, gate);
+    }
+    let bags = DequeBag::make(alloc, workers)?;
+    plan_over(rt, alloc, problem, limit, gate, bags)
+}
+
+/// What `plan` answers, by 2 to 16 workers, one a bag. The bags are handed in empty.
+pub fn plan_over<R: Threads + Wait + Sync, G: Gate + Sync, B: Bag + Send>(
+    rt: &R,
+    alloc: Global,
+    problem: &Problem,
+    limit: usize,
+    gate: &G,
+    bags: Vec<B>,
+) -> Result<Answer, NoMemory>
+    requires workers { (2 ≤ length bags.items) × (length bags.items ≤ MAX_WORKERS) }
+    requires some { 1 ≤ limit }
+    requires few { limit ≤ MAX_LIMIT }
+    ensures { IfOk result (IsAnswer problem.now.network limit) }
+{
+    let workers = bags.len();
+    let timing = Timing::of(alloc, problem)?;
+    let conflicts = conflicts(alloc, &timing)?;
+    let loads = Loads::of(alloc, &timing)?;
+    let parts = Parts::new(alloc, &timing, workers + 1, limit)?;
+    let book = search::<Brand, R, G, B>(rt, alloc, &timing, &conflicts, &loads, gate, bags, parts)?;
+    let book = settle_rest(alloc, &timing, &conflicts, gate, workers, limit, book)?;
+    answer(alloc, &timing, limit, book)
+}
+
+// What `plan` answers, by the caller alone.
+fn plan_alone<G: Gate>(
+    alloc: Global,
+    problem: &Problem,
+    limit: usize,
+    gate: &G,
+) -> Result<Answer, NoMemory>
     requires some { 1 ≤ limit }
     requires few { limit ≤ MAX_LIMIT }
     ensures { IfOk result (IsAnswer problem.now.network limit) }
@@ -42,15 +94,24 @@ pub fn plan<R: Threads + Wait + Sync, G: Gate + Sync>(
     let timing = Timing::of(alloc, problem)?;
     let conflicts = conflicts(alloc, &timing)?;
     let loads = Loads::of(alloc, &timing)?;
-    let book = Book::new(alloc, &timing, workers, limit)?;
+    let book = Book::new(alloc, &timing, 1, limit)?;
     let book = settle_open(alloc, &timing, &conflicts, &loads, gate, limit, book)?;
+    answer(alloc, &timing, limit, book)
+}
+
+// The answer of a search that left nothing open, or met its limit.
+fn answer(alloc: Global, timing: &Timing, limit: usize, book: Book) -> Result<Answer, NoMemory>
+    requires formed { IsWellFormed timing.now }
+    requires search { IsSearchOf timing.now limit book }
+    requires done { (open_paths book.history ≡ []) ⊎ (length book.history ≡ limit) }
+    ensures { IfOk result (IsAnswer timing.now limit) }
+{
     if book.open_count() > 0 {
         Ok(Answer::Stopped(book))
     } else {
-        decide(alloc, &timing, limit, book)
+        decide(alloc, timing, limit, book)
     }
 }
-
 /// The answer of a search that left nothing open.
 fn decide(alloc: Global, timing: &Timing, limit: usize, book: Book) -> Result<Answer, NoMemory>
     requires formed { IsWellFormed timing.now }

@@ -15,6 +15,7 @@ ghost use Rattle.tsn_book.specs.Book.{IsLawful, IsMet};
 ghost use Rattle.tsn_worker.specs.Search.{IsSearchOf, IsSearching, HasChildren, IsAfterLeaf};
 
 use crate::gate::Gate;
+use crate::news::{is_split, news_of_one};
 use std::alloc::Global;
 use tsn_book::{Book, BookFault};
 use tsn_branch::outcome::Look;
@@ -46,6 +47,7 @@ pub fn settle_open<G: Gate>(
     requires conflicts { AreConflictsOf timing.now conflicts.now }
     requires loads { AreLoadsOf timing.now loads.now }
     requires search { IsSearchOf timing.now limit book }
+    requires one_teller { book.tellers ≡ 1 }
     requires fresh { book.history ≡ [] }
     ensures search { IfOk result (IsSearchOf timing.now limit) }
     ensures done { IfOk result (λ searched. (open_paths searched.history ≡ []) ⊎ (length searched.history ≡ limit)) }
@@ -90,8 +92,10 @@ impl Search {
             .descent
             .look(alloc, timing, conflicts, loads, target, self.book.kept())?;
         let split = split_of(&look);
+        let was_split = is_split(&look);
         gate.pass(0);
         record(&mut self.book, self.place, self.descent.node().path(), look)?;
+        self.tell(timing, gate, was_split);
         match split {
             Some(triple) => {
                 self.go_down(triple)?;
@@ -99,6 +103,11 @@ impl Search {
             }
             None => Ok(self.go_on()),
         }
+    }
+
+    // Tells the gate of the node that was settled.
+    fn tell<G: Gate>(&self, timing: &Timing, gate: &G, is_split: bool) {
+        gate.hear(0, news_of_one(timing, is_split, self.book.best()));
     }
 
     // Goes down to the left child of the node, which was split last; the right child, at the last place, waits.
@@ -141,7 +150,7 @@ impl Search {
 }
 
 /// The triple of a split.
-fn split_of(look: &Look) -> Option<Triple>
+pub fn split_of(look: &Look) -> Option<Triple>
     ensures { MatchOption result (Closes (outcome_of look.now)) (λ triple. outcome_of look.now ≡ split triple) }
 {
     match look {
@@ -154,7 +163,7 @@ fn split_of(look: &Look) -> Option<Triple>
 }
 
 /// The least bound, in nanoseconds, by which a node may be pruned where this is the least flowspan solved.
-fn beyond(timing: &Timing, best: u64) -> u64
+pub fn beyond(timing: &Timing, best: u64) -> u64
     ensures { result ≡ beyond timing.now best }
 {
     best.min(timing.cycle()) + 1

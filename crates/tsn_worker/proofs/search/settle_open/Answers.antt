@@ -9,6 +9,7 @@ settlements-init g c =
     record {
       searching = record {
         search = c.requires.search;
+        one_teller = c.requires.one_teller;
         stands = c.in_ok-descent.ensures.stands;
         walk = subst (λ ws. IsWalk c.args.book.history c.in_ok-descent.descent.path 0 ws) empty
             (subst (λ p. IsWalk c.args.book.history p 0 []) (sym c.in_ok-descent.ensures.path) (subst (λ h. IsWalk h [] 0 []) (sym c.requires.fresh) walk_root));

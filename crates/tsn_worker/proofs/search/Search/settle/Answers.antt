@@ -1,13 +1,13 @@
-use Rattle.std.proofs.Common.{reverse, sym, ap, subst}
+use Rattle.std.proofs.Common.{Contains, reverse, sym, ap, ◌∙◌, subst}
 use Rattle.tsn_model.specs.declared.Side.TheVariants.{Left}
-use Rattle.tsn_model.specs.Certificate.{decided}
-use Rattle.tsn_model.specs.Search.{Settlement}
+use Rattle.tsn_model.specs.Certificate.{decided, beyond}
+use Rattle.tsn_model.specs.Search.{Settlement, open_paths}
 use Rattle.tsn_search_laws.specs.Walk.{path_made}
 use Rattle.tsn_search_laws.proofs.Walking.{walk_open}
 use Rattle.tsn_branch.specs.Outcome.{outcome_of}
-use Rattle.tsn_book.specs.Book.{Progress}
+use Rattle.tsn_book.specs.Book.{Progress, IsMet}
 use Rattle.tsn_worker.specs.Search.{HasChildren, IsAfterLeaf}
-use Rattle.tsn_worker.proofs.Settling.{open_fits, has_children, after_leaf}
+use Rattle.tsn_worker.proofs.Settling.{open_fits, lent_met, has_children, after_leaf}
 use Rattle.tsn_worker.proofs.search.Search.settle.Goals as goal
 
 pub look-requires-clause-fits : goal.look-requires-clause-fits
@@ -17,6 +17,23 @@ look-requires-clause-fits g c =
     let path = c.args.self.now.descent.path in
     open_fits c.args.timing.now c.args.conflicts.now c.requires.conflicts history (rw searching.search.same_network at c.best.ensures.lawful.legal) path
     (walk_open history path c.args.self.now.place (reverse c.args.self.now.waiting.items) searching.walk)
+
+pub record-requires-clause-node_open : goal.record-requires-clause-node_open
+record-requires-clause-node_open g c =
+    let walk = c.requires.searching.walk in
+    let history = c.args.self.now.book.history in
+    subst (Contains (open_paths history)) (sym walk.at.is) (walk_open history c.args.self.now.descent.path c.args.self.now.place (reverse c.args.self.now.waiting.items) walk)
+
+pub record-requires-clause-met : goal.record-requires-clause-met
+record-requires-clause-met g c =
+    let same = c.requires.searching.search.same_network in
+    let network = c.args.timing.now in
+    let history = c.args.self.now.book.history in
+    let path = c.args.self.now.descent.path in
+    let outcome = outcome_of c.in_ok-look.look in
+    let target = c.beyond-target.ensures ∙ ap (λ best. beyond network best) (rw same at c.best.ensures.best) in
+    let met = lent_met network history path c.beyond-target.result c.kept.result outcome target (rw same at c.kept.ensures.kept) (rw same at c.kept.ensures.best) c.in_ok-look.ensures.met c.in_ok-look.ensures.ties in
+    subst (λ n. IsMet n history (path_made history c.args.self.now.place) outcome) (sym same) (subst (λ p. IsMet network history p outcome) (sym c.requires.searching.walk.at.is) met)
 
 pub go_down-requires-clause-walk : goal.go_down-requires-clause-walk
 go_down-requires-clause-walk g c =

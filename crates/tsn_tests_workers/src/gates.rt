@@ -1,0 +1,197 @@
+//! Gates that watch, hold or stop the workers.
+
+use std::sync::atomic::{AtomicU64, Ordering};
+use std::sync::{Mutex, Wait};
+use tsn_worker::Gate;
+
+/// How often a worker looks for the other one before it goes on alone.
+const TURNS: u64 = 50_000_000;
+
+/// Which of the workers 0 and 1 have arrived, and whether one of them went on alone.
+#[derive(Drop)]
+struct Meeting {
+    zero: bool,
+    one: bool,
+    given_up: bool,
+}
+
+impl Meeting {
+    // Notes that a teller is there. True where it is one of the two, and comes for the first time.
+    fn arrive(&mut self, teller: usize) -> bool {
+        let first = match teller {
+            0 => !self.zero,
+            1 => !self.one,
+            _ => false,
+        };
+        self.zero = self.zero || teller == 0;
+        self.one = self.one || teller == 1;
+        first
+    }
+
+    fn is_complete(&self) -> bool {
+        self.zero && self.one
+    }
+}
+
+/// A gate at which workers 0 and 1 meet: each holds its first settling until both have arrived.
+#[derive(Drop)]
+pub struct MeetingGate<R: Wait + Drop> {
+    rt: R,
+    meeting: Mutex<Meeting>,
+}
+
+impl<R: Wait + Drop> MeetingGate<R> {
+    pub fn new(rt: R) -> MeetingGate<R> {
+        MeetingGate {
+            rt,
+            meeting: Mutex::new(Meeting {
+                zero: false,
+                one: false,
+                given_up: false,
+            }),
+        }
+    }
+
+    /// Whether both have arrived, each while the other was waited for.
+    pub fn has_brought_together(&self) -> bool {
+        let meeting = self.meeting.lock(&self.rt);
+        meeting.is_complete() && !meeting.given_up
+    }
+
+    // Waits until both have arrived, for so many turns at most.
+    fn hold(&self) {
+        for _ in 0..TURNS {
+            if self.is_complete() {
+                return;
+            }
+        }
+        let mut meeting = self.meeting.lock(&self.rt);
+        meeting.given_up = true;
+    }
+
+    fn is_complete(&self) -> bool {
+        self.meeting.lock(&self.rt).is_complete()
+    }
+
+    fn arrive(&self, teller: usize) -> bool {
+        self.meeting.lock(&self.rt).arrive(teller)
+    }
+}
+
+impl<R: Wait + Drop> Gate for MeetingGate<R> {
+    fn pass(&self, teller: usize) {
+        if self.arrive(teller) {
+            self.hold();
+        }
+    }
+}
+
+/// A gate that counts how often it is passed.
+#[derive(Drop)]
+pub struct CountingGate {
+    workers: usize,
+    by_workers: AtomicU64,
+    before: AtomicU64,
+    behind: AtomicU64,
+}
+
+impl CountingGate {
+    /// For so many workers and the caller, who has the number behind them.
+    pub fn new(workers: usize) -> CountingGate {
+        CountingGate {
+            workers,
+            by_workers: AtomicU64::new(0),
+            before: AtomicU64::new(0),
+            behind: AtomicU64::new(0),
+        }
+    }
+
+    /// How often the caller passed before any worker.
+    pub fn before(&self) -> u64 {
+        self.before.load(Ordering::SeqCst)
+    }
+
+    /// How often the caller passed behind a worker.
+    pub fn behind(&self) -> u64 {
+        self.behind.load(Ordering::SeqCst)
+    }
+
+    /// How often workers passed.
+    pub fn by_workers(&self) -> u64 {
+        self.by_workers.load(Ordering::SeqCst)
+    }
+}
+
+impl Gate for CountingGate {
+    fn pass(&self, teller: usize) {
+        if teller < self.workers {
+            self.by_workers.fetch_add(1, Ordering::SeqCst);
+        } else if self.by_workers() == 0 {
+            self.before.fetch_add(1, Ordering::SeqCst);
+        } else {
+            self.behind.fetch_add(1, Ordering::SeqCst);
+        }
+    }
+}
+
+/// Which workers are stopped.
+#[derive(Clone, Copy, Debug)]
+pub enum Stop {
+    /// The one of this number doesn't start.
+    Start(usize),
+    /// None starts.
+    EachStart,
+    /// None goes on behind its first batch.
+    EachBatch,
+}
+
+/// A gate that stops workers, and counts how often these pass it.
+#[derive(Drop)]
+pub struct StoppingGate {
+    workers: usize,
+    stop: Stop,
+    by_stopped: AtomicU64,
+}
+
+impl StoppingGate {
+    /// For so many workers and the caller, who has the number behind them.
+    pub fn new(workers: usize, stop: Stop) -> StoppingGate {
+        StoppingGate {
+            workers,
+            stop,
+            by_stopped: AtomicU64::new(0),
+        }
+    }
+
+    /// How often workers that are stopped have passed.
+    pub fn by_stopped(&self) -> u64 {
+        self.by_stopped.load(Ordering::SeqCst)
+    }
+}
+
+impl Gate for StoppingGate {
+    fn pass(&self, teller: usize) {
+        let stopped = match self.stop {
+            Stop::Start(number) => teller == number,
+            Stop::EachStart | Stop::EachBatch => teller < self.workers,
+        };
+        if stopped {
+            self.by_stopped.fetch_add(1, Ordering::SeqCst);
+        }
+    }
+
+    fn may_start(&self, teller: usize) -> bool {
+        match self.stop {
+            Stop::Start(number) => teller != number,
+            Stop::EachStart => false,
+            Stop::EachBatch => true,
+        }
+    }
+
+    fn may_go_on(&self, _teller: usize) -> bool {
+        match self.stop {
+            Stop::Start(_) | Stop::EachStart => true,
+            Stop::EachBatch => false,
+        }
+    }
+}

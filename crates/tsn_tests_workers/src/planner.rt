@@ -1,0 +1,91 @@
+//! Plans a network over bags, and has the checker judge what was planned.
+
+use std::alloc::Global;
+use std::process::Abort;
+use std::sync::Wait;
+use std::test::Fail;
+use std::thread::Threads;
+use tsn_cert::{Cert, Plan};
+use tsn_check::{Verdict, check};
+use tsn_net::{Problem, read_problem};
+use tsn_worker::{Answer, Bag, Gate, MAX_WORKERS, plan_over};
+
+/// More nodes than any of these networks has.
+const LIMIT: usize = 1_000_000;
+
+/// What was planned.
+#[derive(Drop)]
+pub struct Outcome {
+    pub flowspan: u64,
+    pub settled: usize,
+    /// Whether the checker takes the certificate for one of the first schedule of least flowspan.
+    pub accepted: bool,
+}
+
+fn network(alloc: Global, text: &str) -> Result<Problem, Fail> {
+    match read_problem(alloc, text.as_bytes()) {
+        Ok(problem) => Ok(problem),
+        Err(_) => Err(Fail::from("the network is refused")),
+    }
+}
+
+fn plan_by<R: Threads + Wait + Sync, G: Gate + Sync, B: Bag + Send>(
+    rt: &R,
+    alloc: Global,
+    problem: &Problem,
+    gate: &G,
+    bags: Vec<B>,
+) -> Result<Answer, Fail> {
+    if bags.len() < 2 || bags.len() > MAX_WORKERS {
+        return Err(Fail::from("no such number of workers"));
+    }
+    match plan_over(rt, alloc, problem, LIMIT, gate, bags) {
+        Ok(answer) => Ok(answer),
+        Err(_) => Err(Fail::from("no memory")),
+    }
+}
+
+fn flowspan_of(plan: &Plan) -> Result<u64, Fail> {
+    match plan {
+        Plan::Schedule { flowspan, .. } => Ok(*flowspan),
+        Plan::None => Err(Fail::from("no schedule")),
+    }
+}
+
+fn is_accepted(alloc: Global, problem: &Problem, plan: &Plan, cert: &Cert) -> bool {
+    match check(alloc, problem, plan, cert) {
+        Ok(verdict) => verdict == Verdict::First,
+        Err(_) => false,
+    }
+}
+
+fn judge(alloc: Global, problem: &Problem, answer: Answer) -> Result<Outcome, Fail> {
+    match answer {
+        Answer::Optimal(plan, cert, settled) => Ok(Outcome {
+            flowspan: flowspan_of(&plan)?,
+            settled,
+            accepted: is_accepted(alloc, problem, &plan, &cert),
+        }),
+        Answer::NoSchedule(_, _) => Err(Fail::from("no schedule")),
+        Answer::Stopped(_) => Err(Fail::from("stopped")),
+    }
+}
+
+/// Plans by as many workers as there are bags.
+pub fn planned<R: Threads + Wait + Sync, G: Gate + Sync, B: Bag + Send>(
+    rt: &R,
+    alloc: Global,
+    text: &str,
+    gate: &G,
+    bags: Vec<B>,
+) -> Result<Outcome, Fail> {
+    let problem = network(alloc, text)?;
+    let answer = plan_by(rt, alloc, &problem, gate, bags)?;
+    judge(alloc, &problem, answer)
+}
+
+/// The plan has to be of this flowspan, and its certificate accepted.
+pub fn expect(rt: &impl Abort, outcome: &Outcome, flowspan: u64) {
+    assert_eq!(rt; outcome.flowspan, flowspan);
+    assert!(rt; outcome.accepted);
+}

@@ -1,0 +1,39 @@
+//! What a gate is told.
+use crate::gate::News;
+use tsn_branch::outcome::Look;
+use tsn_timing::Timing;
+
+/// The news of one node.
+pub fn news_of_one(timing: &Timing, is_split: bool, best: u64) -> News {
+    News {
+        nodes: 1,
+        splits: usize::from(is_split),
+        flowspan: known(timing, best),
+    }
+}
+
+/// A flowspan, where it is one and not what stands for none.
+pub fn known(timing: &Timing, best: u64) -> Option<u64> {
+    if best <= timing.cycle() {
+        Some(best)
+    } else {
+        None
+    }
+}
+
+/// The sides to which looks go on, the first in the highest bit: 1 for a split. There are at most 64.
+pub fn splits_among(looks: &[Look]) -> u64 {
+    let mut splits = 0u64;
+    for look in looks {
+        splits = (splits << 1) | u64::from(is_split(look));
+    }
+    splits
+}
+
+/// Whether a node is split.
+pub fn is_split(look: &Look) -> bool {
+    match look {
+        Look::Split(_) => true,
+        Look::Solved { .. } | Look::Pruned { .. } | Look::Tied { .. } | Look::Refuted(_) => false,
+    }
+}

@@ -1,0 +1,44 @@
+//! Tellers with their bags.
+ghost use Rattle.std.specs.Prelude.{◌≡◌, ◌++◌, ◌∷◌, [], length, map, IfOk};
+
+use crate::bag::Bag;
+use crate::worker::Member;
+use std::alloc::{AllocError, Global};
+use tsn_share::{Named, Teller};
+
+/// Gives each teller a bag.
+pub fn team_of<K: Named, B: Bag>(
+    alloc: Global,
+    tellers: Vec<Teller<K>>,
+    bags: Vec<B>,
+) -> Result<Vec<Member<K, B>>, AllocError>
+    requires { length tellers.items ≡ length bags.items }
+    ensures { IfOk result (λ members. map (λ member. member.teller) members.items ≡ tellers.items) }
+{
+    let mut members = Vec::with_capacity(alloc, tellers.len())?;
+    let mut bags = bags.into_iter();
+    for teller in tellers {
+        let Some(bag) = bags.next() else {
+            unreachable!();
+        };
+        members.push(Member { teller, bag })?;
+    }
+    Ok(members)
+}
+
+/// Takes the tellers out again, the caller's last, and gives up the bags.
+pub fn tellers_of<K: Named, B: Bag>(
+    alloc: Global,
+    members: Vec<Member<K, B>>,
+    caller: Teller<K>,
+) -> Result<Vec<Teller<K>>, AllocError>
+    ensures { IfOk result (λ tellers. tellers.items ≡ map (λ member. member.teller) members.items ++ caller ∷ []) }
+{
+    let mut tellers = Vec::with_capacity(alloc, members.len() + 1)?;
+    for member in members {
+        let Member { teller, bag: _ } = member;
+        tellers.push(teller)?;
+    }
+    tellers.push(caller)?;
+    Ok(tellers)
+}

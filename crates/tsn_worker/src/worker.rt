@@ -1,0 +1,171 @@
+//! One worker.
+ghost use Rattle.std.specs.Prelude.{◌≡◌};
+ghost use Rattle.tsn_conflict.specs.Kept.{AreConflictsOf};
+ghost use Rattle.tsn_branch.specs.Loads.{AreLoadsOf};
+ghost use Rattle.tsn_share.specs.Teller.{IsEven};
+
+use crate::bag::Bag;
+use crate::batch::Turn;
+use crate::below::{BATCH, Below};
+use crate::best::Best;
+use crate::board::Board;
+use crate::gate::Gate;
+use std::alloc::Global;
+use std::sync::Wait;
+use std::thread;
+use tsn_branch::{Loads, Node};
+use tsn_conflict::sharing::Conflicts;
+use tsn_share::{Named, Shared, Teller};
+use tsn_timing::Timing;
+
+/// A worker ends after so many rounds in turn in which it found no node.
+const ROUNDS: usize = 1000;
+
+/// How often a round in which no node was found lets other threads run, while some worker is at work.
+const PAUSES: usize = 50;
+
+/// A teller with its bag.
+#[derive(Drop)]
+pub struct Member<K: Named, B: Bag> {
+    pub(crate) teller: Teller<K>,
+    pub(crate) bag: B,
+}
+
+/// Works below nodes of the bag, until no more are found. The teller is left even.
+///
+/// The board tells how long it is worth to wait for a node, and when the best schedule has to be copied anew.
+pub fn work<K: Named, B: Bag, G: Gate>(
+    rt: &impl Wait,
+    alloc: Global,
+    timing: &Timing,
+    conflicts: &Conflicts,
+    loads: &Loads,
+    shared: &Shared<K>,
+    gate: &G,
+    board: &Board,
+    number: usize,
+    member: &mut Member<K, B>,
+)
+    requires network { timing.now ≡ K.names.race.network }
+    requires conflicts { AreConflictsOf timing.now conflicts.now }
+    requires loads { AreLoadsOf timing.now loads.now }
+    requires even { IsEven member.old.teller }
+    ensures even { IsEven member.new.teller }
+    ensures number { member.new.teller.standing.number ≡ member.old.teller.standing.number }
+{
+    if gate.may_start(number) {
+        let mut best = Best::none();
+        for _ in 0..u64::MAX {
+            let Some(node) = find(&mut member.bag, board) else {
+                break;
+            };
+            if !work_below(
+                rt, alloc, timing, conflicts, loads, shared, gate, board, number, member,
+                &mut best, node,
+            ) {
+                break;
+            }
+        }
+    }
+    board.end();
+}
+
+// A node of its own bag, or else of another's. None after so many rounds that found none.
+fn find<B: Bag>(bag: &mut B, board: &Board) -> Option<Node> {
+    if let Some(node) = next_node(bag) {
+        return Some(node);
+    }
+    board.wait();
+    let found = wait_for_node(bag, board);
+    board.resume();
+    found
+}
+
+// A node, by one of the rounds behind the first.
+fn wait_for_node<B: Bag>(bag: &mut B, board: &Board) -> Option<Node> {
+    for _ in 1..ROUNDS {
+        pause(board);
+        if let Some(node) = next_node(bag) {
+            return Some(node);
+        }
+    }
+    None
+}
+
+// Lets other threads run for a while, if a worker is at work that may yet share what is open.
+fn pause(board: &Board) {
+    for _ in 0..PAUSES {
+        if !board.is_at_work() {
+            return;
+        }
+        thread::yield_now();
+    }
+}
+
+// A node of its own bag, or else of another's.
+fn next_node<B: Bag>(bag: &mut B) -> Option<Node> {
+    match bag.pop() {
+        Some(node) => Some(node),
+        None => bag.steal(),
+    }
+}
+
+// Settles what is open below a node, and shares it. What is left open is in the bag then. False where the worker ends.
+fn work_below<K: Named, B: Bag, G: Gate>(
+    rt: &impl Wait,
+    alloc: Global,
+    timing: &Timing,
+    conflicts: &Conflicts,
+    loads: &Loads,
+    shared: &Shared<K>,
+    gate: &G,
+    board: &Board,
+    number: usize,
+    member: &mut Member<K, B>,
+    best: &mut Best<K>,
+    node: Node,
+) -> bool
+    requires network { timing.now ≡ K.names.race.network }
+    requires conflicts { AreConflictsOf timing.now conflicts.now }
+    requires loads { AreLoadsOf timing.now loads.now }
+    requires even { IsEven member.old.teller }
+    ensures even { IsEven member.new.teller }
+    ensures number { member.new.teller.standing.number ≡ member.old.teller.standing.number }
+{
+    let mut below = match Below::at(alloc, timing, conflicts, node) {
+        Ok(Some(below)) => below,
+        Ok(None) => return true,
+        Err(node) => {
+            let _ = member.bag.push(node);
+            return false;
+        }
+    };
+    for _ in 0..u64::MAX {
+        match below.settle_next(
+            rt,
+            alloc,
+            timing,
+            conflicts,
+            loads,
+            shared,
+            gate,
+            board,
+            number,
+            &mut member.teller,
+            best,
+            BATCH,
+        ) {
+            Turn::GoesOn => {}
+            Turn::Ends => break,
+            Turn::Finished | Turn::LooksAgain => return gate.may_go_on(number),
+        }
+        if !gate.may_go_on(number) {
+            break;
+        }
+        if board.is_awaited() {
+            below.share(&mut member.bag);
+        }
+    }
+    below.leave(&mut member.bag);
+    false
+}
