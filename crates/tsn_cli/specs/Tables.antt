@@ -1,7 +1,8 @@
--- What `gates` and `replay` answer.
+-- What `gates`, `replay` and `chart` answer.
+--     lists_text, rows_text                    texts in each format
 --     ShowsLists, ShowsReplay, ShowsTable      the table of a plan
 --     RejectsPlan                              a plan that has none
---     TableAnswers, GatesAnswers, ReplayAnswers    the answer to the files read so far
+--     TableAnswers, GatesAnswers, ReplayAnswers, ChartAnswers    the answer to the files read so far
 use Rattle.std.specs.Prelude.{◌≡◌, ◌⊎◌, ℕ, ◌≤◌, List, [], ◌∷◌, ◌++◌, Bool, true, false, codes, decimal, Ok}
 use Rattle.std.specs.List.{flat_map}
 use Rattle.tsn_model.specs.Network.{Network}
@@ -18,40 +19,64 @@ use Rattle.tsn_check.specs.Faults.{IsPlanFault}
 use Rattle.tsn_check.specs.Numbers.{number_of}
 use Rattle.tsn_gate.specs.GateLists.{AreWantedLists}
 use Rattle.tsn_gate.specs.Table as gate
+use Rattle.tsn_gate.specs.Taprio.{script_text}
+use Rattle.tsn_gate.specs.Json.{json_text}
 use Rattle.tsn_replay.specs.declared.trace.Row.{Row}
 use Rattle.tsn_replay.specs.Rows as replay
 use Rattle.tsn_replay.specs.Rows.{AreRows}
+use Rattle.tsn_replay.specs.Csv.{csv_text}
+use Rattle.tsn_cli.specs.declared.format.GatesFormat.{GatesFormat}
+use Rattle.tsn_cli.specs.declared.format.GatesFormat.TheVariants as lists
+use Rattle.tsn_cli.specs.declared.format.ReplayFormat.{ReplayFormat}
+use Rattle.tsn_cli.specs.declared.format.ReplayFormat.TheVariants as replays
 use Rattle.tsn_cli.specs.declared.table.Table.{Table}
-use Rattle.tsn_cli.specs.declared.table.Table.TheVariants.{Gates, Replay}
+use Rattle.tsn_cli.specs.declared.table.Table.TheVariants.{Gates, Replay, Chart}
 use Rattle.tsn_cli.specs.Run.{Output, Command, IsLine}
 use Rattle.tsn_cli.specs.Valid.{RefusesNetwork}
 use Rattle.tsn_cli.specs.Check.{RefusesPlan}
 
--- the output is the tables of the gate lists that the schedule asks for
-abbrev pub ShowsLists : NamedNetwork → List ℕ → Output → Type 0
-ShowsLists problem offsets output = (lists : List LinkGates) × AreWantedLists problem.network offsets lists × IsLine 0 (flat_map (gate.table_text problem) lists) output
+-- the lists in a format
+abbrev pub lists_text : GatesFormat → NamedNetwork → List LinkGates → List ℕ
+lists_text lists.Table problem all = flat_map (gate.table_text problem) all
+lists_text lists.Taprio problem all = script_text problem all
+lists_text lists.Json problem all = flat_map (json_text problem) all
+
+-- the rows of a replay in a format
+abbrev pub rows_text : ReplayFormat → NamedNetwork → List Row → List ℕ
+rows_text replays.Table problem rows = replay.table_text problem rows
+rows_text replays.Csv problem rows = csv_text problem rows
+
+-- the output is the text of the gate lists that the schedule asks for
+abbrev pub ShowsLists : GatesFormat → NamedNetwork → List ℕ → Output → Type 0
+ShowsLists format problem offsets output = (all : List LinkGates) × AreWantedLists problem.network offsets all × IsLine 0 (lists_text format problem all) output
 
 -- the background of a replay: nothing, or on each link always the greatest frame
 abbrev pub background_for : Bool → Background
 background_for true = greedy
 background_for false = nothing
 
--- the output is the table of a bridge run of so many cycles by these lists, fed by that background
-abbrev pub ShowsReplay : NamedNetwork → List ℕ → ℕ → Bool → Output → Type 0
-ShowsReplay problem offsets cycles is_greedy output =
+-- the output is the text of a bridge run of so many cycles by these lists, fed by that background
+abbrev pub ShowsReplay : ReplayFormat → NamedNetwork → List ℕ → ℕ → Bool → Output → Type 0
+ShowsReplay format problem offsets cycles is_greedy output =
     (lists : List LinkGates) × AreWantedLists problem.network offsets lists
     × ((run : BridgeRun) × IsBridgeRun problem.network offsets lists cycles run × IsFed problem.network lists cycles (background_for is_greedy) run
-    × ((rows : List Row) × AreRows problem.network offsets cycles run rows × IsLine 0 (replay.table_text problem rows) output))
+    × ((rows : List Row) × AreRows problem.network offsets cycles run rows × IsLine 0 (rows_text format problem rows) output))
 
--- the output is the table that is asked for
+-- the output is a picture, of which nothing more is said
+abbrev pub ShowsPicture : Output → Type 0
+ShowsPicture output = (picture : List ℕ) × IsLine 0 picture output
+
+-- the output is what is asked for
 abbrev pub ShowsTable : Table → NamedNetwork → List ℕ → Output → Type 0
-ShowsTable Gates problem offsets output = ShowsLists problem offsets output
-ShowsTable (Replay cycles is_greedy) problem offsets output = ShowsReplay problem offsets cycles is_greedy output
+ShowsTable (Gates format) problem offsets output = ShowsLists format problem offsets output
+ShowsTable (Replay cycles is_greedy format) problem offsets output = ShowsReplay format problem offsets cycles is_greedy output
+ShowsTable (Chart until) problem offsets output = ShowsPicture output
 
--- a replay has 1 to 16 cycles
+-- a replay has 1 to 16 cycles, and a picture ends from 1 to 1,000,000,000 on
 abbrev pub CanShow : Table → Type 0
-CanShow Gates = Unit {0}
-CanShow (Replay cycles is_greedy) = (1 ≤ cycles) × (cycles ≤ 16)
+CanShow (Gates format) = Unit {0}
+CanShow (Replay cycles is_greedy format) = (1 ≤ cycles) × (cycles ≤ 16)
+CanShow (Chart until) = (1 ≤ until) × (until ≤ 1000000000)
 
 -- the plan is a valid schedule with its flowspan, and its table is shown
 abbrev pub ShowsPlan : Table → NamedNetwork → Plan → Output → Type 0
@@ -78,8 +103,11 @@ TableAnswers table (network ∷ []) output = RefusesNetwork network output
 TableAnswers table (network ∷ plan ∷ []) output = (problem : NamedNetwork) × States network problem × JudgesPlan table problem plan output
 TableAnswers table _ output = ⊥
 
-abbrev pub GatesAnswers : Command
-GatesAnswers = TableAnswers Gates
+abbrev pub GatesAnswers : GatesFormat → Command
+GatesAnswers format = TableAnswers (Gates format)
 
-abbrev pub ReplayAnswers : ℕ → Bool → Command
-ReplayAnswers cycles is_greedy = TableAnswers (Replay cycles is_greedy)
+abbrev pub ReplayAnswers : ReplayFormat → ℕ → Bool → Command
+ReplayAnswers format cycles is_greedy = TableAnswers (Replay cycles is_greedy format)
+
+abbrev pub ChartAnswers : ℕ → Command
+ChartAnswers until = TableAnswers (Chart until)

@@ -4,6 +4,7 @@
 mod answer;
 mod check;
 pub mod device;
+pub mod format;
 pub mod laws;
 pub mod memory;
 mod plan;
@@ -14,6 +15,7 @@ mod told;
 mod valid;
 
 pub use check::check_run;
+pub use format::{GatesFormat, ReplayFormat};
 pub use plan::plan_run;
-pub use tables::{gates_run, replay_run};
+pub use tables::{chart_run, gates_run, replay_run};
 pub use valid::valid_run;

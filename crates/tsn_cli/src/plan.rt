@@ -18,7 +18,7 @@ use tsn_book::Book;
 use tsn_cert::{Cert, Offsets, Plan, cert_to_json, plan_to_json};
 use tsn_model::NoMemory;
 use tsn_net::read_problem;
-use tsn_worker::{Answer, OpenGate, plan};
+use tsn_worker::{Answer, Gate, plan};
 
 /// There is no schedule.
 pub const NO_SCHEDULE: u8 = 4;
@@ -26,20 +26,22 @@ pub const NO_SCHEDULE: u8 = 4;
 /// The limit of settlements was met.
 pub const STOPPED: u8 = 5;
 
-/// Reads a network file and plans it with one worker and at most `limit` settlements, 1 to 1,000,000,000. It writes the
+/// Reads a network file and plans it with 1 to 16 workers and at most `limit` settlements, 1 to 1,000,000,000. It writes the
 /// plan, then its certificate, then a line on what was found; or a line on why the file is refused. Where the limit is met
-/// it writes the best plan so far, if there is one, and no certificate. The answer is the status.
-pub fn plan_run<R: Threads + Wait + Sync, N: Source, P: Sink, C: Sink, W: Sink>(
+/// it writes the best plan so far, if there is one, and no certificate. The gate hears of each settlement. The answer is the
+/// status.
+pub fn plan_run<R: Threads + Wait + Sync, N: Source, G: Gate + Sync, P: Sink, C: Sink, W: Sink>(
     rt: &R,
     alloc: Global,
     network: &mut N,
     workers: usize,
     limit: usize,
+    gate: &G,
     plan: &mut P,
     cert: &mut C,
     sink: &mut W,
 ) -> u8
-    requires one { workers ≡ 1 }
+    requires workers { (1 ≤ workers) × (workers ≤ 16) }
     requires some { 1 ≤ limit }
     requires few { limit ≤ 1_000_000_000 }
     requires reads { N.failed network.old < 2 ^ 64 - 1 }
@@ -67,18 +69,24 @@ pub fn plan_run<R: Threads + Wait + Sync, N: Source, P: Sink, C: Sink, W: Sink>(
         (writing_of (P.taken plan.old) (P.taken plan.new) ∷ writing_of (C.taken cert.old) (C.taken cert.new)
         ∷ writing_of (W.taken sink.old) (W.taken sink.new) ∷ []) }
 {
-    tell(plan, cert, sink, found(rt, alloc, network, workers, limit))
+    tell(
+        plan,
+        cert,
+        sink,
+        found(rt, alloc, network, workers, limit, gate),
+    )
 }
 
 /// What the run found.
-fn found<R: Threads + Wait + Sync, N: Source>(
+fn found<R: Threads + Wait + Sync, N: Source, G: Gate + Sync>(
     rt: &R,
     alloc: Global,
     network: &mut N,
     workers: usize,
     limit: usize,
+    gate: &G,
 ) -> Result<Told, ReadFault>
-    requires one { workers ≡ 1 }
+    requires workers { (1 ≤ workers) × (workers ≤ 16) }
     requires some { 1 ≤ limit }
     requires few { limit ≤ 1_000_000_000 }
     requires reads { N.failed network.old < 2 ^ 64 - 1 }
@@ -89,21 +97,22 @@ fn found<R: Threads + Wait + Sync, N: Source>(
     ensures kept { (result ≡ Err ReadFault.Broken → ⊥) → N.failed network.new ≡ N.failed network.old }
 {
     let file = read_all(alloc, network, MAX_FILE)?;
-    match found_in(rt, alloc, &file, workers, limit) {
+    match found_in(rt, alloc, &file, workers, limit, gate) {
         Ok(told) => Ok(told),
         Err(NoMemory) => Err(ReadFault::Memory),
     }
 }
 
 /// What is found in a network file.
-fn found_in<R: Threads + Wait + Sync>(
+fn found_in<R: Threads + Wait + Sync, G: Gate + Sync>(
     rt: &R,
     alloc: Global,
     file: &[u8],
     workers: usize,
     limit: usize,
+    gate: &G,
 ) -> Result<Told, NoMemory>
-    requires one { workers ≡ 1 }
+    requires workers { (1 ≤ workers) × (workers ≤ 16) }
     requires some { 1 ≤ limit }
     requires few { limit ≤ 1_000_000_000 }
     ensures { IfOk result (λ told. PlanAnswers limit (file.now ∷ []) (told_by (Ok told))) }
@@ -112,7 +121,15 @@ fn found_in<R: Threads + Wait + Sync>(
         Ok(problem) => problem,
         Err(fault) => return Ok(alone(alloc, refusal(alloc, fault)?)),
     };
-    match plan(rt, alloc, &problem, workers, limit, &OpenGate)? {
+    let answer = plan(rt, alloc, &problem, workers, limit, gate)?;
+    told_of(alloc, answer)
+}
+
+/// What is said of a planner's answer.
+fn told_of(alloc: Global, answer: Answer) -> Result<Told, NoMemory>
+    ensures { IfOk result (λ told. told_by (Ok told) ≡ output_of answer) }
+{
+    match answer {
         Answer::Optimal(plan, cert, count) => optimal(alloc, &plan, &cert, count),
         Answer::NoSchedule(cert, count) => no_schedule(alloc, &cert, count),
         Answer::Stopped(book) => stopped(alloc, &book),

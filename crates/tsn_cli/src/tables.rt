@@ -1,41 +1,48 @@
-//! `gates` and `replay`: print the gate control lists of a plan, and a replay by them.
-ghost use Rattle.std.specs.Prelude.{◌≡◌, ◌≢◌, ◌≤◌, ◌<◌, ◌+◌, ◌-◌, ◌^◌, ◌⊎◌, ℕ, List, [], ◌∷◌, IfOk, IsErr};
+//! `gates`, `replay` and `chart`: print the gate control lists of a plan, a replay by them, and a picture.
+ghost use Rattle.std.specs.Prelude.{◌≡◌, ◌≢◌, ◌≤◌, ◌<◌, ◌+◌, ◌-◌, ◌^◌, ◌⊎◌, ℕ, List, [], ◌∷◌, All, IfOk, IsErr, length, string_bytes};
+ghost use Rattle.std.specs.List.{flat_map};
 ghost use Rattle.std.specs.Io.KnownBytes.{Keeps};
 ghost use Rattle.tsn_model.specs.Schedule.{IsValid};
 ghost use Rattle.tsn_net.specs.File.{States};
 ghost use Rattle.tsn_cli.specs.Run.{BreaksOff, Ends, EndsEarly, IsLine, reading_of, writing_of};
 ghost use Rattle.tsn_cli.specs.Outcome.{ComesTo, output_of};
+ghost use Rattle.tsn_gate.specs.Json.{json_text};
+ghost use Rattle.tsn_gate.specs.Table.{table_text};
 ghost use Rattle.tsn_replay.specs.Feeding.{background_of};
-ghost use Rattle.tsn_cli.specs.Tables.{CanShow, GatesAnswers, JudgesPlan, RejectsPlan, ReplayAnswers, ShowsLists, ShowsPlan, ShowsReplay, ShowsTable, TableAnswers, background_for, rejected_plan};
+ghost use Rattle.tsn_replay.specs.declared.trace.Row.{Row};
+ghost use Rattle.tsn_cli.specs.Tables.{CanShow, ChartAnswers, GatesAnswers, JudgesPlan, RejectsPlan, ReplayAnswers, ShowsLists, ShowsPicture, ShowsPlan, ShowsReplay, ShowsTable, TableAnswers, background_for, lists_text, rejected_plan, rows_text};
 
 use crate::answer::Answer;
 use crate::check::file_refusal;
 use crate::device::{ReadFault, Sink, Source, read_all};
+use crate::format::{GatesFormat, ReplayFormat};
 use crate::run::{DEVICE, DONE, MAX_FILE, REJECTED, respond};
 use crate::table::Table;
 use crate::valid::refusal;
 use std::alloc::Global;
 use tsn_cert::{Plan, plan_from_json};
+use tsn_chart::chart;
 use tsn_check::{CheckFault, check_plan};
-use tsn_gate::gate_lists;
+use tsn_gate::{GateList, gate_lists, to_taprio};
 use tsn_model::NoMemory;
 use tsn_net::{Problem, read_problem};
-use tsn_replay::{Background, ReplayFault, replay};
+use tsn_replay::{Background, ReplayFault, Trace, replay};
 use tsn_timing::{Timing, Valid};
 
-/// Reads a network file and a plan file, the first judged before the second is read, and writes the table of the plan's
-/// gate control lists, or a line on what is refused. The answer is the status.
+/// Reads a network file and a plan file, the first judged before the second is read, and writes the plan's gate control
+/// lists in a format, or a line on what is refused. The answer is the status.
 pub fn gates_run<N: Source, P: Source, W: Sink>(
     alloc: Global,
     network: &mut N,
     plan: &mut P,
+    format: GatesFormat,
     sink: &mut W,
 ) -> u8
     requires network_reads { N.failed network.old < 2 ^ 64 - 1 }
     requires plan_reads { P.failed plan.old < 2 ^ 64 - 1 }
     requires writes { W.failed sink.old < 2 ^ 64 - 1 }
 
-    ensures ended { result ≢ DEVICE → Ends GatesAnswers
+    ensures ended { result ≢ DEVICE → Ends (GatesAnswers format)
         (reading_of (N.given network.old) (N.given network.new) (N.is_at_end network.new)
         ∷ reading_of (P.given plan.old) (P.given plan.new) (P.is_at_end plan.new) ∷ [])
         (writing_of (W.taken sink.old) (W.taken sink.new) ∷ []) result }
@@ -46,18 +53,18 @@ pub fn gates_run<N: Source, P: Source, W: Sink>(
         ≡ N.failed network.old + P.failed plan.old + W.failed sink.old + 1 }
     ensures read_failed { N.failed network.new + P.failed plan.new
         ≢ N.failed network.old + P.failed plan.old
-        → Keeps (W.taken sink.old) (W.taken sink.new) × BreaksOff GatesAnswers []
+        → Keeps (W.taken sink.old) (W.taken sink.new) × BreaksOff (GatesAnswers format) []
         (reading_of (N.given network.old) (N.given network.new) (N.is_at_end network.new)
         ∷ reading_of (P.given plan.old) (P.given plan.new) (P.is_at_end plan.new) ∷ []) }
-    ensures write_failed { W.failed sink.new ≢ W.failed sink.old → EndsEarly GatesAnswers
+    ensures write_failed { W.failed sink.new ≢ W.failed sink.old → EndsEarly (GatesAnswers format)
         (reading_of (N.given network.old) (N.given network.new) (N.is_at_end network.new)
         ∷ reading_of (P.given plan.old) (P.given plan.new) (P.is_at_end plan.new) ∷ [])
         (writing_of (W.taken sink.old) (W.taken sink.new) ∷ []) }
 {
-    respond(sink, answer_of(alloc, network, plan, Table::Gates))
+    respond(sink, answer_of(alloc, network, plan, Table::Gates(format)))
 }
 
-/// Reads a network file and a plan file, the first judged before the second is read, and writes the table of a
+/// Reads a network file and a plan file, the first judged before the second is read, and writes, in a format, a
 /// replay of the plan by the gate control lists that it asks for, over 1 to 16 cycles, with no background or, where
 /// `greedy`, with a background frame of 1522 octets always waiting; or a line on what is refused. The answer is the status.
 pub fn replay_run<N: Source, P: Source, W: Sink>(
@@ -66,6 +73,7 @@ pub fn replay_run<N: Source, P: Source, W: Sink>(
     plan: &mut P,
     cycles: usize,
     greedy: bool,
+    format: ReplayFormat,
     sink: &mut W,
 ) -> u8
     requires some { 1 ≤ cycles }
@@ -74,7 +82,7 @@ pub fn replay_run<N: Source, P: Source, W: Sink>(
     requires plan_reads { P.failed plan.old < 2 ^ 64 - 1 }
     requires writes { W.failed sink.old < 2 ^ 64 - 1 }
 
-    ensures ended { result ≢ DEVICE → Ends (ReplayAnswers cycles greedy)
+    ensures ended { result ≢ DEVICE → Ends (ReplayAnswers format cycles greedy)
         (reading_of (N.given network.old) (N.given network.new) (N.is_at_end network.new)
         ∷ reading_of (P.given plan.old) (P.given plan.new) (P.is_at_end plan.new) ∷ [])
         (writing_of (W.taken sink.old) (W.taken sink.new) ∷ []) result }
@@ -85,16 +93,61 @@ pub fn replay_run<N: Source, P: Source, W: Sink>(
         ≡ N.failed network.old + P.failed plan.old + W.failed sink.old + 1 }
     ensures read_failed { N.failed network.new + P.failed plan.new
         ≢ N.failed network.old + P.failed plan.old
-        → Keeps (W.taken sink.old) (W.taken sink.new) × BreaksOff (ReplayAnswers cycles greedy) []
+        → Keeps (W.taken sink.old) (W.taken sink.new) × BreaksOff (ReplayAnswers format cycles greedy) []
         (reading_of (N.given network.old) (N.given network.new) (N.is_at_end network.new)
         ∷ reading_of (P.given plan.old) (P.given plan.new) (P.is_at_end plan.new) ∷ []) }
-    ensures write_failed { W.failed sink.new ≢ W.failed sink.old → EndsEarly (ReplayAnswers cycles greedy)
+    ensures write_failed { W.failed sink.new ≢ W.failed sink.old → EndsEarly (ReplayAnswers format cycles greedy)
         (reading_of (N.given network.old) (N.given network.new) (N.is_at_end network.new)
         ∷ reading_of (P.given plan.old) (P.given plan.new) (P.is_at_end plan.new) ∷ [])
         (writing_of (W.taken sink.old) (W.taken sink.new) ∷ []) }
 {
-    let table = Table::Replay { cycles, greedy };
+    let table = Table::Replay {
+        cycles,
+        greedy,
+        format,
+    };
     respond(sink, answer_of(alloc, network, plan, table))
+}
+
+/// Reads a network file and a plan file, the first judged before the second is read, and writes a picture of the plan
+/// (SVG) from the cycle's start to an instant in nanoseconds, but no further than the cycle; or a line on what is refused.
+/// The answer is the status.
+pub fn chart_run<N: Source, P: Source, W: Sink>(
+    alloc: Global,
+    network: &mut N,
+    plan: &mut P,
+    until: u64,
+    sink: &mut W,
+) -> u8
+    requires some { 1 ≤ until }
+    requires few { until ≤ 1_000_000_000 }
+    requires network_reads { N.failed network.old < 2 ^ 64 - 1 }
+    requires plan_reads { P.failed plan.old < 2 ^ 64 - 1 }
+    requires writes { W.failed sink.old < 2 ^ 64 - 1 }
+
+    ensures ended { result ≢ DEVICE → Ends (ChartAnswers until)
+        (reading_of (N.given network.old) (N.given network.new) (N.is_at_end network.new)
+        ∷ reading_of (P.given plan.old) (P.given plan.new) (P.is_at_end plan.new) ∷ [])
+        (writing_of (W.taken sink.old) (W.taken sink.new) ∷ []) result }
+    ensures no_failure { result ≢ DEVICE → (N.failed network.new ≡ N.failed network.old)
+        × (P.failed plan.new ≡ P.failed plan.old) × (W.failed sink.new ≡ W.failed sink.old) }
+
+    ensures failure { result ≡ DEVICE → N.failed network.new + P.failed plan.new + W.failed sink.new
+        ≡ N.failed network.old + P.failed plan.old + W.failed sink.old + 1 }
+    ensures read_failed { N.failed network.new + P.failed plan.new
+        ≢ N.failed network.old + P.failed plan.old
+        → Keeps (W.taken sink.old) (W.taken sink.new) × BreaksOff (ChartAnswers until) []
+        (reading_of (N.given network.old) (N.given network.new) (N.is_at_end network.new)
+        ∷ reading_of (P.given plan.old) (P.given plan.new) (P.is_at_end plan.new) ∷ []) }
+    ensures write_failed { W.failed sink.new ≢ W.failed sink.old → EndsEarly (ChartAnswers until)
+        (reading_of (N.given network.old) (N.given network.new) (N.is_at_end network.new)
+        ∷ reading_of (P.given plan.old) (P.given plan.new) (P.is_at_end plan.new) ∷ [])
+        (writing_of (W.taken sink.old) (W.taken sink.new) ∷ []) }
+{
+    respond(
+        sink,
+        answer_of(alloc, network, plan, Table::Chart { until }),
+    )
 }
 
 /// What the run answers.
@@ -203,8 +256,13 @@ fn table_of(
     ensures { IfOk result (λ a. ShowsTable table problem.now valid.now (output_of (Ok a))) }
 {
     match table {
-        Table::Gates => gate_tables(alloc, problem, valid),
-        Table::Replay { cycles, greedy } => replay_table(alloc, problem, valid, cycles, greedy),
+        Table::Gates(format) => lists(alloc, problem, valid, format),
+        Table::Replay {
+            cycles,
+            greedy,
+            format,
+        } => replay_table(alloc, problem, valid, cycles, greedy, format),
+        Table::Chart { until } => picture(alloc, problem, valid, until),
     }
 }
 
@@ -215,11 +273,12 @@ fn replay_table(
     valid: &Valid,
     cycles: usize,
     greedy: bool,
+    format: ReplayFormat,
 ) -> Result<Answer, NoMemory>
     requires some { 1 ≤ cycles }
     requires few { cycles ≤ 16 }
     requires valid { IsValid problem.now.network valid.now }
-    ensures { IfOk result (λ a. ShowsReplay problem.now valid.now cycles greedy (output_of (Ok a))) }
+    ensures { IfOk result (λ a. ShowsReplay format problem.now valid.now cycles greedy (output_of (Ok a))) }
 {
     let lists = gate_lists(alloc, problem, valid)?;
     let background = background_for(greedy);
@@ -228,8 +287,24 @@ fn replay_table(
         Ok(trace) => trace,
         Err(fault) => return Err(want_of_memory(fault)),
     };
-    let text = trace.to_text(alloc, problem)?;
+    let text = rows_text(alloc, problem, &trace, format)?;
     Ok(Answer { status: DONE, text })
+}
+
+/// The rows of a replay.
+fn rows_text(
+    alloc: Global,
+    problem: &Problem,
+    trace: &Trace,
+    format: ReplayFormat,
+) -> Result<String, NoMemory>
+    requires { All (λ (row : Row). row.stream < length problem.now.stream_names) trace.now.rows }
+    ensures { IfOk result (λ text. string_bytes text ≡ rows_text format problem.now trace.now.rows) }
+{
+    match format {
+        ReplayFormat::Table => trace.to_text(alloc, problem),
+        ReplayFormat::Csv => trace.to_csv(alloc, problem),
+    }
 }
 
 /// The background of a replay.
@@ -250,16 +325,71 @@ fn want_of_memory(_fault: ReplayFault) -> NoMemory
     NoMemory
 }
 
-/// The tables of the gate lists that a schedule asks for.
-fn gate_tables(alloc: Global, problem: &Problem, valid: &Valid) -> Result<Answer, NoMemory>
+/// The gate lists that a schedule asks for.
+fn lists(
+    alloc: Global,
+    problem: &Problem,
+    valid: &Valid,
+    format: GatesFormat,
+) -> Result<Answer, NoMemory>
     requires { IsValid problem.now.network valid.now }
-    ensures { IfOk result (λ a. ShowsLists problem.now valid.now (output_of (Ok a))) }
+    ensures { IfOk result (λ a. ShowsLists format problem.now valid.now (output_of (Ok a))) }
 {
     let lists = gate_lists(alloc, problem, valid)?;
+    let text = lists_text(alloc, problem, &lists, format)?;
+    Ok(Answer { status: DONE, text })
+}
+
+/// The text of gate lists.
+fn lists_text(
+    alloc: Global,
+    problem: &Problem,
+    lists: &[GateList],
+    format: GatesFormat,
+) -> Result<String, NoMemory>
+    requires { All (λ list. list.link < length problem.now.network.links) lists.now }
+    ensures { IfOk result (λ text. string_bytes text ≡ lists_text format problem.now lists.now) }
+{
+    match format {
+        GatesFormat::Table => gate_tables(alloc, problem, lists),
+        GatesFormat::Taprio => to_taprio(alloc, problem, lists),
+        GatesFormat::Json => gate_lines(alloc, problem, lists),
+    }
+}
+
+/// The tables of gate lists.
+fn gate_tables(alloc: Global, problem: &Problem, lists: &[GateList]) -> Result<String, NoMemory>
+    requires { All (λ list. list.link < length problem.now.network.links) lists.now }
+    ensures { IfOk result (λ text. string_bytes text ≡ flat_map (table_text problem.now) lists.now) }
+{
     let mut text = String::new(alloc);
-    for list in &lists {
+    for list in lists {
         text.push_str(list.to_text(alloc, problem)?.as_str())?;
     }
+    Ok(text)
+}
+
+/// The lines of JSON of gate lists.
+fn gate_lines(alloc: Global, problem: &Problem, lists: &[GateList]) -> Result<String, NoMemory>
+    requires { All (λ list. list.link < length problem.now.network.links) lists.now }
+    ensures { IfOk result (λ text. string_bytes text ≡ flat_map (json_text problem.now) lists.now) }
+{
+    let mut text = String::new(alloc);
+    for list in lists {
+        text.push_str(list.to_json(alloc, problem)?.as_str())?;
+    }
+    Ok(text)
+}
+
+/// The picture of a valid schedule.
+fn picture(alloc: Global, problem: &Problem, valid: &Valid, until: u64) -> Result<Answer, NoMemory>
+    requires some { 1 ≤ until }
+    requires few { until ≤ 1_000_000_000 }
+    requires valid { IsValid problem.now.network valid.now }
+    ensures { IfOk result (λ a. ShowsPicture (output_of (Ok a))) }
+{
+    let lists = gate_lists(alloc, problem, valid)?;
+    let text = chart(alloc, problem, valid, &lists, until)?;
     Ok(Answer { status: DONE, text })
 }
 

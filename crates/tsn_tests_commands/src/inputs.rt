@@ -1,4 +1,4 @@
-//! Two streams that share a link, with their plan and their certificate.
+//! Two streams that share a link, with their plan.
 
 /// Stations A, B and C round one bridge, and two streams that share the link from there to C.
 pub const NETWORK: &str = "cycle = 1000000
@@ -20,23 +20,3 @@ stream = [
 ";
 
 pub const PLAN: &str = "{\"flowspan\":2924,\"offsets\":[0,672]}\n";
-
-pub const CERT: &str =
-    "{\"format\":2,\"nodes\":[[\"branch\",0,1,4],[\"tie\",1,[0],[[],[0]]],[\"tie\",0,[0],[[0]]]],\"target\":2924}\n";
-
-/// The gate table of the plan.
-pub const TABLE: &str = "link 0 A S 3
-80 672
-7F 986992
-00 12336
-link 2 B S 4
-00 672
-80 672
-7F 986992
-00 11664
-link 4 S C 4
-00 1626
-80 1344
-7F 986320
-00 10710
-";

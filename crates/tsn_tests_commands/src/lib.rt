@@ -5,7 +5,11 @@
 #[cfg(test)]
 mod arguments;
 #[cfg(test)]
+mod charts;
+#[cfg(test)]
 mod devices;
+#[cfg(test)]
+mod faults;
 #[cfg(test)]
 mod gate_lists;
 #[cfg(test)]

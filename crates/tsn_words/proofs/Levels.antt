@@ -157,6 +157,7 @@ valid_found rows network offsets = record {
   check = λ e. differ (codes "valid") (codes "check") refl e;
   gates = λ e. differ (codes "valid") (codes "gates") refl e;
   replay = λ e. differ (codes "valid") (codes "replay") refl e;
+  chart = λ e. differ (codes "valid") (codes "chart") refl e;
   known = inl refl;
 }
 
@@ -167,6 +168,7 @@ plan_found rows network workers steps = record {
   check = λ e. differ (codes "plan") (codes "check") refl e;
   gates = λ e. differ (codes "plan") (codes "gates") refl e;
   replay = λ e. differ (codes "plan") (codes "replay") refl e;
+  chart = λ e. differ (codes "plan") (codes "chart") refl e;
   known = inr (inl refl);
 }
 
@@ -177,6 +179,7 @@ check_found rows network plan cert = record {
   check = λ _. (network, plan, cert);
   gates = λ e. differ (codes "check") (codes "gates") refl e;
   replay = λ e. differ (codes "check") (codes "replay") refl e;
+  chart = λ e. differ (codes "check") (codes "chart") refl e;
   known = inr (inr (inl refl));
 }
 
@@ -187,6 +190,7 @@ gates_found rows network plan = record {
   check = λ e. differ (codes "gates") (codes "check") refl e;
   gates = λ _. (network, plan);
   replay = λ e. differ (codes "gates") (codes "replay") refl e;
+  chart = λ e. differ (codes "gates") (codes "chart") refl e;
   known = inr (inr (inr (inl refl)));
 }
 
@@ -197,7 +201,19 @@ replay_found rows network plan cycles = record {
   check = λ e. differ (codes "replay") (codes "check") refl e;
   gates = λ e. differ (codes "replay") (codes "gates") refl e;
   replay = λ _. (network, plan, cycles);
-  known = inr (inr (inr (inr refl)));
+  chart = λ e. differ (codes "replay") (codes "chart") refl e;
+  known = inr (inr (inr (inr (inl refl))));
+}
+
+chart_found : (rows : List Row) → IsGiven (codes "NET") rows → IsGiven (codes "PLAN") rows → IsWithin (codes "until") 1000000000 rows → HasCommand (codes "chart") rows
+chart_found rows network plan until = record {
+  valid = λ e. differ (codes "chart") (codes "valid") refl e;
+  plan = λ e. differ (codes "chart") (codes "plan") refl e;
+  check = λ e. differ (codes "chart") (codes "check") refl e;
+  gates = λ e. differ (codes "chart") (codes "gates") refl e;
+  replay = λ e. differ (codes "chart") (codes "replay") refl e;
+  chart = λ _. (network, plan, until);
+  known = inr (inr (inr (inr (inr refl))));
 }
 
 -- the command as it is built below the program
@@ -227,13 +243,13 @@ plan_known p answers no_help e =
     let wanted = required s p.1 refl e in
     let network : IsGiven (codes "NET") rows = first_given (codes "NET") Any rows
     (rows_good s [] p.1 false [] e (codes "NET") Any
-    (λ _. fit_file _ refl refl refl, (apart, (apart, (apart, (apart, (apart, tt))))))) wanted.0 in
+    (λ _. fit_file _ refl refl refl, (apart, (apart, (apart, (apart, (apart, (apart, tt)))))))) wanted.0 in
     let workers : IsWithin (codes "workers") MAX_WORKERS rows = first_fits (codes "workers") _ rows
     (rows_good s [] p.1 false [] e (codes "workers") (IsUnsignedIn 1 MAX_WORKERS)
-    (apart, (λ _. fit_numbers _ _ _ refl (inl refl) refl refl, (apart, (apart, (apart, (apart, tt))))))) in
+    (apart, (λ _. fit_numbers _ _ _ refl (inl refl) refl refl, (apart, (apart, (apart, (apart, (apart, tt)))))))) in
     let steps : IsWithin (codes "steps") 1000000000 rows = first_fits (codes "steps") _ rows
     (rows_good s [] p.1 false [] e (codes "steps") (IsUnsignedIn 1 1000000000)
-    (apart, (apart, (λ _. fit_numbers _ _ _ refl (inl refl) refl refl, (apart, (apart, (apart, tt))))))) in
+    (apart, (apart, (λ _. fit_numbers _ _ _ refl (inl refl) refl refl, (apart, (apart, (apart, (apart, tt)))))))) in
     plan_found rows network workers steps
 
 check_known : Known (leaf grammar.check.top)
@@ -255,9 +271,9 @@ gates_known p answers no_help e =
     let rows = rows_after s.rules [] p.1 in
     let wanted = required s p.1 refl e in
     let network : IsGiven (codes "NET") rows = first_given (codes "NET") Any rows
-    (rows_good s [] p.1 false [] e (codes "NET") Any (λ _. fit_file _ refl refl refl, (apart, (apart, tt)))) wanted.0 in
+    (rows_good s [] p.1 false [] e (codes "NET") Any (λ _. fit_file _ refl refl refl, (apart, (apart, (apart, tt))))) wanted.0 in
     let plan : IsGiven (codes "PLAN") rows = first_given (codes "PLAN") Any rows
-    (rows_good s [] p.1 false [] e (codes "PLAN") Any (apart, (λ _. fit_file _ refl refl refl, (apart, tt)))) wanted.1.0 in
+    (rows_good s [] p.1 false [] e (codes "PLAN") Any (apart, (λ _. fit_file _ refl refl refl, (apart, (apart, tt))))) wanted.1.0 in
     gates_found rows network plan
 
 replay_known : Known (leaf grammar.replay.top)
@@ -266,13 +282,27 @@ replay_known p answers no_help e =
     let rows = rows_after s.rules [] p.1 in
     let wanted = required s p.1 refl e in
     let network : IsGiven (codes "NET") rows = first_given (codes "NET") Any rows
-    (rows_good s [] p.1 false [] e (codes "NET") Any (λ _. fit_file _ refl refl refl, (apart, (apart, (apart, (apart, tt)))))) wanted.0 in
+    (rows_good s [] p.1 false [] e (codes "NET") Any (λ _. fit_file _ refl refl refl, (apart, (apart, (apart, (apart, (apart, tt))))))) wanted.0 in
     let plan : IsGiven (codes "PLAN") rows = first_given (codes "PLAN") Any rows
-    (rows_good s [] p.1 false [] e (codes "PLAN") Any (apart, (λ _. fit_file _ refl refl refl, (apart, (apart, (apart, tt)))))) wanted.1.0 in
+    (rows_good s [] p.1 false [] e (codes "PLAN") Any (apart, (λ _. fit_file _ refl refl refl, (apart, (apart, (apart, (apart, tt))))))) wanted.1.0 in
     let cycles : IsWithin (codes "cycles") 16 rows = first_fits (codes "cycles") _ rows
     (rows_good s [] p.1 false [] e (codes "cycles") (IsUnsignedIn 1 16)
-    (apart, (apart, (λ _. fit_numbers _ _ _ refl (inl refl) refl refl, (apart, (apart, tt)))))) in
+    (apart, (apart, (λ _. fit_numbers _ _ _ refl (inl refl) refl refl, (apart, (apart, (apart, tt))))))) in
     replay_found rows network plan cycles
+
+chart_known : Known (leaf grammar.chart.top)
+chart_known p answers no_help e =
+    let s = leaf grammar.chart.top in
+    let rows = rows_after s.rules [] p.1 in
+    let wanted = required s p.1 refl e in
+    let network : IsGiven (codes "NET") rows = first_given (codes "NET") Any rows
+    (rows_good s [] p.1 false [] e (codes "NET") Any (λ _. fit_file _ refl refl refl, (apart, (apart, (apart, tt))))) wanted.0 in
+    let plan : IsGiven (codes "PLAN") rows = first_given (codes "PLAN") Any rows
+    (rows_good s [] p.1 false [] e (codes "PLAN") Any (apart, (λ _. fit_file _ refl refl refl, (apart, (apart, tt))))) wanted.1.0 in
+    let until : IsWithin (codes "until") 1000000000 rows = first_fits (codes "until") _ rows
+    (rows_good s [] p.1 false [] e (codes "until") (IsUnsignedIn 1 1000000000)
+    (apart, (apart, (λ _. fit_numbers _ _ _ refl (inl refl) refl refl, (apart, tt))))) in
+    chart_found rows network plan until
 
 or_false : (b : Bool) → (b || false) ≡ true → b ≡ true
 or_false true e = refl
@@ -284,7 +314,7 @@ help_known p answers no_help e =
     absurd (true≢false (subst (λ t. bytes_eq t (codes "help") ≡ false) named no_help))
 
 each_known : Each Known (built grammar.tsn).subs
-each_known = (valid_known, (plan_known, (check_known, (gates_known, (replay_known, (help_known, tt))))))
+each_known = (valid_known, (plan_known, (check_known, (gates_known, (replay_known, (chart_known, (help_known, tt)))))))
 
 -- ---- the program
 

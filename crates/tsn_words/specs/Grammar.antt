@@ -1,21 +1,28 @@
 -- What the words of the command line ask for, by the grammar that `clap` reads them with.
---     tsn, valid, plan, check, gates, replay    the commands
+--     tsn, valid, plan, check, gates, replay, chart    the commands
 --     IsNumber, number_of, offsets_in      numbers
---     AsksFor, IsRefused                   what the words ask for, and that they are refused
+--     gates_format, replay_format, has_format      formats
+--     AsksFor, takes_words, IsRefused      what the words ask for, and whether they are refused
 --     IsGiven, IsWithin, HasOffsets, HasCommand, IsWhole      what a parse without a fault finds
-use Rattle.std.specs.Prelude.{◌≡◌, ◌≤◌, ◌⊎◌, ℕ, List, map, length, codes, Option, Some, None, IfSome, MatchOption, is_some, option_map, Bool, true, false, All}
+use Rattle.std.specs.Prelude.{◌≡◌, ◌≤◌, ◌⊎◌, ◌&&◌, if◌then◌else◌, ℕ, List, map, length, codes, Option, Some, None, IfSome, MatchOption, is_some, option_map, Bool, true, false, All}
 use Rattle.std.specs.Str.Parse.{IsNumeral, digits_value, without_leading_plus}
-use Rattle.clap.specs.Words.{App, IsUnsignedIn, Row, Rule, Text, all_of, first_of, one_of, new_app, new_rule, subcommand_of, with_rule, with_subcommand}
+use Rattle.std.specs.Str.{bytes_eq}
+use Rattle.clap.specs.Words.{App, IsUnsignedIn, Row, Rule, Text, all_of, first_of, one_of, new_app, new_rule, subcommand_of, takes, with_rule, with_subcommand}
 use Rattle.clap.specs.declared.builder.ArgAction.TheVariants.{Set, Append, SetTrue}
 use Rattle.clap.specs.declared.builder.value_parser.ValueParser.TheVariants.{Unsigned}
 use Rattle.tsn_words.specs.declared.words.TheConstants.{MAX_WORKERS}
 use Rattle.tsn_words.specs.declared.words.Words.{Words}
-use Rattle.tsn_words.specs.declared.words.Words.TheVariants.{Valid, Plan, Check, Gates, Replay}
+use Rattle.tsn_words.specs.declared.words.Words.TheVariants.{Valid, Plan, Check, Gates, Replay, Chart}
 use Rattle.tsn_words.specs.declared.words.ValidWords.{ValidWords}
 use Rattle.tsn_words.specs.declared.words.PlanWords.{PlanWords}
 use Rattle.tsn_words.specs.declared.words.CheckWords.{CheckWords}
 use Rattle.tsn_words.specs.declared.words.GatesWords.{GatesWords}
 use Rattle.tsn_words.specs.declared.words.ReplayWords.{ReplayWords}
+use Rattle.tsn_words.specs.declared.words.ChartWords.{ChartWords}
+use Rattle.tsn_words.specs.declared.words.GatesFormat.{GatesFormat}
+use Rattle.tsn_words.specs.declared.words.GatesFormat.TheVariants as lists
+use Rattle.tsn_words.specs.declared.words.ReplayFormat.{ReplayFormat}
+use Rattle.tsn_words.specs.declared.words.ReplayFormat.TheVariants as replays
 use Rattle.tsn_words.specs.declared.words.WordsFault.{WordsFault}
 use Rattle.tsn_words.specs.declared.words.WordsFault.TheVariants.{Refused}
 
@@ -40,41 +47,49 @@ valid = with_rule (with_rule (new_app (codes "valid")) (file (codes "NET"))) off
 abbrev pub number_option : Text → ℕ → Rule
 number_option id most = record (new_rule id) { long = Some id; action = Some Set; parser = Some (Unsigned 1 most) }
 
--- an option with a file
-abbrev pub file_option : Text → Rule
-file_option id = record (new_rule id) { long = Some id; action = Some Set }
-
--- plan NET [--workers W] [--steps N] [--plan FILE] [--cert FILE]
-abbrev pub plan : App
-plan =
-    with_rule (with_rule (with_rule (with_rule (with_rule (new_app (codes "plan")) (file (codes "NET"))) (number_option (codes "workers") MAX_WORKERS))
-    (number_option (codes "steps") 1000000000))
-    (file_option (codes "plan")))
-    (file_option (codes "cert"))
-
--- check NET PLAN CERT
-abbrev pub check : App
-check = with_rule (with_rule (with_rule (new_app (codes "check")) (file (codes "NET"))) (file (codes "PLAN"))) (file (codes "CERT"))
-
--- gates NET PLAN
-abbrev pub gates : App
-gates = with_rule (with_rule (new_app (codes "gates")) (file (codes "NET"))) (file (codes "PLAN"))
+-- an option with a word: a file or a format
+abbrev pub word_option : Text → Rule
+word_option id = record (new_rule id) { long = Some id; action = Some Set }
 
 -- a flag, which takes no word
 abbrev pub flag : Text → Rule
 flag id = record (new_rule id) { long = Some id; action = Some SetTrue }
 
--- replay NET PLAN [--cycles N] [--greedy]
+-- plan NET [--workers W] [--steps N] [--plan FILE] [--cert FILE] [--progress]
+abbrev pub plan : App
+plan =
+    with_rule (with_rule (with_rule (with_rule (with_rule (with_rule (new_app (codes "plan")) (file (codes "NET"))) (number_option (codes "workers") MAX_WORKERS))
+    (number_option (codes "steps") 1000000000))
+    (word_option (codes "plan")))
+    (word_option (codes "cert")))
+    (flag (codes "progress"))
+
+-- check NET PLAN CERT
+abbrev pub check : App
+check = with_rule (with_rule (with_rule (new_app (codes "check")) (file (codes "NET"))) (file (codes "PLAN"))) (file (codes "CERT"))
+
+-- gates NET PLAN [--format FORMAT]
+abbrev pub gates : App
+gates = with_rule (with_rule (with_rule (new_app (codes "gates")) (file (codes "NET"))) (file (codes "PLAN"))) (word_option (codes "format"))
+
+-- replay NET PLAN [--cycles N] [--greedy] [--format FORMAT]
 abbrev pub replay : App
 replay =
-    with_rule (with_rule (with_rule (with_rule (new_app (codes "replay")) (file (codes "NET"))) (file (codes "PLAN"))) (number_option (codes "cycles") 16)) (flag (codes "greedy"))
+    with_rule (with_rule (with_rule (with_rule (with_rule (new_app (codes "replay")) (file (codes "NET"))) (file (codes "PLAN"))) (number_option (codes "cycles") 16)) (flag (codes "greedy")))
+    (word_option (codes "format"))
+
+-- chart NET PLAN [--until NS]
+abbrev pub chart : App
+chart = with_rule (with_rule (with_rule (new_app (codes "chart")) (file (codes "NET"))) (file (codes "PLAN"))) (number_option (codes "until") 1000000000)
 
 -- the program: a command is required
 abbrev pub alone : App
 alone = record { top = record (new_app (codes "tsn")).top { subcommand_required = true }; subs = (new_app (codes "tsn")).subs }
 
 abbrev pub tsn : App
-tsn = with_subcommand (with_subcommand (with_subcommand (with_subcommand (with_subcommand alone valid.top) plan.top) check.top) gates.top) replay.top
+tsn =
+    with_subcommand (with_subcommand (with_subcommand (with_subcommand (with_subcommand (with_subcommand alone valid.top) plan.top) check.top) gates.top) replay.top)
+    chart.top
 
 -- a word that is a number: digits, where a plus may stand first
 abbrev pub IsNumber : Text → Type 0
@@ -96,30 +111,51 @@ abbrev pub IsNumberOr : Option Text → ℕ → ℕ → Type 0
 IsNumberOr (Some word) default number = IsNumber word × (number ≡ number_of word)
 IsNumberOr None default number = number ≡ default
 
--- the file, the numbers and the files to write of `plan`
+-- whether a flag is set, by the text that stands for it
+abbrev pub IsFlag : Option Text → Bool → Type 0
+IsFlag word is_set = (word ≡ Some (codes "true") → is_set ≡ true) × (word ≡ Some (codes "false") → is_set ≡ false) × (word ≡ None → is_set ≡ false)
+
+-- the format of `gates` that a word names; a table where there is none
+abbrev pub gates_format : Option Text → Option GatesFormat
+gates_format None = Some lists.Table
+gates_format (Some word) =
+    if bytes_eq word (codes "table") then Some lists.Table
+    else if bytes_eq word (codes "taprio") then Some lists.Taprio else if bytes_eq word (codes "json") then Some lists.Json else None
+
+-- the same of `replay`
+abbrev pub replay_format : Option Text → Option ReplayFormat
+replay_format None = Some replays.Table
+replay_format (Some word) = if bytes_eq word (codes "table") then Some replays.Table else if bytes_eq word (codes "csv") then Some replays.Csv else None
+
+-- the file, the numbers, the files to write, and the flag, of `plan`
 abbrev pub IsPlanOf : List Row → PlanWords → Type 0
 IsPlanOf rows asked =
     (first_of (codes "NET") rows ≡ Some asked.network.now) × IsNumberOr (first_of (codes "workers") rows) 1 asked.workers × IsNumberOr (first_of (codes "steps") rows) 1000000 asked.steps
     × (first_of (codes "plan") rows ≡ option_map (λ word. word.now) asked.plan) × (first_of (codes "cert") rows ≡ option_map (λ word. word.now) asked.cert)
+    × IsFlag (one_of (codes "progress") rows) asked.progress
 
 -- the files of `check`
 abbrev pub IsCheckOf : List Row → CheckWords → Type 0
 IsCheckOf rows asked =
     (first_of (codes "NET") rows ≡ Some asked.network.now) × (first_of (codes "PLAN") rows ≡ Some asked.plan.now) × (first_of (codes "CERT") rows ≡ Some asked.cert.now)
 
--- the files of `gates`
+-- the files and the format of `gates`
 abbrev pub IsGatesOf : List Row → GatesWords → Type 0
-IsGatesOf rows asked = (first_of (codes "NET") rows ≡ Some asked.network.now) × (first_of (codes "PLAN") rows ≡ Some asked.plan.now)
+IsGatesOf rows asked =
+    (first_of (codes "NET") rows ≡ Some asked.network.now) × (first_of (codes "PLAN") rows ≡ Some asked.plan.now) × (gates_format (first_of (codes "format") rows) ≡ Some asked.format)
 
--- whether a flag is set, by the text that stands for it
-abbrev pub IsFlag : Option Text → Bool → Type 0
-IsFlag word is_set = (word ≡ Some (codes "true") → is_set ≡ true) × (word ≡ Some (codes "false") → is_set ≡ false) × (word ≡ None → is_set ≡ false)
-
--- the files, the number and the flag of `replay`
+-- the files, the number, the flag and the format of `replay`
 abbrev pub IsReplayOf : List Row → ReplayWords → Type 0
 IsReplayOf rows asked =
     (first_of (codes "NET") rows ≡ Some asked.network.now) × (first_of (codes "PLAN") rows ≡ Some asked.plan.now)
     × IsNumberOr (first_of (codes "cycles") rows) 1 asked.cycles × IsFlag (one_of (codes "greedy") rows) asked.greedy
+    × (replay_format (first_of (codes "format") rows) ≡ Some asked.format)
+
+-- the files and the number of `chart`
+abbrev pub IsChartOf : List Row → ChartWords → Type 0
+IsChartOf rows asked =
+    (first_of (codes "NET") rows ≡ Some asked.network.now) × (first_of (codes "PLAN") rows ≡ Some asked.plan.now)
+    × IsNumberOr (first_of (codes "until") rows) 1000000000 asked.until
 
 -- what is asked for by a command's name and the values of its arguments
 abbrev pub IsAsked : Option (Text × List Row) → Words → Type 0
@@ -128,10 +164,22 @@ IsAsked found (Plan asked) = (rows : List Row) × (found ≡ Some (codes "plan",
 IsAsked found (Check asked) = (rows : List Row) × (found ≡ Some (codes "check", rows)) × IsCheckOf rows asked
 IsAsked found (Gates asked) = (rows : List Row) × (found ≡ Some (codes "gates", rows)) × IsGatesOf rows asked
 IsAsked found (Replay asked) = (rows : List Row) × (found ≡ Some (codes "replay", rows)) × IsReplayOf rows asked
+IsAsked found (Chart asked) = (rows : List Row) × (found ≡ Some (codes "chart", rows)) × IsChartOf rows asked
 
 -- the words ask for this
 abbrev pub AsksFor : List Text → Words → Type 0
 AsksFor words asked = IsAsked (subcommand_of tsn words) asked
+
+-- the format that is named, if any, is one of the command's
+abbrev pub has_format : Option (Text × List Row) → Bool
+has_format None = true
+has_format (Some command) =
+    if bytes_eq command.0 (codes "gates") then is_some (gates_format (first_of (codes "format") command.1))
+    else if bytes_eq command.0 (codes "replay") then is_some (replay_format (first_of (codes "format") command.1)) else true
+
+-- the words keep to the grammar, and name no other format
+abbrev pub takes_words : List Text → Bool
+takes_words words = takes tsn words && has_format (subcommand_of tsn words)
 
 -- the argument has a value
 abbrev pub IsGiven : Text → List Row → Type 0
@@ -145,14 +193,15 @@ IsWithin id most rows = IfSome (first_of id rows) (IsUnsignedIn 1 most)
 abbrev pub HasOffsets : List Row → Type 0
 HasOffsets rows = MatchOption (all_of (codes "OFFSET") rows) ⊥ (λ words. (1 ≤ length words) × All (IsUnsignedIn 0 2000000000) words)
 
--- a command that was met is one of the five, and has what it requires, each value within its range
+-- a command that was met is one of the six, and has what it requires, each value within its range
 pub record HasCommand (name : Text) (rows : List Row) : Type 0 where
   pub valid : name ≡ codes "valid" → IsGiven (codes "NET") rows × HasOffsets rows
   pub plan : name ≡ codes "plan" → IsGiven (codes "NET") rows × IsWithin (codes "workers") MAX_WORKERS rows × IsWithin (codes "steps") 1000000000 rows
   pub check : name ≡ codes "check" → IsGiven (codes "NET") rows × IsGiven (codes "PLAN") rows × IsGiven (codes "CERT") rows
   pub gates : name ≡ codes "gates" → IsGiven (codes "NET") rows × IsGiven (codes "PLAN") rows
   pub replay : name ≡ codes "replay" → IsGiven (codes "NET") rows × IsGiven (codes "PLAN") rows × IsWithin (codes "cycles") 16 rows
-  pub known : (name ≡ codes "valid") ⊎ ((name ≡ codes "plan") ⊎ ((name ≡ codes "check") ⊎ ((name ≡ codes "gates") ⊎ (name ≡ codes "replay"))))
+  pub chart : name ≡ codes "chart" → IsGiven (codes "NET") rows × IsGiven (codes "PLAN") rows × IsWithin (codes "until") 1000000000 rows
+  pub known : (name ≡ codes "valid") ⊎ ((name ≡ codes "plan") ⊎ ((name ≡ codes "check") ⊎ ((name ≡ codes "gates") ⊎ ((name ≡ codes "replay") ⊎ (name ≡ codes "chart")))))
 
 -- what a parse without a fault finds
 abbrev pub IsWhole : Option (Text × List Row) → Type 0

@@ -5,4 +5,7 @@ mod command;
 pub mod words;
 
 pub use command::words_from;
-pub use words::{CheckWords, GatesWords, PlanWords, ReplayWords, ValidWords, Words, WordsFault};
+pub use words::{
+    ChartWords, CheckWords, GatesFormat, GatesWords, PlanWords, ReplayFormat, ReplayWords,
+    ValidWords, Words, WordsFault,
+};

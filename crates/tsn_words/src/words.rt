@@ -9,13 +9,16 @@ use thiserror::Error;
 pub const MAX_OFFSET: u64 = 2_000_000_000;
 
 /// The most workers that plan.
-pub const MAX_WORKERS: usize = 1;
+pub const MAX_WORKERS: usize = 16;
 
 /// The most nodes that a run may be asked to settle.
 pub const MAX_STEPS: usize = 1_000_000_000;
 
 /// The most cycles of a replay.
 pub const MAX_CYCLES: usize = 16;
+
+/// The latest end of a chart, in nanoseconds.
+pub const MAX_UNTIL: usize = 1_000_000_000;
 
 /// The most nodes that a run settles where the words don't say.
 pub const DEFAULT_STEPS: usize = 1_000_000;
@@ -42,6 +45,17 @@ pub struct CheckWords<'a> {
     pub cert: &'a str,
 }
 
+/// How gate control lists are printed.
+#[derive(Clone, Copy, Debug, PartialEq, Eq)]
+pub enum GatesFormat {
+    /// `table`, which goes where the words name none.
+    Table,
+    /// `taprio`: a shell script for Linux.
+    Taprio,
+    /// `json`: an object a line.
+    Json,
+}
+
 /// `gates NET PLAN`: print the gate control lists of a plan.
 #[derive(Clone, Copy)]
 pub struct GatesWords<'a> {
@@ -49,6 +63,21 @@ pub struct GatesWords<'a> {
     pub network: &'a str,
     /// The plan file.
     pub plan: &'a str,
+    /// How they are printed.
+    pub format: GatesFormat,
+}
+
+/// `chart NET PLAN`: draw a plan.
+#[derive(Clone, Copy)]
+pub struct ChartWords<'a> {
+    /// The network file, or `-` for standard input.
+    pub network: &'a str,
+    /// The plan file.
+    pub plan: &'a str,
+    /// Where the chart ends, in nanoseconds, 1 to `MAX_UNTIL`. No cycle is longer, so the greatest shows all of it.
+    pub until: usize,
+    pub ghost some: { 1 ≤ until },
+    pub ghost few: { until ≤ 1000000000 },
 }
 
 /// `plan NET`: plan a network.
@@ -64,10 +93,21 @@ pub struct PlanWords<'a> {
     pub plan: Option<&'a str>,
     /// The file that the certificate is written to, if any.
     pub cert: Option<&'a str>,
+    /// Whether it is told on standard error how far the plan has got.
+    pub progress: bool,
     pub ghost some_workers: { 1 ≤ workers },
     pub ghost few_workers: { workers ≤ MAX_WORKERS },
     pub ghost some: { 1 ≤ steps },
     pub ghost few: { steps ≤ 1000000000 },
+}
+
+/// How a replay is printed.
+#[derive(Clone, Copy, Debug, PartialEq, Eq)]
+pub enum ReplayFormat {
+    /// `table`, which goes where the words name none.
+    Table,
+    /// `csv`: comma-separated values.
+    Csv,
 }
 
 /// `replay NET PLAN`: replay the gate control lists of a plan.
@@ -81,6 +121,8 @@ pub struct ReplayWords<'a> {
     pub cycles: usize,
     /// Whether a background frame always waits.
     pub greedy: bool,
+    /// How it is printed.
+    pub format: ReplayFormat,
     pub ghost some: { 1 ≤ cycles },
     pub ghost few: { cycles ≤ 16 },
 }
@@ -93,6 +135,7 @@ pub enum Words<'a> {
     Check(CheckWords<'a>),
     Gates(GatesWords<'a>),
     Replay(ReplayWords<'a>),
+    Chart(ChartWords<'a>),
 }
 
 /// Why there is no command.

@@ -4,4 +4,4 @@ use Rattle.tsn_gate.specs.Table.{table_text}
 use Rattle.tsn_cli.proofs.tables.gate_tables.Given as goal
 
 abbrev pub invariant-loop-list : goal.invariant-loop-list
-invariant-loop-list l = string_bytes l.text ≡ flat_map (table_text l.problem) (take l.list-index l.list-items)
+invariant-loop-list l = string_bytes l.text ≡ flat_map (table_text l.problem) (take l.list-index l.lists)

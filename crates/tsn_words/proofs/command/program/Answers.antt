@@ -12,10 +12,12 @@ returns c =
     let check = c.in_ok-check_command in
     let gates = c.in_ok-gates_command in
     let replayed = c.in_ok-replay_command in
+    let chart = c.in_ok-chart_command in
     let alone : app_of c.subcommand_required.result ≡ grammar.alone = search rules in
     let judging = added _ _ _ grammar.alone grammar.valid alone valid.ensures.app valid.ensures.local c.in_ok-subcommand.ensures in
     let planning = added _ _ _ _ grammar.plan judging planned.ensures.app planned.ensures.local c.in_ok-subcommand-2.ensures in
     let checking = added _ _ _ _ grammar.check planning check.ensures.app check.ensures.local c.in_ok-subcommand-3.ensures in
     let listing = added _ _ _ _ grammar.gates checking gates.ensures.app gates.ensures.local c.in_ok-subcommand-4.ensures in
-    IfOk-weaker c.subcommand-5.result (AddsSubcommand c.in_ok-subcommand-4.field-0 replayed.field-0) (λ program. app_of program ≡ grammar.tsn)
-    (λ program. added _ _ program _ grammar.replay listing replayed.ensures.app replayed.ensures.local) c.subcommand-5.ensures
+    let replaying = added _ _ _ _ grammar.replay listing replayed.ensures.app replayed.ensures.local c.in_ok-subcommand-5.ensures in
+    IfOk-weaker c.subcommand-6.result (AddsSubcommand c.in_ok-subcommand-5.field-0 chart.field-0) (λ program. app_of program ≡ grammar.tsn)
+    (λ program. added _ _ program _ grammar.chart replaying chart.ensures.app chart.ensures.local) c.subcommand-6.ensures

@@ -7,19 +7,20 @@ use Rattle.tsn_words.specs.Grammar as grammar
 use Rattle.tsn_words.proofs.Commands.{Reads, argument_added}
 use Rattle.tsn_words.proofs.command.replay_command.Goals as goal
 
-planned : (c : goal.After-arg-4) (command : Command) → AddsArg c.in_ok-arg-3.field-0 c.greedy_flag.result command → Reads command grammar.replay
+planned : (c : goal.After-arg-5) (command : Command) → AddsArg c.in_ok-arg-4.field-0 c.replay_format_option.result command → Reads command grammar.replay
 planned c command adds =
     let named : app_of c.about.result ≡ new_app (codes "replay") = search rules in
     let alone : (fields_of c.about.result).has_globals ≡ false = search rules in
     let one = argument_added c.about.result c.network_argument.result c.in_ok-arg.field-0 _ _ (record { app = named; local = alone }) c.network_argument.ensures.rule c.network_argument.ensures.local c.in_ok-arg.ensures in
     let two = argument_added c.in_ok-arg.field-0 c.plan_argument.result c.in_ok-arg-2.field-0 _ _ one c.plan_argument.ensures.rule c.plan_argument.ensures.local c.in_ok-arg-2.ensures in
     let three = argument_added c.in_ok-arg-2.field-0 c.cycles_option.result c.in_ok-arg-3.field-0 _ _ two c.cycles_option.ensures.rule c.cycles_option.ensures.local c.in_ok-arg-3.ensures in
-    argument_added c.in_ok-arg-3.field-0 c.greedy_flag.result command _ _ three c.greedy_flag.ensures.rule c.greedy_flag.ensures.local adds
+    let four = argument_added c.in_ok-arg-3.field-0 c.greedy_flag.result c.in_ok-arg-4.field-0 _ _ three c.greedy_flag.ensures.rule c.greedy_flag.ensures.local c.in_ok-arg-4.ensures in
+    argument_added c.in_ok-arg-4.field-0 c.replay_format_option.result command _ _ four c.replay_format_option.ensures.rule c.replay_format_option.ensures.local adds
 
 pub returns-clause-app : goal.returns-clause-app
 returns-clause-app c =
-    IfOk-weaker c.arg-4.result (AddsArg c.in_ok-arg-3.field-0 c.greedy_flag.result) (λ command. app_of command ≡ grammar.replay) (λ command adds. (planned c command adds).app) c.arg-4.ensures
+    IfOk-weaker c.arg-5.result (AddsArg c.in_ok-arg-4.field-0 c.replay_format_option.result) (λ command. app_of command ≡ grammar.replay) (λ command adds. (planned c command adds).app) c.arg-5.ensures
 
 pub returns-clause-local : goal.returns-clause-local
 returns-clause-local c =
-    IfOk-weaker c.arg-4.result (AddsArg c.in_ok-arg-3.field-0 c.greedy_flag.result) (λ command. (fields_of command).has_globals ≡ false) (λ command adds. (planned c command adds).local) c.arg-4.ensures
+    IfOk-weaker c.arg-5.result (AddsArg c.in_ok-arg-4.field-0 c.replay_format_option.result) (λ command. (fields_of command).has_globals ≡ false) (λ command adds. (planned c command adds).local) c.arg-5.ensures

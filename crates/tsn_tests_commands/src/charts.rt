@@ -1,0 +1,54 @@
+//! Parts of the pictures that are drawn.
+
+ghost use Rattle.std.specs.Prelude.{◌≤◌};
+
+use crate::inputs::{NETWORK, PLAN};
+use std::alloc::Global;
+use std::process::Abort;
+use std::str::from_utf8;
+use std::test::Fail;
+use tsn_cli::chart_run;
+use tsn_cli::memory::{MemorySink, MemorySource, NEVER};
+
+/// The bytes of a picture from 0 to an instant.
+fn chart_to<R: Abort>(rt: &R, alloc: Global, until: u64) -> Vec<u8>
+    requires some { 1 ≤ until }
+    requires few { until ≤ 1_000_000_000 }
+{
+    let mut network = MemorySource::new(NETWORK.as_bytes(), 4096, NEVER);
+    let mut plan = MemorySource::new(PLAN.as_bytes(), 4096, NEVER);
+    let mut sink = MemorySink::new(alloc, 4096, NEVER);
+    let status = chart_run(alloc, &mut network, &mut plan, until, &mut sink);
+    assert_eq!(rt; status, 0);
+    sink.bytes
+}
+
+/// The rows, the frames, the gates and the flowspan stand in the picture, in units of a tenth of a pixel: 6000 ns are 12000
+/// units wide.
+#[test]
+fn draws_two_streams(rt: HostRuntime) -> Result<(), Fail> {
+    let bytes = chart_to(&rt, rt.alloc(), 6000);
+    let text = from_utf8(bytes.as_slice()).map_err(|_| "no text")?;
+    assert!(&rt; text.starts_with("<svg xmlns=\"http://www.w3.org/2000/svg\" "));
+    assert!(&rt; text.ends_with("</svg>\n"));
+    assert!(&rt; text.contains("2 streams, flowspan 2.924 &#181;s, cycle 1000 &#181;s"));
+    assert!(&rt; text.contains("link 4: S to C"));
+    assert!(&rt; text.contains("<title>one: 0 to 672 ns</title><rect x=\"2000\" "));
+    assert!(&rt; text.contains("<title>two: 2298 to 2970 ns</title><rect x=\"6596\" "));
+    assert!(&rt; text.contains("gates 00: 0 to 1626 ns"));
+    assert!(&rt; text.contains("gates 7F: 2970 to 989290 ns"));
+    assert!(&rt; text.contains("flowspan 2.924 &#181;s</text>"));
+    Ok(())
+}
+
+/// What begins at the right edge or after it is left out.
+#[test]
+fn ends_where_it_is_asked_to(rt: HostRuntime) -> Result<(), Fail> {
+    let bytes = chart_to(&rt, rt.alloc(), 2298);
+    let text = from_utf8(bytes.as_slice()).map_err(|_| "no text")?;
+    assert!(&rt; text.contains("one: 1626 to 2298 ns"));
+    assert!(&rt; !text.contains("two: 2298 to 2970 ns"));
+    assert!(&rt; !text.contains("gates 7F: 2970"));
+    assert!(&rt; !text.contains("stroke=\"#c00000\""));
+    Ok(())
+}

@@ -1,0 +1,17 @@
+use Rattle.std.proofs.Common.{ℕ, IfSome, codes, Option}
+use Rattle.clap.specs.Words.{IsUnsignedIn, Text, found_of}
+use Rattle.tsn_words.specs.Grammar.{IsNumberOr}
+use Rattle.tsn_words.specs.declared.words.TheConstants.{MAX_UNTIL}
+use Rattle.tsn_words.proofs.Getters.{of_got, of_rows}
+use Rattle.tsn_words.proofs.command.chart_words.Goals as goal
+
+pub number_or-requires-clause-number : goal.number_or-requires-clause-number
+number_or-requires-clause-number c =
+    let P : Option Text → Type 0 = λ o. IfSome o (IsUnsignedIn 1 MAX_UNTIL) in
+    of_got (found_of c.args.words.now) (codes "until") _ P c.get_str.ensures c.requires.until
+
+pub returns : goal.returns
+returns c =
+    let found = found_of c.args.words.now in
+    let P : ℕ → Option Text → Type 0 = λ number word. IsNumberOr word MAX_UNTIL number in
+    (c.text_of.ensures, c.text_of-2.ensures, of_rows found (codes "until") _ (P c.number_or.result) c.get_str.ensures c.number_or.ensures.value)
