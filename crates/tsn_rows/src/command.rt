@@ -1,110 +1,283 @@
 //! The commands over the files of a folder, from their words on.
-ghost use Rattle.std.specs.Prelude.{◌≡◌};
+ghost use Rattle.std.specs.Prelude.{◌≡◌, ◌<◌};
 
+use crate::console::NoConsole;
 use crate::folder::Folder;
 use std::alloc::{AllocError, Global};
 use std::sync::Wait;
 use std::thread::Threads;
 use tsn_cli::memory::{MemorySink, MemorySource, NEVER};
 use tsn_cli::run::WORDS;
-use tsn_cli::{check_run, gates_run, plan_run, replay_run, valid_run};
-use tsn_words::{
-    CheckWords, GatesWords, PlanWords, ReplayWords, ValidWords, Words, WordsFault, words_from,
+use tsn_cli::{
+    GatesFormat, ReplayFormat, chart_run, check_run, gates_run, plan_run, replay_run, valid_run,
 };
+use tsn_progress::Progress;
+use tsn_reason::{File, Reason, cert_reason, network_reason, offsets_reason, plan_reason};
+use tsn_words::{
+    ChartWords, CheckWords, GatesWords, PlanWords, ReplayWords, ValidWords, Words, WordsFault,
+    words_from,
+};
+use tsn_worker::{Gate, OpenGate};
 
 /// The file that stands for standard input, which the network `-` is read from.
 const STANDARD_INPUT: &str = "stdin";
 
-/// The most bytes that a read or a write moves.
-const PIECE: usize = 1000;
+/// What a command reads from or writes to, in the order in which it does.
+#[derive(Clone, Copy, PartialEq, Eq)]
+pub enum Device {
+    Network,
+    Plan,
+    Cert,
+    PlanFile,
+    CertFile,
+    Output,
+}
+
+/// How the devices of a command work: how many bytes a call moves at most, and which one fails, after so many good calls.
+#[derive(Clone, Copy)]
+pub enum Devices {
+    /// A thousand bytes a call, and none fails.
+    Good,
+    /// A byte a call, and none fails.
+    Slow,
+    /// A byte a call; one fails once.
+    Failing(Device, u64),
+}
+
+impl Devices {
+    fn piece(self) -> usize
+        ensures { 0 < result }
+    {
+        match self {
+            Devices::Good => 1000,
+            Devices::Slow => 1,
+            Devices::Failing(_, _) => 1,
+        }
+    }
+
+    /// After how many good calls a device fails.
+    fn good_calls(self, device: Device) -> u64 {
+        match self {
+            Devices::Failing(failing, good_calls) if failing == device => good_calls,
+            _ => NEVER,
+        }
+    }
+}
 
 /// What a command came to.
-#[derive(Drop)]
+#[derive(Drop, PartialEq, Eq)]
 pub struct Outcome {
     pub status: u8,
     pub output: Vec<u8>,
+    /// What was written of the plan and the certificate.
+    pub plan: Vec<u8>,
+    pub cert: Vec<u8>,
     /// What was told on standard error.
     pub told: String,
 }
 
-/// Runs the command that the words ask for; the first word is the program's name.
+/// Runs the command that the words ask for; the first word is the program's name. A file that it is to write is kept, where
+/// it is made: with its first byte.
 pub fn run<R: AllocGlobal + Threads + Wait + Sync>(
     rt: &R,
     words: &[&str],
     folder: &mut Folder,
 ) -> Result<Outcome, AllocError> {
+    let outcome = run_over(rt, words, folder, Devices::Good)?;
+    if let Ok(Words::Plan(words)) = words_from(rt.alloc(), words) {
+        keep(folder, words.plan, &outcome.plan)?;
+        keep(folder, words.cert, &outcome.cert)?;
+    }
+    Ok(outcome)
+}
+
+/// Runs the command over devices that work like this, and keeps no file.
+pub fn run_over<R: AllocGlobal + Threads + Wait + Sync>(
+    rt: &R,
+    words: &[&str],
+    folder: &Folder,
+    devices: Devices,
+) -> Result<Outcome, AllocError> {
     let alloc = rt.alloc();
     match words_from(alloc, words) {
-        Ok(Words::Valid(words)) => Ok(valid(alloc, &words, folder)),
-        Ok(Words::Plan(words)) => plan(rt, words, folder),
-        Ok(Words::Check(words)) => Ok(check(alloc, words, folder)),
-        Ok(Words::Gates(words)) => Ok(gates(alloc, words, folder)),
-        Ok(Words::Replay(words)) => Ok(replay(alloc, words, folder)),
+        Ok(Words::Valid(words)) => Ok(valid(alloc, &words, folder, devices)),
+        Ok(Words::Plan(words)) => Ok(plan(rt, words, folder, devices)),
+        Ok(Words::Check(words)) => Ok(check(alloc, words, folder, devices)),
+        Ok(Words::Gates(words)) => Ok(gates(alloc, words, folder, devices)),
+        Ok(Words::Replay(words)) => Ok(replay(alloc, words, folder, devices)),
+        Ok(Words::Chart(words)) => Ok(chart(alloc, words, folder, devices)),
         Err(WordsFault::Refused(told)) => Ok(refused(alloc, told)),
         Err(WordsFault::Memory) => Err(AllocError),
     }
 }
 
-fn valid(alloc: Global, words: &ValidWords<'_>, folder: &Folder) -> Outcome {
-    let mut network = network_of(folder, words.network);
-    let mut sink = sink(alloc);
+/// Why the command that the words ask for refuses what it reads: what the program tells on standard error after its own name;
+/// nothing where it refuses nothing.
+pub fn reason_of(alloc: Global, words: &[&str], folder: &Folder) -> Result<String, AllocError> {
+    match reason_for(alloc, words, folder) {
+        Ok(Some(line)) => Ok(line),
+        Ok(None) => Ok(String::new(alloc)),
+        Err(_) => Err(AllocError),
+    }
+}
+
+fn reason_for(alloc: Global, words: &[&str], folder: &Folder) -> Reason {
+    match words_from(alloc, words) {
+        Ok(Words::Valid(words)) => valid_reason(alloc, folder, &words),
+        Ok(Words::Plan(words)) => network_reason(alloc, file(folder, words.network)),
+        Ok(Words::Check(words)) => check_reason(alloc, folder, words),
+        Ok(Words::Gates(words)) => shown_reason(alloc, folder, words.network, words.plan),
+        Ok(Words::Replay(words)) => shown_reason(alloc, folder, words.network, words.plan),
+        Ok(Words::Chart(words)) => shown_reason(alloc, folder, words.network, words.plan),
+        Err(_) => Ok(None),
+    }
+}
+
+fn valid_reason(alloc: Global, folder: &Folder, words: &ValidWords<'_>) -> Reason {
+    offsets_reason(alloc, file(folder, words.network), &words.offsets)
+}
+
+fn check_reason(alloc: Global, folder: &Folder, words: CheckWords<'_>) -> Reason {
+    let network = file(folder, words.network);
+    let plan = file(folder, words.plan);
+    let cert = file(folder, words.cert);
+    cert_reason(alloc, network, plan, cert)
+}
+
+/// Why a plan can't be shown.
+fn shown_reason(alloc: Global, folder: &Folder, network: &str, plan: &str) -> Reason {
+    plan_reason(alloc, file(folder, network), file(folder, plan))
+}
+
+/// A file of the folder; one without bytes where there is none.
+fn file<'a>(folder: &'a Folder, name: &'a str) -> File<'a> {
+    File {
+        name,
+        bytes: folder.bytes(name).unwrap_or(&[]),
+    }
+}
+
+fn valid(alloc: Global, words: &ValidWords<'_>, folder: &Folder, devices: Devices) -> Outcome {
+    let mut network = network_of(folder, words.network, devices);
+    let mut sink = sink(alloc, Device::Output, devices);
     let status = valid_run(alloc, &mut network, &words.offsets, &mut sink);
     done(alloc, status, sink)
 }
 
+// Where it is to be told how far the plan has got, neither clock nor standard error works.
 fn plan<R: AllocGlobal + Threads + Wait + Sync>(
     rt: &R,
     words: PlanWords<'_>,
-    folder: &mut Folder,
-) -> Result<Outcome, AllocError> {
+    folder: &Folder,
+    devices: Devices,
+) -> Outcome {
+    if !words.progress {
+        return plan_at(rt, words, folder, devices, &OpenGate);
+    }
+    let progress = Progress::new(&NoConsole);
+    let outcome = plan_at(rt, words, folder, devices, &progress);
+    progress.end();
+    outcome
+}
+
+fn plan_at<R: AllocGlobal + Threads + Wait + Sync, G: Gate + Sync>(
+    rt: &R,
+    words: PlanWords<'_>,
+    folder: &Folder,
+    devices: Devices,
+    gate: &G,
+) -> Outcome {
     let alloc = rt.alloc();
-    let mut network = network_of(folder, words.network);
-    let (mut plan, mut cert, mut line) = (sink(alloc), sink(alloc), sink(alloc));
+    let mut network = network_of(folder, words.network, devices);
+    let mut plan = sink(alloc, Device::PlanFile, devices);
+    let mut cert = sink(alloc, Device::CertFile, devices);
+    let mut line = sink(alloc, Device::Output, devices);
     let status = plan_run(
         rt,
         alloc,
         &mut network,
         words.workers,
         words.steps,
+        gate,
         &mut plan,
         &mut cert,
         &mut line,
     );
-    keep(folder, words.plan, plan)?;
-    keep(folder, words.cert, cert)?;
-    Ok(done(alloc, status, line))
+    Outcome {
+        status,
+        output: line.bytes,
+        plan: plan.bytes,
+        cert: cert.bytes,
+        told: String::new(alloc),
+    }
 }
 
-fn check(alloc: Global, words: CheckWords<'_>, folder: &Folder) -> Outcome {
-    let mut network = network_of(folder, words.network);
-    let mut plan = source(folder, words.plan);
-    let mut cert = source(folder, words.cert);
-    let mut sink = sink(alloc);
+fn check(alloc: Global, words: CheckWords<'_>, folder: &Folder, devices: Devices) -> Outcome {
+    let mut network = network_of(folder, words.network, devices);
+    let mut plan = source(folder, words.plan, Device::Plan, devices);
+    let mut cert = source(folder, words.cert, Device::Cert, devices);
+    let mut sink = sink(alloc, Device::Output, devices);
     let status = check_run(alloc, &mut network, &mut plan, &mut cert, &mut sink);
     done(alloc, status, sink)
 }
 
-fn gates(alloc: Global, words: GatesWords<'_>, folder: &Folder) -> Outcome {
-    let mut network = network_of(folder, words.network);
-    let mut plan = source(folder, words.plan);
-    let mut sink = sink(alloc);
-    let status = gates_run(alloc, &mut network, &mut plan, &mut sink);
+fn gates(alloc: Global, words: GatesWords<'_>, folder: &Folder, devices: Devices) -> Outcome {
+    let mut network = network_of(folder, words.network, devices);
+    let mut plan = source(folder, words.plan, Device::Plan, devices);
+    let mut sink = sink(alloc, Device::Output, devices);
+    let format = gates_format(words.format);
+    let status = gates_run(alloc, &mut network, &mut plan, format, &mut sink);
     done(alloc, status, sink)
 }
 
-fn replay(alloc: Global, words: ReplayWords<'_>, folder: &Folder) -> Outcome {
+fn replay(alloc: Global, words: ReplayWords<'_>, folder: &Folder, devices: Devices) -> Outcome {
     let (cycles, greedy) = (words.cycles, words.greedy);
-    let mut network = network_of(folder, words.network);
-    let mut plan = source(folder, words.plan);
-    let mut sink = sink(alloc);
-    let status = replay_run(alloc, &mut network, &mut plan, cycles, greedy, &mut sink);
+    let mut network = network_of(folder, words.network, devices);
+    let mut plan = source(folder, words.plan, Device::Plan, devices);
+    let mut sink = sink(alloc, Device::Output, devices);
+    let format = replay_format(words.format);
+    let status = replay_run(
+        alloc,
+        &mut network,
+        &mut plan,
+        cycles,
+        greedy,
+        format,
+        &mut sink,
+    );
     done(alloc, status, sink)
+}
+
+fn chart(alloc: Global, words: ChartWords<'_>, folder: &Folder, devices: Devices) -> Outcome {
+    let until = words.until as u64;
+    let mut network = network_of(folder, words.network, devices);
+    let mut plan = source(folder, words.plan, Device::Plan, devices);
+    let mut sink = sink(alloc, Device::Output, devices);
+    let status = chart_run(alloc, &mut network, &mut plan, until, &mut sink);
+    done(alloc, status, sink)
+}
+
+fn gates_format(format: tsn_words::GatesFormat) -> GatesFormat {
+    match format {
+        tsn_words::GatesFormat::Table => GatesFormat::Table,
+        tsn_words::GatesFormat::Taprio => GatesFormat::Taprio,
+        tsn_words::GatesFormat::Json => GatesFormat::Json,
+    }
+}
+
+fn replay_format(format: tsn_words::ReplayFormat) -> ReplayFormat {
+    match format {
+        tsn_words::ReplayFormat::Table => ReplayFormat::Table,
+        tsn_words::ReplayFormat::Csv => ReplayFormat::Csv,
+    }
 }
 
 fn refused(alloc: Global, told: String) -> Outcome {
     Outcome {
         status: WORDS,
         output: Vec::new(alloc),
+        plan: Vec::new(alloc),
+        cert: Vec::new(alloc),
         told,
     }
 }
@@ -113,37 +286,43 @@ fn done(alloc: Global, status: u8, sink: MemorySink) -> Outcome {
     Outcome {
         status,
         output: sink.bytes,
+        plan: Vec::new(alloc),
+        cert: Vec::new(alloc),
         told: String::new(alloc),
     }
 }
 
 /// The network file, or standard input for `-`.
-fn network_of<'a>(folder: &'a Folder, name: &str) -> MemorySource<'a>
+fn network_of<'a>(folder: &'a Folder, name: &str, devices: Devices) -> MemorySource<'a>
     ensures { result.failures ≡ 0 }
 {
-    source(folder, if name == "-" { STANDARD_INPUT } else { name })
+    let name = if name == "-" { STANDARD_INPUT } else { name };
+    source(folder, name, Device::Network, devices)
 }
 
 /// A source of a file, which fails at its first read where there is none of that name.
-fn source<'a>(folder: &'a Folder, name: &str) -> MemorySource<'a>
+fn source<'a>(folder: &'a Folder, name: &str, device: Device, devices: Devices) -> MemorySource<'a>
     ensures { result.failures ≡ 0 }
 {
     match folder.bytes(name) {
-        Some(bytes) => MemorySource::new(bytes, PIECE, NEVER),
-        None => MemorySource::new(&[], PIECE, 0),
+        Some(bytes) => MemorySource::new(bytes, devices.piece(), devices.good_calls(device)),
+        None => MemorySource::new(&[], devices.piece(), 0),
     }
 }
 
-fn sink(alloc: Global) -> MemorySink
+fn sink(alloc: Global, device: Device, devices: Devices) -> MemorySink
     ensures { result.failures ≡ 0 }
 {
-    MemorySink::new(alloc, PIECE, NEVER)
+    MemorySink::new(alloc, devices.piece(), devices.good_calls(device))
 }
 
 /// Keeps a file that was asked for and is made: it is made when its first byte is written.
-fn keep(folder: &mut Folder, name: Option<&str>, sink: MemorySink) -> Result<(), AllocError> {
+fn keep(folder: &mut Folder, name: Option<&str>, bytes: &[u8]) -> Result<(), AllocError> {
     match name {
-        Some(name) if !sink.bytes.is_empty() => folder.write(name, sink.bytes),
+        Some(name) if !bytes.is_empty() => folder.write(
+            name,
+            Vec::from_slice(folder.alloc(), bytes)?,
+        ),
         _ => Ok(()),
     }
 }

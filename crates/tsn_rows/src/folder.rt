@@ -27,6 +27,11 @@ impl Folder {
         }
     }
 
+    /// What memory is taken from.
+    pub fn alloc(&self) -> Global {
+        self.alloc
+    }
+
     /// What the file of this name holds, where there is one.
     pub fn bytes(&self, name: &str) -> Option<&[u8]> {
         for file in &self.files {

@@ -3,6 +3,8 @@
 #![tactic(auto)]
 
 mod command;
+mod console;
+mod failing;
 mod folder;
 mod session;
 mod text;

@@ -1,9 +1,11 @@
 //! A table's lines, followed one after another.
 
-use crate::command::{self, Outcome};
+use crate::command::{self, Outcome, reason_of};
+use crate::failing::fail_each;
 use crate::folder::Folder;
 use crate::text::{changed, expanded, words_of};
 use anyhow::{Context, Error, Result, bail, ensure};
+use std::alloc::Global;
 use std::fs;
 use std::rt::Files;
 use std::sync::Wait;
@@ -115,7 +117,10 @@ impl<'a, R: Files + Print + AllocGlobal + Threads + Wait + Sync> Session<'a, R> 
             "=" => self.compare(rest),
             ">" => self.compare_file(rest),
             "-" => self.run_case(rest),
+            "!" => self.compare_reason(rest),
             "cut" => self.run_cuts(rest),
+            "beginnings" => self.run_beginnings(rest),
+            "fails" => self.run_failing(rest),
             "refused" => self.run_refused(rest),
             _ => bail!("a line of no kind"),
         }
@@ -209,34 +214,48 @@ impl<'a, R: Files + Print + AllocGlobal + Threads + Wait + Sync> Session<'a, R> 
     }
 
     fn run_words(&mut self, text: &str) -> Result<()> {
-        let alloc = self.rt.alloc();
-        let owned = words_of(alloc, text)?;
-        let mut words = Vec::new(alloc);
-        for word in &owned {
-            words.push(word.as_str())?;
-        }
+        let owned = words_of(self.rt.alloc(), text)?;
+        let words = lent(self.rt.alloc(), &owned)?;
         self.outcome = Some(command::run(self.rt, words.as_slice(), &mut self.folder)?);
         Ok(())
     }
 
-    /// `STATUS OUTPUT`: how the last command ended, and what it wrote to standard output.
+    /// Lets each read and each write of a command fail once, in turn.
+    fn run_failing(&mut self, text: &str) -> Result<()> {
+        ensure!(self.part == Part::Row, "no row");
+        self.end_command()?;
+        self.has_run = true;
+        let owned = words_of(self.rt.alloc(), text)?;
+        let words = lent(self.rt.alloc(), &owned)?;
+        fail_each(self.rt, words.as_slice(), &self.folder)?;
+        Ok(())
+    }
+
+    /// `STATUS OUTPUT`: how the last command ended, and what it wrote to standard output; `<..>` at its end stands for the rest.
     fn compare(&mut self, line: &str) -> Result<()> {
         let Some(outcome) = self.outcome.take() else {
             bail!("no command to compare");
         };
         let (status, content) = line.split_once(' ').unwrap_or((line, ""));
         let status = status.parse::<u8>().context("no status")?;
-        let output = if content.is_empty() {
-            Vec::new(self.rt.alloc())
-        } else {
-            expanded(self.rt.alloc(), self.text_of(content)?.as_str())?
-        };
-        if outcome.status != status || outcome.output.as_slice() != output.as_slice() {
+        if outcome.status != status || !self.is_said(content, &outcome.output)? {
             self.show(&outcome.output)?;
             let found = outcome.status;
             bail!("it ends with {found}, and says what is shown above");
         }
         Ok(())
+    }
+
+    /// Whether this is the content, or begins with it where it ends with `<..>`.
+    fn is_said(&self, content: &str, output: &[u8]) -> Result<bool> {
+        if let Some(beginning) = content.strip_suffix("<..>") {
+            return Ok(output.starts_with(beginning.as_bytes()));
+        }
+        if content.is_empty() {
+            return Ok(output.is_empty());
+        }
+        let wanted = expanded(self.rt.alloc(), self.text_of(content)?.as_str())?;
+        Ok(wanted.as_slice() == output)
     }
 
     /// Tells what came out.
@@ -267,18 +286,37 @@ impl<'a, R: Files + Print + AllocGlobal + Threads + Wait + Sync> Session<'a, R> 
 
     /// `STATUS OUTPUT`, and changes: what the table's words come to on the varied file with these changes.
     fn run_case(&mut self, line: &'a str) -> Result<()> {
-        let (end, changes) = match line.split_once(" | ") {
-            Some((end, changes)) => (end, Some(changes)),
-            None => (line, None),
-        };
+        let (end, changes) = cut_changes(line);
+        self.run_on(self.varied_bytes(changes)?, end)?;
+        self.tally.count(true);
+        Ok(())
+    }
+
+    /// The varied file with these changes.
+    fn varied_bytes(&self, changes: Option<&str>) -> Result<Vec<u8>> {
         let alloc = self.rt.alloc();
-        let bytes = match changes {
-            Some(changes) => {
-                expanded(alloc, changed(alloc, self.base.as_str(), changes)?.as_str())?
-            }
-            None => expanded(alloc, self.base.as_str())?,
-        };
-        self.run_on(bytes, end)?;
+        let base = self.base.as_str();
+        match changes {
+            Some(changes) => Ok(expanded(alloc, changed(alloc, base, changes)?.as_str())?),
+            None => expanded(alloc, base),
+        }
+    }
+
+    /// `REASON`, and changes: why the table's words refuse the varied file with these changes; `none` where they don't.
+    fn compare_reason(&mut self, line: &'a str) -> Result<()> {
+        ensure!(self.part == Part::Table, "no table");
+        ensure!(!self.varied.is_empty(), "no file that varies");
+        let (reason, changes) = cut_changes(line);
+        let bytes = self.varied_bytes(changes)?;
+        self.folder.put(self.varied, bytes)?;
+        let owned = words_of(self.rt.alloc(), self.words)?;
+        let words = lent(self.rt.alloc(), &owned)?;
+        let found = reason_of(self.rt.alloc(), words.as_slice(), &self.folder)?;
+        let wanted = if reason == "none" { "" } else { reason };
+        if found.as_str() != wanted {
+            self.show(found.as_bytes())?;
+            bail!("the reason is what is shown above");
+        }
         self.tally.count(true);
         Ok(())
     }
@@ -290,6 +328,34 @@ impl<'a, R: Files + Print + AllocGlobal + Threads + Wait + Sync> Session<'a, R> 
         self.run_words(self.words)?;
         self.compare(end)?;
         self.end_command()
+    }
+
+    /// `STATUS..`: the table's words end with one of these statuses on each beginning of the varied file, and with each of
+    /// them on some.
+    fn run_beginnings(&mut self, line: &str) -> Result<()> {
+        let whole = expanded(self.rt.alloc(), self.base.as_str())?;
+        let mut ends = Vec::new(self.rt.alloc());
+        for status in line.split(' ') {
+            ends.push((status.parse::<u8>().context("no status")?, false))?;
+        }
+        for count in 0..=whole.len() {
+            self.folder
+                .put(self.varied, whole[..count].to_vec(self.rt.alloc())?)?;
+            self.run_words(self.words)?;
+            let Some(outcome) = self.outcome.take() else {
+                bail!("no command to compare");
+            };
+            ensure!(
+                is_met(&mut ends, outcome.status),
+                "the beginning of {count} bytes ends otherwise"
+            );
+        }
+        ensure!(
+            ends.iter().all(|(_, met)| *met),
+            "no beginning ends with one of these"
+        );
+        self.tally.count(true);
+        Ok(())
     }
 
     /// `LESS STATUS OUTPUT`: what the table's words come to on each beginning of the varied file that is so many bytes
@@ -321,6 +387,34 @@ impl<'a, R: Files + Print + AllocGlobal + Threads + Wait + Sync> Session<'a, R> 
         }
         self.tally.count(true);
         Ok(())
+    }
+}
+
+/// Whether the status is one of these; it is met then.
+fn is_met(ends: &mut [(u8, bool)], status: u8) -> bool {
+    for (end, met) in ends {
+        if *end == status {
+            *met = true;
+            return true;
+        }
+    }
+    false
+}
+
+/// The words, lent.
+fn lent(alloc: Global, owned: &[String]) -> Result<Vec<&str>> {
+    let mut words = Vec::new(alloc);
+    for word in owned {
+        words.push(word.as_str())?;
+    }
+    Ok(words)
+}
+
+/// A row's line, and the changes behind it, if there are some.
+fn cut_changes(line: &str) -> (&str, Option<&str>) {
+    match line.split_once(" | ") {
+        Some((row, changes)) => (row, Some(changes)),
+        None => (line, None),
     }
 }
 

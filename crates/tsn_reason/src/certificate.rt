@@ -1,0 +1,142 @@
+//! Why a certificate file, or the certificate that it has, is refused.
+
+use crate::bound::push_low_bound;
+use crate::json::{elements_at, number_at, push_not_json, push_wrong_keys};
+use crate::text::line_of;
+use crate::{File, Reason};
+use serde_json::Value;
+use std::alloc::Global;
+use std::fmt::Write;
+use tsn_cert::plan::MAX_TIME;
+use tsn_cert::{Cert, FileFault, Plan, cert_from_json};
+use tsn_check::CheckFault;
+use tsn_model::NoMemory;
+use tsn_timing::Timing;
+
+/// Why a certificate file with this fault is refused.
+pub fn cert_file_line(alloc: Global, cert: File<'_>, fault: FileFault) -> Reason {
+    let mut text = line_of(alloc, cert.name)?;
+    match fault {
+        FileFault::NotJson => push_not_json(alloc, &mut text, cert.bytes)?,
+        FileFault::WrongShape | FileFault::NumberTooLarge => match Value::from_slice(
+            alloc, cert.bytes,
+        ) {
+            Ok(value) => push_cert_value(alloc, &mut text, &value, fault)?,
+            Err(_) => return Err(NoMemory),
+        },
+        FileFault::Memory => return Err(NoMemory),
+    }
+    Ok(Some(text))
+}
+
+/// Writes what is wrong with the value of a certificate file.
+fn push_cert_value(
+    alloc: Global,
+    text: &mut String,
+    value: &Value,
+    fault: FileFault,
+) -> Result<(), NoMemory> {
+    if push_wrong_keys(text, value, &["format", "nodes", "target"])? {
+        return Ok(());
+    }
+    let format = number_at(value, "format").unwrap_or(0);
+    if format != 1 && format != 2 {
+        return Ok(text.push_str("format has to be 1 or 2")?);
+    }
+    let Some(target) = number_at(value, "target") else {
+        return Ok(text.push_str("target has to be a whole number")?);
+    };
+    let Some(nodes) = elements_at(value, "nodes") else {
+        return Ok(text.push_str("nodes has to be an array")?);
+    };
+    if fault == FileFault::NumberTooLarge && target > MAX_TIME {
+        return Ok(write!(text, "target is {target}, and may be at most {MAX_TIME}")?);
+    }
+    push_first_node(alloc, text, format, nodes, fault)
+}
+
+/// Writes which node is the first with this fault.
+fn push_first_node(
+    alloc: Global,
+    text: &mut String,
+    format: u64,
+    nodes: &[Value],
+    fault: FileFault,
+) -> Result<(), NoMemory> {
+    for (number, node) in nodes.iter().enumerate() {
+        if fault_of_node(alloc, format, node)? == Some(fault) {
+            return push_node(text, format, number, fault);
+        }
+    }
+    Ok(())
+}
+
+/// The fault of a certificate file of this node alone.
+fn fault_of_node(alloc: Global, format: u64, node: &Value) -> Result<Option<FileFault>, NoMemory> {
+    let node = node.to_string(alloc)?;
+    let node = node.as_str();
+    let file = format!(in alloc; "{{\"format\":{format},\"nodes\":[{node}],\"target\":0}}")?;
+    match cert_from_json(alloc, file.as_str().as_bytes()) {
+        Ok(_) => Ok(None),
+        Err(FileFault::Memory) => Err(NoMemory),
+        Err(fault) => Ok(Some(fault)),
+    }
+}
+
+fn push_node(
+    text: &mut String,
+    format: u64,
+    number: usize,
+    fault: FileFault,
+) -> Result<(), NoMemory> {
+    write!(text, "node {number} ")?;
+    if fault == FileFault::NumberTooLarge {
+        text.push_str("has a number above 4294967295")?;
+    } else {
+        write!(text, "has none of the forms of format {format}")?;
+    }
+    Ok(())
+}
+
+/// Why a certificate with this fault is refused, where its plan is right.
+pub fn certificate_line(
+    alloc: Global,
+    file: File<'_>,
+    timing: &Timing,
+    plan: &Plan,
+    cert: &Cert,
+    fault: CheckFault,
+) -> Reason {
+    let mut text = line_of(alloc, file.name)?;
+    match fault {
+        CheckFault::Memory => return Err(NoMemory),
+        CheckFault::FlowspanWrong => push_wrong_target(&mut text, timing, plan, cert)?,
+        CheckFault::BoundTooLow(node) => {
+            push_low_bound(alloc, &mut text, timing, plan, cert, node)?
+        }
+        _ => write!(text, "{fault}")?,
+    }
+    Ok(Some(text))
+}
+
+/// Writes what the target is, and has to be.
+fn push_wrong_target(
+    text: &mut String,
+    timing: &Timing,
+    plan: &Plan,
+    cert: &Cert,
+) -> Result<(), NoMemory> {
+    let target = cert.target;
+    write!(text, "target is {target}, and has to be ")?;
+    match plan {
+        Plan::Schedule { flowspan, .. } => write!(text, "{flowspan}, the flowspan of the plan")?,
+        Plan::None => {
+            let past_cycle = timing.cycle().saturating_add(1);
+            write!(
+                text,
+                "{past_cycle}, one more than the cycle, since the plan is that there is no schedule"
+            )?;
+        }
+    }
+    Ok(())
+}

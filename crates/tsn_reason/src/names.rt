@@ -1,0 +1,97 @@
+//! Names that stand twice or name nothing, rates, and cables that stand twice.
+
+use crate::document::{elements_at, integer_at, name_at, number_of};
+use crate::text::push_name;
+use std::alloc::AllocError;
+use std::fmt::Write;
+use toml::Value;
+use tsn_net::Place;
+
+/// Writes which node or stream before this one has its name.
+pub fn push_duplicate_name(
+    text: &mut String,
+    top: &Value,
+    table: &Value,
+    place: Place,
+) -> Result<(), AllocError> {
+    let kind = match place {
+        Place::Node(_) => "node",
+        _ => "stream",
+    };
+    match number_of(elements_at(top, kind), name_at(table, "name")) {
+        Some(number) => write!(text, "{kind} {number} has this name already"),
+        None => Ok(()),
+    }
+}
+
+/// Writes which node a cable or a route names that isn't there.
+pub fn push_unknown_name(
+    text: &mut String,
+    top: &Value,
+    table: &Value,
+    place: Place,
+) -> Result<(), AllocError> {
+    let nodes = elements_at(top, "node");
+    let unknown = match place {
+        Place::Link(_) => unknown_end(nodes, table),
+        _ => unknown_in_route(nodes, elements_at(table, "route")),
+    };
+    text.push_str("there is no node ")?;
+    push_name(text, unknown)
+}
+
+/// The name of the first end of a cable that isn't there.
+fn unknown_end<'a>(nodes: &[Value], cable: &'a Value) -> &'a str {
+    let first = name_at(cable, "a");
+    if number_of(nodes, first).is_none() {
+        first
+    } else {
+        name_at(cable, "b")
+    }
+}
+
+/// The first name of a route that isn't there.
+fn unknown_in_route<'a>(nodes: &[Value], route: &'a [Value]) -> &'a str {
+    for value in route {
+        let name = value.as_str().unwrap_or("");
+        if number_of(nodes, name).is_none() {
+            return name;
+        }
+    }
+    ""
+}
+
+/// Writes what the rate of a cable is, and has to be.
+pub fn push_bad_rate(text: &mut String, cable: &Value) -> Result<(), AllocError> {
+    let rate = integer_at(cable, "mbps").unwrap_or(0);
+    write!(text, "mbps is {rate}, and has to be 10, 100 or 1000")
+}
+
+/// Writes that a cable joins a node to itself, or which cable before it joins its nodes.
+pub fn push_duplicate_link(
+    text: &mut String,
+    top: &Value,
+    cable: &Value,
+) -> Result<(), AllocError> {
+    let first = name_at(cable, "a");
+    let second = name_at(cable, "b");
+    if first == second {
+        return text.push_str("it joins a node to itself");
+    }
+    match joined_by(elements_at(top, "link"), first, second) {
+        Some(number) => write!(text, "cable {number} joins these nodes already"),
+        None => Ok(()),
+    }
+}
+
+/// The number of the first cable that joins two nodes, in either direction.
+pub fn joined_by(cables: &[Value], first: &str, second: &str) -> Option<usize> {
+    for (number, cable) in cables.iter().enumerate() {
+        let from = name_at(cable, "a");
+        let to = name_at(cable, "b");
+        if (from == first && to == second) || (from == second && to == first) {
+            return Some(number);
+        }
+    }
+    None
+}
