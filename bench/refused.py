@@ -1,0 +1,132 @@
+#!/usr/bin/env python3
+"""Runs each command of `tsn` with one call for memory refused, for each such call in turn, until a run meets none.
+
+refused.py [N]   N, 1 unless given: only each Nth call is refused.
+
+A small library (bench/refused/refuse.c, which needs a C compiler) stands before the allocator of the built program. Each run
+has to end with status 7 and the line `no memory`, or whole, where the call that was refused could be done without. Then the same
+with all calls refused from each one on; and `plan` with 4 workers on the star of ten, each call alone: no memory where it was
+the caller's, and else the optimum with a certificate that is accepted, never a stopped run. What is told at the end has how
+many calls were refused in all.
+"""
+
+import os
+import subprocess
+import sys
+import tempfile
+
+from measure import PROGRAM, ROOT, build
+
+HERE = os.path.dirname(os.path.abspath(__file__))
+EXAMPLES = os.path.join(ROOT, "examples")
+NO_MEMORY = ("no memory", 7)
+CALLS = os.path.join(ROOT, "crates", "tsn_calls", "out", "tsn_calls")
+EVERY = int(sys.argv[1]) if len(sys.argv) > 1 else 1
+
+
+def compiled(folder):
+    library = os.path.join(folder, "refuse.so")
+    source = os.path.join(HERE, "refused", "refuse.c")
+    subprocess.run(["cc", "-O2", "-shared", "-fPIC", "-o", library, source, "-ldl"], check=True)
+    return library
+
+
+class Program:
+    def __init__(self, folder, path=PROGRAM):
+        self.folder, self.path = folder, path
+        self.library = compiled(folder)
+
+    def run(self, words, refused=None):
+        """What a run says, its status, and how many calls for memory it made."""
+        counted = os.path.join(self.folder, "count")
+        environment = dict(os.environ, LD_PRELOAD=self.library, REFUSE_COUNT=counted)
+        if refused is not None:
+            environment["REFUSE"] = refused
+        found = subprocess.run([self.path, *words], capture_output=True, text=True, env=environment, timeout=120)
+        with open(counted) as file:
+            calls = int(file.read())
+        return (found.stdout.strip(), found.returncode), calls
+
+    def refuse_each(self, words):
+        """Refuses each call of a run, alone and with all behind it: how many runs ended with no memory."""
+        whole, calls = self.run(words)
+        ended = 0
+        for number in range(1, calls + 1, EVERY):
+            for refused in (f"{number}", f"{number}+"):
+                end, _ = self.run(words, refused)
+                if end not in (whole, NO_MEMORY) and not (refused.endswith("+") and end[1] == 7):
+                    sys.exit(f"{' '.join(words)}: with call {refused} refused it ends with {end}")
+                ended += end != whole
+        return calls, ended
+
+
+def commands(folder):
+    """Each command, over the two streams and the star of ten."""
+    for name in ("two-streams", "ten-stream-star"):
+        network = os.path.join(EXAMPLES, name + ".toml")
+        plan, cert = os.path.join(folder, name + ".plan"), os.path.join(folder, name + ".cert")
+        subprocess.run([PROGRAM, "plan", network, "--plan", plan, "--cert", cert], check=True, capture_output=True)
+        yield ["valid", network, "0", "672"]
+        yield ["plan", network, "--plan", os.path.join(folder, "plan"), "--cert", os.path.join(folder, "cert")]
+        yield ["check", network, plan, cert]
+        yield ["gates", network, plan]
+        yield ["replay", network, plan, "--cycles", "2", "--greedy"]
+
+
+def refuse_workers(program):
+    """Four workers: no memory, or the optimum with a certificate that is accepted."""
+    network = os.path.join(EXAMPLES, "ten-stream-star.toml")
+    plan, cert = os.path.join(program.folder, "plan"), os.path.join(program.folder, "cert")
+    words = ["plan", network, "--workers", "4", "--plan", plan, "--cert", cert]
+    _, calls = program.run(words)
+    optimal = 0
+    for number in range(1, calls + 1, EVERY):
+        for path in (plan, cert):
+            if os.path.exists(path):
+                os.remove(path)
+        end, _ = program.run(words, str(number))
+        if end == NO_MEMORY:
+            continue
+        told = subprocess.run([PROGRAM, "check", network, plan, cert], capture_output=True, text=True).stdout.strip()
+        if not end[0].startswith("optimal 8300 settled ") or end[1] != 0 or told != "accepted first 8300":
+            sys.exit(f"4 workers: with call {number} refused it ends with {end}, and the check says {told!r}")
+        optimal += 1
+    return calls, optimal
+
+
+def refuse_calls(folder):
+    """The calls that no command makes: each that met want of memory was made again, and nothing else that is printed changed."""
+    if not os.path.exists(CALLS):
+        subprocess.run(["rt", "run"], cwd=os.path.join(ROOT, "crates", "tsn_calls"), check=True, capture_output=True)
+    program = Program(folder, CALLS)
+    (text, _), calls = program.run([])
+    whole, again = text.split("\n"), 0
+    for number in range(1, calls + 1, EVERY):
+        (text, status), _ = program.run([], str(number))
+        lines = [line for line in text.split("\n") if line and not line.endswith(": no memory")]
+        if not (status == 0 and lines == whole or status == 7 and lines == whole[: len(lines)]):
+            sys.exit(f"tsn_calls: with call {number} refused it ends with {status} and {text!r}")
+        again += status == 0 and text.count(": no memory")
+    return calls, again
+
+
+def main():
+    build()
+    with tempfile.TemporaryDirectory() as folder:
+        program = Program(folder)
+        refused = 0
+        for words in commands(folder):
+            calls, ended = program.refuse_each(words)
+            refused += calls
+            name = os.path.basename(words[1])
+            print(f"{words[0]:<7} {name:<22} {calls:>6} calls, {ended:>6} runs with no memory", flush=True)
+        calls, again = refuse_calls(folder)
+        refused += calls
+        print(f"calls that no command makes: {calls} calls, {again} made again")
+        calls, optimal = refuse_workers(program)
+        refused += calls
+        print(f"plan with 4 workers on the star of ten: {calls} calls, {optimal} runs optimal, the others with no memory")
+        print(f"{refused} calls, {'each' if EVERY == 1 else f'one of {EVERY}'} refused, and each run ended as it has to")
+
+
+main()
