@@ -1,241 +1,235 @@
+//! Least offsets, found at once and by adding the last arc to the solution for the others.
+
+use crate::arcs::{arc, arcs_of};
+use crate::found::{expect_same, found_texts, offsets_text};
+use std::alloc::{AllocError, Global};
 use std::process::Abort;
 use std::test::Fail;
-use tsn_diff::{Least, MAX_STREAMS, MAX_WEIGHT, Net, Outcome};
+use tsn_diff::{MAX_STREAMS, Net};
 use tsn_model::Arc;
 
-fn arc(from: usize, to: usize, weight: i64) -> Arc {
-    Arc { from, to, weight }
-}
-
-/// Solves the arcs at once, and again with the last arc added to the solution for the others.
-fn expect_least<R: Abort + AllocGlobal>(
+/// Compares what is found for the arcs.
+fn expect_found<R: Abort + AllocGlobal>(
     rt: &R,
     net: &Net,
     arcs: &[Arc],
-    offsets: &[u64],
-    chains: &[&[usize]],
+    wanted: &str,
 ) -> Result<(), Fail> {
-    assert!(rt; net.takes(arcs));
-    let Outcome::Least(least) = net.least(rt.alloc(), arcs)? else {
-        panic!(rt; "a closed chain");
-    };
-    expect_solution(rt, &least, offsets, chains)?;
-    let Some((last, others)) = arcs.split_last() else {
-        return Ok(());
-    };
-    assert!(rt; net.takes(others) && net.takes(&[*last]));
-    let Outcome::Least(least) = net.least(rt.alloc(), others)? else {
-        panic!(rt; "a closed chain without the last arc");
-    };
-    let Outcome::Least(least) = net.least_from(rt.alloc(), &least, others, *last)? else {
-        panic!(rt; "a closed chain with the last arc");
-    };
-    expect_solution(rt, &least, offsets, chains)
+    let (at_once, by_adding) = found_texts(rt.alloc(), net, arcs)?;
+    expect_same(rt, at_once.as_str(), wanted);
+    expect_same(rt, by_adding.as_str(), wanted);
+    Ok(())
 }
 
-fn expect_solution<R: Abort + AllocGlobal>(
-    rt: &R,
-    least: &Least,
-    offsets: &[u64],
-    chains: &[&[usize]],
-) -> Result<(), Fail> {
-    assert_eq!(rt; least.offsets(), offsets);
-    for (stream, chain) in chains.iter().enumerate() {
-        assert!(rt; stream < least.offsets().len());
-        assert_eq!(rt;
-            least.chain(rt.alloc(), stream)?.as_slice(),
-            *chain,
-            "stream {stream}"
-        );
+/// Compares what is found between so many streams for each line of a table: the arcs, and the answer.
+fn expect_table<R: Abort + AllocGlobal>(rt: &R, net: &Net, table: &str) -> Result<(), Fail> {
+    for line in table.lines() {
+        let (arcs, wanted) = line.split_once("=> ").ok_or("no answer")?;
+        let arcs = arcs_of(rt.alloc(), arcs.trim_end())?;
+        expect_found(rt, net, &arcs, wanted)?;
     }
     Ok(())
 }
 
-/// Finds a closed chain of this sum and length, also where the last arc is added to the solution for the others.
-fn expect_positive<R: Abort + AllocGlobal>(
-    rt: &R,
-    net: &Net,
-    arcs: &[Arc],
-    sum: i64,
-    length: usize,
-) -> Result<(), Fail> {
-    assert!(rt; net.takes(arcs));
-    let Outcome::Positive(chain) = net.least(rt.alloc(), arcs)? else {
-        panic!(rt; "no closed chain");
-    };
-    expect_closed(rt, arcs, &chain, sum, length);
-    let Some((last, others)) = arcs.split_last() else {
-        return Ok(());
-    };
-    assert!(rt; net.takes(others) && net.takes(&[*last]));
-    let Outcome::Least(least) = net.least(rt.alloc(), others)? else {
-        panic!(rt; "a closed chain without the last arc");
-    };
-    let Outcome::Positive(chain) = net.least_from(rt.alloc(), &least, others, *last)? else {
-        panic!(rt; "no closed chain with the last arc");
-    };
-    expect_closed(rt, arcs, &chain, sum, length);
-    Ok(())
-}
+const ONE: &str = "0 0 0 => [0] [[]]
+0 0 1 => closed by 1 of sum 1
+";
 
-fn expect_closed<R: Abort>(rt: &R, arcs: &[Arc], chain: &[usize], sum: i64, length: usize) {
-    assert_eq!(rt; chain.len(), length);
-    let Some(&last) = chain.last() else {
-        panic!(rt; "an empty chain");
-    };
-    assert!(rt; last < arcs.len());
-    let mut stream = arcs[last].to;
-    let mut weight = 0i64;
-    for &place in chain {
-        assert!(rt; place < arcs.len());
-        assert_eq!(rt; arcs[place].from, stream);
-        stream = arcs[place].to;
-        weight = weight.wrapping_add(arcs[place].weight);
-    }
-    assert_eq!(rt; weight, sum);
-}
+const TWO: &str = "0 1 -4 => [0, 0] [[], []]
+0 1 672, 1 0 -672 => [0, 672] [[], [0]]
+0 1 672, 1 0 -671 => closed by 2 of sum 1
+";
+
+/// The longer way wins.
+const THREE: &str = "0 1 5, 1 2 -2, 0 2 1 => [0, 5, 3] [[], [0], [0, 1]]";
 
 #[test]
 fn few_streams(rt: HostRuntime) -> Result<(), Fail> {
-    expect_least(&rt, &Net::new(0), &[], &[], &[])?;
-    expect_least(&rt, &Net::new(1), &[arc(0, 0, 0)], &[0], &[&[]])?;
-    expect_positive(&rt, &Net::new(1), &[arc(0, 0, 1)], 1, 1)?;
-
-    let two = Net::new(2);
-    expect_least(&rt, &two, &[arc(0, 1, -4)], &[0, 0], &[&[], &[]])?;
-    let level = [arc(0, 1, 672), arc(1, 0, -672)];
-    expect_least(&rt, &two, &level, &[0, 672], &[&[], &[0]])?;
-    expect_positive(&rt, &two, &[arc(0, 1, 672), arc(1, 0, -671)], 1, 2)?;
-
-    let longer_wins = [arc(0, 1, 5), arc(1, 2, -2), arc(0, 2, 1)];
-    expect_least(
-        &rt,
-        &Net::new(3),
-        &longer_wins,
-        &[0, 5, 3],
-        &[&[], &[0], &[0, 1]],
-    )
+    expect_table(&rt, &Net::new(0), "=> [] []")?;
+    expect_table(&rt, &Net::new(1), ONE)?;
+    expect_table(&rt, &Net::new(2), TWO)?;
+    expect_table(&rt, &Net::new(3), THREE)
 }
+
+/// Parallel arcs beside others, and a closed chain beside an arc.
+const PARTS: &str =
+    "0 1 5, 0 1 7, 4 3 20, 0 1 6, 3 3 -1 => [0, 7, 0, 20, 0, 0] [[], [1], [], [2], [], []]
+0 1 5, 4 3 20, 1 0 -5, 3 4 -19 => closed by 2 of sum 1
+";
 
 #[test]
 fn parts_that_do_not_touch(rt: HostRuntime) -> Result<(), Fail> {
-    let net = Net::new(6);
-    let parallel = [
-        arc(0, 1, 5),
-        arc(0, 1, 7),
-        arc(4, 3, 20),
-        arc(0, 1, 6),
-        arc(3, 3, -1),
-    ];
-    let chains: [&[usize]; 6] = [&[], &[1], &[], &[2], &[], &[]];
-    expect_least(&rt, &net, &parallel, &[0, 7, 0, 20, 0, 0], &chains)?;
-
-    let one_closed = [arc(0, 1, 5), arc(4, 3, 20), arc(1, 0, -5), arc(3, 4, -19)];
-    expect_positive(&rt, &net, &one_closed, 1, 2)
+    expect_table(&rt, &Net::new(6), PARTS)
 }
 
 #[test]
 fn from_releases(rt: HostRuntime) -> Result<(), Fail> {
-    let net = Net::released(vec![in rt.alloc(); 672, 0, 2000]?);
-    let arcs = [arc(0, 1, 100), arc(1, 2, 100)];
-    expect_least(&rt, &net, &arcs, &[672, 772, 2000], &[&[], &[0], &[]])
+    let net = Net::released(Vec::from_slice(rt.alloc(), &[672, 0, 2000])?);
+    let row = "0 1 100, 1 2 100 => [672, 772, 2000] [[], [0], []]";
+    expect_table(&rt, &net, row)
+}
+
+/// Whether two streams take the arcs of a text.
+fn are_taken(alloc: Global, text: &str) -> Result<bool, Fail> {
+    Ok(Net::new(2).takes(&arcs_of(alloc, text)?))
 }
 
 #[test]
-fn limits_of_arcs(rt: HostRuntime) {
-    let net = Net::new(2);
-    assert!(rt; net.takes(&[arc(1, 0, 100_000_000), arc(0, 1, -100_000_000)]));
-    for beyond in [
-        arc(1, 0, 100_000_001),
-        arc(1, 0, -100_000_001),
-        arc(2, 0, 1),
-        arc(0, 2, 1),
-    ] {
-        assert!(rt; !net.takes(&[beyond]));
+fn limits_of_arcs(rt: HostRuntime) -> Result<(), Fail> {
+    assert!(rt; are_taken(rt.alloc(), "1 0 100000000, 0 1 -100000000")?);
+    for beyond in ["1 0 100000001", "1 0 -100000001", "2 0 1", "0 2 1"] {
+        assert!(rt; !are_taken(rt.alloc(), beyond)?);
     }
     assert!(rt; Net::new(0).takes(&[]));
-    assert_eq!(rt; Net::new(128).streams(), 128);
+    assert!(rt; Net::new(128).streams() == 128);
+    Ok(())
 }
 
-/// Arcs from each stream to the next: of the greatest weight up to the middle, then of `fall`.
-fn path<R: Abort + AllocGlobal>(rt: &R, fall: i64) -> Result<Vec<Arc>, Fail> {
-    let mut arcs = Vec::new(rt.alloc());
-    for stream in 1..MAX_STREAMS {
-        let weight = if stream <= 64 { MAX_WEIGHT } else { fall };
-        arcs.push(arc(stream - 1, stream, weight))?;
+/// Puts arcs of this weight last, from each of these streams to the next.
+fn push_path(
+    arcs: &mut Vec<Arc>,
+    from: usize,
+    until: usize,
+    weight: i64,
+) -> Result<(), AllocError> {
+    for stream in from..until {
+        arcs.push(arc(stream, stream + 1, weight))?;
     }
+    Ok(())
+}
+
+/// Arcs from each of 128 streams to the next: of the greatest weight up to the middle, then of `fall`.
+fn path(alloc: Global, fall: i64) -> Result<Vec<Arc>, AllocError> {
+    let mut arcs = Vec::new(alloc);
+    push_path(&mut arcs, 0, 64, 100_000_000)?;
+    push_path(&mut arcs, 64, 127, fall)?;
     Ok(arcs)
+}
+
+/// The same, and an arc back.
+fn ring(alloc: Global, fall: i64, back: i64) -> Result<Vec<Arc>, AllocError> {
+    let mut arcs = path(alloc, fall)?;
+    arcs.push(arc(127, 0, back))?;
+    Ok(arcs)
+}
+
+/// The first 128 multiples of a step.
+fn multiples(alloc: Global, step: u64) -> Result<Vec<u64>, AllocError> {
+    let mut list = Vec::new(alloc);
+    for factor in 0..128u64 {
+        list.push(factor.wrapping_mul(step))?;
+    }
+    Ok(list)
+}
+
+/// The chains of 128 streams along a path: the first so many of these places.
+fn chains_along(alloc: Global, places: &[usize]) -> Result<Vec<Vec<usize>>, Fail> {
+    let mut chains = Vec::new(alloc);
+    for length in 0..128 {
+        let mut chain = Vec::new(alloc);
+        for place in places.iter().take(length) {
+            chain.push(*place)?;
+        }
+        chains.push(chain)?;
+    }
+    Ok(chains)
+}
+
+/// Compares what is found for a path with the offsets, and the places of its arcs from the first stream to the last.
+fn expect_path<R: Abort + AllocGlobal>(
+    rt: &R,
+    arcs: &[Arc],
+    offsets: &[u64],
+    places: &[usize],
+) -> Result<(), Fail> {
+    let chains = chains_along(rt.alloc(), places)?;
+    let wanted = offsets_text(rt.alloc(), offsets, &chains)?;
+    expect_found(rt, &Net::new(MAX_STREAMS), arcs, wanted.as_str())
+}
+
+/// The first so many numbers.
+fn numbers(alloc: Global, count: usize) -> Result<Vec<usize>, AllocError> {
+    let mut list = Vec::new(alloc);
+    for number in 0..count {
+        list.push(number)?;
+    }
+    Ok(list)
 }
 
 #[test]
 fn chains_of_127_arcs(rt: HostRuntime) -> Result<(), Fail> {
-    let net = Net::new(MAX_STREAMS);
-    let mut arcs = path(&rt, MAX_WEIGHT)?;
-    let mut rising = Vec::new(rt.alloc());
-    let mut places = Vec::new(rt.alloc());
-    for stream in 0..128u64 {
-        rising.push(stream * 100_000_000)?;
-    }
-    for place in 0..127usize {
-        places.push(place)?;
-    }
-    expect_least(&rt, &net, &arcs, &rising, &[])?;
-    expect_last_chain(&rt, &net, &arcs, &places)?;
+    let rising = multiples(rt.alloc(), 100_000_000)?;
+    let mut arcs = path(rt.alloc(), 100_000_000)?;
+    let mut places = numbers(rt.alloc(), 127)?;
+    expect_path(&rt, &arcs, &rising, &places)?;
     arcs.reverse();
     places.reverse();
-    expect_least(&rt, &net, &arcs, &rising, &[])?;
-    expect_last_chain(&rt, &net, &arcs, &places)
+    expect_path(&rt, &arcs, &rising, &places)
 }
 
-/// Compares the chain of the last stream.
-fn expect_last_chain<R: Abort + AllocGlobal>(
-    rt: &R,
-    net: &Net,
-    arcs: &[Arc],
-    places: &[usize],
-) -> Result<(), Fail> {
-    assert!(rt; net.takes(arcs));
-    let Outcome::Least(least) = net.least(rt.alloc(), arcs)? else {
-        panic!(rt; "a closed chain");
-    };
-    assert_eq!(rt; least.offsets().len(), 128);
-    assert_eq!(rt; least.chain(rt.alloc(), 127)?.as_slice(), places);
-    Ok(())
+/// Rises by the greatest weight up to the middle, and falls by it again.
+fn hill(alloc: Global) -> Result<Vec<u64>, AllocError> {
+    let mut list = Vec::new(alloc);
+    for stream in 0..128u64 {
+        list.push(stream.min(128 - stream) * 100_000_000)?;
+    }
+    Ok(list)
 }
 
 #[test]
 fn round_of_128_arcs(rt: HostRuntime) -> Result<(), Fail> {
+    let level = ring(rt.alloc(), -100_000_000, -100_000_000)?;
+    let places = numbers(rt.alloc(), 127)?;
+    expect_path(&rt, &level, &hill(rt.alloc())?, &places)?;
+    let closed = ring(rt.alloc(), -100_000_000, -99_999_999)?;
     let net = Net::new(MAX_STREAMS);
-    let mut hill = Vec::new(rt.alloc());
-    for stream in 0..128u64 {
-        hill.push(stream.min(128 - stream) * 100_000_000)?;
-    }
-    let mut arcs = path(&rt, -MAX_WEIGHT)?;
-    arcs.push(arc(127, 0, -MAX_WEIGHT))?;
-    expect_least(&rt, &net, &arcs, &hill, &[])?;
-    let _steeper = arcs.pop();
-    arcs.push(arc(127, 0, 1 - MAX_WEIGHT))?;
-    expect_positive(&rt, &net, &arcs, 1, 128)
+    expect_found(&rt, &net, &closed, "closed by 128 of sum 1")
 }
 
-#[test]
-fn all_arcs_of_all_pairs(rt: HostRuntime) -> Result<(), Fail> {
-    let net = Net::new(MAX_STREAMS);
-    let mut arcs = Vec::new(rt.alloc());
-    let mut offsets = Vec::new(rt.alloc());
-    for from in 0..128u64 {
-        offsets.push(from * 672)?;
-        for to in 0..128u64 {
+/// Eight arcs from each stream to each other one, of the difference of their heights, and up to seven less.
+fn all_pairs(alloc: Global, heights: &[i64]) -> Result<Vec<Arc>, AllocError> {
+    let mut arcs = Vec::new(alloc);
+    for (from, start) in heights.iter().enumerate() {
+        for (to, end) in heights.iter().enumerate() {
             for less in 0..8i64 {
                 if from != to {
-                    let weight = (to as i64 * 672).wrapping_sub(from as i64 * 672 + less);
-                    arcs.push(arc(from as usize, to as usize, weight))?;
+                    let weight = end.wrapping_sub(*start).wrapping_sub(less);
+                    arcs.push(arc(from, to, weight))?;
                 }
             }
         }
     }
-    assert_eq!(rt; arcs.len(), 130_048);
-    expect_least(&rt, &net, &arcs, &offsets, &[])?;
+    Ok(arcs)
+}
+
+fn heights(alloc: Global) -> Result<Vec<i64>, AllocError> {
+    let mut list = Vec::new(alloc);
+    for stream in 0..128i64 {
+        list.push(stream.wrapping_mul(672))?;
+    }
+    Ok(list)
+}
+
+/// Compares the offsets of 128 streams alone.
+fn expect_offsets<R: Abort + AllocGlobal>(
+    rt: &R,
+    arcs: &[Arc],
+    offsets: &[u64],
+) -> Result<(), Fail> {
+    let wanted = offsets_text(rt.alloc(), offsets, &[])?;
+    let start = wanted.as_str().trim_end_matches(']');
+    let (at_once, by_adding) = found_texts(rt.alloc(), &Net::new(MAX_STREAMS), arcs)?;
+    assert!(rt; at_once.as_str().starts_with(start));
+    assert!(rt; by_adding.as_str().starts_with(start));
+    Ok(())
+}
+
+#[test]
+fn all_arcs_of_all_pairs(rt: HostRuntime) -> Result<(), Fail> {
+    let offsets = multiples(rt.alloc(), 672)?;
+    let mut arcs = all_pairs(rt.alloc(), &heights(rt.alloc())?)?;
+    assert!(rt; arcs.len() == 130_048);
+    expect_offsets(&rt, &arcs, &offsets)?;
     arcs.reverse();
-    expect_least(&rt, &net, &arcs, &offsets, &[])
+    expect_offsets(&rt, &arcs, &offsets)
 }

@@ -4,6 +4,10 @@
 #[cfg(test)]
 mod arc_stack;
 #[cfg(test)]
+mod arcs;
+#[cfg(test)]
+mod found;
+#[cfg(test)]
 mod least_offsets;
 #[cfg(test)]
 mod timing;

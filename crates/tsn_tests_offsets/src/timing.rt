@@ -1,9 +1,10 @@
 //! The times of streams, and agreement with the plain program.
 
-use std::alloc::Global;
+use std::alloc::{AllocError, Global};
 use std::process::Abort;
 use std::test::Fail;
-use tsn_net::read_problem;
+use tsn_model::{Link, NoMemory};
+use tsn_net::{Problem, read_problem};
 use tsn_timing::Timing;
 
 /// Stations A, B and C, and a bridge.
@@ -30,26 +31,6 @@ const SLOW: &str = "link = [
     {a = 'S', b = 'C', mbps = 100, prop = 50},
 ]
 ";
-
-/// The timing of a network round one bridge.
-fn star(alloc: Global, cycle: u64, cables: &str, streams: &str) -> Result<Timing, Fail> {
-    let text = star_text(alloc, cycle, cables, streams)?;
-    timing_of(alloc, text.as_str())
-}
-
-/// The file of a network round one bridge.
-fn star_text(alloc: Global, cycle: u64, cables: &str, streams: &str) -> Result<String, Fail> {
-    let mut text = format!(in alloc; "cycle = {cycle}\n")?;
-    text.push_str(NODES)?;
-    text.push_str(cables)?;
-    text.push_str(streams)?;
-    Ok(text)
-}
-
-fn timing_of(alloc: Global, text: &str) -> Result<Timing, Fail> {
-    let problem = read_problem(alloc, text.as_bytes()).map_err(|_| "the network is refused")?;
-    Ok(Timing::of(alloc, &problem)?)
-}
 
 const ONE: &str = "stream = [{name = 'one', octets = 64, route = ['A', 'S', 'C']}]
 ";
@@ -92,71 +73,6 @@ stream = [
 ]
 ";
 
-/// A stream starts so on its hops, arrives then, and spans that much.
-fn has_times(
-    rt: &impl Abort,
-    timing: &Timing,
-    stream: usize,
-    starts: &[u64],
-    arrival: u64,
-    span: u64,
-) {
-    assert!(rt; stream < timing.streams());
-    assert_eq!(rt; timing.hops(stream), starts.len());
-    for (hop, start) in starts.iter().enumerate() {
-        assert!(rt; hop < timing.hops(stream));
-        assert_eq!(rt; timing.start(stream, hop), *start);
-    }
-    assert_eq!(rt; timing.arrival(stream), arrival);
-    assert_eq!(rt; timing.span(stream), span);
-}
-
-#[test]
-fn tells_times(rt: HostRuntime) -> Result<(), Fail> {
-    let alloc = rt.alloc();
-    let one = star(alloc, 1_000_000, FAST, ONE)?;
-    assert_eq!(rt; one.cycle(), 1_000_000);
-    assert_eq!(rt; one.links(), 6);
-    assert_eq!(rt; one.streams(), 1);
-    has_times(&rt, &one, 0, &[0, 1626], 2252, 2298);
-    let long = star(alloc, 1_000_000, FAST, LONG)?;
-    has_times(&rt, &long, 1, &[0, 13290], 25580, 25626);
-    let slow = star(alloc, 1_000_000, SLOW, TWO)?;
-    has_times(&rt, &slow, 0, &[0, 1626], 7436, 8346);
-    let round = timing_of(alloc, LOOP)?;
-    has_times(&rt, &round, 0, &[0, 576, 1152, 2496, 3072], 3648, 3744);
-    has_times(&rt, &round, 1, &[0, 576, 1152, 1728], 2304, 2400);
-    Ok(())
-}
-
-/// The links of a stream's route, and how long it occupies each.
-fn has_hops(rt: &impl Abort, timing: &Timing, stream: usize, hops: &[(usize, u64)]) {
-    assert!(rt; stream < timing.streams());
-    assert_eq!(rt; timing.hops(stream), hops.len());
-    for (hop, (link, occupancy)) in hops.iter().enumerate() {
-        assert!(rt; hop < timing.hops(stream));
-        assert_eq!(rt; timing.route_link(stream, hop), *link);
-        assert_eq!(rt; timing.occ(stream, hop), *occupancy);
-        assert_eq!(rt; timing.hop_on(stream, *link), Some(hop));
-    }
-}
-
-#[test]
-fn tells_hops(rt: HostRuntime) -> Result<(), Fail> {
-    let alloc = rt.alloc();
-    let slow = star(alloc, 1_000_000, SLOW, LONG)?;
-    has_hops(&rt, &slow, 0, &[(0, 672), (4, 6720)]);
-    has_hops(&rt, &slow, 1, &[(2, 12336), (4, 123_360)]);
-    assert!(rt; 0 < slow.streams());
-    for link in [1, 2, 3, 5, 6, 1_000_000] {
-        assert_eq!(rt; slow.hop_on(0, link), None);
-    }
-    assert!(rt; 4 < slow.links());
-    let last = slow.link(4);
-    assert!(rt; (last.from, last.to, last.r, last.prop) == (3, 2, 80, 50));
-    Ok(())
-}
-
 /// Two streams, the first from 700 on, the second to arrive by 3000.
 const TIMED: &str = "stream = [
     {name = 'one', octets = 64, route = ['A', 'S', 'C'], release = 700},
@@ -164,57 +80,239 @@ const TIMED: &str = "stream = [
 ]
 ";
 
-#[test]
-fn tells_releases_and_latest_instants(rt: HostRuntime) -> Result<(), Fail> {
-    let alloc = rt.alloc();
-    let timed = star(alloc, 1_000_000, FAST, TIMED)?;
-    assert!(rt; timed.streams() == 2);
-    assert_eq!(rt; timed.release(0), 700);
-    assert_eq!(rt; timed.release(1), 0);
-    assert_eq!(rt; timed.latest(0), 1_000_000);
-    assert_eq!(rt; timed.latest(1), 3000);
+/// The parts of a network's file.
+type Parts = [&'static str; 4];
+
+const CYCLE: &str = "cycle = 1000000\n";
+
+const ONE_FAST: Parts = [CYCLE, NODES, FAST, ONE];
+
+const TWO_FAST: Parts = [CYCLE, NODES, FAST, TWO];
+
+const TWO_SLOW: Parts = [CYCLE, NODES, SLOW, TWO];
+
+const LONG_FAST: Parts = [CYCLE, NODES, FAST, LONG];
+
+const LONG_SLOW: Parts = [CYCLE, NODES, SLOW, LONG];
+
+const TIMED_FAST: Parts = [CYCLE, NODES, FAST, TIMED];
+
+const ROUND: Parts = [LOOP, "", "", ""];
+
+fn joined(alloc: Global, parts: &[&str]) -> Result<String, AllocError> {
+    let mut text = String::new(alloc);
+    for part in parts {
+        text.push_str(part)?;
+    }
+    Ok(text)
+}
+
+fn problem_of(alloc: Global, text: &str) -> Option<Problem> {
+    read_problem(alloc, text.as_bytes()).ok()
+}
+
+fn timing_by(alloc: Global, problem: &Problem) -> Result<Timing, NoMemory> {
+    Timing::of(alloc, problem)
+}
+
+/// The timing of the network in these parts.
+fn timing_of(alloc: Global, parts: Parts) -> Result<Timing, Fail> {
+    let text = joined(alloc, &parts)?;
+    let problem = problem_of(alloc, text.as_str()).ok_or("the network is refused")?;
+    Ok(timing_by(alloc, &problem)?)
+}
+
+/// When a stream starts on its hops.
+fn starts_of(
+    rt: &impl Abort,
+    alloc: Global,
+    timing: &Timing,
+    stream: usize,
+) -> Result<Vec<u64>, AllocError> {
+    assert!(rt; stream < timing.streams());
+    let mut starts = Vec::with_capacity(alloc, 16)?;
+    for hop in 0..timing.hops(stream) {
+        starts.push(timing.start(stream, hop))?;
+    }
+    Ok(starts)
+}
+
+fn arrival_of(rt: &impl Abort, timing: &Timing, stream: usize) -> u64 {
+    assert!(rt; stream < timing.streams());
+    timing.arrival(stream)
+}
+
+fn span_of(rt: &impl Abort, timing: &Timing, stream: usize) -> u64 {
+    assert!(rt; stream < timing.streams());
+    timing.span(stream)
+}
+
+/// Compares when a stream starts on its hops, its arrival and its span.
+fn expect_times<R: Abort + AllocGlobal>(
+    rt: &R,
+    parts: Parts,
+    stream: usize,
+    starts: &[u64],
+    arrival: u64,
+    span: u64,
+) -> Result<(), Fail> {
+    let timing = timing_of(rt.alloc(), parts)?;
+    let found = starts_of(rt, rt.alloc(), &timing, stream)?;
+    assert!(rt; found.as_slice() == starts);
+    assert!(rt; arrival_of(rt, &timing, stream) == arrival);
+    assert!(rt; span_of(rt, &timing, stream) == span);
     Ok(())
 }
 
-/// The flowspan, by the plain program too.
-fn finishes(rt: &impl Abort, timing: &Timing, offsets: &[u64], flowspan: u64) {
+/// Whether there are six links and so many streams.
+fn has_counts(timing: &Timing, streams: usize) -> bool {
+    timing.cycle() == 1_000_000 && timing.links() == 6 && timing.streams() == streams
+}
+
+fn expect_counts<R: Abort + AllocGlobal>(rt: &R, parts: Parts, streams: usize) -> Result<(), Fail> {
+    let timing = timing_of(rt.alloc(), parts)?;
+    assert!(rt; has_counts(&timing, streams));
+    Ok(())
+}
+
+#[test]
+fn tells_times(rt: HostRuntime) -> Result<(), Fail> {
+    expect_counts(&rt, ONE_FAST, 1)?;
+    expect_times(&rt, ONE_FAST, 0, &[0, 1626], 2252, 2298)?;
+    expect_times(&rt, LONG_FAST, 1, &[0, 13290], 25580, 25626)?;
+    expect_times(&rt, TWO_SLOW, 0, &[0, 1626], 7436, 8346)?;
+    expect_times(&rt, ROUND, 0, &[0, 576, 1152, 2496, 3072], 3648, 3744)?;
+    expect_times(&rt, ROUND, 1, &[0, 576, 1152, 1728], 2304, 2400)
+}
+
+fn hops_of(rt: &impl Abort, timing: &Timing, stream: usize) -> usize {
+    assert!(rt; stream < timing.streams());
+    timing.hops(stream)
+}
+
+fn is_at(found: Option<usize>, hop: usize) -> bool {
+    match found {
+        Some(place) => place == hop,
+        None => false,
+    }
+}
+
+/// Whether a stream's hop is on this link, and occupies it so long.
+fn has_hop(
+    rt: &impl Abort,
+    timing: &Timing,
+    stream: usize,
+    hop: usize,
+    link: usize,
+    occupancy: u64,
+) -> bool {
+    assert!(rt; stream < timing.streams());
+    assert!(rt; hop < timing.hops(stream));
+    timing.route_link(stream, hop) == link
+        && timing.occ(stream, hop) == occupancy
+        && is_at(timing.hop_on(stream, link), hop)
+}
+
+/// Whether the first stream uses one of these links.
+fn first_uses(rt: &impl Abort, timing: &Timing, links: &[usize]) -> bool {
+    assert!(rt; 0 < timing.streams());
+    for link in links {
+        if timing.hop_on(0, *link).is_some() {
+            return true;
+        }
+    }
+    false
+}
+
+fn link_of(rt: &impl Abort, timing: &Timing, link: usize) -> Link {
+    assert!(rt; link < timing.links());
+    timing.link(link)
+}
+
+fn is_last_link(link: Link) -> bool {
+    link.from == 3 && link.to == 2 && link.r == 80 && link.prop == 50
+}
+
+/// The first stream uses none of the links that aren't on its route. Also compares the last link of it.
+fn expect_links(rt: &impl Abort, timing: &Timing) {
+    assert!(rt; !first_uses(rt, timing, &[1, 2, 3, 5, 6, 1_000_000]));
+    assert!(rt; is_last_link(link_of(rt, timing, 4)));
+}
+
+#[test]
+fn tells_hops(rt: HostRuntime) -> Result<(), Fail> {
+    let slow = timing_of(rt.alloc(), LONG_SLOW)?;
+    assert!(rt; hops_of(&rt, &slow, 0) == 2 && hops_of(&rt, &slow, 1) == 2);
+    assert!(rt; has_hop(&rt, &slow, 0, 0, 0, 672));
+    assert!(rt; has_hop(&rt, &slow, 0, 1, 4, 6720));
+    assert!(rt; has_hop(&rt, &slow, 1, 0, 2, 12336));
+    assert!(rt; has_hop(&rt, &slow, 1, 1, 4, 123_360));
+    expect_links(&rt, &slow);
+    Ok(())
+}
+
+/// Whether a stream has this release and this latest instant.
+fn has_limits(rt: &impl Abort, timing: &Timing, stream: usize, release: u64, latest: u64) -> bool {
+    assert!(rt; stream < timing.streams());
+    timing.release(stream) == release && timing.latest(stream) == latest
+}
+
+#[test]
+fn tells_releases_and_latest_instants(rt: HostRuntime) -> Result<(), Fail> {
+    expect_counts(&rt, TIMED_FAST, 2)?;
+    let timed = timing_of(rt.alloc(), TIMED_FAST)?;
+    assert!(rt; has_limits(&rt, &timed, 0, 700, 1_000_000));
+    assert!(rt; has_limits(&rt, &timed, 1, 0, 3000));
+    Ok(())
+}
+
+/// Whether the flowspan is this, by the plain program too.
+fn has_flowspan(rt: &impl Abort, timing: &Timing, offsets: &[u64], flowspan: u64) -> bool {
     let cycle = timing.cycle();
     assert!(rt; offsets.len() == timing.streams());
     assert!(rt; offsets.iter().all(|offset| *offset <= cycle));
-    assert_eq!(rt; timing.flowspan(offsets), flowspan);
-    assert_eq!(rt; timing.plain().flowspan(offsets), flowspan);
+    timing.flowspan(offsets) == flowspan && timing.plain().flowspan(offsets) == flowspan
+}
+
+fn expect_flowspan<R: Abort + AllocGlobal>(
+    rt: &R,
+    parts: Parts,
+    offsets: &[u64],
+    flowspan: u64,
+) -> Result<(), Fail> {
+    let timing = timing_of(rt.alloc(), parts)?;
+    assert!(rt; has_flowspan(rt, &timing, offsets, flowspan));
+    Ok(())
 }
 
 #[test]
 fn tells_flowspans(rt: HostRuntime) -> Result<(), Fail> {
-    let alloc = rt.alloc();
-    let two = star(alloc, 1_000_000, FAST, TWO)?;
-    finishes(&rt, &two, &[0, 672], 2924);
-    finishes(&rt, &two, &[1_000_000, 0], 1_002_252);
-    let long = star(alloc, 1_000_000, FAST, LONG)?;
-    finishes(&rt, &long, &[0, 0], 25580);
-    let slow = star(alloc, 1_000_000, SLOW, TWO)?;
-    finishes(&rt, &slow, &[0, 6720], 14156);
-    let round = timing_of(alloc, LOOP)?;
-    finishes(&rt, &round, &[0, 672], 3648);
-    Ok(())
+    expect_flowspan(&rt, TWO_FAST, &[0, 672], 2924)?;
+    expect_flowspan(&rt, TWO_FAST, &[1_000_000, 0], 1_002_252)?;
+    expect_flowspan(&rt, LONG_FAST, &[0, 0], 25580)?;
+    expect_flowspan(&rt, TWO_SLOW, &[0, 6720], 14156)?;
+    expect_flowspan(&rt, ROUND, &[0, 672], 3648)
+}
+
+/// Whether both programs judge all lists of two offsets of a grid alike.
+fn agrees(timing: &Timing) -> bool {
+    for first in 0..30 {
+        for second in 0..30 {
+            let offsets = [first * 1000, second * 1000];
+            if timing.is_valid(&offsets) != timing.plain().is_valid(&offsets) {
+                return false;
+            }
+        }
+    }
+    true
 }
 
 /// Every list of two offsets of a grid is judged as the plain program judges it.
 #[test]
 fn agrees_with_the_plain_program(rt: HostRuntime) -> Result<(), Fail> {
-    let alloc = rt.alloc();
-    for text in [TWO, LONG] {
-        let timing = star(alloc, 30_000, FAST, text)?;
-        for first in 0..30 {
-            for second in 0..30 {
-                let offsets = [first * 1000, second * 1000];
-                assert_eq!(rt;
-                    timing.is_valid(&offsets),
-                    timing.plain().is_valid(&offsets)
-                );
-            }
-        }
+    for streams in [TWO, LONG] {
+        let timing = timing_of(rt.alloc(), ["cycle = 30000\n", NODES, FAST, streams])?;
+        assert!(rt; agrees(&timing));
     }
     Ok(())
 }
