@@ -1,7 +1,6 @@
 //! The networks of these tests.
 
-use std::alloc::Global;
-use std::test::Fail;
+use std::alloc::{AllocError, Global};
 
 /// Stations A, B and C, and a bridge.
 const NODES: &str = "node = [
@@ -21,11 +20,21 @@ pub const FAST: &str = "link = [
 ";
 
 /// The file of a network round one bridge.
-pub fn star_text(alloc: Global, cycle: u64, cables: &str, streams: &str) -> Result<String, Fail> {
-    let mut text = format!(in alloc; "cycle = {cycle}\n")?;
-    text.push_str(NODES)?;
-    text.push_str(cables)?;
-    text.push_str(streams)?;
+pub fn star_text(
+    alloc: Global,
+    cycle: &str,
+    cables: &str,
+    streams: &str,
+) -> Result<String, AllocError> {
+    joined(alloc, &["cycle = ", cycle, "\n", NODES, cables, streams])
+}
+
+/// The parts of a text together.
+pub fn joined(alloc: Global, parts: &[&str]) -> Result<String, AllocError> {
+    let mut text = String::new(alloc);
+    for part in parts {
+        text.push_str(part)?;
+    }
     Ok(text)
 }
 

@@ -1,11 +1,9 @@
 //! Replays by gates that are open for all classes, and the order of what waits.
 
 use crate::networks::{FAST, ONE, TWO, star_text};
-use crate::playing::{expect_shown, lists_of, read, schedule};
-use std::alloc::Global;
+use crate::playing::{expect_shown, given};
 use std::process::Abort;
 use std::test::Fail;
-use tsn_replay::{Background, BackgroundFrame};
 
 // A frame of 64 octets occupies a link for (64 + 20) 8 = 672 ns, and is ready behind the bridge after
 // (64 + 8) 8 + 50 + 1000 = 1626 ns. One of 1522 octets occupies a link for 1542 * 8 = 12336 ns.
@@ -41,12 +39,10 @@ late 3
 
 #[test]
 fn a_frame_waits_for_the_wire_alone(rt: HostRuntime) -> Result<(), Fail> {
-    let alloc = rt.alloc();
-    let problem = read(alloc, star_text(alloc, 40_000, FAST, ONE)?.as_str())?;
-    let valid = schedule(alloc, &problem, &[0])?;
-    let lists = lists_of(alloc, "0: FF 40000\n4: FF 40000")?;
-    let greedy = Background::Greedy;
-    expect_shown(&rt, &problem, &valid, &lists, 2, &greedy, COMPETED)
+    let network = star_text(rt.alloc(), "40000", FAST, ONE)?;
+    let lists = "0: FF 40000\n4: FF 40000";
+    let stage = given(rt.alloc(), network.as_str(), &[0], lists)?;
+    expect_shown(&rt, &stage, 2, "greedy", COMPETED)
 }
 
 /// Five frames wait, in this order: of 200, 64, 80, 105 and 100 octets. The third waits on link 0 from 100 on, where the
@@ -65,29 +61,14 @@ late 1
 4 4154 100
 ";
 
-fn waiting(link: usize, wanted: u64, octets: u64) -> BackgroundFrame {
-    BackgroundFrame {
-        link,
-        wanted,
-        octets,
-    }
-}
+const LINE: &str = "4 100 200, 4 100 64, 0 100 80, 4 50 105, 4 100 100";
 
 #[test]
 fn frames_of_one_instant_go_in_line(rt: HostRuntime) -> Result<(), Fail> {
-    let alloc = rt.alloc();
-    let problem = read(alloc, star_text(alloc, 10_000, FAST, ONE)?.as_str())?;
-    let valid = schedule(alloc, &problem, &[0])?;
-    let lists = lists_of(alloc, "0: FF 10000\n4: FF 10000")?;
-    let frames = [
-        waiting(4, 100, 200),
-        waiting(4, 100, 64),
-        waiting(0, 100, 80),
-        waiting(4, 50, 105),
-        waiting(4, 100, 100),
-    ];
-    let listed = Background::Listed(Vec::from_slice(alloc, &frames)?);
-    expect_shown(&rt, &problem, &valid, &lists, 1, &listed, IN_LINE)
+    let network = star_text(rt.alloc(), "10000", FAST, ONE)?;
+    let lists = "0: FF 10000\n4: FF 10000";
+    let stage = given(rt.alloc(), network.as_str(), &[0], lists)?;
+    expect_shown(&rt, &stage, 1, LINE, IN_LINE)
 }
 
 /// Both frames start on their first links at 672, and are ready on link 4 at 2298: the first stream goes first there.
@@ -116,28 +97,17 @@ late 3
 
 /// Replays the two streams by these lists, the second 672 ns behind the first.
 fn expect_queue<R: Abort + AllocGlobal>(rt: &R, lists: &str, answer: &str) -> Result<(), Fail> {
-    let alloc = rt.alloc();
-    let problem = read(alloc, star_text(alloc, 10_000, FAST, TWO)?.as_str())?;
-    let valid = schedule(alloc, &problem, &[0, 672])?;
-    let lists = lists_of(alloc, lists)?;
-    let nothing = Background::Nothing;
-    expect_shown(rt, &problem, &valid, &lists, 1, &nothing, answer)
+    let network = star_text(rt.alloc(), "10000", FAST, TWO)?;
+    let stage = given(rt.alloc(), network.as_str(), &[0, 672], lists)?;
+    expect_shown(rt, &stage, 1, "", answer)
 }
 
 #[test]
 fn streams_queue_by_readiness_then_by_number(rt: HostRuntime) -> Result<(), Fail> {
-    for (lists, answer) in [
-        ("0: 00 672, FF 9328\n2: FF 10000\n4: FF 10000", TIED),
-        (
-            "0: 00 673, FF 9327\n2: FF 10000\n4: 7F 5000, FF 5000",
-            BEHIND,
-        ),
-        (
-            "0: 00 672, FF 9328\n2: FF 10000\n4: 7F 5000, FF 5000",
-            TIED_LONGER,
-        ),
-    ] {
-        expect_queue(&rt, lists, answer)?;
-    }
-    Ok(())
+    let early = "0: 00 672, FF 9328\n2: FF 10000\n4: FF 10000";
+    expect_queue(&rt, early, TIED)?;
+    let behind = "0: 00 673, FF 9327\n2: FF 10000\n4: 7F 5000, FF 5000";
+    expect_queue(&rt, behind, BEHIND)?;
+    let longer = "0: 00 672, FF 9328\n2: FF 10000\n4: 7F 5000, FF 5000";
+    expect_queue(&rt, longer, TIED_LONGER)
 }

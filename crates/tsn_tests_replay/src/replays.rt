@@ -1,16 +1,13 @@
 //! The replay of cycles.
-ghost use Rattle.std.specs.Prelude.{◌≤◌};
-ghost use Rattle.tsn_model.specs.Schedule.{IsValid};
 
 use crate::networks::{FAST, ONE, TWO, star_text};
-use crate::playing::{read, schedule};
+use crate::playing::{Stage, Window, asked, expect_same, list_of, shown};
 use std::alloc::Global;
 use std::process::Abort;
 use std::test::Fail;
-use tsn_gate::{GateEntry, GateList, gate_lists};
-use tsn_net::Problem;
-use tsn_replay::{Background, BackgroundFrame, replay};
-use tsn_timing::Valid;
+
+/// The cycle, in nanoseconds.
+const MILLION: &str = "1000000";
 
 /// Two streams round one bridge, two cycles by their own lists, with a greedy background.
 const GREEDY: &str = "one 0 0 0 0
@@ -34,7 +31,7 @@ one 1 1 1001626 1002186
 two 1 0 1000672 1000672
 two 1 1 1002298 -
 late 2
-989850 1522
+4 989850 1522
 ";
 
 /// One stream, with background frames on the link to its receiver, for two cycles and for one.
@@ -43,201 +40,82 @@ one 0 1 1626 1626
 one 1 0 1000000 1000000
 one 1 1 1001626 1001626
 late 0
-2298 64
-2970 1522
-989289 64
-1002298 64
+4 2298 64
+4 2970 1522
+4 989289 64
+4 1002298 64
 ";
 
 const ONCE: &str = "one 0 0 0 0
 one 0 1 1626 1626
 late 0
-2298 64
-2970 1522
-989289 64
+4 2298 64
+4 2970 1522
+4 989289 64
 ";
 
-/// The streams round one bridge, with a cycle of 1,000,000 ns.
-fn problem_of(alloc: Global, streams: &str) -> Result<Problem, Fail> {
-    let text = star_text(alloc, 1_000_000, FAST, streams)?;
-    read(alloc, text.as_str())
+/// The streams round one bridge, with a cycle of 1,000,000 ns and the lists that they ask for.
+fn stage(alloc: Global, streams: &str, offsets: &[u64]) -> Result<Stage, Fail> {
+    let network = star_text(alloc, MILLION, FAST, streams)?;
+    asked(alloc, network.as_str(), offsets)
 }
 
-/// The table of a replay and the background starts on link 4 from one instant until another, or its fault.
-fn shown(
-    alloc: Global,
-    problem: &Problem,
-    valid: &Valid,
-    lists: &[GateList],
+/// Takes the last list, that of link 4, for another one.
+fn change_last(alloc: Global, stage: &mut Stage, list: &str) -> Result<(), Fail> {
+    let _asked = stage.lists.pop();
+    stage.lists.push(list_of(alloc, list)?)?;
+    Ok(())
+}
+
+/// Compares the table of a replay and the background on link 4 from one instant until another, or the replay's fault.
+fn expect_between<R: Abort + AllocGlobal>(
+    rt: &R,
+    stage: &Stage,
     cycles: usize,
-    background: &Background,
+    background: &str,
     from: u64,
     until: u64,
-) -> Result<String, Fail>
-    requires some { 1 ≤ cycles }
-    requires few { cycles ≤ 16 }
-    requires valid { IsValid problem.now.network valid.now }
-{
-    let trace = match replay(alloc, problem, valid, lists, cycles, background) {
-        Ok(trace) => trace,
-        Err(fault) => {
-            let number = fault.number();
-            return Ok(format!(in alloc; "P{number}")?);
-        }
+    answer: &str,
+) -> Result<(), Fail> {
+    let window = Window {
+        link: 4,
+        from,
+        until,
     };
-    let mut text = trace.to_text(alloc, problem)?;
-    for sent in trace.background() {
-        if sent.link() == 4 && from <= sent.start() && sent.start() < until {
-            let start = sent.start();
-            let octets = sent.octets();
-            text.push_str(format!(in alloc; "{start} {octets}\n")?.as_str())?;
-        }
-    }
-    Ok(text)
-}
-
-/// A list of link 4 with three entries.
-fn three(alloc: Global, entries: &[GateEntry]) -> Result<GateList, Fail> {
-    Ok(GateList::new(alloc, 4, entries).map_err(|_| "the list is refused")?)
+    let text = shown(rt.alloc(), stage, cycles, background, &[window])?;
+    expect_same(rt, text.as_str(), answer);
+    Ok(())
 }
 
 #[test]
 fn replays_a_greedy_background(rt: HostRuntime) -> Result<(), Fail> {
-    let alloc = rt.alloc();
-    let problem = problem_of(alloc, TWO)?;
-    let valid = schedule(alloc, &problem, &[0, 672])?;
-    let mut lists = gate_lists(alloc, &problem, &valid)?;
-    let text = shown(
-        alloc,
-        &problem,
-        &valid,
-        &lists,
-        2,
-        &Background::Greedy,
-        0,
-        0,
-    )?;
-    assert!(rt; text.as_str() == GREEDY, "{text}");
-    lists.pop();
-    lists.push(three(
-        alloc,
-        &[
-            GateEntry {
-                interval: 1626,
-                octet: 0x00,
-            },
-            GateEntry {
-                interval: 1344,
-                octet: 0x80,
-            },
-            GateEntry {
-                interval: 997_030,
-                octet: 0x7F,
-            },
-        ],
-    )?)?;
-    let text = shown(
-        alloc,
-        &problem,
-        &valid,
-        &lists,
-        2,
-        &Background::Greedy,
-        980_000,
-        1_002_970,
-    )?;
-    assert!(rt; text.as_str() == UNGUARDED, "{text}");
-    Ok(())
+    let mut stage = stage(rt.alloc(), TWO, &[0, 672])?;
+    expect_between(&rt, &stage, 2, "greedy", 0, 0, GREEDY)?;
+    let unguarded = "4: 00 1626, 80 1344, 7F 997030";
+    change_last(rt.alloc(), &mut stage, unguarded)?;
+    expect_between(&rt, &stage, 2, "greedy", 980_000, 1_002_970, UNGUARDED)
 }
 
-/// A background frame on link 4.
-fn waiting(wanted: u64, octets: u64) -> BackgroundFrame {
-    BackgroundFrame {
-        link: 4,
-        wanted,
-        octets,
-    }
-}
+const FRAMES: &str = "4 2298 64, 4 2298 1522, 4 989289 64, 4 989290 64";
 
 #[test]
 fn replays_background_frames(rt: HostRuntime) -> Result<(), Fail> {
-    let alloc = rt.alloc();
-    let problem = problem_of(alloc, ONE)?;
-    let valid = schedule(alloc, &problem, &[0])?;
-    let lists = gate_lists(alloc, &problem, &valid)?;
-    let frames = [
-        waiting(2298, 64),
-        waiting(2298, 1522),
-        waiting(989_289, 64),
-        waiting(989_290, 64),
-    ];
-    let background = Background::Listed(Vec::from_slice(alloc, &frames)?);
-    let text = shown(
-        alloc,
-        &problem,
-        &valid,
-        &lists,
-        2,
-        &background,
-        0,
-        2_000_000,
-    )?;
-    assert!(rt; text.as_str() == LISTED, "{text}");
-    let text = shown(
-        alloc,
-        &problem,
-        &valid,
-        &lists,
-        1,
-        &background,
-        0,
-        2_000_000,
-    )?;
-    assert!(rt; text.as_str() == ONCE, "{text}");
-    Ok(())
+    let stage = stage(rt.alloc(), ONE, &[0])?;
+    expect_between(&rt, &stage, 2, FRAMES, 0, 2_000_000, LISTED)?;
+    expect_between(&rt, &stage, 1, FRAMES, 0, 2_000_000, ONCE)
 }
 
 #[test]
 fn refuses_what_is_outside_the_limits(rt: HostRuntime) -> Result<(), Fail> {
-    let alloc = rt.alloc();
-    let problem = problem_of(alloc, ONE)?;
-    let valid = schedule(alloc, &problem, &[0])?;
-    let mut lists = gate_lists(alloc, &problem, &valid)?;
-    let elsewhere = BackgroundFrame {
-        link: 5,
-        wanted: 0,
-        octets: 64,
-    };
-    let both = BackgroundFrame {
-        link: 5,
-        wanted: 0,
-        octets: 63,
-    };
-    let frames = [elsewhere, waiting(0, 63), waiting(1_000_000, 64), both];
-    let faults = ["P1", "P2", "P2", "P1"];
-    for (frame, fault) in frames.iter().zip(faults.iter()) {
-        let background = Background::Listed(Vec::from_slice(alloc, &[*frame])?);
-        let text = shown(alloc, &problem, &valid, &lists, 1, &background, 0, 0)?;
-        assert!(rt; text.as_str() == *fault, "{text}");
+    let mut stage = stage(rt.alloc(), ONE, &[0])?;
+    for (frame, fault) in [
+        ("5 0 64", "P1"),
+        ("4 0 63", "P2"),
+        ("4 1000000 64", "P2"),
+        ("5 0 63", "P1"),
+    ] {
+        expect_between(&rt, &stage, 1, frame, 0, 0, fault)?;
     }
-    lists.pop();
-    lists.push(three(
-        alloc,
-        &[GateEntry {
-            interval: 999_999,
-            octet: 0x80,
-        }],
-    )?)?;
-    let text = shown(
-        alloc,
-        &problem,
-        &valid,
-        &lists,
-        1,
-        &Background::Nothing,
-        0,
-        0,
-    )?;
-    assert!(rt; text.as_str() == "P2", "{text}");
-    Ok(())
+    change_last(rt.alloc(), &mut stage, "4: 80 999999")?;
+    expect_between(&rt, &stage, 1, "", 0, 0, "P2")
 }

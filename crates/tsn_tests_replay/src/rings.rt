@@ -1,10 +1,9 @@
 //! Replays of streams whose routes run in a circle over links.
 
-use crate::playing::{expect_shown, lists_of, read, schedule};
-use std::process::Abort;
+use crate::playing::{asked, expect_shown, list_of};
+use std::alloc::Global;
 use std::test::Fail;
-use tsn_gate::gate_lists;
-use tsn_replay::Background;
+use tsn_gate::GateList;
 
 /// Three bridges in a ring, each with a station. Each stream goes two hops round the ring: link 6 (P to Q) feeds link 8
 /// (Q to R), which feeds link 10 (R to P), which feeds link 6.
@@ -101,25 +100,23 @@ three 2 3 26000 -
 late 18
 ";
 
+/// A frame of 1522 octets would occupy a link for 12336 ns, longer than the cycle, so the guard lets none start.
 #[test]
 fn a_ring_is_on_time(rt: HostRuntime) -> Result<(), Fail> {
-    let alloc = rt.alloc();
-    let problem = read(alloc, RING)?;
-    let valid = schedule(alloc, &problem, &[0, 0, 0])?;
-    let lists = gate_lists(alloc, &problem, &valid)?;
-    // A frame of 1522 octets would occupy a link for 12336 ns, longer than the cycle, so the guard lets none start.
-    let greedy = Background::Greedy;
-    expect_shown(&rt, &problem, &valid, &lists, 1, &greedy, ON_TIME)
+    let stage = asked(rt.alloc(), RING, &[0, 0, 0])?;
+    expect_shown(&rt, &stage, 1, "greedy", ON_TIME)
+}
+
+/// Takes the list of link 6 for one that opens late.
+fn delay(alloc: Global, lists: &mut Vec<GateList>) -> Result<(), Fail> {
+    lists.retain(|list| list.link() != 6);
+    lists.push(list_of(alloc, "6: 00 2500, 80 7500")?)?;
+    Ok(())
 }
 
 #[test]
 fn a_delay_goes_round_a_ring(rt: HostRuntime) -> Result<(), Fail> {
-    let alloc = rt.alloc();
-    let problem = read(alloc, RING)?;
-    let valid = schedule(alloc, &problem, &[0, 0, 0])?;
-    let mut lists = gate_lists(alloc, &problem, &valid)?;
-    lists.retain(|list| list.link() != 6);
-    lists.append(&mut lists_of(alloc, "6: 00 2500, 80 7500")?)?;
-    let nothing = Background::Nothing;
-    expect_shown(&rt, &problem, &valid, &lists, 3, &nothing, DELAYED)
+    let mut stage = asked(rt.alloc(), RING, &[0, 0, 0])?;
+    delay(rt.alloc(), &mut stage.lists)?;
+    expect_shown(&rt, &stage, 3, "", DELAYED)
 }
