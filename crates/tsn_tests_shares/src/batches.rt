@@ -1,5 +1,5 @@
 //! Tellers that settle several events at a time.
-ghost use Rattle.std.specs.Prelude.{◌≡◌, ◌+◌, ◌<◌, ◌∷◌, [], IfOk, OnOk};
+ghost use Rattle.std.specs.Prelude.{◌≡◌, ◌+◌, ◌<◌, ◌∷◌, [], OnOk};
 ghost use Rattle.tsn_model.specs.declared.Side.TheVariants.{Left};
 ghost use Rattle.tsn_model.specs.Certificate.{decided};
 ghost use Rattle.tsn_model.specs.Search.{split};
@@ -13,11 +13,11 @@ ghost use Rattle.tsn_share.specs.Teller.{IsEven, IsSolvedBy};
 ghost use Rattle.tsn_tests_shares.specs.Solving.{the_conflict, IsWalk};
 
 use crate::networks::two_streams;
-use crate::shares::{
-    below_root, conflict, first_target, gather_one, is_finished, look_at, only, solved_at,
-    solved_event, splits_root, tied_look,
+use crate::steps::{
+    below_root, expect_fault, expect_word, first_target, look_at, one_of, parts_of, put,
+    root_split, solved_at, solved_by, splits_root, tied_look,
 };
-use std::alloc::Global;
+use crate::ways::{Way, finish_by};
 use std::marker::Brand;
 use std::process::Abort;
 use std::sync::Wait;
@@ -32,145 +32,142 @@ use tsn_timing::{Solved, Timing};
 type Refusal = (usize, BookFault, Vec<Event>);
 
 /// Two events.
-fn two(alloc: Global, first: Event, second: Event) -> Result<Vec<Event>, Fail>
-    ensures { IfOk result (λ events. events.items ≡ first ∷ second ∷ []) }
+fn two<R: Abort + AllocGlobal>(rt: &R, first: Event, second: Event) -> Vec<Event>
+    ensures { result.items ≡ first ∷ second ∷ [] }
 {
-    let mut events = Vec::new(alloc);
-    events.push(first)?;
-    events.push(second)?;
-    Ok(events)
+    let mut events = Vec::new(rt.alloc());
+    put(rt, &mut events, first);
+    put(rt, &mut events, second);
+    events
 }
 
 /// One event.
-fn one(alloc: Global, event: Event) -> Result<Vec<Event>, Fail>
-    ensures { IfOk result (λ events. events.items ≡ event ∷ []) }
+fn one<R: Abort + AllocGlobal>(rt: &R, event: Event) -> Vec<Event>
+    ensures { result.items ≡ event ∷ [] }
 {
-    let mut events = Vec::new(alloc);
-    events.push(event)?;
-    Ok(events)
-}
-
-/// The split of the root.
-fn root_split(alloc: Global) -> Event
-    ensures node { result.node ≡ [] }
-    ensures outcome { outcome_of result.look ≡ split the_conflict }
-{
-    Event {
-        node: Node::root(alloc),
-        look: Look::Split(conflict()),
-    }
+    let mut events = Vec::new(rt.alloc());
+    put(rt, &mut events, event);
+    events
 }
 
 /// Settles the root's split and another event at once.
-fn split_and<K: Named, R: Wait + AllocGlobal>(
+fn split_and<K: Named, R: Wait + Abort + AllocGlobal>(
     rt: &R,
     shared: &Shared<K>,
     teller: &mut Teller<K>,
     next: Event,
-) -> Result<Result<(), Refusal>, Fail>
+) -> Result<(), Refusal>
     requires proof { HasProof K.names.race.network next.node (outcome_of next.look) }
     requires above { IsAboveSeen K.names.race.network teller.old.standing.seen (outcome_of next.look) }
     ensures standing { teller.new.standing ≡ teller.old.standing }
-    ensures tally { IfOk result (λ settled. OnOk settled (teller.new.tally ≡ tally_with (tally_with teller.old.tally (split the_conflict)) (outcome_of next.look))) }
+    ensures tally { OnOk result (teller.new.tally ≡ tally_with (tally_with teller.old.tally (split the_conflict)) (outcome_of next.look)) }
 {
-    let events = two(rt.alloc(), root_split(rt.alloc()), next)?;
-    Ok(settle_all_as(rt, shared, teller, events))
+    let events = two(rt, root_split(rt.alloc()), next);
+    settle_all_as(rt, shared, teller, events)
 }
 
-/// Gives up what was refused.
-fn give_up_all(_refusal: Refusal) {}
-
-/// Whether one event was settled, and one is left, for that reason.
-fn left_one(refusal: &Refusal, reason: BookFault) -> bool {
+/// One event is settled, and one is left for that reason.
+fn expect_one_left<R: Abort + AllocGlobal>(rt: &R, refusal: &Refusal, reason: &str) {
     let (settled, fault, rest) = refusal;
-    *settled == 1 && *fault == reason && rest.len() == 1
-}
-
-/// Whether all events split the root.
-fn all_split_root(refusal: &Refusal) -> bool {
-    let (_, _, rest) = refusal;
-    rest.iter().all(|event| splits_root(event))
-}
-
-/// Whether all events are solved leaves.
-fn all_solved(refusal: &Refusal) -> bool {
-    let (_, _, rest) = refusal;
-    rest.iter()
-        .all(|event| matches!(event.look, Look::Solved { .. }))
+    expect_fault(rt, *fault, reason);
+    assert_eq!(rt; (*settled, rest.len()), (1, 1));
 }
 
 #[test]
-fn a_batch_ends_at_its_first_refusal(rt: HostRuntime) -> Result<(), Fail> {
-    let timing = two_streams(rt.alloc())?;
-    let parts = Parts::new(rt.alloc(), &timing, 1, 10)?;
-    split_twice::<Brand, _>(&rt, parts)?;
-    let parts = Parts::new(rt.alloc(), &timing, 1, 1)?;
-    past_limit::<Brand, _>(&rt, &timing, parts)
+fn a_batch_ends_at_its_first_refusal(rt: HostRuntime) {
+    let timing = two_streams(&rt);
+    let parts = parts_of(&rt, &timing, 1, 10);
+    split_twice::<Brand, _>(&rt, parts);
+    let parts = parts_of(&rt, &timing, 1, 1);
+    past_limit::<Brand, _>(&rt, &timing, parts);
 }
 
-fn split_twice<K: Named, R: Wait + Abort + AllocGlobal>(rt: &R, parts: Parts) -> Result<(), Fail>
+fn split_twice<K: Named, R: Wait + Abort + AllocGlobal>(rt: &R, parts: Parts)
     requires names { parts ≡ K.names }
-    requires tellers { parts.race.tellers ≡ 1 }
+    requires tellers { K.names.race.tellers ≡ 1 }
 {
-    let (shared, tellers) = parts.share::<K>(rt.alloc())?;
-    let mut teller = only(tellers)?;
-    match split_and(rt, &shared, &mut teller, root_split(rt.alloc()))? {
-        Ok(()) => Err(Fail::from("settled twice")),
+    let (shared, mut teller) = one_of::<K, _>(rt, parts);
+    expect_split_left(rt, split_both(rt, &shared, &mut teller));
+}
+
+/// Settles the root's split twice at once.
+fn split_both<K: Named, R: Wait + Abort + AllocGlobal>(
+    rt: &R,
+    shared: &Shared<K>,
+    teller: &mut Teller<K>,
+) -> Result<(), Refusal> {
+    split_and(rt, shared, teller, root_split(rt.alloc()))
+}
+
+fn expect_split_left<R: Abort + AllocGlobal>(rt: &R, answer: Result<(), Refusal>) {
+    match answer {
+        Ok(()) => panic!(rt; "settled twice"),
         Err(refusal) => {
-            let told = left_one(&refusal, BookFault::NotOpen(Some(0))) && all_split_root(&refusal);
-            give_up_all(refusal);
-            assert!(rt; told);
-            Ok(())
+            expect_one_left(rt, &refusal, "NotOpen(Some(0))");
+            assert!(rt; refusal.2.iter().all(|event| splits_root(event)));
         }
     }
 }
 
-fn past_limit<K: Named, R: Wait + Abort + AllocGlobal>(
-    rt: &R,
-    timing: &Timing,
-    parts: Parts,
-) -> Result<(), Fail>
+fn past_limit<K: Named, R: Wait + Abort + AllocGlobal>(rt: &R, timing: &Timing, parts: Parts)
     requires names { parts ≡ K.names }
     requires network { timing.now ≡ K.names.race.network }
     requires tellers { K.names.race.tellers ≡ 1 }
 {
-    let (shared, tellers) = parts.share::<K>(rt.alloc())?;
-    let mut teller = only(tellers)?;
-    let target = first_target(rt, timing, &shared, &mut teller);
-    let (event, _schedule) = solved_event(rt, timing, Side::Left, target)?;
-    match split_and(rt, &shared, &mut teller, event)? {
-        Ok(()) => Err(Fail::from("settled past the limit")),
+    let (shared, mut teller) = one_of::<K, _>(rt, parts);
+    expect_solved_left(rt, split_and_solved(rt, timing, &shared, &mut teller));
+}
+
+/// Settles the root's split and the Left node as solved at once.
+#[tactic(auto, using(crate::proofs::Solving::solved_above))]
+fn split_and_solved<K: Named, R: Wait + Abort + AllocGlobal>(
+    rt: &R,
+    timing: &Timing,
+    shared: &Shared<K>,
+    teller: &mut Teller<K>,
+) -> Result<(), Refusal>
+    requires network { timing.now ≡ K.names.race.network }
+    requires fresh { teller.old.tally.2 ≡ K.names.race.network.cycle + 1 }
+{
+    let target = first_target(rt, timing, shared, teller);
+    let (event, _) = solved_at(rt, timing, Side::Left, target);
+    split_and(rt, shared, teller, event)
+}
+
+fn expect_solved_left<R: Abort + AllocGlobal>(rt: &R, answer: Result<(), Refusal>) {
+    match answer {
+        Ok(()) => panic!(rt; "settled past the limit"),
         Err(refusal) => {
-            let told = left_one(&refusal, BookFault::Limit(1)) && all_solved(&refusal);
-            give_up_all(refusal);
-            assert!(rt; told);
-            Ok(())
+            expect_one_left(rt, &refusal, "Limit(1)");
+            assert!(rt;
+                refusal
+                    .2
+                    .iter()
+                    .all(|event| matches!(event.look, Look::Solved { .. }))
+            );
         }
     }
 }
 
 #[test]
-fn batches_finish_a_search(rt: HostRuntime) -> Result<(), Fail> {
-    let timing = two_streams(rt.alloc())?;
-    let parts = Parts::new(rt.alloc(), &timing, 1, 10)?;
-    by_events::<Brand, _>(&rt, &timing, parts)
+fn batches_finish_a_search(rt: HostRuntime) {
+    finish_by(&rt, Way::Batches);
 }
 
-fn by_events<K: Named, R: Wait + Abort + AllocGlobal>(
+/// Settles the split and the Left node at once, and then the Right one, as the only one of its section.
+pub fn settle_by_batches<K: Named, R: Wait + Abort + AllocGlobal>(
     rt: &R,
     timing: &Timing,
-    parts: Parts,
-) -> Result<(), Fail>
-    requires names { parts ≡ K.names }
+    shared: &Shared<K>,
+    teller: &mut Teller<K>,
+)
     requires network { timing.now ≡ K.names.race.network }
-    requires tellers { K.names.race.tellers ≡ 1 }
+    requires fresh { teller.old.tally.2 ≡ K.names.race.network.cycle + 1 }
+    ensures number { teller.new.standing.number ≡ teller.old.standing.number }
+    ensures even { IsEven teller.new }
 {
-    let (shared, tellers) = parts.share::<K>(rt.alloc())?;
-    let mut teller = only(tellers)?;
-    split_and_solve(rt, timing, &shared, &mut teller)?;
-    tie_alone(rt, timing, &shared, &mut teller)?;
-    let (word, book) = gather_one(rt.alloc(), shared, teller)?;
-    is_finished(rt, word, book)
+    split_and_solve(rt, timing, shared, teller);
+    tie_alone(rt, timing, shared, teller);
 }
 
 /// Settles the root's split and the Left node as solved at once, and posts its schedule.
@@ -180,20 +177,18 @@ fn split_and_solve<K: Named, R: Wait + Abort + AllocGlobal>(
     timing: &Timing,
     shared: &Shared<K>,
     teller: &mut Teller<K>,
-) -> Result<(), Fail>
+)
     requires network { timing.now ≡ K.names.race.network }
     requires fresh { teller.old.tally.2 ≡ K.names.race.network.cycle + 1 }
     ensures number { teller.new.standing.number ≡ teller.old.standing.number }
-    ensures even { OnOk result (IsEven teller.new) }
+    ensures even { IsEven teller.new }
 {
     let target = first_target(rt, timing, shared, teller);
-    let (event, schedule) = solved_event(rt, timing, Side::Left, target)?;
-    if let Err(refusal) = split_and(rt, shared, teller, event)? {
-        give_up_all(refusal);
-        return Err(Fail::from("not settled"));
+    let (event, schedule) = solved_at(rt, timing, Side::Left, target);
+    match split_and(rt, shared, teller, event) {
+        Ok(()) => expect_word(rt, post_as(shared, teller, &schedule), 1_000_001),
+        Err(_) => panic!(rt; "not settled"),
     }
-    assert_eq!(rt; post_as(shared, teller, &schedule), 1_000_001);
-    Ok(())
 }
 
 /// Settles the Right node as tied, as the only one of its section.
@@ -203,102 +198,100 @@ fn tie_alone<K: Named, R: Wait + Abort + AllocGlobal>(
     timing: &Timing,
     shared: &Shared<K>,
     teller: &mut Teller<K>,
-) -> Result<(), Fail>
+)
     requires network { timing.now ≡ K.names.race.network }
     requires even { IsEven teller.old }
     ensures number { teller.new.standing.number ≡ teller.old.standing.number }
-    ensures even { OnOk result (IsEven teller.new) }
+    ensures even { IsEven teller.new }
 {
-    let node = below_root(rt, rt.alloc(), Side::Right)?;
-    let look = tied_look(rt, timing, shared, teller, &node)?;
-    let events = one(rt.alloc(), Event { node, look })?;
-    if let Err(refusal) = settle_all_as(rt, shared, teller, events) {
-        give_up_all(refusal);
-        return Err(Fail::from("not settled"));
+    let node = below_root(rt, Side::Right);
+    let look = tied_look(rt, timing, shared, teller, &node);
+    let events = one(rt, Event { node, look });
+    match settle_all_as(rt, shared, teller, events) {
+        Ok(()) => (),
+        Err(_) => panic!(rt; "not settled"),
     }
-    Ok(())
 }
 
 #[test]
-fn a_walk_finishes_a_search(rt: HostRuntime) -> Result<(), Fail> {
-    let timing = two_streams(rt.alloc())?;
-    let parts = Parts::new(rt.alloc(), &timing, 1, 10)?;
-    by_walk::<Brand, _>(&rt, &timing, parts)
+fn a_walk_finishes_a_search(rt: HostRuntime) {
+    finish_by(&rt, Way::Walks);
 }
 
-fn by_walk<K: Named, R: Wait + Abort + AllocGlobal>(
+/// Settles the root and its Left child in one walk, and then the Right one, where the walk goes on.
+pub fn settle_by_walks<K: Named, R: Wait + Abort + AllocGlobal>(
     rt: &R,
     timing: &Timing,
-    parts: Parts,
-) -> Result<(), Fail>
-    requires names { parts ≡ K.names }
+    shared: &Shared<K>,
+    teller: &mut Teller<K>,
+)
     requires network { timing.now ≡ K.names.race.network }
-    requires tellers { K.names.race.tellers ≡ 1 }
+    requires fresh { teller.old.tally.2 ≡ K.names.race.network.cycle + 1 }
+    ensures number { teller.new.standing.number ≡ teller.old.standing.number }
+    ensures even { IsEven teller.new }
 {
-    let (shared, tellers) = parts.share::<K>(rt.alloc())?;
-    let mut teller = only(tellers)?;
     let mut from = Node::root(rt.alloc());
-    walk_left(rt, timing, &shared, &mut teller, &mut from)?;
-    let right = below_root(rt, rt.alloc(), Side::Right)?;
-    assert!(rt; from.path() == right.path());
-    walk_right(rt, timing, &shared, &mut teller, &mut from)?;
-    assert!(rt; from.path().is_empty());
-    let (word, book) = gather_one(rt.alloc(), shared, teller)?;
-    is_finished(rt, word, book)
+    walk_left(rt, timing, shared, teller, &mut from);
+    expect_right(rt, &from);
+    walk_right(rt, timing, shared, teller, &mut from);
+    expect_root(rt, &from);
+}
+
+fn expect_right<R: Abort + AllocGlobal>(rt: &R, node: &Node) {
+    let right = below_root(rt, Side::Right);
+    assert!(rt; node.path() == right.path());
+}
+
+fn expect_root(rt: &impl Abort, node: &Node) {
+    assert!(rt; node.path().is_empty());
 }
 
 /// The triple on which a look splits a node.
-fn split_of<R: Abort + AllocGlobal>(
-    rt: &R,
-    timing: &Timing,
-    node: &Node,
-    target: u64,
-) -> Result<Triple, Fail>
-    ensures { IfOk result (λ triple. SplitsUndecided timing.now node.now (split triple)) }
+fn split_of<R: Abort + AllocGlobal>(rt: &R, timing: &Timing, node: &Node, target: u64) -> Triple
+    ensures { SplitsUndecided timing.now node.now (split result) }
 {
-    match look_at(rt, timing, node, target, None)? {
-        Look::Split(triple) => Ok(triple),
-        _ => Err(Fail::from("not split")),
+    match look_at(rt, timing, node, target, None) {
+        Look::Split(triple) => triple,
+        _ => panic!(rt; "not split"),
     }
 }
 
-/// A node on the left below another one, which a look solves, with its schedule.
+/// What a look finds that solves the Left child of a node, with the schedule.
 fn solved_left<R: Abort + AllocGlobal>(
     rt: &R,
     timing: &Timing,
     node: &Node,
     triple: Triple,
     target: u64,
-) -> Result<(Event, Solved), Fail>
-    requires undecided { SplitsUndecided timing.now node.now (split triple) }
-    ensures node { IfOk result (λ r. r.0.node ≡ decided node.now triple Left) }
-    ensures proof { IfOk result (λ r. HasProof timing.now r.0.node (outcome_of r.0.look)) }
-    ensures undecided { IfOk result (λ r. SplitsUndecided timing.now r.0.node (outcome_of r.0.look)) }
-    ensures solved { IfOk result (λ r. IsSolved timing.now r.1) }
-    ensures by { IfOk result (λ r. IsSolvedBy r.1.flowspan (outcome_of r.0.look)) }
-    ensures below { IfOk result (λ r. r.1.flowspan < target) }
+) -> (Look, Solved)
+    requires { SplitsUndecided timing.now node.now (split triple) }
+    ensures proof { HasProof timing.now (decided node.now triple Left) (outcome_of result.0) }
+    ensures undecided { SplitsUndecided timing.now (decided node.now triple Left) (outcome_of result.0) }
+    ensures solved { IsSolved timing.now result.1 }
+    ensures by { IsSolvedBy result.1.flowspan (outcome_of result.0) }
+    ensures below { result.1.flowspan < target }
 {
-    solved_at(rt, timing, node.child(triple, Side::Left)?, target)
-}
-
-/// One look.
-fn one_look(alloc: Global, look: Look) -> Result<Vec<Look>, Fail>
-    ensures { IfOk result (λ looks. looks.items ≡ look ∷ []) }
-{
-    let mut looks = Vec::new(alloc);
-    looks.push(look)?;
-    Ok(looks)
+    let child = node.child(triple, Side::Left).expect(rt, "memory");
+    solved_by(rt, timing, &child, target)
 }
 
 /// The looks of a walk at a node that is split and at its Left child.
-fn two_looks(alloc: Global, triple: Triple, left: Event) -> Result<Vec<Look>, Fail>
-    ensures { IfOk result (λ looks. looks.items ≡ Split triple ∷ left.look ∷ []) }
+fn two_looks<R: Abort + AllocGlobal>(rt: &R, triple: Triple, left: Look) -> Vec<Look>
+    ensures { result.items ≡ Split triple ∷ left ∷ [] }
 {
-    let Event { node: _, look } = left;
-    let mut looks = Vec::new(alloc);
-    looks.push(Look::Split(triple))?;
-    looks.push(look)?;
-    Ok(looks)
+    let mut looks = Vec::new(rt.alloc());
+    put(rt, &mut looks, Look::Split(triple));
+    put(rt, &mut looks, left);
+    looks
+}
+
+/// One look.
+fn one_look<R: Abort + AllocGlobal>(rt: &R, look: Look) -> Vec<Look>
+    ensures { result.items ≡ look ∷ [] }
+{
+    let mut looks = Vec::new(rt.alloc());
+    put(rt, &mut looks, look);
+    looks
 }
 
 /// The looks at a node, which is split, and at its Left child, which is solved, with the schedule.
@@ -308,37 +301,36 @@ fn first_looks<R: Abort + AllocGlobal>(
     timing: &Timing,
     node: &Node,
     target: u64,
-) -> Result<(Vec<Look>, Solved), Fail>
-    ensures walk { IfOk result (λ r. IsWalk timing.now node.now r.1.flowspan r.0.items) }
-    ensures below { IfOk result (λ r. r.1.flowspan < target) }
-    ensures solved { IfOk result (λ r. IsSolved timing.now r.1) }
+) -> (Vec<Look>, Solved)
+    ensures walk { IsWalk timing.now node.now result.1.flowspan result.0.items }
+    ensures below { result.1.flowspan < target }
+    ensures solved { IsSolved timing.now result.1 }
 {
-    let triple = split_of(rt, timing, node, target)?;
-    let (left, schedule) = solved_left(rt, timing, node, triple, target)?;
-    Ok((two_looks(rt.alloc(), triple, left)?, schedule))
+    let triple = split_of(rt, timing, node, target);
+    let (left, schedule) = solved_left(rt, timing, node, triple, target);
+    (two_looks(rt, triple, left), schedule)
 }
 
 /// Settles the root as split and its Left child as solved in one walk, and posts the schedule.
-#[tactic(auto, using(crate::proofs::Solving::walk_count, crate::proofs::Solving::walk_above, crate::proofs::Solving::walk_last, crate::proofs::Solving::walk_least))]
+#[tactic(auto, using(crate::proofs::Solving::walk_count, crate::proofs::Solving::walk_above))]
 fn walk_left<K: Named, R: Wait + Abort + AllocGlobal>(
     rt: &R,
     timing: &Timing,
     shared: &Shared<K>,
     teller: &mut Teller<K>,
     from: &mut Node,
-) -> Result<(), Fail>
+)
     requires network { timing.now ≡ K.names.race.network }
     requires fresh { teller.old.tally.2 ≡ K.names.race.network.cycle + 1 }
     ensures number { teller.new.standing.number ≡ teller.old.standing.number }
-    ensures even { OnOk result (IsEven teller.new) }
+    ensures even { IsEven teller.new }
 {
     let target = first_target(rt, timing, shared, teller);
-    let (looks, schedule) = first_looks(rt, timing, from, target)?;
-    if settle_below_as(rt, shared, teller, from, looks).is_err() {
-        return Err(Fail::from("not settled"));
+    let (looks, schedule) = first_looks(rt, timing, from, target);
+    match settle_below_as(rt, shared, teller, from, looks) {
+        Ok(()) => expect_word(rt, post_as(shared, teller, &schedule), 1_000_001),
+        Err(_) => panic!(rt; "not settled"),
     }
-    assert_eq!(rt; post_as(shared, teller, &schedule), 1_000_001);
-    Ok(())
 }
 
 /// Settles the node where the walk stands as tied.
@@ -349,16 +341,16 @@ fn walk_right<K: Named, R: Wait + Abort + AllocGlobal>(
     shared: &Shared<K>,
     teller: &mut Teller<K>,
     from: &mut Node,
-) -> Result<(), Fail>
+)
     requires network { timing.now ≡ K.names.race.network }
     requires even { IsEven teller.old }
     ensures number { teller.new.standing.number ≡ teller.old.standing.number }
-    ensures even { OnOk result (IsEven teller.new) }
+    ensures even { IsEven teller.new }
 {
-    let look = tied_look(rt, timing, shared, teller, from)?;
-    let looks = one_look(rt.alloc(), look)?;
-    if settle_below_as(rt, shared, teller, from, looks).is_err() {
-        return Err(Fail::from("not settled"));
+    let look = tied_look(rt, timing, shared, teller, from);
+    let looks = one_look(rt, look);
+    match settle_below_as(rt, shared, teller, from, looks) {
+        Ok(()) => (),
+        Err(_) => panic!(rt; "not settled"),
     }
-    Ok(())
 }

@@ -4,6 +4,12 @@
 #[cfg(test)]
 mod batches;
 #[cfg(test)]
+mod ends;
+#[cfg(test)]
 mod networks;
 #[cfg(test)]
 mod shares;
+#[cfg(test)]
+mod steps;
+#[cfg(test)]
+mod ways;

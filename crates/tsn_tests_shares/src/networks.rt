@@ -1,7 +1,6 @@
 //! The network of these tests: stations A, B and C, a bridge, and two streams that share the link from the bridge to C.
-use std::alloc::Global;
-use std::test::Fail;
-use tsn_net::read_problem;
+use std::process::Abort;
+use tsn_net::{Problem, read_problem};
 use tsn_timing::Timing;
 
 const TWO: &str = "cycle = 1000000
@@ -22,7 +21,13 @@ stream = [
 ]
 ";
 
-pub fn two_streams(alloc: Global) -> Result<Timing, Fail> {
-    let problem = read_problem(alloc, TWO.as_bytes()).map_err(|_| "the network is refused")?;
-    Ok(Timing::of(alloc, &problem)?)
+fn problem<R: Abort + AllocGlobal>(rt: &R) -> Problem {
+    match read_problem(rt.alloc(), TWO.as_bytes()) {
+        Ok(problem) => problem,
+        Err(_) => panic!(rt; "the network is refused"),
+    }
+}
+
+pub fn two_streams<R: Abort + AllocGlobal>(rt: &R) -> Timing {
+    Timing::of(rt.alloc(), &problem(rt)).expect(rt, "memory")
 }

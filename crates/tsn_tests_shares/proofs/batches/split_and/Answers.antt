@@ -8,5 +8,5 @@ use Rattle.tsn_tests_shares.proofs.batches.split_and.Goals as goal
 
 pub settle_all_as-requires-clause-last_solved : goal.settle_all_as-requires-clause-last_solved
 settle_all_as-requires-clause-last_solved g c =
-    subst (λ (events : List Event). OnlyLastSolved (map (λ (event : Event). outcome_of event.look) events)) (sym c.in_ok-events.ensures)
+    subst (λ (events : List Event). OnlyLastSolved (map (λ (event : Event). outcome_of event.look) events)) (sym c.two-events.ensures)
     (last_of_two the_conflict (outcome_of c.root_split.result.look) (outcome_of c.args.next.look) c.root_split.ensures.outcome)

@@ -7,5 +7,5 @@ use Rattle.tsn_tests_shares.proofs.batches.tie_alone.Goals as goal
 
 pub settle_all_as-requires-clause-last_solved : goal.settle_all_as-requires-clause-last_solved
 settle_all_as-requires-clause-last_solved g c =
-    subst (λ (events : List Event). OnlyLastSolved (map (λ (event : Event). outcome_of event.look) events)) (sym c.in_ok-events.ensures)
-    (last_of_one (outcome_of c.in_ok-look.look))
+    subst (λ (events : List Event). OnlyLastSolved (map (λ (event : Event). outcome_of event.look) events)) (sym c.one-events.ensures)
+    (last_of_one (outcome_of c.tied_look-look.result))

@@ -8,7 +8,7 @@ use Rattle.tsn_tests_shares.proofs.batches.walk_right.Goals as goal
 pub settle_below_as-requires-clause-proofs : goal.settle_below_as-requires-clause-proofs
 settle_below_as-requires-clause-proofs g c =
     let path = c.args.from.now in
-    let look = c.in_ok-look.look in
-    leaf_alone g.K.Named.names.race.network path look c.in_ok-looks.looks.items c.in_ok-looks.ensures
-    (subst (λ (network : Network). HasProof network path (outcome_of look)) c.requires.network c.in_ok-look.ensures.proof)
-    (subst (λ (network : Network). SplitsUndecided network path (outcome_of look)) c.requires.network c.in_ok-look.ensures.undecided)
+    let look = c.tied_look-look.result in
+    leaf_alone g.K.Named.names.race.network path look c.one_look-looks.result.items c.one_look-looks.ensures
+    (subst (λ (network : Network). HasProof network path (outcome_of look)) c.requires.network c.tied_look-look.ensures.proof)
+    (subst (λ (network : Network). SplitsUndecided network path (outcome_of look)) c.requires.network c.tied_look-look.ensures.undecided)
