@@ -1,26 +1,24 @@
 //! The book of a search on the two streams that share link 4.
-ghost use Rattle.std.specs.Prelude.{◌≡◌, ◌<◌, IfOk, IfSome, option_copied};
-ghost use Rattle.tsn_timing.specs.Solution.{IsSolved};
+ghost use Rattle.std.specs.Prelude.{◌≡◌, ◌<◌};
 ghost use Rattle.tsn_branch.specs.Outcome.{outcome_of};
 ghost use Rattle.tsn_branch.specs.Look.{HasProof};
 
-use crate::networks::two_streams;
-use crate::nodes::{event_on, expect_text, first_two, give_up, on_side, schedule};
-use std::alloc::Global;
+use crate::networks::{TWO, timing_of};
+use crate::nodes::{event_of, node_at};
+use crate::rows::{cut, expect_text};
 use std::process::Abort;
-use std::test::Fail;
+use std::test::*;
 use tsn_book::{Book, BookFault, Event};
-use tsn_branch::outcome::Look;
-use tsn_branch::{NoMemory, Node, Side};
+use tsn_branch::Node;
 use tsn_cert::{Cert, cert_to_json};
-use tsn_timing::{Solved, Timing};
+use tsn_timing::Timing;
 
 /// A book with one teller.
-fn book_of(alloc: Global, limit: usize) -> Result<Book, Fail>
-    ensures { IfOk result (λ book. book.tellers ≡ 1) }
+fn book_of<R: Abort + AllocGlobal>(rt: &R, timing: &Timing, limit: usize) -> Book
+    ensures tellers { result.tellers ≡ 1 }
+    ensures network { result.network ≡ timing.now }
 {
-    let timing = two_streams(alloc)?;
-    Ok(Book::new(alloc, &timing, 1, limit)?)
+    Book::new(rt.alloc(), timing, 1, limit).expect(rt, "memory")
 }
 
 /// The answer without the event.
@@ -42,155 +40,78 @@ fn settled(book: &mut Book, event: Event) -> Result<(), BookFault>
     fault_of(&answer)
 }
 
-fn expect_answer(rt: &impl Abort, found: Result<(), BookFault>, wanted: Result<(), BookFault>) {
-    assert_eq!(rt; found, wanted);
+fn answer_text<R: Abort + AllocGlobal>(rt: &R, answer: Result<(), BookFault>) -> String {
+    format!(in rt.alloc(); "{answer:?}").expect(rt, "memory")
 }
 
-/// Settles a node as split on a link, with that answer.
-fn split(rt: &impl Abort, book: &mut Book, node: Node, link: usize, answer: Result<(), BookFault>)
-    requires { 0 < book.old.tellers }
-    ensures tellers { book.new.tellers ≡ book.old.tellers }
-    ensures network { book.new.network ≡ book.old.network }
-{
-    let look = Look::Split(first_two(link));
-    expect_answer(rt, settled(book, Event { node, look }), answer);
-}
-
-/// Settles the root as split on a link, with that answer.
-fn split_root<R: Abort + AllocGlobal>(
-    rt: &R,
-    book: &mut Book,
-    link: usize,
-    answer: Result<(), BookFault>,
-)
-    requires { 0 < book.old.tellers }
-    ensures tellers { book.new.tellers ≡ book.old.tellers }
-    ensures network { book.new.network ≡ book.old.network }
-{
-    split(rt, book, Node::root(rt.alloc()), link, answer);
-}
-
-/// Settles the Left node as split on link 4, with that answer.
-fn split_left<R: Abort + AllocGlobal>(rt: &R, book: &mut Book, answer: Result<(), BookFault>)
-    requires { 0 < book.old.tellers }
-    ensures tellers { book.new.tellers ≡ book.old.tellers }
-{
-    match on_side(rt, rt.alloc(), Side::Left) {
-        Ok(left) => split(rt, book, left, 4, answer),
-        Err(_) => give_up(rt),
-    }
-}
-
-/// Settles a node below the root as a look finds it, with a best schedule or none, with that answer.
-fn find<R: Abort + AllocGlobal>(
-    rt: &R,
-    book: &mut Book,
-    timing: &Timing,
-    side: Side,
-    target: u64,
-    best: Option<&Solved>,
-    answer: Result<(), BookFault>,
-)
+/// Settles the event of a row, with that answer.
+fn expect_settled<R: Abort + AllocGlobal>(rt: &R, book: &mut Book, timing: &Timing, row: &str)
     requires teller { 0 < book.old.tellers }
     requires network { book.old.network ≡ timing.now }
-    requires best { IfSome (option_copied best) (IsSolved timing.now) }
     ensures tellers { book.new.tellers ≡ book.old.tellers }
     ensures network { book.new.network ≡ book.old.network }
 {
-    match event_on(rt, timing, side, target, best) {
-        Ok(event) => expect_answer(rt, settled(book, event), answer),
-        Err(_) => give_up(rt),
+    let (asked, wanted) = cut(rt, row, " = ");
+    let answer = settled(book, event_of(rt, timing, asked));
+    expect_text(rt, answer_text(rt, answer).as_str(), wanted, asked);
+}
+
+/// Settles the events of all rows.
+fn expect_all_settled<R: Abort + AllocGlobal>(rt: &R, book: &mut Book, timing: &Timing, rows: &str)
+    requires teller { 0 < book.old.tellers }
+    requires network { book.old.network ≡ timing.now }
+    ensures { book.new.tellers ≡ book.old.tellers }
+{
+    for row in rows.lines() {
+        expect_settled(rt, book, timing, row);
     }
+}
+
+/// A book of at most so many events, behind those of these rows.
+fn searched<R: Abort + AllocGlobal>(rt: &R, limit: usize, rows: &str) -> Book
+    ensures { result.tellers ≡ 1 }
+{
+    let timing = timing_of(rt, TWO, "1000000");
+    let mut book = book_of(rt, &timing, limit);
+    expect_all_settled(rt, &mut book, &timing, rows);
+    book
 }
 
 fn expect_counts(rt: &impl Abort, book: &Book, count: usize, open: usize) {
-    assert_eq!(rt; book.count(), count);
-    assert_eq!(rt; book.open_count(), open);
+    assert_eq!(rt; (book.count(), book.open_count()), (count, open));
 }
+
+const REFUSALS: &str = "\
+Left 4: split 4 = Err(NotOpen(None))
+root: split 2 = Err(NotConflict)
+root: split 4 = Ok(())
+root: split 4 = Err(NotOpen(Some(0)))
+Left 4: split 4 = Err(AlreadyDecided)";
 
 #[test]
-fn refusals_are_told(rt: HostRuntime) -> Result<(), Fail> {
-    let mut book = book_of(rt.alloc(), 10)?;
-    split_left(&rt, &mut book, Err(BookFault::NotOpen(None)));
-    split_root(&rt, &mut book, 2, Err(BookFault::NotConflict));
-    split_root(&rt, &mut book, 4, Ok(()));
-    split_root(&rt, &mut book, 4, Err(BookFault::NotOpen(Some(0))));
-    split_left(&rt, &mut book, Err(BookFault::AlreadyDecided));
-    expect_counts(&rt, &book, 1, 2);
-    Ok(())
+fn refusals_are_told(rt: HostRuntime) {
+    expect_counts(&rt, &searched(&rt, 10, REFUSALS), 1, 2);
 }
+
+const PAST_THE_LIMIT: &str = "\
+root: split 4 = Ok(())
+Left 4: split 4 = Err(Limit(1))";
 
 #[test]
-fn the_limit_is_kept(rt: HostRuntime) -> Result<(), Fail> {
-    let mut book = book_of(rt.alloc(), 1)?;
-    split_root(&rt, &mut book, 4, Ok(()));
-    split_left(&rt, &mut book, Err(BookFault::Limit(1)));
-    Ok(())
+fn the_limit_is_kept(rt: HostRuntime) {
+    searched(&rt, 1, PAST_THE_LIMIT);
 }
 
-/// Settles a whole search, where one leaf is refused before.
-fn search<R: Abort + AllocGlobal>(rt: &R, book: &mut Book, timing: &Timing, best: &Solved)
-    requires teller { 0 < book.old.tellers }
-    requires network { book.old.network ≡ timing.now }
-    requires best { IsSolved timing.now best.now }
-    ensures { book.new.tellers ≡ book.old.tellers }
-{
-    split_root(rt, book, 4, Ok(()));
-    let unmet = Err(BookFault::NotMet(1_000_001));
-    find(rt, book, timing, Side::Left, 2_924, None, unmet);
-    find(rt, book, timing, Side::Left, 1_000_001, None, Ok(()));
-    find(rt, book, timing, Side::Right, 2_925, Some(best), Ok(()));
-}
-
-/// Settles a whole search, whose right side is solved first. The left side isn't worse than what is kept then, so no tie may
-/// be settled there.
-fn search_from_the_right<R: Abort + AllocGlobal>(
-    rt: &R,
-    book: &mut Book,
-    timing: &Timing,
-    best: &Solved,
-)
-    requires teller { 0 < book.old.tellers }
-    requires network { book.old.network ≡ timing.now }
-    requires best { IsSolved timing.now best.now }
-    ensures { book.new.tellers ≡ book.old.tellers }
-{
-    split_root(rt, book, 4, Ok(()));
-    find(rt, book, timing, Side::Right, 1_000_001, None, Ok(()));
-    let unmet = Err(BookFault::NotMet(2_924));
-    find(rt, book, timing, Side::Left, 2_925, Some(best), unmet);
-    find(rt, book, timing, Side::Left, 2_925, None, Ok(()));
-}
-
-/// The book of a whole search.
-fn searched<R: Abort + AllocGlobal>(rt: &R, from_right: bool) -> Result<Book, Fail>
-    ensures { IfOk result (λ book. book.tellers ≡ 1) }
-{
-    let timing = two_streams(rt.alloc())?;
-    let best = schedule(rt, &timing, &[0, 672])?;
-    let mut book = Book::new(rt.alloc(), &timing, 1, 10)?;
-    if from_right {
-        search_from_the_right(rt, &mut book, &timing, &best);
-    } else {
-        search(rt, &mut book, &timing, &best);
-    }
-    Ok(book)
-}
-
-/// The text of the certificate.
-fn certificate<R: Abort + AllocGlobal>(rt: &R, book: Book) -> Result<String, NoMemory> {
-    match book.first_open(rt.alloc()) {
-        Ok(None) => text_of(rt.alloc(), book.into_cert()),
-        Ok(Some(_)) => panic!(rt; "a node is open"),
-        Err(error) => Err(error),
+/// The certificate of a finished search.
+fn cert_of<R: Abort + AllocGlobal>(rt: &R, book: Book) -> Cert {
+    match book.first_open(rt.alloc()).expect(rt, "memory") {
+        Some(_) => panic!(rt; "a node is open"),
+        None => book.into_cert().expect(rt, "memory"),
     }
 }
 
-fn text_of(alloc: Global, made: Result<Cert, NoMemory>) -> Result<String, NoMemory> {
-    match made {
-        Ok(cert) => cert_to_json(alloc, &cert),
-        Err(error) => Err(error),
-    }
+fn cert_text<R: Abort + AllocGlobal>(rt: &R, cert: &Cert) -> String {
+    cert_to_json(rt.alloc(), cert).expect(rt, "memory")
 }
 
 fn expect_tally(rt: &impl Abort, book: &Book)
@@ -217,31 +138,39 @@ fn expect_certified<R: Abort + AllocGlobal>(rt: &R, book: Book)
     expect_counts(rt, &book, 3, 0);
     expect_tally(rt, &book);
     expect_kept(rt, &book);
-    match certificate(rt, book) {
-        Ok(text) => expect_text(rt, text.as_str(), CERTIFICATE),
-        Err(_) => give_up(rt),
-    }
+    let text = cert_text(rt, &cert_of(rt, book));
+    expect_text(rt, text.as_str(), CERTIFICATE, "the certificate");
 }
+
+/// A whole search, where one leaf is refused before.
+const FROM_THE_LEFT: &str = "\
+root: split 4 = Ok(())
+Left 4: 2924 = Err(NotMet(1000001))
+Left 4: 1000001 = Ok(())
+Right 4: 2925 beside 0 672 = Ok(())";
+
+/// A whole search, whose right side is solved first. The left side isn't worse than what is kept then, so no tie may be settled
+/// there.
+const FROM_THE_RIGHT: &str = "\
+root: split 4 = Ok(())
+Right 4: 1000001 = Ok(())
+Left 4: 2925 beside 0 672 = Err(NotMet(2924))
+Left 4: 2925 = Ok(())";
 
 #[test]
-fn whole_searches_are_certified(rt: HostRuntime) -> Result<(), Fail> {
-    expect_certified(&rt, searched(&rt, false)?);
-    expect_certified(&rt, searched(&rt, true)?);
-    Ok(())
+fn whole_searches_are_certified(rt: HostRuntime) {
+    expect_certified(&rt, searched(&rt, 10, FROM_THE_LEFT));
+    expect_certified(&rt, searched(&rt, 10, FROM_THE_RIGHT));
 }
 
-fn expect_left<R: Abort + AllocGlobal>(rt: &R, node: &Node) {
-    match on_side(rt, rt.alloc(), Side::Left) {
-        Ok(left) => assert!(rt; node.path() == left.path()),
-        Err(_) => give_up(rt),
-    }
+fn first_open<R: Abort + AllocGlobal>(rt: &R, book: &Book) -> Option<Node> {
+    book.first_open(rt.alloc()).expect(rt, "memory")
 }
 
-fn expect_left_first<R: Abort + AllocGlobal>(rt: &R, book: &Book) {
-    match book.first_open(rt.alloc()) {
-        Ok(Some(first)) => expect_left(rt, &first),
-        Ok(None) => panic!(rt; "nothing is open"),
-        Err(_) => give_up(rt),
+fn expect_left<R: Abort + AllocGlobal>(rt: &R, first: Option<Node>) {
+    match first {
+        Some(node) => assert!(rt; node.path() == node_at(rt, "Left 4").path()),
+        None => panic!(rt; "nothing is open"),
     }
 }
 
@@ -251,10 +180,8 @@ fn expect_nothing_kept(rt: &impl Abort, book: &Book) {
 }
 
 #[test]
-fn the_first_open_node_is_on_the_left(rt: HostRuntime) -> Result<(), Fail> {
-    let mut book = book_of(rt.alloc(), 10)?;
-    split_root(&rt, &mut book, 4, Ok(()));
-    expect_left_first(&rt, &book);
+fn the_first_open_node_is_on_the_left(rt: HostRuntime) {
+    let book = searched(&rt, 10, "root: split 4 = Ok(())");
+    expect_left(&rt, first_open(&rt, &book));
     expect_nothing_kept(&rt, &book);
-    Ok(())
 }

@@ -3,6 +3,8 @@
 #![tactic(auto)]
 
 #[cfg(test)]
+mod answers;
+#[cfg(test)]
 mod book;
 #[cfg(test)]
 mod branch;
@@ -12,6 +14,8 @@ mod networks;
 mod nodes;
 #[cfg(test)]
 mod planner;
+#[cfg(test)]
+mod rows;
 #[cfg(test)]
 mod shared_links;
 #[cfg(test)]

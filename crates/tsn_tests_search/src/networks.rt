@@ -1,77 +1,84 @@
-//! The networks of these tests.
+//! The networks of these tests, but for their cycle.
 
-use std::alloc::Global;
-use std::test::Fail;
+use std::process::Abort;
 use tsn_net::{Problem, read_problem};
 use tsn_timing::Timing;
 
-/// Stations A, B and C, and a bridge.
-const NODES: &str = "node = [
+/// Nodes and cables, and streams.
+pub type Network = (&'static str, &'static str);
+
+/// The problem of a network with that cycle, in nanoseconds.
+pub fn problem_of<R: Abort + AllocGlobal>(rt: &R, network: Network, cycle: &str) -> Problem {
+    let text = file_of(rt, network, cycle);
+    match read_problem(rt.alloc(), text.as_bytes()) {
+        Ok(problem) => problem,
+        Err(_) => panic!(rt; "the network is refused"),
+    }
+}
+
+fn file_of<R: Abort + AllocGlobal>(rt: &R, network: Network, cycle: &str) -> String {
+    let (cables, streams) = network;
+    format!(in rt.alloc(); "cycle = {cycle}\n{cables}{streams}").expect(rt, "memory")
+}
+
+pub fn timing_of<R: Abort + AllocGlobal>(rt: &R, network: Network, cycle: &str) -> Timing {
+    let problem = problem_of(rt, network, cycle);
+    Timing::of(rt.alloc(), &problem).expect(rt, "memory")
+}
+
+/// Stations A, B and C, and a bridge with a cable to each.
+const STAR: &str = "node = [
     {name = 'A', kind = 'station'},
     {name = 'B', kind = 'station'},
     {name = 'C', kind = 'station'},
     {name = 'S', kind = 'bridge', proc = 1000},
 ]
-";
-
-/// The cables from A and B to the bridge, and the one from there to C.
-pub const FAST: &str = "link = [
+link = [
     {a = 'A', b = 'S', mbps = 1000, prop = 50},
     {a = 'B', b = 'S', mbps = 1000, prop = 50},
     {a = 'S', b = 'C', mbps = 1000, prop = 50},
 ]
 ";
 
-/// The timing of a network round one bridge.
-pub fn star(alloc: Global, cycle: u64, cables: &str, streams: &str) -> Result<Timing, Fail> {
-    let text = star_text(alloc, cycle, cables, streams)?;
-    timing_of(alloc, text.as_str())
-}
+/// One stream.
+pub const ONE: Network = (
+    STAR,
+    "stream = [{name = 'one', octets = 64, route = ['A', 'S', 'C']}]
+",
+);
 
-/// The file of a network round one bridge.
-pub fn star_text(alloc: Global, cycle: u64, cables: &str, streams: &str) -> Result<String, Fail> {
-    let mut text = format!(in alloc; "cycle = {cycle}\n")?;
-    text.push_str(NODES)?;
-    text.push_str(cables)?;
-    text.push_str(streams)?;
-    Ok(text)
-}
-
-pub fn timing_of(alloc: Global, text: &str) -> Result<Timing, Fail> {
-    let problem = problem_of(alloc, text)?;
-    Ok(Timing::of(alloc, &problem)?)
-}
-
-pub fn problem_of(alloc: Global, text: &str) -> Result<Problem, Fail> {
-    match read_problem(alloc, text.as_bytes()) {
-        Ok(problem) => Ok(problem),
-        Err(_) => Err(Fail::from("the network is refused")),
-    }
-}
-
-/// Two streams that share link 4, where the cycle has a million nanoseconds.
-pub fn two_streams(alloc: Global) -> Result<Timing, Fail> {
-    star(alloc, 1_000_000, FAST, TWO)
-}
-
-pub const ONE: &str = "stream = [{name = 'one', octets = 64, route = ['A', 'S', 'C']}]
-";
-
-pub const TWO: &str = "stream = [
+/// Two streams that share link 4.
+pub const TWO: Network = (
+    STAR,
+    "stream = [
     {name = 'one', octets = 64, route = ['A', 'S', 'C']},
     {name = 'two', octets = 64, route = ['B', 'S', 'C']},
 ]
-";
+",
+);
 
-pub const LONG: &str = "stream = [
+/// The same, where the second is of 1522 octets.
+pub const LONG: Network = (
+    STAR,
+    "stream = [
     {name = 'one', octets = 64, route = ['A', 'S', 'C']},
     {name = 'two', octets = 1522, route = ['B', 'S', 'C']},
 ]
-";
+",
+);
+
+/// Two streams that share no link.
+pub const THERE_AND_BACK: Network = (
+    STAR,
+    "stream = [
+    {name = 'one', octets = 64, route = ['A', 'S', 'C']},
+    {name = 'two', octets = 64, route = ['C', 'S', 'A']},
+]
+",
+);
 
 /// Stations A, B and C, bridges S, T, V and U without processing time; the cable from T to V is long.
-pub const LOOP: &str = "cycle = 1000000
-node = [
+const LOOP_CABLES: &str = "node = [
     {name = 'A', kind = 'station'},
     {name = 'B', kind = 'station'},
     {name = 'C', kind = 'station'},
@@ -89,15 +96,20 @@ link = [
     {a = 'T', b = 'U', mbps = 1000, prop = 0},
     {a = 'U', b = 'C', mbps = 1000, prop = 0},
 ]
-stream = [
+";
+
+/// Two streams that share links that lie apart.
+pub const LOOP: Network = (
+    LOOP_CABLES,
+    "stream = [
     {name = 'one', octets = 64, route = ['A', 'S', 'T', 'V', 'U', 'C']},
     {name = 'two', octets = 64, route = ['B', 'S', 'T', 'U', 'C']},
 ]
-";
+",
+);
 
-/// Stations A, B and C, and bridges S and T in a line, without delays but those of the frames. Two streams share the links
-/// from S to T and from there to C.
-pub const LINE: &str = "node = [
+/// Stations A, B and C, and bridges S and T in a line, without delays but those of the frames.
+const LINE_CABLES: &str = "node = [
     {name = 'A', kind = 'station'},
     {name = 'B', kind = 'station'},
     {name = 'C', kind = 'station'},
@@ -110,15 +122,20 @@ link = [
     {a = 'S', b = 'T', mbps = 1000, prop = 0},
     {a = 'T', b = 'C', mbps = 1000, prop = 0},
 ]
-stream = [
+";
+
+/// Two streams that share the links from S to T and from there to C.
+pub const LINE: Network = (
+    LINE_CABLES,
+    "stream = [
     {name = 'one', octets = 64, route = ['A', 'S', 'T', 'C']},
     {name = 'two', octets = 64, route = ['B', 'S', 'T', 'C']},
 ]
-";
+",
+);
 
-/// Ten streams of 64 octets, each from a station of its own over one bridge to the same station.
-pub const TEN: &str = "cycle = 1000000
-node = [
+/// Ten stations and C round a bridge.
+const TEN_CABLES: &str = "node = [
     {name = 'A0', kind = 'station'},
     {name = 'A1', kind = 'station'},
     {name = 'A2', kind = 'station'},
@@ -145,7 +162,12 @@ link = [
     {a = 'A9', b = 'S', mbps = 1000, prop = 50},
     {a = 'S', b = 'C', mbps = 1000, prop = 50},
 ]
-stream = [
+";
+
+/// Ten streams of 64 octets, each from a station of its own over one bridge to the same station.
+pub const TEN: Network = (
+    TEN_CABLES,
+    "stream = [
     {name = 's0', octets = 64, route = ['A0', 'S', 'C']},
     {name = 's1', octets = 64, route = ['A1', 'S', 'C']},
     {name = 's2', octets = 64, route = ['A2', 'S', 'C']},
@@ -157,4 +179,5 @@ stream = [
     {name = 's8', octets = 64, route = ['A8', 'S', 'C']},
     {name = 's9', octets = 64, route = ['A9', 'S', 'C']},
 ]
-";
+",
+);

@@ -1,16 +1,12 @@
 //! The planner and the gate that it passes.
-ghost use Rattle.std.specs.Prelude.{◌≤◌};
-
-use crate::networks::{FAST, TWO, problem_of, star_text};
-use crate::nodes::{expect_text, give_up};
-use std::alloc::Global;
+use crate::networks::{TWO, problem_of};
+use crate::rows::{cut, expect_text, place};
 use std::process::Abort;
 use std::sync::Wait;
 use std::sync::atomic::{AtomicU64, Ordering};
-use std::test::Fail;
+use std::test::*;
 use std::thread::Threads;
 use tsn_cert::Plan;
-use tsn_conflict::NoMemory;
 use tsn_net::Problem;
 use tsn_worker::{Answer, Gate, plan};
 
@@ -28,83 +24,83 @@ impl Gate for CountingGate {
     }
 }
 
-/// Plans by at most so many settlements, and tells the answer.
-fn planned<R: AllocGlobal + Threads + Wait + Sync>(
+/// Plans by at most so many settlements.
+fn planned<R: AllocGlobal + Abort + Threads + Wait + Sync>(
     rt: &R,
     problem: &Problem,
     limit: usize,
     gate: &CountingGate,
-) -> Result<String, NoMemory>
-    requires some { 1 ≤ limit }
-    requires few { limit ≤ 1_000_000_000 }
-{
-    match plan(rt, rt.alloc(), problem, 1, limit, gate) {
-        Ok(answer) => told(rt.alloc(), &answer),
-        Err(error) => Err(error),
-    }
+) -> Answer {
+    assert!(rt; 1 <= limit && limit <= 1_000_000_000);
+    plan(rt, rt.alloc(), problem, 1, limit, gate).expect(rt, "memory")
 }
 
-fn told(alloc: Global, answer: &Answer) -> Result<String, NoMemory> {
-    match answer {
-        Answer::Optimal(plan, _, settled) => told_plan(alloc, plan, *settled),
-        Answer::NoSchedule(_, _) => told_nothing(alloc),
-        Answer::Stopped(book) => told_stopped(alloc, book.count()),
-    }
-}
-
-fn told_plan(alloc: Global, plan: &Plan, settled: usize) -> Result<String, NoMemory> {
+fn flowspan_of(rt: &impl Abort, plan: &Plan) -> u64 {
     match plan {
-        Plan::Schedule { flowspan, .. } => told_optimal(alloc, *flowspan, settled),
-        Plan::None => told_nothing(alloc),
+        Plan::Schedule { flowspan, .. } => *flowspan,
+        Plan::None => panic!(rt; "no schedule"),
     }
 }
 
-fn told_optimal(alloc: Global, flowspan: u64, settled: usize) -> Result<String, NoMemory> {
-    Ok(format!(in alloc; "optimal {flowspan} settled {settled}")?)
+fn answer_text<R: Abort + AllocGlobal>(rt: &R, answer: &Answer, passes: u64) -> String {
+    match answer {
+        Answer::Optimal(plan, _, settled) => {
+            optimal_text(rt, flowspan_of(rt, plan), *settled, passes)
+        }
+        Answer::NoSchedule(_, _) => panic!(rt; "no schedule"),
+        Answer::Stopped(book) => stopped_text(rt, book.count(), passes),
+    }
 }
 
-fn told_nothing(alloc: Global) -> Result<String, NoMemory> {
-    Ok(format!(in alloc; "no schedule")?)
+fn optimal_text<R: Abort + AllocGlobal>(
+    rt: &R,
+    flowspan: u64,
+    settled: usize,
+    passes: u64,
+) -> String {
+    format!(in rt.alloc(); "optimal {flowspan} settled {settled} passed {passes}").expect(
+        rt, "memory",
+    )
 }
 
-fn told_stopped(alloc: Global, settled: usize) -> Result<String, NoMemory> {
-    Ok(format!(in alloc; "stopped settled {settled}")?)
+fn stopped_text<R: Abort + AllocGlobal>(rt: &R, settled: usize, passes: u64) -> String {
+    format!(in rt.alloc(); "stopped settled {settled} passed {passes}").expect(rt, "memory")
 }
 
-/// The two streams that share a link.
-fn two_streams(alloc: Global) -> Result<Problem, Fail> {
-    let text = star_text(alloc, 1_000_000, FAST, TWO)?;
-    problem_of(alloc, text.as_str())
-}
-
-/// Plans by at most so many settlements, which is to end so, the gate passed that often.
-fn expect_plan<R: AllocGlobal + Abort + Threads + Wait + Sync>(
+fn told_plan<R: AllocGlobal + Abort + Threads + Wait + Sync>(
     rt: &R,
     problem: &Problem,
     limit: usize,
-    answer: &str,
-    passes: u64,
-)
-    requires some { 1 ≤ limit }
-    requires few { limit ≤ 1_000_000_000 }
-{
+) -> String {
     let gate = CountingGate {
         passes: AtomicU64::new(0),
     };
-    match planned(rt, problem, limit, &gate) {
-        Ok(text) => expect_text(rt, text.as_str(), answer),
-        Err(_) => give_up(rt),
-    }
-    assert_eq!(rt; gate.passes.load(Ordering::SeqCst), passes);
+    let answer = planned(rt, problem, limit, &gate);
+    answer_text(rt, &answer, gate.passes.load(Ordering::SeqCst))
+}
+
+/// Plans by at most as many settlements as the row says, which is to end so.
+fn expect_plan<R: AllocGlobal + Abort + Threads + Wait + Sync>(
+    rt: &R,
+    problem: &Problem,
+    row: &str,
+) {
+    let (limit, wanted) = cut(rt, row, " = ");
+    let found = told_plan(rt, problem, place(rt, limit));
+    expect_text(rt, found.as_str(), wanted, limit);
 }
 
 /// The root and its two sides are settled, as far as the limit goes, each behind one pass of the gate.
+const PLANS: &str = "\
+1 = stopped settled 1 passed 1
+2 = stopped settled 2 passed 2
+3 = optimal 2924 settled 3 passed 3
+1000000 = optimal 2924 settled 3 passed 3";
+
 #[test]
-fn passes_the_gate_once_a_settlement(rt: HostRuntime) -> Result<(), Fail> {
-    let problem = two_streams(rt.alloc())?;
-    expect_plan(&rt, &problem, 1, "stopped settled 1", 1);
-    expect_plan(&rt, &problem, 2, "stopped settled 2", 2);
-    expect_plan(&rt, &problem, 3, "optimal 2924 settled 3", 3);
-    expect_plan(&rt, &problem, 1_000_000, "optimal 2924 settled 3", 3);
-    Ok(())
+fn passes_the_gate_once_a_settlement(rt: HostRuntime) {
+    let problem = problem_of(&rt, TWO, "1000000");
+    for row in PLANS.lines() {
+        expect_plan(&rt, &problem, row);
+    }
 }

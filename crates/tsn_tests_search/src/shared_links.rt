@@ -1,180 +1,145 @@
-//! The links that streams share, and the arcs of going first on them.
+//! The links that streams share, and the arcs of going first on them, in words.
 
-use crate::networks::{FAST, LONG, LOOP, TEN, star, timing_of, two_streams};
-use crate::nodes::{first_two, give_up};
-use std::alloc::Global;
+use crate::answers::expect_rows;
+use crate::networks::{LONG, LOOP, TEN, THERE_AND_BACK, TWO};
+use crate::nodes::{first_two, side_of};
+use crate::rows::{cut, numbers, place};
 use std::process::Abort;
-use std::test::Fail;
+use std::test::*;
 use tsn_conflict::sharing::Conflicts;
-use tsn_conflict::{Arc, NoMemory, Side, Triple, conflicts};
+use tsn_conflict::{Arc, Side, Triple, conflicts};
 use tsn_timing::Timing;
 
-const THERE_AND_BACK: &str = "stream = [
-    {name = 'one', octets = 64, route = ['A', 'S', 'C']},
-    {name = 'two', octets = 64, route = ['C', 'S', 'A']},
-]
-";
+fn conflicts_of<R: Abort + AllocGlobal>(rt: &R, timing: &Timing) -> Conflicts {
+    conflicts(rt.alloc(), timing).expect(rt, "memory")
+}
 
-/// The shared links are to be these.
-fn expect_triples<R: Abort + AllocGlobal>(rt: &R, timing: &Timing, wanted: &[Triple]) {
-    match conflicts(rt.alloc(), timing) {
-        Ok(found) => assert_eq!(rt; found.triples(), wanted),
-        Err(_) => give_up(rt),
+fn push_triple<R: Abort + AllocGlobal>(rt: &R, text: &mut String, triple: Triple) {
+    let Triple { left, right, link } = triple;
+    let more = format!(in rt.alloc(); "({left} {right} {link})").expect(rt, "memory");
+    text.push_str(more.as_str()).expect(rt, "memory");
+}
+
+fn triples_text<R: Abort + AllocGlobal>(rt: &R, triples: &[Triple]) -> String {
+    let mut text = String::new(rt.alloc());
+    for triple in triples.iter() {
+        push_triple(rt, &mut text, *triple);
     }
+    text
 }
 
-#[test]
-fn lists_triples(rt: HostRuntime) -> Result<(), Fail> {
-    let two = two_streams(rt.alloc())?;
-    expect_triples(&rt, &two, &[first_two(4)]);
-    Ok(())
+/// All streams that share a link.
+pub fn told_triples<R: Abort + AllocGlobal>(rt: &R, timing: &Timing) -> String {
+    let found = conflicts_of(rt, timing);
+    triples_text(rt, found.triples())
 }
 
-#[test]
-fn lists_no_triples(rt: HostRuntime) -> Result<(), Fail> {
-    let none = star(rt.alloc(), 1_000_000, FAST, THERE_AND_BACK)?;
-    expect_triples(&rt, &none, &[]);
-    Ok(())
-}
-
-#[test]
-fn lists_links_that_lie_apart(rt: HostRuntime) -> Result<(), Fail> {
-    let apart_between = timing_of(rt.alloc(), LOOP)?;
-    expect_triples(&rt, &apart_between, &[first_two(4), first_two(12)]);
-    Ok(())
-}
-
-/// Each pair of ten streams, on the link from the bridge.
-fn pairs_of_ten(alloc: Global) -> Result<Vec<Triple>, Fail> {
-    let mut pairs = Vec::new(alloc);
-    for left in 0..10usize {
-        for right in left + 1..10 {
-            pairs.push(Triple {
-                left,
-                right,
-                link: 20,
-            })?;
-        }
-    }
-    Ok(pairs)
-}
-
-#[test]
-fn lists_each_pair_of_ten(rt: HostRuntime) -> Result<(), Fail> {
-    let pairs = pairs_of_ten(rt.alloc())?;
-    assert_eq!(rt; pairs.len(), 45);
-    expect_triples(&rt, &timing_of(rt.alloc(), TEN)?, pairs.as_slice());
-    Ok(())
-}
-
-/// The arc of going first on a link is to weigh so much.
-fn expect_arc(rt: &impl Abort, found: &Conflicts, link: usize, side: Side, weight: i64) {
+fn arc_of(rt: &impl Abort, found: &Conflicts, link: usize, side: Side) -> Arc {
     let on = first_two(link);
     assert!(rt; found.has(on));
-    expect_same_arc(rt, found.arc(on, side), arc_to(side, weight));
+    found.arc(on, side)
 }
 
-/// The arc from the stream that goes first to the other one.
-fn arc_to(side: Side, weight: i64) -> Arc {
-    match side {
-        Side::Left => Arc {
-            from: 0,
-            to: 1,
-            weight,
-        },
-        Side::Right => Arc {
-            from: 1,
-            to: 0,
-            weight,
-        },
-    }
+fn arc_text<R: Abort + AllocGlobal>(rt: &R, arc: Arc) -> String {
+    let Arc { from, to, weight } = arc;
+    format!(in rt.alloc(); "from {from} to {to} weighs {weight}").expect(rt, "memory")
 }
 
-fn expect_same_arc(rt: &impl Abort, found: Arc, wanted: Arc) {
-    assert_eq!(rt; found, wanted);
-}
-
-#[test]
-fn weighs_arcs(rt: HostRuntime) -> Result<(), Fail> {
-    let long = conflicts(rt.alloc(), &star(rt.alloc(), 1_000_000, FAST, LONG)?)?;
-    expect_arc(&rt, &long, 4, Side::Left, -10_992);
-    expect_arc(&rt, &long, 4, Side::Right, 24_000);
-    Ok(())
-}
-
-#[test]
-fn weighs_arcs_of_links_that_lie_apart(rt: HostRuntime) -> Result<(), Fail> {
-    let apart_between = conflicts(rt.alloc(), &timing_of(rt.alloc(), LOOP)?)?;
-    expect_arc(&rt, &apart_between, 4, Side::Left, 672);
-    expect_arc(&rt, &apart_between, 12, Side::Right, -672);
-    Ok(())
-}
-
-/// The first overlap of these offsets is to be this.
-fn expect_first<R: Abort + AllocGlobal>(
-    rt: &R,
-    timing: &Timing,
-    offsets: &[u64],
-    wanted: Option<Triple>,
-) {
-    match first_overlap(rt, timing, offsets) {
-        Ok(found) => assert_eq!(rt; found, wanted),
-        Err(_) => give_up(rt),
-    }
+/// The arc of going first of the first two streams, as `Left 4`.
+pub fn told_arc<R: Abort + AllocGlobal>(rt: &R, timing: &Timing, asked: &str) -> String {
+    let (side, link) = cut(rt, asked, " ");
+    let found = conflicts_of(rt, timing);
+    arc_text(rt, arc_of(rt, &found, place(rt, link), side_of(rt, side)))
 }
 
 fn first_overlap<R: Abort + AllocGlobal>(
     rt: &R,
     timing: &Timing,
     offsets: &[u64],
-) -> Result<Option<Triple>, NoMemory> {
-    let found = conflicts(rt.alloc(), timing)?;
+) -> Option<Triple> {
+    let found = conflicts(rt.alloc(), timing).expect(rt, "memory");
     assert!(rt; offsets.len() == timing.streams());
     assert!(rt; offsets.iter().all(|&offset| offset <= 1_000_000_000));
-    Ok(found.first_violated(offsets))
+    found.first_violated(offsets)
+}
+
+/// The first overlap of these offsets.
+pub fn told_overlap<R: Abort + AllocGlobal>(rt: &R, timing: &Timing, offsets: &str) -> String {
+    let offsets = numbers(rt, offsets);
+    let found = first_overlap(rt, timing, offsets.as_slice());
+    triples_text(rt, found.as_slice())
 }
 
 #[test]
-fn finds_the_first_overlap(rt: HostRuntime) -> Result<(), Fail> {
-    let two = two_streams(rt.alloc())?;
-    expect_first(&rt, &two, &[0, 672], None);
-    expect_first(&rt, &two, &[0, 671], Some(first_two(4)));
-    expect_first(&rt, &two, &[1_000_000_000, 0], None);
-    Ok(())
+fn lists_triples(rt: HostRuntime) {
+    expect_rows(&rt, TWO, "1000000, shared links = (0 1 4)");
 }
 
 #[test]
-fn finds_the_first_overlap_of_links_that_lie_apart(rt: HostRuntime) -> Result<(), Fail> {
-    let apart_between = timing_of(rt.alloc(), LOOP)?;
-    expect_first(&rt, &apart_between, &[0, 672], None);
-    expect_first(&rt, &apart_between, &[0, 671], Some(first_two(4)));
-    expect_first(&rt, &apart_between, &[0, 673], Some(first_two(12)));
-    expect_first(&rt, &apart_between, &[0, 2015], Some(first_two(12)));
-    expect_first(&rt, &apart_between, &[0, 2016], None);
-    Ok(())
+fn lists_no_triples(rt: HostRuntime) {
+    expect_rows(&rt, THERE_AND_BACK, "1000000, shared links = ");
 }
 
 #[test]
-fn finds_the_first_overlap_of_ten(rt: HostRuntime) -> Result<(), Fail> {
-    let ten = timing_of(rt.alloc(), TEN)?;
-    let apart = [
-        0, 672, 1_344, 2_016, 2_688, 3_360, 4_032, 4_704, 5_376, 6_048,
-    ];
-    expect_first(&rt, &ten, &apart, None);
-    let last_two = [
-        0, 672, 1_344, 2_016, 2_688, 3_360, 4_032, 4_704, 5_376, 5_376,
-    ];
-    let eight = Triple {
-        left: 8,
-        right: 9,
-        link: 20,
-    };
-    expect_first(&rt, &ten, &last_two, Some(eight));
-    let none = Triple {
-        left: 0,
-        right: 1,
-        link: 20,
-    };
-    expect_first(&rt, &ten, &[0; 10], Some(none));
-    Ok(())
+fn lists_links_that_lie_apart(rt: HostRuntime) {
+    expect_rows(&rt, LOOP, "1000000, shared links = (0 1 4)(0 1 12)");
 }
+
+/// Each pair of ten streams, 45 in all, on the link from the bridge.
+const PAIRS_OF_TEN: &str = "1000000, shared links = \
+(0 1 20)(0 2 20)(0 3 20)(0 4 20)(0 5 20)(0 6 20)(0 7 20)(0 8 20)(0 9 20)(1 2 20)(1 3 20)(1 4 20)(1 5 20)(1 6 20)(1 7 20)(1 8 20)(1 9 20)(2 3 20)(2 4 20)(2 5 20)(2 6 20)(2 7 20)(2 8 20)(2 9 20)(3 4 20)(3 5 20)(3 6 20)(3 7 20)(3 8 20)(3 9 20)(4 5 20)(4 6 20)(4 7 20)(4 8 20)(4 9 20)(5 6 20)(5 7 20)(5 8 20)(5 9 20)(6 7 20)(6 8 20)(6 9 20)(7 8 20)(7 9 20)(8 9 20)";
+
+#[test]
+fn lists_each_pair_of_ten(rt: HostRuntime) {
+    expect_rows(&rt, TEN, PAIRS_OF_TEN);
+}
+
+#[test]
+fn weighs_arcs(rt: HostRuntime) {
+    expect_rows(&rt, LONG, ARCS);
+}
+
+const ARCS: &str = "\
+1000000, arc Left 4 = from 0 to 1 weighs -10992
+1000000, arc Right 4 = from 1 to 0 weighs 24000";
+
+#[test]
+fn weighs_arcs_of_links_that_lie_apart(rt: HostRuntime) {
+    expect_rows(&rt, LOOP, ARCS_APART);
+}
+
+const ARCS_APART: &str = "\
+1000000, arc Left 4 = from 0 to 1 weighs 672
+1000000, arc Right 12 = from 1 to 0 weighs -672";
+
+#[test]
+fn finds_the_first_overlap(rt: HostRuntime) {
+    expect_rows(&rt, TWO, OVERLAPS);
+}
+
+const OVERLAPS: &str = "\
+1000000, overlap 0 672 =
+1000000, overlap 0 671 = (0 1 4)
+1000000, overlap 1000000000 0 =";
+
+#[test]
+fn finds_the_first_overlap_of_links_that_lie_apart(rt: HostRuntime) {
+    expect_rows(&rt, LOOP, OVERLAPS_APART);
+}
+
+const OVERLAPS_APART: &str = "\
+1000000, overlap 0 672 =
+1000000, overlap 0 671 = (0 1 4)
+1000000, overlap 0 673 = (0 1 12)
+1000000, overlap 0 2015 = (0 1 12)
+1000000, overlap 0 2016 =";
+
+#[test]
+fn finds_the_first_overlap_of_ten(rt: HostRuntime) {
+    expect_rows(&rt, TEN, OVERLAPS_OF_TEN);
+}
+
+const OVERLAPS_OF_TEN: &str = "\
+1000000, overlap 0 672 1344 2016 2688 3360 4032 4704 5376 6048 =
+1000000, overlap 0 672 1344 2016 2688 3360 4032 4704 5376 5376 = (8 9 20)
+1000000, overlap 0 0 0 0 0 0 0 0 0 0 = (0 1 20)";
