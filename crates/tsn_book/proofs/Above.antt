@@ -2,12 +2,11 @@
 use Rattle.std.proofs.Common.{◌≡◌, ℕ, ◌+◌, ◌<◌, List, [], length, Contains, refl, sym, ap, ◌∙◌, subst, arith, inl, inr}
 use Rattle.std.specs.List.{slice_index_or}
 use Rattle.tsn_model.specs.declared.Triple.{Triple}
-use Rattle.tsn_model.specs.declared.Side.{Side}
 use Rattle.tsn_model.specs.declared.Side.TheVariants.{Left, Right}
 use Rattle.tsn_model.specs.declared.Decision.{Decision}
 use Rattle.tsn_model.specs.Network.{Network}
 use Rattle.tsn_model.specs.Certificate.{decided}
-use Rattle.tsn_model.specs.Search.{Settlement, made_paths}
+use Rattle.tsn_model.specs.Search.{made_paths}
 use Rattle.tsn_search_laws.specs.Walk.{path_made, IsPlaceOf}
 use Rattle.tsn_search_laws.proofs.Paths.{decided-parts}
 use Rattle.tsn_book.specs.declared.standings.Origin.{Origin}

@@ -12,15 +12,15 @@ use Rattle.tsn_model.specs.declared.Decision.{Decision}
 use Rattle.tsn_model.specs.Network.{Network}
 use Rattle.tsn_model.specs.Certificate.{decided}
 use Rattle.tsn_model.specs.Places.{pending}
-use Rattle.tsn_model.specs.Search.{Outcome, split, Event, Settlement, children_of, made_paths}
+use Rattle.tsn_model.specs.Search.{Outcome, split, solved, pruned, tied, refuted, Event, Settlement, children_of, made_paths}
 use Rattle.tsn_model.proofs.Places.{pending-nil, pending-left, pending-right}
 use Rattle.tsn_search_laws.specs.Walk.{path_made, IsPlaceOf}
 use Rattle.tsn_search_laws.proofs.Histories.{made_paths-snoc}
 use Rattle.tsn_branch.specs.declared.outcome.Look.{Look}
-use Rattle.tsn_branch.specs.declared.outcome.Look.TheVariants.{Split as FoundSplit, Solved, Pruned, Tied, Refuted}
 use Rattle.tsn_branch.specs.Outcome.{outcome_of}
 use Rattle.tsn_book.specs.declared.event.Event.{Event as Found}
 use Rattle.tsn_book.specs.Event.{event_of}
+use Rattle.tsn_book.specs.Arena.{IsLeafOutcome}
 use Rattle.tsn_book.specs.Book.{Progress, IsFault}
 use Rattle.tsn_book.specs.declared.fault.BookFault.{BookFault}
 use Rattle.tsn_book.specs.Below.{settlements_by, after_leaf, next_path, path_after, events_below, IsFaultAt}
@@ -156,13 +156,13 @@ right_taken walk front triple is = (
   sym (ap pending is ∙ pending-right front triple),
 )
 
-pub closes_next : (path : List Decision) (found : Look) → ((triple : Triple) → found ≡ FoundSplit triple → ⊥) → next_path path (outcome_of found) ≡ after_leaf path
+pub closes_leaf : (path : List Decision) (outcome : Outcome) → IsLeafOutcome outcome → next_path path outcome ≡ after_leaf path
 unfolding next_path
-closes_next path (FoundSplit triple) other = absurd (other triple refl)
-closes_next path (Solved solution leaf chains) other = refl
-closes_next path (Pruned bound leaf) other = refl
-closes_next path (Tied bound leaf chains) other = refl
-closes_next path (Refuted leaf) other = refl
+closes_leaf path (split triple) leaf = absurd leaf
+closes_leaf path (solved offsets bound leaf chains) is = refl
+closes_leaf path (pruned bound leaf) is = refl
+closes_leaf path (tied bound leaf chains) is = refl
+closes_leaf path (refuted leaf) is = refl
 
 pub split_next : (path : List Decision) (triple : Triple) → decided path triple Left ≡ next_path path (split triple)
 unfolding next_path
@@ -296,3 +296,10 @@ none_below book teller from looks none =
 pub above_push : (long path walk : List Decision) (triple : Triple) → long ≡ decided walk triple Left → path ≡ decided walk triple Left → take (length long - 1) path ≡ walk
 above_push long path walk triple first second =
     ap (λ (p : List Decision). take (length p - 1) path) first ∙ ap (λ (p : List Decision). take (length (decided walk triple Left) - 1) p) second ∙ taken_back walk triple Left
+
+-- ---- what waits
+
+-- what waits is the first look and the others
+pub first_waits : (waiting : List Look) (d : Look) → 1 ≤ length waiting → waiting ≡ get_or waiting 0 d ∷ drop 1 waiting
+first_waits [] d some = absurd (omega (arith, some))
+first_waits (look ∷ waiting) d some = refl

@@ -1,11 +1,10 @@
 -- Places by the splits that made them.
-use Rattle.std.proofs.Common.{◌≡◌, ℕ, zero, suc, ◌+◌, ◌*◌, ◌<◌, List, [], ◌∷◌, ◌++◌, map, length, get_or, set, All, refl, sym, ap, ◌∙◌, arith}
+use Rattle.std.proofs.Common.{◌≡◌, ℕ, zero, suc, ◌+◌, ◌*◌, ◌<◌, List, [], ◌∷◌, ◌++◌, map, length, get_or, set, All, refl, ap, ◌∙◌, arith}
 use Rattle.std.specs.List.{flat_map}
-use Rattle.std.proofs.lemmas.List.{length-append, map-append, map-set, get_or_append_left, get_or-append-add}
+use Rattle.std.proofs.lemmas.List.{map-append, map-set, get_or_append_left, get_or-append-add}
 use Rattle.std.proofs.lemmas.List.Elements.{All-head, All-tail}
 use Rattle.tsn_book.specs.declared.standings.Origin.{Origin}
-use Rattle.tsn_book.specs.declared.standings.Standing.{Standing}
-use Rattle.tsn_book.specs.declared.standings.Standing.TheVariants.{Open, Split, Leaf}
+use Rattle.tsn_book.specs.declared.standings.Standing.TheVariants.{Open, Split}
 use Rattle.tsn_book.specs.declared.standings.Mark.{Mark}
 use Rattle.tsn_book.specs.declared.standings.Mark.TheVariants.{Open as marked_open, Split as marked_split, Leaf as marked_leaf}
 use Rattle.tsn_book.specs.declared.standings.Branching.{Branching}

@@ -4,7 +4,7 @@
 --     IsPlaced, IsTree         what is known of a place, and of all of them
 --     IsStop                   where a walk along a path ends
 --     AreClosed                where nothing is open any longer
-use Rattle.std.specs.Prelude.{Bool, true, ◌&&◌, ◌≢◌, ◌≡◌, ℕ, ◌<◌, ◌≤◌, ◌+◌, ◌⊎◌, List, [], ◌∷◌, ◌++◌, map, fold, length, All, Contains, Some, None, position, false, slice_get, vec_len, vec_capacity}
+use Rattle.std.specs.Prelude.{Bool, true, ◌&&◌, ◌≢◌, ◌≡◌, ℕ, ◌<◌, ◌≤◌, ◌+◌, ◌⊎◌, List, [], ◌∷◌, ◌++◌, map, fold, length, All, Contains, Some, None, position, false, slice_get}
 use Rattle.std.specs.List.{slice_index_or}
 use Rattle.tsn_model.specs.declared.Triple.{Triple}
 use Rattle.tsn_model.specs.declared.Side.TheVariants.{Left, Right}
@@ -109,10 +109,10 @@ IsStop origins standings events path (AtSettled event) =
 IsStop origins standings events path Outside =
     (Contains (open_paths (history_of origins events)) path → ⊥) × (position (λ settlement. path_eq settlement.event.path path) (history_of origins events) ≡ None)
 
--- there is room for a split
+-- a look waits, and there is room for a split
 pub record HasRoom (tree : Tree) : Type 0 where
   pub places : 1 ≤ tree.places.room
-  pub events : 1 ≤ tree.events.room
+  pub waiting : 1 ≤ length tree.events.waiting
 
 -- ---- what is closed
 

@@ -4,6 +4,7 @@ pub mod Log
 pub mod Places
 pub mod Arena
 pub mod Book
+pub mod Ledger
 pub mod Below
 pub mod Spelling
 pub mod Solving

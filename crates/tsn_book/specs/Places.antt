@@ -1,5 +1,5 @@
 -- Places, as they are kept.
-use Rattle.std.specs.Prelude.{◌≡◌, ℕ, ◌+◌, ◌*◌, ◌<◌, ◌++◌, List, [], ◌∷◌, length, All}
+use Rattle.std.specs.Prelude.{◌≡◌, ℕ, ◌+◌, ◌*◌, ◌<◌, List, [], ◌∷◌, length, All}
 use Rattle.std.specs.List.{flat_map, slice_index_or}
 use Rattle.tsn_model.specs.declared.Side.TheVariants.{Left, Right}
 use Rattle.tsn_book.specs.declared.standings.Origin.{Origin}

@@ -1,5 +1,5 @@
 //! The tree of a search, in an arena. A place is known by its number, and the root has number 0.
-ghost use Rattle.std.specs.Prelude.{◌≡◌, ◌<◌, ◌≤◌, ◌+◌, ◌^◌, ◌++◌, false, ◌∷◌, [], ◌↔◌, IsTrue, MatchBool, List, length, IfOk, MatchResult, OnOk, MatchOption, None, Some, All, Any, Contains, vec_len, vec_capacity};
+ghost use Rattle.std.specs.Prelude.{◌≡◌, ◌<◌, ◌≤◌, ◌+◌, ◌^◌, ◌++◌, false, ◌∷◌, [], ◌↔◌, IsTrue, MatchBool, List, length, IfOk, MatchResult, OnOk, MatchOption, None, Some, All, Any, Contains, drop, vec_len, vec_capacity};
 ghost use Rattle.tsn_model.specs.declared.Decision.{Decision};
 ghost use Rattle.tsn_model.specs.Schedule.{IsConflict};
 ghost use Rattle.tsn_timing.specs.Solution.{IsSolved};
@@ -12,11 +12,12 @@ ghost use Rattle.tsn_branch.specs.Look.{HasProof, SplitsUndecided};
 ghost use Rattle.tsn_book.specs.Event.{event_of};
 ghost use Rattle.tsn_book.specs.Below.{IsAbove};
 ghost use Rattle.tsn_book.specs.Book.{IsFault, IsMet, IsKept, is_better};
+ghost use Rattle.tsn_book.specs.Log.{next_of};
 ghost use Rattle.tsn_book.specs.Arena.{IsArena, IsStop, settled_in, path_in, IsOpenPlace, IsLeafOutcome, HasRoom, AreClosed, IsAhead, IsNewLeaf, IsClosing, IsParentClosed, flag_at};
 
 use crate::event::Event;
 use crate::fault::BookFault;
-use crate::log::{Log, Settled};
+use crate::log::Log;
 use crate::standings::{Origin, Places, Standing};
 use crate::ties::{comes_before, shows_after};
 use std::alloc::{AllocError, Global};
@@ -165,66 +166,60 @@ impl Tree {
         }
     }
 
-    /// Makes room for one more split.
+    /// Makes room for the places of one more split. A refusal changes nothing.
     pub fn reserve(&mut self, closed: &mut Vec<bool>) -> Result<(), AllocError>
         ensures network { self.new.network ≡ self.old.network }
         ensures origins { self.new.places.origins ≡ self.old.places.origins }
         ensures standings { self.new.places.standings ≡ self.old.places.standings }
-        ensures events { self.new.events.items ≡ self.old.events.items }
+        ensures events { self.new.events ≡ self.old.events }
         ensures closed { closed.new.items ≡ closed.old.items }
         ensures small { length self.new.places.origins < 2 ^ 63 }
-        ensures room { OnOk result (HasRoom self.new) }
+        ensures room { OnOk result (1 ≤ self.new.places.room) }
         ensures room_closed { OnOk result (vec_len closed.new + 2 ≤ vec_capacity closed.new) }
     {
         self.places.reserve()?;
-        self.events.reserve()?;
         closed.try_reserve(2)
     }
 
-    /// Settles an open place as a split.
+    /// Settles an open place as the split that waits first.
     fn split(&mut self, closed: &mut Vec<bool>, place: usize, teller: usize, triple: Triple)
         requires tree { IsArena self.old }
         requires closed { AreClosed self.old.places.standings closed.old.items }
         requires room { HasRoom self.old }
         requires room_closed { vec_len closed.old + 2 ≤ vec_capacity closed.old }
         requires open { IsOpenPlace self.old.places.standings place }
+        requires next { next_of self.old.events ≡ Look.Split triple }
         requires right { IsRight self.old.network (settled_in self.old) (path_in self.old place) (split triple) }
         ensures tree { IsArena self.new }
         ensures network { self.new.network ≡ self.old.network }
         ensures history { settled_in self.new ≡ settled_in self.old
             ++ record { teller = teller; event = record { path = path_in self.old place; outcome = split triple } } ∷ [] }
         ensures closed { AreClosed self.new.places.standings closed.new.items }
+        ensures waiting { self.new.events.waiting ≡ drop 1 self.old.events.waiting }
     {
         self.places.split(place, triple, self.events.len());
         closed.push_reserved(false);
         closed.push_reserved(false);
-        self.events.push_reserved(Settled {
-            teller,
-            place,
-            look: Look::Split(triple),
-        });
+        self.events.settle_next(teller, place);
     }
 
-    /// Settles an open place as a leaf.
-    fn close(&mut self, closed: &mut Vec<bool>, place: usize, teller: usize, look: Look)
+    /// Settles an open place as the leaf that waits first.
+    fn close(&mut self, closed: &mut Vec<bool>, place: usize, teller: usize)
         requires tree { IsArena self.old }
         requires closed { AreClosed self.old.places.standings closed.old.items }
         requires room { HasRoom self.old }
         requires open { IsOpenPlace self.old.places.standings place }
-        requires right { IsRight self.old.network (settled_in self.old) (path_in self.old place) (outcome_of look) }
-        requires leaf { IsLeafOutcome (outcome_of look) }
+        requires right { IsRight self.old.network (settled_in self.old) (path_in self.old place) (outcome_of (next_of self.old.events)) }
+        requires leaf { IsLeafOutcome (outcome_of (next_of self.old.events)) }
         ensures tree { IsArena self.new }
         ensures network { self.new.network ≡ self.old.network }
         ensures history { settled_in self.new ≡ settled_in self.old
-            ++ record { teller = teller; event = record { path = path_in self.old place; outcome = outcome_of look } } ∷ [] }
+            ++ record { teller = teller; event = record { path = path_in self.old place; outcome = outcome_of (next_of self.old.events) } } ∷ [] }
         ensures closed { AreClosed self.new.places.standings closed.new.items }
+        ensures waiting { self.new.events.waiting ≡ drop 1 self.old.events.waiting }
     {
         self.places.close(place, self.events.len());
-        self.events.push_reserved(Settled {
-            teller,
-            place,
-            look,
-        });
+        self.events.settle_next(teller, place);
         self.mark(closed, place);
     }
 
@@ -267,50 +262,24 @@ impl Tree {
         }
     }
 
-    /// Settles an open place.
-    pub fn settle(&mut self, closed: &mut Vec<bool>, place: usize, teller: usize, look: Look)
+    /// Settles an open place as the look that waits first found it.
+    pub fn settle(&mut self, closed: &mut Vec<bool>, place: usize, teller: usize)
         requires tree { IsArena self.old }
         requires closed { AreClosed self.old.places.standings closed.old.items }
         requires room { HasRoom self.old }
         requires room_closed { vec_len closed.old + 2 ≤ vec_capacity closed.old }
         requires open { IsOpenPlace self.old.places.standings place }
-        requires right { IsRight self.old.network (settled_in self.old) (path_in self.old place) (outcome_of look) }
+        requires right { IsRight self.old.network (settled_in self.old) (path_in self.old place) (outcome_of (next_of self.old.events)) }
         ensures tree { IsArena self.new }
         ensures network { self.new.network ≡ self.old.network }
         ensures history { settled_in self.new ≡ settled_in self.old
-            ++ record { teller = teller; event = record { path = path_in self.old place; outcome = outcome_of look } } ∷ [] }
+            ++ record { teller = teller; event = record { path = path_in self.old place; outcome = outcome_of (next_of self.old.events) } } ∷ [] }
         ensures closed { AreClosed self.new.places.standings closed.new.items }
+        ensures waiting { self.new.events.waiting ≡ drop 1 self.old.events.waiting }
     {
-        match look {
-            Look::Split(triple) => self.split(closed, place, teller, triple),
-            Look::Solved {
-                solved,
-                leaf,
-                chains,
-            } => {
-                let look = Look::Solved {
-                    solved,
-                    leaf,
-                    chains,
-                };
-                self.close(closed, place, teller, look)
-            }
-            Look::Pruned { bound, leaf } => {
-                self.close(closed, place, teller, Look::Pruned { bound, leaf })
-            }
-            Look::Tied {
-                bound,
-                leaf,
-                chains,
-            } => {
-                let look = Look::Tied {
-                    bound,
-                    leaf,
-                    chains,
-                };
-                self.close(closed, place, teller, look)
-            }
-            Look::Refuted(leaf) => self.close(closed, place, teller, Look::Refuted(leaf)),
+        match split_of(self.events.next()) {
+            Some(triple) => self.split(closed, place, teller, triple),
+            None => self.close(closed, place, teller),
         }
     }
 
@@ -503,13 +472,27 @@ impl Tree {
         ensures network { IfOk result (λ tree. tree.network ≡ network) }
         ensures history { IfOk result (λ tree. settled_in tree ≡ []) }
         ensures events { IfOk result (λ tree. tree.events.items ≡ []) }
+        ensures waiting { IfOk result (λ tree. tree.events.waiting ≡ []) }
         ensures standings { IfOk result (λ tree. tree.places.standings ≡ Standing.Open ∷ []) }
     {
         Ok(Tree {
             network,
             places: Places::new(alloc)?,
-            events: Log::new(alloc)?,
+            events: Log::new(alloc),
         })
+    }
+}
+
+/// The triple of a split.
+pub fn split_of(look: &Look) -> Option<Triple>
+    ensures { MatchOption result (IsLeafOutcome (outcome_of look.now)) (λ triple. look.now ≡ Look.Split triple) }
+{
+    match look {
+        Look::Split(triple) => Some(*triple),
+        Look::Solved { .. } => None,
+        Look::Pruned { .. } => None,
+        Look::Tied { .. } => None,
+        Look::Refuted(_) => None,
     }
 }
 

@@ -1,26 +1,26 @@
 //! The book of a search, as its callers see it: what was settled so far.
-ghost use Rattle.std.specs.Prelude.{◌≡◌, ◌<◌, ◌≤◌, ◌+◌, ◌++◌, ◌∷◌, [], length, fold, min, replicate, IfOk, IfErr, OnErr, OnOk, MatchOption, MatchResult, Some, None, IsTrue, ◌↔◌, Any, Contains};
+ghost use Rattle.std.specs.Prelude.{◌≡◌, ◌<◌, ◌+◌, ◌++◌, ◌∷◌, [], length, replicate, IfOk, IfErr, OnErr, OnOk, MatchOption, MatchResult, Some, None, IsTrue, ◌↔◌, Any, Contains};
 ghost use Rattle.tsn_cert.specs.declared.cert.Format.{Format};
 ghost use Rattle.tsn_timing.specs.Solution.{IsSolved};
-ghost use Rattle.tsn_model.specs.Search.{Outcome, made_paths, open_paths, best_bound, kept_of, tally_of, solved_bound, solved_bounds, settled_by, IsAllowed, IsFirstOpen};
+ghost use Rattle.tsn_model.specs.Search.{Outcome, made_paths, open_paths, best_bound, kept_of, tally_of, solved_bounds, settled_by, IsAllowed, IsFirstOpen};
 ghost use Rattle.tsn_branch.specs.Outcome.{outcome_of};
 ghost use Rattle.tsn_branch.specs.Look.{HasProof, SplitsUndecided};
 ghost use Rattle.tsn_book.specs.Event.{event_of};
 ghost use Rattle.tsn_search_laws.specs.Laws.{IsBelowBounds};
 ghost use Rattle.tsn_search_laws.specs.Walk.{path_made, IsPlaceOf};
-ghost use Rattle.tsn_book.specs.Book.{Progress, IsLawful, IsFault, SpellsAccepted, child_count, kept_after, tally_after};
-ghost use Rattle.tsn_book.specs.Below.{IsAbove};
+ghost use Rattle.tsn_book.specs.Book.{Progress, IsLawful, IsFault, SpellsAccepted};
 ghost use Rattle.tsn_book.specs.Solving.{IsSolvedBy};
 
 use crate::arena::{Stop, Tree};
 use crate::event::Event;
 use crate::fault::BookFault;
+use crate::ledger::Ledger;
 use crate::log::{Log, Settled};
 use crate::spelling::nodes_of;
 use std::alloc::{AllocError, Global};
 use std::marker::Model;
 use tsn_branch::outcome::Look;
-use tsn_branch::{Decision, NoMemory, Node, Side};
+use tsn_branch::{Decision, NoMemory, Node};
 use tsn_cert::{Cert, Format, Nodes};
 use tsn_timing::{Solved, Timing};
 
@@ -31,33 +31,18 @@ pub type Tally = (u64, u64, u64);
 /// What was settled of a search, by tellers with numbers from 0, at most as many events as its limit says.
 #[derive(Drop)]
 pub struct Book {
-    tree: Tree,
-    // Of each place of the tree, whether nothing is open at it and below it.
-    closed: Vec<bool>,
-    open_nodes: usize,
-    limit: usize,
-    // The least flowspan solved, and the number of the event that solved it by the first offsets in their order.
-    best: u64,
-    kept: Option<usize>,
-    tallies: Vec<Tally>,
+    pub(crate) ledger: Ledger,
 }
 
 impl Model for Book {
-    ghost use Rattle.std.specs.Prelude.{length};
-    ghost use Rattle.tsn_book.specs.Book.{Progress, IsBook};
-    ghost use Rattle.tsn_book.specs.Arena.{history_of};
+    ghost use Rattle.tsn_book.specs.Book.{Progress};
+    ghost use Rattle.tsn_book.specs.Ledger.{progress_of, IsWhole};
 
     ghost Value = { Progress };
 
-    ghost view = { λ b. record {
-      network = b.tree.network;
-      tellers = length b.tallies.items;
-      limit = b.limit;
-      history = history_of b.tree.places.origins b.tree.events.items;
-    } };
+    ghost view = { λ b. progress_of b.ledger };
 
-    ghost invariant = { λ b. IsBook b.tree.network b.tree.places.origins b.tree.places.standings b.tree.events.items b.closed.items
-        b.limit b.open_nodes b.best b.kept b.tallies.items };
+    ghost invariant = { λ b. IsWhole b.ledger };
 }
 
 impl Book {
@@ -79,13 +64,15 @@ impl Book {
     {
         let past_cycle = network.cycle() + 1;
         Ok(Book {
-            tree: Tree::new(alloc, network)?,
-            closed: vec![in alloc; false]?,
-            open_nodes: 1,
-            limit,
-            best: past_cycle,
-            kept: None,
-            tallies: tallies_of(alloc, tellers, past_cycle)?,
+            ledger: Ledger {
+                tree: Tree::new(alloc, network)?,
+                closed: vec![in alloc; false]?,
+                open_nodes: 1,
+                limit,
+                best: past_cycle,
+                kept: None,
+                tallies: tallies_of(alloc, tellers, past_cycle)?,
+            },
         })
     }
 
@@ -105,9 +92,12 @@ impl Book {
         ensures fault { IfErr result (λ refusal. IsFault self.old.network self.old.limit self.old.history (event_of event) refusal.0) }
         ensures returned { IfErr result (λ refusal. refusal.1 ≡ event) }
     {
-        let placed = self
-            .tree
-            .place_for(self.limit, self.best, self.kept, &event);
+        let placed = self.ledger.tree.place_for(
+            self.ledger.limit,
+            self.ledger.best,
+            self.ledger.kept,
+            &event,
+        );
         let place = match placed {
             Ok(place) => place,
             Err(fault) => return Err((fault, event)),
@@ -149,9 +139,14 @@ impl Book {
             (record { path = path_made self.old.history place; outcome = outcome_of look }) refusal.0) }
         ensures returned { IfErr result (λ refusal. refusal.1 ≡ look) }
     {
-        let admitted = self
-            .tree
-            .admit_at(self.limit, self.best, self.kept, place, path, &look);
+        let admitted = self.ledger.tree.admit_at(
+            self.ledger.limit,
+            self.ledger.best,
+            self.ledger.kept,
+            place,
+            path,
+            &look,
+        );
         if let Err(fault) = admitted {
             return Err((fault, look));
         }
@@ -170,9 +165,14 @@ impl Book {
         ensures { IsFault self.now.network self.now.limit self.now.history
             (record { path = path_made self.now.history place; outcome = outcome_of look.now }) result }
     {
-        let admitted = self
-            .tree
-            .admit_at(self.limit, self.best, self.kept, place, path, look);
+        let admitted = self.ledger.tree.admit_at(
+            self.ledger.limit,
+            self.ledger.best,
+            self.ledger.kept,
+            place,
+            path,
+            look,
+        );
         match admitted {
             Ok(()) => BookFault::Memory,
             Err(fault) => fault,
@@ -184,20 +184,11 @@ impl Book {
         ensures { let book = self.now in MatchResult result (IsPlaceOf book.history path.now)
             (λ fault. (outcome : Outcome) → IsFault book.network book.limit book.history (record { path = path.now; outcome = outcome }) fault) }
     {
-        match self.tree.find(path) {
+        match self.ledger.tree.find(path) {
             Stop::Open(place) => Ok(place),
             Stop::Settled(number) => Err(BookFault::NotOpen(Some(number))),
             Stop::Outside => Err(BookFault::NotOpen(None)),
         }
-    }
-
-    // The place above another one, and the side by which that is below it; none for the root.
-    pub(crate) fn above(&self, place: usize) -> Option<(usize, Side)>
-        requires place { place < length (made_paths self.now.history) }
-        ensures above { MatchOption result (path_made self.now.history place ≡ []) (λ up. IsAbove self.now.history place up.0 up.1) }
-        ensures few { place < 18446744073709551615 }
-    {
-        self.tree.above(place)
     }
 
     // Settles at a place what may be settled there, where there is memory for it; else gives it back.
@@ -217,16 +208,14 @@ impl Book {
         ensures refused { OnErr result (self.new ≡ self.old) }
         ensures returned { IfErr result (λ back. back ≡ look) }
     {
-        let better = self.tree.is_better(self.best, self.kept, &look);
-        if self.tree.reserve(&mut self.closed).is_err() {
+        if self.ledger.tree.events.reserve().is_err() {
             return Err(look);
         }
-        let number = self.tree.events.len();
-        self.open_nodes = open_after(self.open_nodes, &look);
-        self.kept = kept_after(better, self.kept, number);
-        self.best = best_after(self.best, &look);
-        self.tallies[teller] = tally_after(self.tallies[teller], &look);
-        self.tree.settle(&mut self.closed, place, teller, look);
+        if self.ledger.tree.reserve(&mut self.ledger.closed).is_err() {
+            return Err(look);
+        }
+        self.ledger.tree.events.put(look);
+        self.ledger.record(teller, place);
         Ok(())
     }
 
@@ -236,7 +225,7 @@ impl Book {
         ensures places { result ≡ length (made_paths self.now.history) }
         ensures lawful { IsLawful self.now }
     {
-        self.tree.places.len()
+        self.ledger.tree.places.len()
     }
 
     /// How many events were settled.
@@ -244,7 +233,7 @@ impl Book {
         ensures count { result ≡ length self.now.history }
         ensures lawful { IsLawful self.now }
     {
-        self.tree.events.len()
+        self.ledger.tree.events.len()
     }
 
     /// How many nodes are open.
@@ -252,7 +241,7 @@ impl Book {
         ensures count { result ≡ length (open_paths self.now.history) }
         ensures lawful { IsLawful self.now }
     {
-        self.open_nodes
+        self.ledger.open_nodes
     }
 
     /// The open node that is first in preorder, a node's Left child before its Right one. The error says that there was no
@@ -261,7 +250,7 @@ impl Book {
         ensures first { IfOk result (λ first. MatchOption first (open_paths self.now.history ≡ []) (IsFirstOpen self.now.history)) }
         ensures lawful { IsLawful self.now }
     {
-        self.tree.first_open(alloc, &self.closed)
+        self.ledger.tree.first_open(alloc, &self.ledger.closed)
     }
 
     /// What a teller settled.
@@ -270,7 +259,7 @@ impl Book {
         ensures tally { result ≡ tally_of self.now.network teller self.now.history }
         ensures lawful { IsLawful self.now }
     {
-        self.tallies[teller]
+        self.ledger.tallies[teller]
     }
 
     /// Whether a teller settled a solved leaf of that flowspan, in nanoseconds.
@@ -278,14 +267,14 @@ impl Book {
         ensures solved { IsTrue result ↔ Contains (solved_bounds (settled_by teller self.now.history)) flowspan }
         ensures lawful { IsLawful self.now }
     {
-        any_solved(&self.tree.events, teller, flowspan)
+        any_solved(&self.ledger.tree.events, teller, flowspan)
     }
 
     // What the network says of times.
     pub(crate) fn timing(&self) -> &Timing
         ensures { result.now ≡ self.now.network }
     {
-        &self.tree.network
+        &self.ledger.tree.network
     }
 
     /// The least flowspan solved, in nanoseconds, or one more than the cycle where none is: a target for the certificate.
@@ -294,7 +283,7 @@ impl Book {
         ensures target { IsBelowBounds self.now.network result self.now.history }
         ensures lawful { IsLawful self.now }
     {
-        self.best
+        self.ledger.best
     }
 
     /// The schedule that is first in list order of the solved leaves of least flowspan.
@@ -305,7 +294,7 @@ impl Book {
             (λ solved. IsSolved self.now.network solved.now × (solved.now.flowspan ≡ best_bound self.now.network self.now.history)) }
         ensures lawful { IsLawful self.now }
     {
-        self.tree.kept(self.kept)
+        self.ledger.tree.kept(self.ledger.kept)
     }
 
     /// The certificate of a finished search, in format 2 for what is kept: one node for each event. The error says that there
@@ -317,12 +306,13 @@ impl Book {
         ensures accepted { IfOk result (λ cert. SpellsAccepted self.network (kept_of self.network self.history) cert.nodes) }
         ensures counted { IfOk result (λ cert. length cert.nodes ≡ length self.history) }
     {
-        let Book {
+        let Book { ledger } = self;
+        let Ledger {
             tree,
             best,
             kept,
             ..
-        } = self;
+        } = ledger;
         let plan = match tree.kept(kept) {
             None => None,
             Some(solved) => Some(solved.copy()?),
@@ -370,56 +360,4 @@ fn is_solved_by(settled: &Settled, teller: usize, flowspan: u64) -> bool
         Look::Tied { .. } => false,
         Look::Refuted(_) => false,
     }
-}
-
-fn open_after(count: usize, look: &Look) -> usize
-    requires some { 1 ≤ count }
-    requires few { count < 18446744073709551615 }
-    ensures { result + 1 ≡ count + child_count (outcome_of look.now) }
-{
-    match look {
-        Look::Split(_) => count + 1,
-        Look::Solved { .. } => count - 1,
-        Look::Pruned { .. } => count - 1,
-        Look::Tied { .. } => count - 1,
-        Look::Refuted(_) => count - 1,
-    }
-}
-
-#[tactic(auto, unfolding(tsn_model::specs::Search::solved_bound, tsn_model::specs::Search::pruned_bound))]
-fn best_after(best: u64, look: &Look) -> u64
-    ensures { result ≡ fold min best (solved_bound (outcome_of look.now)) }
-{
-    match look {
-        Look::Solved { solved, .. } => best.min(solved.flowspan()),
-        Look::Split(_) => best,
-        Look::Pruned { .. } => best,
-        Look::Tied { .. } => best,
-        Look::Refuted(_) => best,
-    }
-}
-
-#[tactic(auto, unfolding(tsn_model::specs::Search::solved_bound, tsn_model::specs::Search::pruned_bound))]
-fn tally_after(tally: Tally, look: &Look) -> Tally
-    requires { tally.0 < 18446744073709551615 }
-    ensures { result ≡ tally_after tally (outcome_of look.now) }
-{
-    let (events, pruned, solved) = tally;
-    match look {
-        Look::Solved {
-            solved: solution,
-            ..
-        } => (events + 1, pruned, solved.min(solution.flowspan())),
-        Look::Pruned { bound, .. } => (events + 1, pruned.min(*bound), solved),
-        Look::Split(_) => (events + 1, pruned, solved),
-        Look::Tied { .. } => (events + 1, pruned, solved),
-        Look::Refuted(_) => (events + 1, pruned, solved),
-    }
-}
-
-// The number of the event that is kept, after one more.
-fn kept_after(better: bool, kept: Option<usize>, number: usize) -> Option<usize>
-    ensures { result ≡ kept_after better kept number }
-{
-    if better { Some(number) } else { kept }
 }

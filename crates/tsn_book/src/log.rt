@@ -1,18 +1,23 @@
-//! What was settled, oldest first, in pieces of which none is copied to make room for more.
-ghost use Rattle.std.specs.Prelude.{◌≡◌, ◌≢◌, ◌<◌, ◌≤◌, ◌^◌, ◌++◌, ◌∷◌, [], ℕ, length, IfOk, OnOk, slice_index_or};
+//! What was settled, oldest first, in pieces of which none is copied to make room for more, and what waits to be settled.
+ghost use Rattle.std.specs.Prelude.{◌≡◌, ◌≢◌, ◌+◌, ◌<◌, ◌≤◌, ◌^◌, ◌++◌, ◌∷◌, [], ℕ, length, drop, map, vec_capacity, IfErr, OnOk, OnErr, slice_index_or, MatchBool};
+ghost use Rattle.std.specs.List.{flat_map};
+ghost use Rattle.tsn_branch.specs.declared.outcome.Look.{Look};
 ghost use Rattle.tsn_book.specs.declared.log.Settled.{Settled};
+ghost use Rattle.tsn_book.specs.declared.log.Piece.{Piece};
+ghost use Rattle.tsn_book.specs.Log.{look_of, items_of, next_of, AreNumbered};
 
+use crate::looks::Looks;
 use std::alloc::{AllocError, Global};
 use std::marker::Model;
 use std::mem;
 use tsn_branch::Triple;
 use tsn_branch::outcome::Look;
 
-// How many events a full piece has.
+// How many events a piece has, where they come one by one.
 const PIECE: usize = 512;
 
-// How many full pieces there may be, so that all events can be counted.
-const MOST_PIECES: usize = 1 << 53;
+// How many events there may be, so that all can be counted.
+const MOST: usize = 1 << 62;
 
 /// What was settled at a place, and by which teller.
 #[derive(Drop)]
@@ -22,39 +27,52 @@ pub struct Settled {
     pub look: Look,
 }
 
-/// What was settled, oldest first. Once it was pushed no event is copied, however many follow.
+/// Events that follow one another, and the number of the first.
+#[derive(Drop)]
+pub struct Piece {
+    pub first: usize,
+    pub list: Vec<Settled>,
+}
+
+/// What was settled, oldest first, and behind it what waits to be settled. No event is moved, once it waits.
 #[derive(Drop)]
 pub struct Log {
-    // The pieces before the last one, all full.
-    full: Vec<Vec<Settled>>,
-    // The piece that grows, with room for as many events as a full one has.
+    // The pieces before the last one, and how many events they have.
+    full: Vec<Piece>,
+    before: usize,
+    // The last piece, of which so many are settled. The others wait.
     last: Vec<Settled>,
+    settled: usize,
 }
 
 impl Model for Log {
-    ghost use Rattle.std.specs.Prelude.{◌++◌, ◌-◌, vec_len, vec_capacity};
+    ghost use Rattle.std.specs.Prelude.{◌++◌, ◌-◌, ◌^◌, min, map, take, drop, vec_len, vec_capacity};
     ghost use Rattle.std.specs.List.{flat_map};
-    ghost use Rattle.tsn_book.specs.Log.{Logged, items_of, IsPieced};
+    ghost use Rattle.tsn_book.specs.Log.{Logged, look_of, items_of, IsPieced};
 
     ghost Value = { Logged };
 
     ghost view = { λ log. record {
-      items = flat_map items_of log.full.items ++ log.last.items;
-      room = vec_capacity log.last - vec_len log.last;
+      items = flat_map items_of log.full.items ++ take log.settled log.last.items;
+      waiting = map look_of (drop log.settled log.last.items);
+      room = min (vec_capacity log.last) (2 ^ 62 - log.before) - vec_len log.last;
     } };
 
-    ghost invariant = { λ log. IsPieced log.full.items log.last };
+    ghost invariant = { λ log. IsPieced log.full.items log.before log.last.items log.settled };
 }
 
 impl Log {
     /// A log of nothing.
-    pub fn new(alloc: Global) -> Result<Log, AllocError>
-        ensures items { IfOk result (λ log. log.items ≡ []) }
+    pub fn new(alloc: Global) -> Log
+        ensures items { result.items ≡ [] }
+        ensures waiting { result.waiting ≡ [] }
     {
-        Ok(Log {
+        Log {
             full: Vec::new(alloc),
-            last: Vec::with_capacity(alloc, PIECE)?,
-        })
+            before: 0,
+            last: Vec::new(alloc),
+            settled: 0,
+        }
     }
 
     /// How many events there are.
@@ -62,7 +80,7 @@ impl Log {
         ensures count { result ≡ length self.now.items }
         ensures small { result < 2 ^ 63 }
     {
-        PIECE * self.full.len() + self.last.len()
+        self.before + self.settled
     }
 
     /// What the log takes its memory from.
@@ -70,29 +88,106 @@ impl Log {
         self.last.allocator()
     }
 
-    /// Makes room for one more event. A refusal changes nothing.
+    /// Makes room for one look to wait, where none does. A refusal changes nothing.
     pub fn reserve(&mut self) -> Result<(), AllocError>
+        requires none { self.old.waiting ≡ [] }
         ensures items { self.new.items ≡ self.old.items }
+        ensures waiting { self.new.waiting ≡ [] }
         ensures room { OnOk result (1 ≤ self.new.room) }
     {
-        if self.last.len() < PIECE {
-            return Ok(());
-        }
-        if self.full.len() >= MOST_PIECES {
+        if self.before + self.last.len() >= MOST {
             return Err(AllocError);
         }
+        if self.last.len() < self.last.capacity() {
+            return Ok(());
+        }
         let piece = Vec::with_capacity(*self.last.allocator(), PIECE)?;
-        self.full.try_reserve(1)?;
-        self.full.push_reserved(mem::replace(&mut self.last, piece));
+        self.begin(piece).map_err(|_| AllocError)
+    }
+
+    // Makes a piece the last one, where nothing waits. A refusal gives the piece back, and changes nothing.
+    fn begin(&mut self, piece: Vec<Settled>) -> Result<(), Vec<Settled>>
+        requires none { self.old.waiting ≡ [] }
+        ensures items { self.new.items ≡ self.old.items }
+        ensures waiting { OnOk result (self.new.waiting ≡ map look_of piece.items) }
+        ensures room { OnOk result (piece.items ≡ [] → 1 ≤ vec_capacity piece → 1 ≤ self.new.room) }
+        ensures refused { OnErr result (self.new.waiting ≡ []) }
+        ensures returned { IfErr result (λ back. back.items ≡ piece.items) }
+    {
+        let before = self.before + self.last.len();
+        if piece.len() >= MOST - before || self.full.try_reserve(1).is_err() {
+            return Err(piece);
+        }
+        let list = mem::replace(&mut self.last, piece);
+        if !list.is_empty() {
+            self.full.push_reserved(Piece {
+                first: self.before,
+                list,
+            });
+        }
+        self.before = before;
+        self.settled = 0;
         Ok(())
     }
 
-    /// Adds an event, for which there is room.
-    pub fn push_reserved(&mut self, settled: Settled)
+    /// A look waits, where none did, and for which there is room.
+    pub fn put(&mut self, look: Look)
+        requires none { self.old.waiting ≡ [] }
         requires room { 1 ≤ self.old.room }
-        ensures items { self.new.items ≡ self.old.items ++ settled ∷ [] }
+        ensures items { self.new.items ≡ self.old.items }
+        ensures waiting { self.new.waiting ≡ look ∷ [] }
     {
-        self.last.push_reserved(settled);
+        self.last.push_reserved(Settled {
+            teller: 0,
+            place: 0,
+            look,
+        });
+    }
+
+    /// Looks wait, where none did. A refusal gives them back, and changes nothing.
+    pub fn bring(&mut self, looks: Looks) -> Result<(), Looks>
+        requires none { self.old.waiting ≡ [] }
+        ensures items { self.new.items ≡ self.old.items }
+        ensures waiting { OnOk result (self.new.waiting ≡ looks) }
+        ensures refused { OnErr result (self.new.waiting ≡ []) }
+        ensures returned { IfErr result (λ back. back ≡ looks) }
+    {
+        self.begin(looks.list).map_err(|list| Looks { list })
+    }
+
+    /// Whether a look waits.
+    pub fn is_waiting(&self) -> bool
+        ensures { MatchBool result (1 ≤ length self.now.waiting) (self.now.waiting ≡ []) }
+    {
+        self.settled < self.last.len()
+    }
+
+    /// The look that is settled next.
+    pub fn next(&self) -> &Look
+        requires some { 1 ≤ length self.now.waiting }
+        ensures { result.now ≡ next_of self.now }
+    {
+        &self.last[self.settled].look
+    }
+
+    /// Settles the look that waits first, at a place.
+    pub fn settle_next(&mut self, teller: usize, place: usize)
+        requires some { 1 ≤ length self.old.waiting }
+        ensures items { self.new.items ≡ self.old.items ++ record { teller = teller; place = place; look = next_of self.old } ∷ [] }
+        ensures waiting { self.new.waiting ≡ drop 1 self.old.waiting }
+    {
+        let event = &mut self.last[self.settled];
+        event.teller = teller;
+        event.place = place;
+        self.settled += 1;
+    }
+
+    /// Gives up what waits.
+    pub fn dismiss(&mut self)
+        ensures items { self.new.items ≡ self.old.items }
+        ensures waiting { self.new.waiting ≡ [] }
+    {
+        self.last.truncate(self.settled);
     }
 
     /// The event of a number.
@@ -100,11 +195,11 @@ impl Log {
         requires within { number < length self.now.items }
         ensures { result.now ≡ slice_index_or self.now.items number result.now }
     {
-        if number / PIECE < self.full.len() {
-            let piece = &self.full[number / PIECE];
-            &piece[number % PIECE]
+        if number >= self.before {
+            &self.last[number - self.before]
         } else {
-            &self.last[number % PIECE]
+            let piece = &self.full[piece_of(&self.full, number)];
+            &piece.list[number - piece.first]
         }
     }
 
@@ -115,12 +210,25 @@ impl Log {
         ensures counted { length self.new.items ≡ length self.old.items }
         ensures others { (other : ℕ) → other ≢ number → (d : Settled) → slice_index_or self.new.items other d ≡ slice_index_or self.old.items other d }
     {
-        if number / PIECE < self.full.len() {
-            take_at(&mut self.full[number / PIECE], number % PIECE)
+        if number >= self.before {
+            take_at(&mut self.last, number - self.before)
         } else {
-            take_at(&mut self.last, number % PIECE)
+            let at = piece_of(&self.full, number);
+            let piece = &mut self.full[at];
+            take_at(&mut piece.list, number - piece.first)
         }
     }
+}
+
+// Which of the pieces has the event of a number.
+fn piece_of(full: &[Piece], number: usize) -> usize
+    requires numbered { AreNumbered 0 full.now }
+    requires within { number < length (flat_map items_of full.now) }
+    ensures piece { result < length full.now }
+    ensures from { (d : Piece) → (slice_index_or full.now result d).first ≤ number }
+    ensures to { (d : Piece) → let piece = slice_index_or full.now result d in number < piece.first + length (items_of piece) }
+{
+    full.partition_point(|piece| piece.first <= number) - 1
 }
 
 // Takes a look out of a piece.

@@ -15,8 +15,7 @@ ghost use Rattle.tsn_share.specs.Teller.{tally_with_all};
 use crate::names::Named;
 use std::alloc::Global;
 use std::marker::{Model, PhantomData};
-use tsn_book::{Book, BookFault, Event};
-use tsn_branch::outcome::Look;
+use tsn_book::{Book, BookFault, Event, Looks};
 use tsn_branch::{NoMemory, Node};
 use tsn_incumbent::{Half, Halves};
 use tsn_timing::Solved;
@@ -113,19 +112,19 @@ impl<K: Named> Desk<K> {
         teller: usize,
         share: &mut Half,
         from: &mut Node,
-        looks: Vec<Look>,
+        looks: Looks,
     ) -> Result<(), (usize, BookFault)>
         requires table { halves.now ≡ K.names.halves }
         requires share { share.old ≡ half K.names.halves teller false share.old.tally }
         requires within { teller < K.names.race.tellers }
         requires proofs { All (λ event. HasProof K.names.race.network event.path event.outcome × SplitsUndecided K.names.race.network event.path event.outcome)
-            (events_below from.old (map outcome_of looks.items)) }
-        ensures all { OnOk result (share.new ≡ half K.names.halves teller false (tally_with_all share.old.tally (map outcome_of looks.items))) }
-        ensures from { OnOk result (from.new ≡ path_after from.old (map outcome_of looks.items)) }
-        ensures some { IfErr result (λ refusal. (refusal.0 < length looks.items)
-            × (share.new ≡ half K.names.halves teller false (tally_with_all share.old.tally (take refusal.0 (map outcome_of looks.items))))
-            × (from.new ≡ path_after from.old (take refusal.0 (map outcome_of looks.items)))) }
-        ensures fault { IfErr result (λ refusal. IsFaultAt K.names.race.network K.names.limit self.new.history (events_below from.old (map outcome_of looks.items)) refusal.0 refusal.1) }
+            (events_below from.old (map outcome_of looks)) }
+        ensures all { OnOk result (share.new ≡ half K.names.halves teller false (tally_with_all share.old.tally (map outcome_of looks))) }
+        ensures from { OnOk result (from.new ≡ path_after from.old (map outcome_of looks)) }
+        ensures some { IfErr result (λ refusal. (refusal.0 < length looks)
+            × (share.new ≡ half K.names.halves teller false (tally_with_all share.old.tally (take refusal.0 (map outcome_of looks))))
+            × (from.new ≡ path_after from.old (take refusal.0 (map outcome_of looks)))) }
+        ensures fault { IfErr result (λ refusal. IsFaultAt K.names.race.network K.names.limit self.new.history (events_below from.old (map outcome_of looks)) refusal.0 refusal.1) }
         ensures agrees { tally_of K.names.race.network teller self.new.history ≡ share.new.tally }
         ensures book { IsBookOf K.names self.new }
         ensures lawful { IsLawful self.new }

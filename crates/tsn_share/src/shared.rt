@@ -19,8 +19,7 @@ use std::alloc::Global;
 use std::hint::spin_loop;
 use std::marker::Model;
 use std::sync::{Mutex, MutexGuard, Wait};
-use tsn_book::{BookFault, Event};
-use tsn_branch::outcome::Look;
+use tsn_book::{BookFault, Event, Looks};
 use tsn_branch::{NoMemory, Node};
 use tsn_incumbent::{Halves, Incumbent};
 use tsn_timing::Solved;
@@ -140,19 +139,19 @@ pub fn settle_below_as<K: Named>(
     shared: &Shared<K>,
     teller: &mut Teller<K>,
     from: &mut Node,
-    looks: Vec<Look>,
+    looks: Looks,
 ) -> Result<(), (usize, BookFault)>
-    requires count { (1 ≤ length looks.items) × (length looks.items ≤ 64) }
+    requires count { (1 ≤ length looks) × (length looks ≤ 64) }
     requires proofs { All (λ event. HasProof K.names.race.network event.path event.outcome × SplitsUndecided K.names.race.network event.path event.outcome)
-        (events_below from.old (map outcome_of looks.items)) }
-    requires seen { All (IsAboveSeen K.names.race.network teller.old.standing.seen) (map outcome_of looks.items) }
-    requires last_solved { OnlyLastSolved (map outcome_of looks.items) }
-    ensures all { OnOk result (teller.new ≡ settled_all (map outcome_of looks.items) teller.old) }
-    ensures from { OnOk result (from.new ≡ path_after from.old (map outcome_of looks.items)) }
-    ensures some { IfErr result (λ refusal. (refusal.0 < length looks.items)
-        × (teller.new ≡ settled_all (take refusal.0 (map outcome_of looks.items)) teller.old)
-        × (from.new ≡ path_after from.old (take refusal.0 (map outcome_of looks.items)))) }
-    ensures fault { IfErr result (λ refusal. IsRefusedAt K.names teller.new (events_below from.old (map outcome_of looks.items)) refusal.0 refusal.1) }
+        (events_below from.old (map outcome_of looks)) }
+    requires seen { All (IsAboveSeen K.names.race.network teller.old.standing.seen) (map outcome_of looks) }
+    requires last_solved { OnlyLastSolved (map outcome_of looks) }
+    ensures all { OnOk result (teller.new ≡ settled_all (map outcome_of looks) teller.old) }
+    ensures from { OnOk result (from.new ≡ path_after from.old (map outcome_of looks)) }
+    ensures some { IfErr result (λ refusal. (refusal.0 < length looks)
+        × (teller.new ≡ settled_all (take refusal.0 (map outcome_of looks)) teller.old)
+        × (from.new ≡ path_after from.old (take refusal.0 (map outcome_of looks)))) }
+    ensures fault { IfErr result (λ refusal. IsRefusedAt K.names teller.new (events_below from.old (map outcome_of looks)) refusal.0 refusal.1) }
 {
     let number = teller.number;
     desk_of(rt, shared).settle_below(&shared.halves, number, &mut teller.share, from, looks)

@@ -22,7 +22,7 @@ use std::marker::Brand;
 use std::process::Abort;
 use std::sync::Wait;
 use std::test::*;
-use tsn_book::{BookFault, Event};
+use tsn_book::{BookFault, Event, Looks};
 use tsn_branch::outcome::Look;
 use tsn_branch::{Node, Side, Triple};
 use tsn_share::{Named, Parts, Shared, Teller, post_as, settle_all_as, settle_below_as};
@@ -276,21 +276,20 @@ fn solved_left<R: Abort + AllocGlobal>(
 }
 
 /// The looks of a walk at a node that is split and at its Left child.
-fn two_looks<R: Abort + AllocGlobal>(rt: &R, triple: Triple, left: Look) -> Vec<Look>
-    ensures { result.items ≡ Split triple ∷ left ∷ [] }
+fn two_looks<R: Abort + AllocGlobal>(rt: &R, triple: Triple, left: Look) -> Looks
+    ensures { result ≡ Split triple ∷ left ∷ [] }
 {
-    let mut looks = Vec::new(rt.alloc());
-    put(rt, &mut looks, Look::Split(triple));
-    put(rt, &mut looks, left);
+    let mut looks = one_look(rt, Look::Split(triple));
+    looks.push(left).expect(rt, "memory");
     looks
 }
 
 /// One look.
-fn one_look<R: Abort + AllocGlobal>(rt: &R, look: Look) -> Vec<Look>
-    ensures { result.items ≡ look ∷ [] }
+fn one_look<R: Abort + AllocGlobal>(rt: &R, look: Look) -> Looks
+    ensures { result ≡ look ∷ [] }
 {
-    let mut looks = Vec::new(rt.alloc());
-    put(rt, &mut looks, look);
+    let mut looks = Looks::with_capacity(rt.alloc(), 2).expect(rt, "memory");
+    looks.push(look).expect(rt, "memory");
     looks
 }
 
@@ -301,8 +300,8 @@ fn first_looks<R: Abort + AllocGlobal>(
     timing: &Timing,
     node: &Node,
     target: u64,
-) -> (Vec<Look>, Solved)
-    ensures walk { IsWalk timing.now node.now result.1.flowspan result.0.items }
+) -> (Looks, Solved)
+    ensures walk { IsWalk timing.now node.now result.1.flowspan result.0 }
     ensures below { result.1.flowspan < target }
     ensures solved { IsSolved timing.now result.1 }
 {

@@ -182,7 +182,7 @@ module _ (network : Network) (triples : List Triple) (seen target : ℕ) (from :
   }
 
   -- the batch that ends with this look
-  pub collected : (batch : Batch) → batch.looks.items ≡ looks ++ look ∷ [] → length looks < 64 → HoldsSchedule network target (outcome_of look) batch.solved → IsBatch network seen from batch
+  pub collected : (batch : Batch) → batch.looks ≡ looks ++ look ∷ [] → length looks < 64 → HoldsSchedule network target (outcome_of look) batch.solved → IsBatch network seen from batch
   collected batch items low schedule =
       let more = length-append looks (look ∷ []) in
       let long = ap length items in

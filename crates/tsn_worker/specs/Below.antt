@@ -58,14 +58,14 @@ pub record EndsSolved (network : Network) (seen : ℕ) (outcomes : List Outcome)
 
 -- the outcomes of a batch
 abbrev pub outcomes_of : Batch → List Outcome
-outcomes_of batch = map outcome_of batch.looks.items
+outcomes_of batch = map outcome_of batch.looks
 
 -- 1 to 64 outcomes of a walk from that path, each right where it was found, and pruned by nothing but what is worse than what was seen; at most the last is solved, by the batch's schedule
 pub record IsBatch (network : Network) (seen : ℕ) (path : List Decision) (batch : Batch) : Type 0 where
   pub proofs : All (λ event. IsProved network event.path event.outcome) (events_below path (outcomes_of batch))
   pub above : All (IsAboveSeen network seen) (outcomes_of batch)
-  pub some : 1 ≤ length batch.looks.items
-  pub few : length batch.looks.items ≤ 64
+  pub some : 1 ≤ length batch.looks
+  pub few : length batch.looks ≤ 64
   pub ends : MatchOption batch.solved (All IsUnsolved (outcomes_of batch)) (EndsSolved network seen (outcomes_of batch))
 
 abbrev pub IsGoingOn : Turn → Type 0

@@ -12,6 +12,7 @@ ghost use Rattle.tsn_worker.specs.Below.{StandsAt, IsBelow, IsBatch, IsProved, H
 use crate::bag::Bag;
 use crate::search::{beyond, split_of};
 use std::alloc::Global;
+use tsn_book::Looks;
 use tsn_branch::outcome::Look;
 use tsn_branch::{Descent, Loads, NoMemory, Node, Side, fits};
 use tsn_conflict::sharing::Conflicts;
@@ -36,7 +37,7 @@ pub struct Below {
 #[derive(Drop)]
 pub struct Batch {
     /// What was found at them, in preorder. At most the last is solved.
-    pub(crate) looks: Vec<Look>,
+    pub(crate) looks: Looks,
     /// The schedule of the last one, where that is solved.
     pub(crate) solved: Option<Solved>,
     /// Whether the walk goes on.
@@ -172,10 +173,10 @@ impl Below {
         ensures from { self.new.from ≡ self.old.from }
         ensures batch { IfOk result (IsBatch timing.now seen self.old.from) }
         ensures goes_on { IfOk result (λ batch. MatchBool batch.more
-            (StandsAt timing.now conflicts.now.triples (path_after self.old.from (map outcome_of batch.looks.items)) self.new.descent) (Unit {0})) }
+            (StandsAt timing.now conflicts.now.triples (path_after self.old.from (map outcome_of batch.looks)) self.new.descent) (Unit {0})) }
     {
         let target = beyond(timing, seen);
-        let mut looks = Vec::with_capacity(alloc, most)?;
+        let mut looks = Looks::with_capacity(alloc, most)?;
         for _ in 0..most {
             let found = look_on(
                 alloc,
@@ -188,7 +189,7 @@ impl Below {
                 best,
             )?;
             let last = found.is_last();
-            looks.push_reserved(found.look);
+            looks.push(found.look)?;
             if last {
                 return Ok(Batch {
                     looks,

@@ -1,5 +1,6 @@
 //! What a gate is told.
 use crate::gate::News;
+use tsn_book::Looks;
 use tsn_branch::outcome::Look;
 use tsn_timing::Timing;
 
@@ -22,10 +23,10 @@ pub fn known(timing: &Timing, best: u64) -> Option<u64> {
 }
 
 /// The sides to which looks go on, the first in the highest bit: 1 for a split. There are at most 64.
-pub fn splits_among(looks: &[Look]) -> u64 {
+pub fn splits_among(looks: &Looks) -> u64 {
     let mut splits = 0u64;
-    for look in looks {
-        splits = (splits << 1) | u64::from(is_split(look));
+    for number in 0..looks.len() {
+        splits = (splits << 1) | u64::from(is_split(looks.get(number)));
     }
     splits
 }

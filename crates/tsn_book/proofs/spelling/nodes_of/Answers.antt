@@ -8,11 +8,9 @@ use Rattle.tsn_branch.specs.Outcome.{outcome_of}
 use Rattle.tsn_cert.specs.Node.{tree_node}
 use Rattle.tsn_cert.specs.declared.cert.Node.TheVariants.{Branch}
 use Rattle.tsn_book.specs.Arena.{paths_of, history_of}
-use Rattle.tsn_book.specs.Book.{planned}
 use Rattle.tsn_book.specs.Spelling.{IsWalk}
 use Rattle.tsn_book.proofs.Places.{placed_as, length-paths_of}
 use Rattle.tsn_book.proofs.Asking.{length-history_of}
-use Rattle.tsn_book.proofs.Closing.{written_back}
 use Rattle.tsn_book.proofs.Preorder.{walk_begins, waits_within, open_waits, split_spelled, leaf_within, leaf_tie, leaf_spelled, walk_room, walk_counted, walk_accepted}
 use Rattle.tsn_book.proofs.spelling.nodes_of.Goals as goal
 

@@ -9,6 +9,6 @@ pub settle_below_as-requires-clause-proofs : goal.settle_below_as-requires-claus
 settle_below_as-requires-clause-proofs g c =
     let path = c.args.from.now in
     let look = c.tied_look-look.result in
-    leaf_alone g.K.Named.names.race.network path look c.one_look-looks.result.items c.one_look-looks.ensures
+    leaf_alone g.K.Named.names.race.network path look c.one_look-looks.result c.one_look-looks.ensures
     (subst (λ (network : Network). HasProof network path (outcome_of look)) c.requires.network c.tied_look-look.ensures.proof)
     (subst (λ (network : Network). SplitsUndecided network path (outcome_of look)) c.requires.network c.tied_look-look.ensures.undecided)

@@ -1,4 +1,4 @@
-use Rattle.std.proofs.Common.{length, arith}
+use Rattle.std.proofs.Common.{arith}
 use Rattle.tsn_book.proofs.Places.{root_path}
 use Rattle.tsn_book.proofs.Closing.{origin_is}
 use Rattle.tsn_book.proofs.Above.{above_at, root_made}

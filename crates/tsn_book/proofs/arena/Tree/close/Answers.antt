@@ -2,6 +2,7 @@ use Rattle.std.proofs.Common.{◌≡◌, length, set, subst, sym, arith}
 use Rattle.std.proofs.lemmas.List.{length-set}
 use Rattle.tsn_book.specs.declared.standings.Standing.TheVariants.{Leaf}
 use Rattle.tsn_book.specs.Arena.{IsNewLeaf}
+use Rattle.tsn_book.specs.Log.{next_of}
 use Rattle.tsn_book.proofs.Growing.{leaf_grows}
 use Rattle.tsn_book.proofs.Closing.{new_leaf, written_back}
 use Rattle.tsn_book.proofs.arena.Tree.close.Goals as goal
@@ -10,8 +11,8 @@ pub mark-requires-clause-tree : goal.mark-requires-clause-tree
 mark-requires-clause-tree c =
     let self = c.args.self.now in
     let number : c.len.result ≡ length self.events.items = c.len.ensures.count in
-    rw (c.close.ensures.origins, c.close.ensures.standings, c.push_reserved.ensures.items)
-    (leaf_grows self.network self.places.origins self.places.standings self.events.items c.requires.tree c.args.place c.args.teller c.len.result c.args.look number c.requires.«open» c.requires.right c.requires.leaf).0
+    rw (c.close.ensures.origins, c.close.ensures.standings, c.settle_next.ensures.items)
+    (leaf_grows self.network self.places.origins self.places.standings self.events.items c.requires.tree c.args.place c.args.teller c.len.result (next_of self.events) number c.requires.«open» c.requires.right c.requires.leaf).0
 
 pub mark-requires-clause-leaf : goal.mark-requires-clause-leaf
 mark-requires-clause-leaf c =
@@ -24,15 +25,15 @@ pub returns-clause-tree : goal.returns-clause-tree
 returns-clause-tree c =
     let self = c.args.self.now in
     let number : c.len.result ≡ length self.events.items = c.len.ensures.count in
-    rw (c.close.ensures.origins, c.close.ensures.standings, c.push_reserved.ensures.items)
-    (leaf_grows self.network self.places.origins self.places.standings self.events.items c.requires.tree c.args.place c.args.teller c.len.result c.args.look number c.requires.«open» c.requires.right c.requires.leaf).0
+    rw (c.close.ensures.origins, c.close.ensures.standings, c.settle_next.ensures.items)
+    (leaf_grows self.network self.places.origins self.places.standings self.events.items c.requires.tree c.args.place c.args.teller c.len.result (next_of self.events) number c.requires.«open» c.requires.right c.requires.leaf).0
 
 pub returns-clause-history : goal.returns-clause-history
 returns-clause-history c =
     let self = c.args.self.now in
     let number : c.len.result ≡ length self.events.items = c.len.ensures.count in
-    rw (c.close.ensures.origins, c.push_reserved.ensures.items)
-    (leaf_grows self.network self.places.origins self.places.standings self.events.items c.requires.tree c.args.place c.args.teller c.len.result c.args.look number c.requires.«open» c.requires.right c.requires.leaf).1
+    rw (c.close.ensures.origins, c.settle_next.ensures.items)
+    (leaf_grows self.network self.places.origins self.places.standings self.events.items c.requires.tree c.args.place c.args.teller c.len.result (next_of self.events) number c.requires.«open» c.requires.right c.requires.leaf).1
 
 pub returns-clause-closed : goal.returns-clause-closed
 returns-clause-closed c =

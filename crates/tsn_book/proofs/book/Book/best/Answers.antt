@@ -8,14 +8,14 @@ use Rattle.tsn_book.proofs.book.Book.best.Goals as goal
 pub returns-clause-lawful : goal.returns-clause-lawful
 returns-clause-lawful c =
     let inside = c.self.inside in
-    let tree = inside.tree in
+    let tree = inside.ledger.tree in
     subst IsLawful c.self.view_is
-    (lawful tree.network tree.places.origins tree.places.standings tree.events.items inside.closed.items inside.limit inside.open_nodes inside.best inside.kept inside.tallies.items c.self.invariant)
+    (lawful tree.network tree.places.origins tree.places.standings tree.events.items inside.ledger.closed.items inside.ledger.limit inside.ledger.open_nodes inside.ledger.best inside.ledger.kept inside.ledger.tallies.items c.self.invariant.agrees)
 
 pub returns-clause-target : goal.returns-clause-target
 returns-clause-target c =
     let inside = c.self.inside in
-    let tree = inside.tree in
+    let tree = inside.ledger.tree in
     let history = history_of tree.places.origins tree.events.items in
-    subst (λ (p : Progress). IsBelowBounds p.network inside.best p.history) c.self.view_is
-    (subst (λ best. IsBelowBounds tree.network best history) (sym c.self.invariant.summary.lowest) (best_target tree.network history c.self.invariant.tree.legal))
+    subst (λ (p : Progress). IsBelowBounds p.network inside.ledger.best p.history) c.self.view_is
+    (subst (λ best. IsBelowBounds tree.network best history) (sym c.self.invariant.agrees.summary.lowest) (best_target tree.network history c.self.invariant.agrees.tree.legal))

@@ -6,12 +6,12 @@ use Rattle.tsn_book.proofs.book.Book.count.Goals as goal
 
 pub returns-clause-count : goal.returns-clause-count
 returns-clause-count c =
-    let tree = c.self.inside.tree in
+    let tree = c.self.inside.ledger.tree in
     omega (arith, c.len.ensures.count, length-history_of tree.places.origins tree.events.items, ap (λ (p : Progress). length p.history) c.self.view_is)
 
 pub returns-clause-lawful : goal.returns-clause-lawful
 returns-clause-lawful c =
     let inside = c.self.inside in
-    let tree = inside.tree in
+    let tree = inside.ledger.tree in
     subst IsLawful c.self.view_is
-    (lawful tree.network tree.places.origins tree.places.standings tree.events.items inside.closed.items inside.limit inside.open_nodes inside.best inside.kept inside.tallies.items c.self.invariant)
+    (lawful tree.network tree.places.origins tree.places.standings tree.events.items inside.ledger.closed.items inside.ledger.limit inside.ledger.open_nodes inside.ledger.best inside.ledger.kept inside.ledger.tallies.items c.self.invariant.agrees)

@@ -1,14 +1,13 @@
-use Rattle.std.proofs.Common.{Any, Contains, sym, subst}
+use Rattle.std.proofs.Common.{Contains, sym, subst}
 use Rattle.tsn_model.specs.Search.{solved_bounds, settled_by}
 use Rattle.tsn_book.specs.Book.{Progress, IsLawful}
-use Rattle.tsn_book.specs.Solving.{IsSolvedBy}
 use Rattle.tsn_book.proofs.Bookkeeping.{lawful}
 use Rattle.tsn_book.proofs.Solving.{solved_found, found_solved}
 use Rattle.tsn_book.proofs.book.Book.has_solved.Goals as goal
 
 pub returns-clause-solved : goal.returns-clause-solved
 returns-clause-solved c =
-    let tree = c.self.inside.tree in
+    let tree = c.self.inside.ledger.tree in
     let k = c.args.teller in
     let flowspan = c.args.flowspan in (
       λ is. subst (λ (p : Progress). Contains (solved_bounds (settled_by k p.history)) flowspan) c.self.view_is (solved_found tree.places.origins tree.events.items k flowspan (c.any_solved.ensures.0 is)),
@@ -19,6 +18,6 @@ returns-clause-solved c =
 pub returns-clause-lawful : goal.returns-clause-lawful
 returns-clause-lawful c =
     let inside = c.self.inside in
-    let tree = inside.tree in
+    let tree = inside.ledger.tree in
     subst IsLawful c.self.view_is
-    (lawful tree.network tree.places.origins tree.places.standings tree.events.items inside.closed.items inside.limit inside.open_nodes inside.best inside.kept inside.tallies.items c.self.invariant)
+    (lawful tree.network tree.places.origins tree.places.standings tree.events.items inside.ledger.closed.items inside.ledger.limit inside.ledger.open_nodes inside.ledger.best inside.ledger.kept inside.ledger.tallies.items c.self.invariant.agrees)

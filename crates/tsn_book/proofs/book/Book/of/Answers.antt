@@ -8,6 +8,9 @@ invariant_of-result c =
     let tree = c.in_ok-new.field-0 in
     let known = c.in_ok-new.ensures in
     let cycle : c.cycle-past_cycle.result ≡ tree.network.cycle = c.cycle-past_cycle.ensures.value ∙ ap (λ n. n.cycle) (sym known.network) in
-    rw c.in_ok-vec.ensures.items (rw c.in_ok-tallies_of.ensures
-    (start_book tree.network tree.places.origins tree.places.standings tree.events.items c.args.limit c.cycle-past_cycle.result c.args.tellers known.tree known.standings known.history known.events cycle
-    (subst IsWellFormed (sym known.network) c.cycle-past_cycle.ensures.well_formed)))
+    record {
+      agrees = rw c.in_ok-vec.ensures.items (rw c.in_ok-tallies_of.ensures
+          (start_book tree.network tree.places.origins tree.places.standings tree.events.items c.args.limit c.cycle-past_cycle.result c.args.tellers known.tree known.standings known.history known.events cycle
+          (subst IsWellFormed (sym known.network) c.cycle-past_cycle.ensures.well_formed)));
+      none_waits = known.waiting;
+    }

@@ -5,11 +5,11 @@ use Rattle.tsn_book.proofs.Bookkeeping.{lawful}
 use Rattle.tsn_book.proofs.book.Book.open_count.Goals as goal
 
 pub returns-clause-count : goal.returns-clause-count
-returns-clause-count c = c.self.invariant.summary.counted ∙ ap (λ (p : Progress). length (open_paths p.history)) c.self.view_is
+returns-clause-count c = c.self.invariant.agrees.summary.counted ∙ ap (λ (p : Progress). length (open_paths p.history)) c.self.view_is
 
 pub returns-clause-lawful : goal.returns-clause-lawful
 returns-clause-lawful c =
     let inside = c.self.inside in
-    let tree = inside.tree in
+    let tree = inside.ledger.tree in
     subst IsLawful c.self.view_is
-    (lawful tree.network tree.places.origins tree.places.standings tree.events.items inside.closed.items inside.limit inside.open_nodes inside.best inside.kept inside.tallies.items c.self.invariant)
+    (lawful tree.network tree.places.origins tree.places.standings tree.events.items inside.ledger.closed.items inside.ledger.limit inside.ledger.open_nodes inside.ledger.best inside.ledger.kept inside.ledger.tallies.items c.self.invariant.agrees)

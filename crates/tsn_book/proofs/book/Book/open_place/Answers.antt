@@ -1,5 +1,5 @@
-use Rattle.std.proofs.Common.{◌≡◌, length, arith, sym, ap, ◌∙◌, subst, Some, None}
-use Rattle.tsn_model.specs.Search.{made_paths, Outcome}
+use Rattle.std.proofs.Common.{◌≡◌, arith, sym, ◌∙◌, subst, Some, None}
+use Rattle.tsn_model.specs.Search.{Outcome}
 use Rattle.tsn_search_laws.specs.Walk.{IsPlaceOf}
 use Rattle.tsn_book.specs.Arena.{path_at, paths_of, IsOpenPlace}
 use Rattle.tsn_book.specs.Book.{Progress, IsFault}
@@ -9,13 +9,13 @@ use Rattle.tsn_book.proofs.book.Book.open_place.Goals as goal
 
 pub returns-in-Open : goal.returns-in-Open
 returns-in-Open c =
-    let tree = c.self.inside.tree in
+    let tree = c.self.inside.ledger.tree in
     let at : IsOpenPlace tree.places.standings c.in-Open.place × (path_at (paths_of tree.places.origins) c.in-Open.place ≡ c.args.path.now) = c.in-Open.ensures in
-    let many = length-made tree.network tree.places.origins tree.places.standings tree.events.items c.self.invariant.tree in
+    let many = length-made tree.network tree.places.origins tree.places.standings tree.events.items c.self.invariant.agrees.tree in
     subst (λ (p : Progress). IsPlaceOf p.history c.args.path.now c.in-Open.place) c.self.view_is
     (record {
-      within = omega (arith, at.0.within, c.self.invariant.tree.counted, many);
-      is = sym (path_made-at tree.network tree.places.origins tree.places.standings tree.events.items c.self.invariant.tree c.in-Open.place) ∙ at.1;
+      within = omega (arith, at.0.within, c.self.invariant.agrees.tree.counted, many);
+      is = sym (path_made-at tree.network tree.places.origins tree.places.standings tree.events.items c.self.invariant.agrees.tree c.in-Open.place) ∙ at.1;
     })
 
 pub returns-in-Settled : goal.returns-in-Settled

@@ -7,12 +7,12 @@ use Rattle.tsn_book.proofs.book.Book.places.Goals as goal
 
 pub returns-clause-places : goal.returns-clause-places
 returns-clause-places c =
-    let tree = c.self.inside.tree in
-    omega (arith, c.len.ensures.count, length-paths_of tree.places.origins, ap length c.self.invariant.tree.made, ap (λ (p : Progress). length (made_paths p.history)) c.self.view_is)
+    let tree = c.self.inside.ledger.tree in
+    omega (arith, c.len.ensures.count, length-paths_of tree.places.origins, ap length c.self.invariant.agrees.tree.made, ap (λ (p : Progress). length (made_paths p.history)) c.self.view_is)
 
 pub returns-clause-lawful : goal.returns-clause-lawful
 returns-clause-lawful c =
     let inside = c.self.inside in
-    let tree = inside.tree in
+    let tree = inside.ledger.tree in
     subst IsLawful c.self.view_is
-    (lawful tree.network tree.places.origins tree.places.standings tree.events.items inside.closed.items inside.limit inside.open_nodes inside.best inside.kept inside.tallies.items c.self.invariant)
+    (lawful tree.network tree.places.origins tree.places.standings tree.events.items inside.ledger.closed.items inside.ledger.limit inside.ledger.open_nodes inside.ledger.best inside.ledger.kept inside.ledger.tallies.items c.self.invariant.agrees)

@@ -1,13 +1,13 @@
-use Rattle.std.proofs.Common.{◌≡◌, ◌+◌, ◌-◌, ◌++◌, ◌∷◌, [], List, map, reverse, length, sym, ap, ◌∙◌, subst, arith}
+use Rattle.std.proofs.Common.{◌++◌, ◌∷◌, [], map, reverse, sym, ap, ◌∙◌, subst, arith}
 use Rattle.std.specs.Prelude.{All}
-use Rattle.std.proofs.lemmas.List.{map-append, reverse-append}
+use Rattle.std.proofs.lemmas.List.{map-append}
 use Rattle.tsn_model.specs.Network.{Network}
 use Rattle.tsn_branch.specs.Outcome.{outcome_of}
 use Rattle.tsn_branch.specs.Look.{HasProof}
 use Rattle.tsn_book.specs.declared.event.Event.{Event}
 use Rattle.tsn_book.specs.Event.{event_of}
-use Rattle.tsn_book.specs.Book.{Progress, IsLawful, IsFault}
-use Rattle.tsn_book.proofs.Below.{book_after, nothing_settled, settled_more, here, next_first, one_more, settled_count, refused_event}
+use Rattle.tsn_book.specs.Book.{Progress, IsFault}
+use Rattle.tsn_book.proofs.Below.{book_after, settled_more, here, next_first, one_more, settled_count, refused_event}
 use Rattle.tsn_book.proofs.book.Book.settle_all.Goals as goal
 
 pub settle-requires-clause-proof : goal.settle-requires-clause-proof

@@ -1,33 +1,19 @@
-use Rattle.std.proofs.Common.{◌<◌, ◌≤◌, ◌/◌, ◌%◌, ◌++◌, length, arith, sym, ap, ◌∙◌}
-use Rattle.std.specs.List.{flat_map, slice_index_or}
-use Rattle.tsn_book.specs.Log.{Logged, items_of}
-use Rattle.tsn_book.proofs.Pieces.{last_within, read_full, read_last}
+use Rattle.std.proofs.Common.{take, sym, ap, ◌∙◌}
+use Rattle.std.specs.List.{slice_index_or}
+use Rattle.tsn_book.specs.Log.{Logged}
+use Rattle.tsn_book.proofs.Pieces.{stands_in, read_full}
 use Rattle.tsn_book.proofs.log.Log.get.Goals as goal
 
-pub index-requires-else-number-len : goal.index-requires-else-number-len
-index-requires-else-number-len c =
+pub returns-else-number-self : goal.returns-else-number-self
+returns-else-number-self c =
     let inside = c.self.inside in
-    let within : c.args.number < length (flat_map items_of inside.full.items ++ inside.last.items) = omega (arith, c.requires.within, ap (λ (log : Logged). length log.items) c.self.view_is) in
-    let past : length inside.full.items ≤ c.args.number / 512 = omega (arith, c.if-number-len.false, c.len.ensures, inside.full.ok) in
-    let at = last_within inside.full.items inside.last c.self.invariant c.args.number within past in
-    omega (arith, at.0, inside.last.ok)
-
-pub returns-then-number-len : goal.returns-then-number-len
-returns-then-number-len c =
-    let inside = c.self.inside in
-    let read = c.index.result.now in
-    let piece : c.args.number / 512 < length inside.full.items = omega (arith, c.if-number-len.true, c.len.ensures, inside.full.ok) in
-    c.index.ensures
-    ∙ ap (λ p. slice_index_or (items_of p) (c.args.number % 512) read) c.index-piece.ensures
-    ∙ sym (read_full inside.full.items inside.last c.self.invariant c.args.number piece c.index-piece.result.now read)
-    ∙ ap (λ (log : Logged). slice_index_or log.items c.args.number read) c.self.view_is
-
-pub returns-else-number-len : goal.returns-else-number-len
-returns-else-number-len c =
-    let inside = c.self.inside in
-    let read = c.index-else-number-len.result.now in
-    let within : c.args.number < length (flat_map items_of inside.full.items ++ inside.last.items) = omega (arith, c.requires.within, ap (λ (log : Logged). length log.items) c.self.view_is) in
-    let past : length inside.full.items ≤ c.args.number / 512 = omega (arith, c.if-number-len.false, c.len.ensures, inside.full.ok) in
-    c.index-else-number-len.ensures
-    ∙ sym (read_last inside.full.items inside.last c.self.invariant c.args.number within past read)
-    ∙ ap (λ (log : Logged). slice_index_or log.items c.args.number read) c.self.view_is
+    let full = inside.full.items in
+    let number = c.args.number in
+    let k = c.piece_of.result in
+    let piece = c.index-piece.result.now in
+    let read = c.index-else-number-self.result.now in
+    let found = c.piece_of.ensures in
+    let stands = stands_in c.deref.result.now full c.deref.ensures.value number k piece c.index-piece.ensures found.piece (found.from piece) (found.to piece) in
+    c.index-else-number-self.ensures
+    ∙ sym (read_full full c.self.invariant.numbered (take inside.settled inside.last.items) number k piece stands read)
+    ∙ ap (λ (log : Logged). slice_index_or log.items number read) c.self.view_is

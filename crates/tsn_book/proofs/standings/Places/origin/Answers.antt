@@ -1,10 +1,10 @@
-use Rattle.std.proofs.Common.{◌≡◌, ◌<◌, ◌-◌, ◌/◌, ◌%◌, ◌+◌, ◌*◌, suc, length, arith, refl, sym, ap, ◌∙◌}
+use Rattle.std.proofs.Common.{◌≡◌, ◌<◌, ◌-◌, ◌/◌, ◌+◌, ◌*◌, suc, length, arith, sym, ap, ◌∙◌}
 use Rattle.std.specs.List.{slice_index_or}
 use Rattle.tsn_model.specs.declared.Side.TheVariants.{Left, Right}
 use Rattle.tsn_book.specs.declared.standings.Origin.{Origin}
 use Rattle.tsn_book.specs.declared.standings.Origin.TheVariants.{Root, Child}
 use Rattle.tsn_book.specs.declared.standings.Branching.{Branching}
-use Rattle.tsn_book.specs.Places.{Placed, children_made, origins_of}
+use Rattle.tsn_book.specs.Places.{Placed, origins_of}
 use Rattle.tsn_book.proofs.Branchings.{length-origins_of, child_made}
 use Rattle.tsn_book.proofs.standings.Places.origin.Goals as goal
 use Rattle.tsn_book.proofs.standings.Places.origin.Goals.{then-place-eq1, else-place-eq1}
