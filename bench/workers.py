@@ -5,8 +5,8 @@ workers.py runs [COUNT]   plans each network of bench/networks/suite COUNT times
                           in turn. Each run has to end within two minutes; where the answer is optimal, the plan file has to
                           have the bytes of every other run's, and each certificate has to be accepted.
 workers.py speed [FILE..] settlements a second with 1, 2 and 4 workers, as ratios to one worker, up to 1,000,000 settlements: of
-                          the files given, else of random-40, random-128 and bench/networks/suite. Runs with one worker and with
-                          several take turns, five of each, and the least time counts.
+                          the files given, else of random-40, random-128, bench/networks/large and bench/networks/suite. Runs with
+                          one worker and with several take turns, five of each, and the least time counts.
 """
 
 import os
@@ -19,11 +19,12 @@ from measure import PROGRAM, ROOT, build
 
 SUITE = os.path.join(ROOT, "bench", "networks", "suite")
 LARGER = [os.path.join(ROOT, "bench", "networks", name + ".toml") for name in ("random-40", "random-128")]
+LARGE = os.path.join(ROOT, "bench", "networks", "large")
 STEPS = 1_000_000
 
 
-def suite():
-    return [os.path.join(SUITE, name) for name in sorted(os.listdir(SUITE)) if name.endswith(".toml")]
+def networks(folder):
+    return [os.path.join(folder, name) for name in sorted(os.listdir(folder)) if name.endswith(".toml")]
 
 
 def tsn(words, limit=120):
@@ -52,7 +53,7 @@ def checked(network, workers, folder):
 def runs(count):
     wrong = 0
     print("network                              runs  settled, least and most        plans  refused")
-    for network in suite():
+    for network in networks(SUITE):
         plans, settled, refused = set(), [], 0
         for number in range(count):
             with tempfile.TemporaryDirectory() as folder:
@@ -73,9 +74,9 @@ def rate(network, workers):
     return int(line.split()[-1]), taken
 
 
-def speed(networks):
+def speed(files):
     print("network                                settled   seconds  2 workers  4 workers")
-    for network in networks:
+    for network in files:
         best = {1: 0.0, 2: 0.0, 4: 0.0}
         least, counted = None, 0
         for _ in range(5):
@@ -95,7 +96,7 @@ def main():
     if what == "runs":
         return runs(int(sys.argv[2]) if len(sys.argv) > 2 else 200)
     if what == "speed":
-        return speed(sys.argv[2:] or LARGER + suite())
+        return speed(sys.argv[2:] or LARGER + networks(LARGE) + networks(SUITE))
     print(__doc__)
     return 2
 
