@@ -75,6 +75,7 @@ fn node_from(network: &Timing, look: Look, plan: Option<&Solved>) -> Node
     requires tie { HasTie network.now (option_copied plan) (outcome_of look) }
     ensures { tree_node result ≡ node_of network.now (planned (option_copied plan.entry)) (outcome_of look) }
 {
+    // The network stands in the contract alone.
     let _ = network;
     match look {
         Look::Split(triple) => Node::Branch(triple),

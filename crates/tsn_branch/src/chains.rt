@@ -58,6 +58,7 @@ pub fn tie_chains(
         × ((path : List Decision) → Solves (releases_of timing.now) (arcs_of timing.now path) least.now
         → ShowsUpto timing.now path least.now.offsets best.now chains))) }
 {
+    // The network stands in the contract alone.
     let _ = timing;
     let Some(count) = compared(least.offsets(), best.offsets()) else {
         return Ok(None);

@@ -25,6 +25,7 @@ pub fn ends_of(timing: &Timing, offsets: &[u64]) -> Ends
     if let Some(stream) = first_overrun(timing, offsets) {
         return Ends::Overrun(stream);
     }
+    // The limits of the network bound the sums.
     let _cycle = timing.cycle();
     let (last, end) = last_arrival(timing, offsets);
     Ends::Within { last, end }
@@ -41,6 +42,7 @@ pub fn ends_after(timing: &Timing, offsets: &[u64], raised: &[usize], last: usiz
     if let Some(stream) = first_overrun_among(timing, offsets, raised) {
         return Ends::Overrun(stream);
     }
+    // The limits of the network bound the sums.
     let _cycle = timing.cycle();
     let (last, end) = last_arrival_among(timing, offsets, raised, last, end);
     Ends::Within { last, end }

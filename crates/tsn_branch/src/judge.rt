@@ -347,6 +347,7 @@ fn entries_at(
     ensures shown { IfOk result (λ leaf. (path : List Decision) → Solves (releases_of timing.now) (arcs_of timing.now path) least.now
         → ShowsLink timing.now path least.now.offsets leaf.0 leaf.1) }
 {
+    // The network stands in the contract alone.
     let _ = timing;
     let table = &loads.tables()[place];
     Ok((table.link, entries_of(alloc, least, &table.users)?))

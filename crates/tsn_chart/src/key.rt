@@ -36,6 +36,7 @@ pub fn write_key(text: &mut String, sheet: Sheet<'_>) -> Result<(), AllocError> 
 fn write_stream(text: &mut String, sheet: Sheet<'_>, stream: usize) -> Result<(), AllocError>
     requires { stream < stream_count sheet.timing.now }
 {
+    // There are few streams, so the sums are small.
     let _few = sheet.timing.streams();
     let x = 200 + (stream % COLUMNS) as u64 * COLUMN;
     let y = sheet.scale.bottom() + 300 + (stream / COLUMNS) as u64 * LINE;

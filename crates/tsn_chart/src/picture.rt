@@ -32,6 +32,7 @@ impl<'a> Sheet<'a> {
     pub(crate) fn name(&self, stream: usize) -> &'a str
         requires { stream < stream_count self.now.timing.now }
     {
+        // Each stream has a name.
         let _named = self.problem.streams();
         self.problem.stream_name(stream)
     }

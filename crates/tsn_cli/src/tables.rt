@@ -282,6 +282,7 @@ fn replay_table(
 {
     let lists = gate_lists(alloc, problem, valid)?;
     let background = background_for(greedy);
+    // The network is within its limits.
     let _limits = problem.cycle();
     let trace = match replay(alloc, problem, valid, &lists, cycles, &background) {
         Ok(trace) => trace,

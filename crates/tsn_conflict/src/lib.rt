@@ -23,6 +23,7 @@ use tsn_timing::Timing;
 pub fn conflicts(alloc: Global, timing: &Timing) -> Result<Conflicts, NoMemory>
     ensures { IfOk result (AreConflictsOf timing.now) }
 {
+    // The network is within its limits.
     let _limit = timing.cycle();
     let rows = rows_of(alloc, timing)?;
     let triples = triples_of(alloc, timing, &rows)?;

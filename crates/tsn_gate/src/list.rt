@@ -146,6 +146,7 @@ pub(crate) fn names(problem: &Problem, link: usize) -> (&str, &str)
     ensures from { result.0.now ≡ name_at problem.now (link_at problem.now.network link).from }
     ensures to { result.1.now ≡ name_at problem.now (link_at problem.now.network link).to }
 {
+    // The network is within its limits, and each node has a name.
     let _limits = problem.cycle();
     let _nodes = problem.nodes();
     let joined = problem.link(link);

@@ -1,6 +1,7 @@
 //! The definitions that every crate of the planner speaks of (`specs/`), and the small plain types that they name.
 #![tactic(auto)]
 
+pub mod bounds;
 pub mod laws;
 pub mod plain;
 

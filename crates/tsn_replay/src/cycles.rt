@@ -56,6 +56,7 @@ pub fn replay(
     if let Some(fault) = first_fault(problem, lists, cycles, background) {
         return Err(fault);
     }
+    // The network is within its limits, and each stream has a name.
     let _limits = problem.cycle();
     let timing = Timing::of(alloc, problem)?;
     let gates = openings_of(alloc, lists)?;

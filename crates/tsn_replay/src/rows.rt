@@ -115,6 +115,7 @@ fn table_of(
         → (slice_index_or starts.now i d).time ≡ (slice_index_or starts.now j d).time }
     ensures { IfOk result (λ table. IsTable timing.now cycles starts.now table.items) }
 {
+    // The network is within its limits, so a route has few hops.
     let _limits = timing.cycle();
     let mut table = vec![in alloc; None; cycles * timing.streams() * 16]?;
     for started in starts {

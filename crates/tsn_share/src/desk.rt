@@ -185,6 +185,7 @@ impl<K: Named> Desk<K> {
             halves: _,
             names: _,
         } = self;
+        // What is counted is lawful.
         let _count = book.count();
         book
     }

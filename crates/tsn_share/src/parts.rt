@@ -52,6 +52,7 @@ impl Parts {
         requires { 1 ≤ tellers }
         ensures search { IfOk result (λ parts. (parts.race.network ≡ timing.now) × (parts.race.tellers ≡ tellers) × (parts.limit ≡ limit)) }
     {
+        // The network is within its limits.
         let _cycle = timing.cycle();
         let (incumbent, seat) = Incumbent::new(alloc, timing, tellers)?;
         let (halves, pairs) = Halves::new(alloc, timing, tellers)?;

@@ -244,6 +244,7 @@ impl Timing {
         ensures value { result ≡ flowspan self.now offsets.now }
         ensures bound { result ≤ self.now.cycle + 60_000_000 }
     {
+        // The limits of the network bound the sums.
         let _ = &self.network;
         let mut last: u64 = 0;
         for stream in 0..self.streams() {
@@ -292,6 +293,7 @@ impl Timing {
             ((i : ℕ) → i < stream_count self.now → IsInTime self.now offsets.now i)
             (λ i. IsFirstTooLate self.now offsets.now i) }
     {
+        // The limits of the network bound the sums.
         let _ = &self.network;
         for stream in 0..self.streams() {
             if offsets[stream] + self.arrival(stream) > self.latest(stream) {
@@ -357,6 +359,7 @@ impl Timing {
         ensures { IsTrue result ↔ IsOverlap self.now offsets.now
             (record { left = left; right = right; link = route_link self.now left hop }) }
     {
+        // The limits of the network bound the sums.
         let _ = &self.network;
         let Some(other) = self.hop_on(right, self.route_link(left, hop)) else {
             return false;
