@@ -1,5 +1,5 @@
 -- A file states one problem alone.
-use Rattle.std.proofs.Common.{◌≡◌, ℕ, List, Option, Some, sym, ap, ◌∙◌}
+use Rattle.std.proofs.Common.{◌≡◌, ℕ, List, Some, sym, ap, ◌∙◌}
 use Rattle.toml.specs.Data.{Members, table}
 use Rattle.tsn_net.specs.Document.{Document, document_of}
 use Rattle.tsn_net.specs.Problem.{NamedNetwork, problem_of}

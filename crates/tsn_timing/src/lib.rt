@@ -1,7 +1,6 @@
 //! When the frames of a problem's streams are where, and whether offsets are a no-wait schedule.
 #![tactic(auto)]
 
-mod copy;
 pub mod solved;
 mod tables;
 pub mod timing;

@@ -1,11 +1,11 @@
 //! The timing of a problem, and the judgement of offsets.
 ghost use Rattle.std.specs.Prelude.{◌≡◌, ◌+◌, ◌≤◌, ◌<◌, ◌↔◌, ℕ, IsTrue, length, All, IfOk, IfErr, MatchOption, min};
 
-use crate::copy::network_of;
 use crate::tables::{StreamTable, tables_of};
 use crate::valid::Valid;
 use std::alloc::Global;
 use std::marker::Model;
+use tsn_model::bounds::{MAX_OCCUPANCY, MAX_SPAN, MAX_START};
 use tsn_model::plain::PlainNetwork;
 use tsn_model::{Link, NoMemory, Triple, Violation};
 use tsn_net::Problem;
@@ -19,7 +19,9 @@ pub enum Validity {
     Refused(Violation),
 }
 
-/// A network with the times of its streams, in nanoseconds: what a `Problem` says but for the names.
+/// A network with the times of its streams, in nanoseconds: what a `Problem` says but for the names. Directed links and streams
+/// are numbered from 0, as in the problem. The readings of the network are those of `plain`, at hand here for callers that ask
+/// for them often.
 #[derive(Drop)]
 pub struct Timing {
     network: PlainNetwork,
@@ -45,11 +47,11 @@ impl Timing {
     ghost use Rattle.tsn_model.specs.PlainWords.{IsOverlap};
     ghost use Rattle.tsn_timing.specs.Judgement.{Judges, IsFirstPastCycle, IsFirstEarly, IsFirstTooLate, HasNoOverlap, IsFirstOverlapOf, ArePairApart, IsLeastOverlap};
 
-    /// The timing of a problem.
+    /// The timing of a problem, which it keeps a copy of. The error says that there was no memory.
     pub fn of(alloc: Global, problem: &Problem) -> Result<Timing, NoMemory>
         ensures { IfOk result (λ timing. timing ≡ problem.now.network) }
     {
-        let network = network_of(alloc, problem)?;
+        let network = PlainNetwork::copy(problem, alloc)?;
         let tables = tables_of(alloc, &network)?;
         Ok(Timing { network, tables })
     }
@@ -70,7 +72,7 @@ impl Timing {
         &self.network
     }
 
-    /// The cycle, in nanoseconds. The network is within its limits.
+    /// The cycle, in nanoseconds, 1 to 1,000,000,000. The contract says beside it that the network is within its limits.
     pub fn cycle(&self) -> u64
         ensures value { result ≡ self.now.cycle }
         ensures well_formed { IsWellFormed self.now }
@@ -79,7 +81,7 @@ impl Timing {
         self.network.cycle()
     }
 
-    /// How many directed links there are.
+    /// How many directed links there are, at most 1024.
     pub fn links(&self) -> usize
         ensures value { result ≡ length self.now.links }
         ensures few { result ≤ 1024 }
@@ -87,7 +89,7 @@ impl Timing {
         self.network.links()
     }
 
-    /// A directed link.
+    /// A directed link, with its times in nanoseconds.
     pub fn link(&self, link: usize) -> Link
         requires { link < length self.now.links }
         ensures { result ≡ link_at self.now link }
@@ -95,7 +97,7 @@ impl Timing {
         self.network.link(link)
     }
 
-    /// How many streams there are.
+    /// How many streams there are, 1 to 128.
     pub fn streams(&self) -> usize
         ensures value { result ≡ stream_count self.now }
         ensures some { 1 ≤ result }
@@ -104,7 +106,7 @@ impl Timing {
         self.network.streams()
     }
 
-    /// The least offset that a stream may have, in nanoseconds.
+    /// The least offset that a stream may have, in nanoseconds, at most 1,000,000,000.
     pub fn release(&self, stream: usize) -> u64
         requires { stream < stream_count self.now }
         ensures value { result ≡ release_of self.now stream }
@@ -113,7 +115,7 @@ impl Timing {
         self.network.release(stream)
     }
 
-    /// The instant, counted from the cycle's start, by which a stream has to arrive.
+    /// The instant, counted from the cycle's start, by which a stream has to arrive, in nanoseconds, 1 to 1,000,000,000.
     pub fn latest(&self, stream: usize) -> u64
         requires { stream < stream_count self.now }
         ensures value { result ≡ latest_of self.now stream }
@@ -123,7 +125,7 @@ impl Timing {
         self.network.latest(stream)
     }
 
-    /// How many hops a stream's route has.
+    /// How many hops a stream's route has, 1 to 16.
     pub fn hops(&self, stream: usize) -> usize
         requires { stream < stream_count self.now }
         ensures value { result ≡ hop_count self.now stream }
@@ -143,41 +145,42 @@ impl Timing {
         self.network.route_link(stream, hop)
     }
 
-    /// How long a stream's frame occupies the link of a hop, with the interframe gap.
+    /// How long a stream's frame occupies the link of a hop, with the interframe gap, in nanoseconds, 1 to `MAX_OCCUPANCY`.
     pub fn occ(&self, stream: usize, hop: usize) -> u64
         requires stream { stream < stream_count self.now }
         requires hop { hop < hop_count self.now stream }
         ensures value { result ≡ occupancy self.now stream (route_link self.now stream hop) }
         ensures some { 1 ≤ result }
-        ensures bound { result ≤ 1_233_600 }
+        ensures bound { result ≤ MAX_OCCUPANCY }
     {
         self.tables[stream].hops[hop].occupancy
     }
 
-    /// When a stream's frame starts on a hop, counted from the stream's offset.
+    /// When a stream's frame starts on a hop, counted from the stream's offset, in nanoseconds, at most `MAX_START`.
     pub fn start(&self, stream: usize, hop: usize) -> u64
         requires stream { stream < stream_count self.now }
         requires hop { hop < hop_count self.now stream }
         ensures value { result ≡ start self.now stream hop }
-        ensures bound { result ≤ 51_584_000 }
+        ensures bound { result ≤ MAX_START }
     {
         self.tables[stream].hops[hop].start
     }
 
-    /// When a stream's last octet is at the receiver, counted from the stream's offset.
+    /// When a stream's last octet is at the receiver, counted from the stream's offset, in nanoseconds, at most `MAX_SPAN`.
     pub fn arrival(&self, stream: usize) -> u64
         requires { stream < stream_count self.now }
         ensures value { result ≡ arrival self.now stream }
-        ensures bound { result ≤ 60_000_000 }
+        ensures bound { result ≤ MAX_SPAN }
     {
         self.tables[stream].arrival
     }
 
-    /// The end of a stream's last occupancy, or its arrival where that is later, counted from the stream's offset.
+    /// The end of a stream's last occupancy, or its arrival where that is later, counted from the stream's offset, in
+    /// nanoseconds, at most `MAX_SPAN`.
     pub fn span(&self, stream: usize) -> u64
         requires { stream < stream_count self.now }
         ensures value { result ≡ span self.now stream }
-        ensures bound { result ≤ 60_000_000 }
+        ensures bound { result ≤ MAX_SPAN }
     {
         self.tables[stream].span
     }
@@ -237,12 +240,12 @@ impl Timing {
         }
     }
 
-    /// When the stream that finishes last has arrived, in nanoseconds.
+    /// When the stream that finishes last has arrived, counted from the cycle's start, in nanoseconds.
     pub fn flowspan(&self, offsets: &[u64]) -> u64
         requires count { length offsets.now ≡ stream_count self.now }
         requires small { All (λ offset. offset ≤ self.now.cycle) offsets.now }
         ensures value { result ≡ flowspan self.now offsets.now }
-        ensures bound { result ≤ self.now.cycle + 60_000_000 }
+        ensures bound { result ≤ self.now.cycle + MAX_SPAN }
     {
         // The limits of the network bound the sums.
         let _ = &self.network;
