@@ -1,6 +1,7 @@
 -- Words of the private contracts: the table of what each triple's overlap needs, and where each stream's triples are.
 use Rattle.std.specs.Prelude.{◌≡◌, ℕ, ◌+◌, ◌-◌, ◌≤◌, ◌<◌, Bool, true, ◌||◌, ◌==◌, List, [], map, filter, length, slice_index_or}
 use Rattle.std.specs.List.{range_with_len}
+use Rattle.tsn_model.specs.declared.bounds.TheConstants.{MAX_OCCUPANCY, MAX_START}
 use Rattle.tsn_model.specs.declared.Triple.{Triple}
 use Rattle.tsn_model.specs.Network.{Network}
 use Rattle.tsn_model.specs.Schedule.{offset_of}
@@ -15,12 +16,12 @@ pub record IsInUses (uses : List (List Use)) (triple : Triple) : Type 0 where
   pub few : length uses ≤ 128
   pub left_row : triple.left < length uses
   pub left_link : triple.link < length (slice_index_or uses triple.left [])
-  pub left_early : (use_in uses triple.left triple.link).start ≤ 51584000
-  pub left_short : (use_in uses triple.left triple.link).occupancy ≤ 1233600
+  pub left_early : (use_in uses triple.left triple.link).start ≤ MAX_START
+  pub left_short : (use_in uses triple.left triple.link).occupancy ≤ MAX_OCCUPANCY
   pub right_row : triple.right < length uses
   pub right_link : triple.link < length (slice_index_or uses triple.right [])
-  pub right_early : (use_in uses triple.right triple.link).start ≤ 51584000
-  pub right_short : (use_in uses triple.right triple.link).occupancy ≤ 1233600
+  pub right_early : (use_in uses triple.right triple.link).start ≤ MAX_START
+  pub right_short : (use_in uses triple.right triple.link).occupancy ≤ MAX_OCCUPANCY
 
 -- by these offsets each stream of the triple starts on its link before the other one's occupancy ends
 pub record Meets (uses : List (List Use)) (offsets : List ℕ) (triple : Triple) : Type 0 where

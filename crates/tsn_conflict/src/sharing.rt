@@ -13,6 +13,7 @@ use crate::pairs::{GREATEST_OFFSET, Pair};
 use crate::places::Places;
 use crate::uses::{Row, Use, has_link, look_up};
 use std::marker::Model;
+use tsn_model::bounds::{MAX_OCCUPANCY, MAX_START};
 use tsn_model::{Arc, Side, Triple};
 
 /// The triples of two streams and a link that both use, with when each stream is on each link.
@@ -212,8 +213,8 @@ impl Conflicts {
     fn use_on(&self, stream: usize, link: usize) -> Use
         requires { (network : Network) → AreConflictsOf network self.now → UsesLink network stream link }
         ensures counted { stream < length self.now.uses }
-        ensures early { result.start ≤ 51_584_000 }
-        ensures short { result.occupancy ≤ 1_233_600 }
+        ensures early { result.start ≤ MAX_START }
+        ensures short { result.occupancy ≤ MAX_OCCUPANCY }
         ensures start { (network : Network) → AreConflictsOf network self.now → result.start ≡ start_on network stream link }
         ensures occupancy { (network : Network) → AreConflictsOf network self.now → result.occupancy ≡ occupancy network stream link }
     {

@@ -11,6 +11,7 @@ use crate::sweep::entries_of;
 use crate::windows::windows_on;
 use std::alloc::{AllocError, Global};
 use tsn_model::NoMemory;
+use tsn_model::bounds::MAX_OCTETS_ON_LINK;
 use tsn_net::Problem;
 use tsn_timing::{Timing, Valid};
 
@@ -82,5 +83,5 @@ fn guard(timing: &Timing, link: usize) -> u64
     requires formed { IsWellFormed timing.now }
     ensures { result ≡ guard_of timing.now link }
 {
-    1542 * timing.link(link).r
+    MAX_OCTETS_ON_LINK * timing.link(link).r
 }

@@ -1,5 +1,8 @@
 //! The bounds on a network's times that follow from its limits, in nanoseconds, where nothing else is said.
 
+/// The least octets of a frame, from the destination address to the check sequence (IEEE 802.3).
+pub const MIN_OCTETS: u64 = 64;
+
 /// The most octets of a frame, from the destination address to the check sequence (IEEE 802.3: the greatest tagged one).
 pub const MAX_OCTETS: u64 = 1522;
 
@@ -9,11 +12,14 @@ pub const PREAMBLE_OCTETS: u64 = 8;
 /// The octets that a frame takes on a link besides its own: those before it, and the interframe gap of 12 behind it.
 pub const OVERHEAD_OCTETS: u64 = PREAMBLE_OCTETS + 12;
 
+/// The most octets that a frame takes on a link.
+pub const MAX_OCTETS_ON_LINK: u64 = MAX_OCTETS + OVERHEAD_OCTETS;
+
 /// The longest that an octet takes: at 10 Mb/s.
 pub const MAX_OCTET_TIME: u64 = 800;
 
 /// The longest that a frame occupies a link.
-pub const MAX_OCCUPANCY: u64 = (MAX_OCTETS + OVERHEAD_OCTETS) * MAX_OCTET_TIME;
+pub const MAX_OCCUPANCY: u64 = MAX_OCTETS_ON_LINK * MAX_OCTET_TIME;
 
 /// The longest from a frame's start on a link until its last octet is at the other end: propagation takes at most 1,000,000.
 pub const MAX_TRANSFER: u64 = (MAX_OCTETS + PREAMBLE_OCTETS) * MAX_OCTET_TIME + 1_000_000;

@@ -1,4 +1,5 @@
 pub mod Values
+pub mod Bounds
 pub mod Openings
 pub mod Queue
 pub mod Feeding

@@ -1,10 +1,11 @@
 -- When the gates of one list are open.
-use Rattle.std.specs.Prelude.{◌≡◌, ◌≢◌, ℕ, ◌+◌, ◌≤◌, ◌<◌, ◌^◌, List, length, slice_index, slice_index_or, take, All, AllPairs, IsBitSet, bit_and}
+use Rattle.std.specs.Prelude.{◌≡◌, ◌≢◌, ℕ, ◌+◌, ◌≤◌, ◌<◌, List, length, slice_index, slice_index_or, take, All, AllPairs, IsBitSet, bit_and}
 use Rattle.tsn_model.specs.Network.{Network, stream_count, hop_count, route_link}
 use Rattle.tsn_model.specs.declared.GateEntry.{GateEntry}
 use Rattle.tsn_model.specs.Gates.{IsOctetAt, cycle_of}
 use Rattle.tsn_model.specs.Bridge.{LinkGates, BackgroundFrame, Background, frame_at}
 use Rattle.tsn_model.specs.Bridge.Background.{nothing, greedy, frames}
+use Rattle.tsn_replay.specs.Bounds.{latest_instant}
 
 -- the end of each entry, counted from the first one's start
 pub record AreEnds (entries : List GateEntry) (ends : List ℕ) : Type 0 where
@@ -51,7 +52,7 @@ pub record HasLists (network : Network) (gates : List LinkGates) : Type 0 where
 pub record IsGivenFrame (network : Network) (gates : List LinkGates) (frame : BackgroundFrame) : Type 0 where
   pub exists : frame.link < length network.links
   pub listed : (place : ℕ) × (place < length gates) × ((d : LinkGates) → (slice_index_or gates place d).link ≡ frame.link)
-  pub early : frame.wanted ≤ 2 ^ 50
+  pub early : frame.wanted ≤ latest_instant
   pub short : frame.octets ≤ 1522
 
 -- each background frame that is handed in waits on the link of a list, from a small instant on

@@ -3,7 +3,7 @@
 --     IsFrame, IsTracked      the frames that wait
 --     IsListSoFar, IsFedSoFar its background is what was handed in
 --     Setting, IsState        the whole state of a replay
-use Rattle.std.specs.Prelude.{◌≡◌, ℕ, ◌+◌, ◌*◌, ◌≤◌, ◌<◌, ◌⊎◌, ◌^◌, ◌≢◌, ◌-◌, List, [], length, slice_index_or, max, sum_by, All, AllPairs, Option, Some, None}
+use Rattle.std.specs.Prelude.{◌≡◌, ℕ, ◌+◌, ◌*◌, ◌≤◌, ◌<◌, ◌⊎◌, ◌≢◌, ◌-◌, List, [], length, slice_index_or, max, sum_by, All, AllPairs, Option, Some, None}
 use Rattle.tsn_model.specs.Network.{Network, IsWellFormed, stream_count, hop_count, route_link}
 use Rattle.tsn_model.specs.Bridge.{LinkGates, BackgroundOpen, Passage, ScheduledStart, BackgroundStart, BridgeRun, WireUse, link_of, wire_uses, AreDisjoint, IsPassage, StartedAt, NotStartedBefore, IsReady, FitsAt, IsBlocked, IsTaken, IsHeld, Background, BackgroundFrame, frame_at, IsBefore, PlaceStartedBefore}
 use Rattle.tsn_replay.specs.declared.queue.Frame.{Frame}
@@ -17,6 +17,7 @@ use Rattle.tsn_replay.specs.Openings.{HasLists, HasBackground}
 use Rattle.tsn_replay.specs.Feeding.{background_of, IsLine, IsFeedOf, waiting_on, greatest_on}
 use Rattle.tsn_replay.specs.declared.port.Port.{Port}
 use Rattle.tsn_replay.specs.Ports.{IsPort, port_in}
+use Rattle.tsn_replay.specs.Bounds.{latest_end, latest_free, latest_instant}
 
 -- what has started is a bridge run up to instant `now`; each wire is taken from now on until it is free, and then by nobody
 pub record IsRunSoFar (network : Network) (offsets : List ℕ) (gates : List LinkGates) (cycles : ℕ) (free : ℕ → ℕ) (now : ℕ) (run : BridgeRun) : Type 0 where
@@ -121,14 +122,14 @@ pub record IsSetting (setting : Setting) : Type 0 where
 pub record IsUnderWay (setting : Setting) (state : State) : Type 0 where
   pub end : state.end ≡ setting.cycles * setting.network.cycle
   pub time : state.time ≤ state.end
-  pub small : state.end ≤ 16000000000
+  pub small : state.end ≤ latest_end
   pub run : IsRunSoFar setting.network setting.offsets setting.gates setting.cycles (free_on state.free.items) state.time state.starts
   pub fed : IsFedSoFar setting.network setting.gates setting.cycles (free_on state.free.items) state.time setting.background (waiting_on state.feed) state.starts
   pub tracked : IsTracked setting.network setting.offsets setting.cycles state.starts state.frames.items
   pub feed : IsFeedOf setting.background (length setting.network.links) state.feed
   pub wires : length state.free.items ≡ length setting.network.links
-  pub frees : All (λ time. time ≤ 2 ^ 40) state.free.items
-  pub readies : All (λ (frame : Frame). frame.ready ≤ 2 ^ 50) state.frames.items
+  pub frees : All (λ time. time ≤ latest_free) state.free.items
+  pub readies : All (λ (frame : Frame). frame.ready ≤ latest_instant) state.frames.items
 
 -- this is the port of the list at that place
 abbrev pub IsPortAt : Setting → State → ℕ → Port → Type 0

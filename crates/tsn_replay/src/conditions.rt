@@ -10,6 +10,7 @@ ghost use Rattle.tsn_replay.specs.Faults.{frames_of, IsListed, HasListedRoute, N
 use crate::background::{Background, BackgroundFrame};
 use crate::fault::ReplayFault;
 use tsn_gate::GateList;
+use tsn_model::bounds::{MAX_OCTETS, MIN_OCTETS};
 use tsn_net::Problem;
 
 /// The most background frames of a list.
@@ -139,5 +140,7 @@ fn all_last(lists: &[GateList], cycle: u64) -> bool
 fn all_within(frames: &[BackgroundFrame], end: u64) -> bool
     ensures { IsTrue result ↔ All (IsWithin end) frames.now }
 {
-    frames.iter().all(|frame| 64 <= frame.octets && frame.octets <= 1522 && frame.wanted < end)
+    frames.iter().all(|frame| {
+        MIN_OCTETS <= frame.octets && frame.octets <= MAX_OCTETS && frame.wanted < end
+    })
 }

@@ -14,6 +14,7 @@ use crate::port::{Port, first_port};
 use crate::queue::{Frame, advance, frames_of, waits};
 use crate::starts::Starts;
 use std::alloc::{AllocError, Global};
+use tsn_model::bounds::OVERHEAD_OCTETS;
 use tsn_model::plain::PlainNetwork;
 
 /// What is replayed: the cycles of a network with these offsets (nanoseconds, one a stream), by gate control lists, each
@@ -188,7 +189,7 @@ impl Replay<'_> {
             unreachable!()
         };
         let time = port.background;
-        let until = time + (waiting.octets + 20) * rate(self.network, link);
+        let until = time + (waiting.octets + OVERHEAD_OCTETS) * rate(self.network, link);
         state.starts.send(waiting, time)?;
         state.time = time;
         state.free[link] = until;

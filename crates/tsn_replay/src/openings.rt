@@ -4,6 +4,7 @@ ghost use Rattle.std.specs.Prelude.{◌≡◌, ◌≢◌, ◌+◌, ◌≤◌, �
 ghost use Rattle.tsn_model.specs.Gates.{IsOctetAt, cycle_of};
 ghost use Rattle.tsn_model.specs.Bridge.{LinkGates};
 ghost use Rattle.tsn_gate.specs.Entries.{IsGateList};
+ghost use Rattle.tsn_replay.specs.Bounds.{latest_free, latest_instant};
 ghost use Rattle.tsn_replay.specs.Openings.{AreEnds, IsEntryAt, OctetHas, OpensScheduled, OpensBackground, IsOpenFor, IsFirstFrom};
 
 use std::alloc::{AllocError, Global};
@@ -85,9 +86,9 @@ impl Openings {
     /// The first instant from `from` on at which the scheduled class is open for `length`; at or past `end` there is none.
     pub fn first_fit(&self, from: u64, length: u64, end: u64) -> u64
         requires some { 1 ≤ length }
-        requires short { length ≤ 2 ^ 40 }
-        requires early { from ≤ 2 ^ 50 }
-        requires limit { end ≤ 2 ^ 50 }
+        requires short { length ≤ latest_free }
+        requires early { from ≤ latest_instant }
+        requires limit { end ≤ latest_instant }
         ensures { IsFirstFrom from end (IsOpenFor self.now.entries length) result }
     {
         let _ = &self.cycle;
@@ -107,8 +108,8 @@ impl Openings {
 
     /// The first instant from `from` on at which a background class is open; at or past `end` there is none.
     pub fn first_background(&self, from: u64, end: u64) -> u64
-        requires early { from ≤ 2 ^ 50 }
-        requires limit { end ≤ 2 ^ 50 }
+        requires early { from ≤ latest_instant }
+        requires limit { end ≤ latest_instant }
         ensures { IsFirstFrom from end (λ t. OctetHas self.now.entries t OpensBackground) result }
     {
         let _ = &self.cycle;

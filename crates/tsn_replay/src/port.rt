@@ -1,7 +1,8 @@
 //! What starts next on a link.
-ghost use Rattle.std.specs.Prelude.{◌≡◌, ◌≤◌, ◌<◌, ◌^◌, ℕ, length, All, Some, MatchOption};
+ghost use Rattle.std.specs.Prelude.{◌≡◌, ◌≤◌, ◌<◌, ℕ, length, All, Some, MatchOption};
 ghost use Rattle.tsn_model.specs.Network.{stream_count};
 ghost use Rattle.tsn_model.specs.Bridge.{length_of};
+ghost use Rattle.tsn_replay.specs.Bounds.{latest_instant};
 ghost use Rattle.tsn_replay.specs.Openings.{IsOpenFor};
 ghost use Rattle.tsn_replay.specs.Queue.{Waits, IsHead, passage_of};
 ghost use Rattle.tsn_replay.specs.Ports.{IsScheduledNext, IsBackgroundNext, IsPort, IsFirstPort, port_time, port_in};
@@ -30,10 +31,10 @@ impl Port {
         end: u64,
     ) -> Port
         requires streams { All (λ (frame : Frame). frame.stream < stream_count network.now) frames.now }
-        requires ready { All (λ (frame : Frame). frame.ready ≤ 2 ^ 50) frames.now }
-        requires wanted { (frame : Waiting) → waiting ≡ Some frame → frame.wanted ≤ 2 ^ 50 }
-        requires from { from ≤ 2 ^ 50 }
-        requires end { end ≤ 2 ^ 50 }
+        requires ready { All (λ (frame : Frame). frame.ready ≤ latest_instant) frames.now }
+        requires wanted { (frame : Waiting) → waiting ≡ Some frame → frame.wanted ≤ latest_instant }
+        requires from { from ≤ latest_instant }
+        requires end { end ≤ latest_instant }
         ensures { IsPort network.now list.now.entries frames.now waiting list.now.link from end result }
     {
         let head = head(network, frames, list.link());
@@ -55,10 +56,10 @@ impl Port {
         end: u64,
     ) -> Port
         requires streams { All (λ (frame : Frame). frame.stream < stream_count network.now) frames.now }
-        requires ready { All (λ (frame : Frame). frame.ready ≤ 2 ^ 50) frames.now }
-        requires wanted { (frame : Waiting) → waiting ≡ Some frame → frame.wanted ≤ 2 ^ 50 }
-        requires from { from ≤ 2 ^ 50 }
-        requires end { end ≤ 2 ^ 50 }
+        requires ready { All (λ (frame : Frame). frame.ready ≤ latest_instant) frames.now }
+        requires wanted { (frame : Waiting) → waiting ≡ Some frame → frame.wanted ≤ latest_instant }
+        requires from { from ≤ latest_instant }
+        requires end { end ≤ latest_instant }
         requires head { IsHead network.now frames.now list.now.link self.head }
         requires still { from ≤ self.scheduled → IsScheduledNext network.now list.now.entries frames.now self.head from end self.scheduled }
         ensures { IsPort network.now list.now.entries frames.now waiting list.now.link from end result }
@@ -112,9 +113,9 @@ fn scheduled_on(
 ) -> u64
     requires first { IsHead network.now frames.now list.now.link first }
     requires streams { All (λ (frame : Frame). frame.stream < stream_count network.now) frames.now }
-    requires ready { All (λ (frame : Frame). frame.ready ≤ 2 ^ 50) frames.now }
-    requires from { from ≤ 2 ^ 50 }
-    requires end { end ≤ 2 ^ 50 }
+    requires ready { All (λ (frame : Frame). frame.ready ≤ latest_instant) frames.now }
+    requires from { from ≤ latest_instant }
+    requires end { end ≤ latest_instant }
     ensures { IsScheduledNext network.now list.now.entries frames.now first from end result }
 {
     match first {
@@ -125,9 +126,9 @@ fn scheduled_on(
 
 /// When the background frame that waits can start, from that instant on.
 fn background_on(list: &Openings, waiting: Option<Waiting>, from: u64, end: u64) -> u64
-    requires wanted { (frame : Waiting) → waiting ≡ Some frame → frame.wanted ≤ 2 ^ 50 }
-    requires from { from ≤ 2 ^ 50 }
-    requires end { end ≤ 2 ^ 50 }
+    requires wanted { (frame : Waiting) → waiting ≡ Some frame → frame.wanted ≤ latest_instant }
+    requires from { from ≤ latest_instant }
+    requires end { end ≤ latest_instant }
     ensures { IsBackgroundNext list.now.entries waiting from end result }
 {
     match waiting {
@@ -140,9 +141,9 @@ fn background_on(list: &Openings, waiting: Option<Waiting>, from: u64, end: u64)
 fn start_of(network: &PlainNetwork, frame: &Frame, list: &Openings, from: u64, end: u64) -> u64
     requires stream { frame.now.stream < stream_count network.now }
     requires waits { Waits network.now list.now.link frame.now }
-    requires ready { frame.now.ready ≤ 2 ^ 50 }
-    requires from { from ≤ 2 ^ 50 }
-    requires end { end ≤ 2 ^ 50 }
+    requires ready { frame.now.ready ≤ latest_instant }
+    requires from { from ≤ latest_instant }
+    requires end { end ≤ latest_instant }
     ensures forward { from ≤ result }
     ensures ready { frame.now.ready ≤ result }
     ensures none { (u : ℕ) → from ≤ u → frame.now.ready ≤ u → u < result → u < end → ¬ IsOpenFor list.now.entries (length_of network.now (passage_of frame.now)) u }

@@ -1,6 +1,7 @@
 //! The scheduled frames, and the queue of a link.
-ghost use Rattle.std.specs.Prelude.{◌≡◌, ◌+◌, ◌≤◌, ◌<◌, ◌^◌, ◌↔◌, ◌⊎◌, IsTrue, length, All, IfOk};
+ghost use Rattle.std.specs.Prelude.{◌≡◌, ◌+◌, ◌≤◌, ◌<◌, ◌↔◌, ◌⊎◌, IsTrue, length, All, IfOk};
 ghost use Rattle.tsn_model.specs.Network.{stream_count, hop_count};
+ghost use Rattle.tsn_replay.specs.Bounds.{latest_free, latest_instant};
 ghost use Rattle.tsn_replay.specs.Queue.{Waits, Precedes, IsHead};
 ghost use Rattle.tsn_replay.specs.Feeding.{no_start};
 ghost use Rattle.tsn_replay.specs.Progress.{IsTracked, advanced};
@@ -28,7 +29,7 @@ pub fn frames_of(
     requires small { All (λ offset. offset ≤ network.now.cycle) offsets.now }
     requires few { cycles ≤ 16 }
     ensures tracked { IfOk result (λ frames. IsTracked network.now offsets.now cycles no_start frames.items) }
-    ensures ready { IfOk result (λ frames. All (λ (frame : Frame). frame.ready ≤ 2 ^ 50) frames.items) }
+    ensures ready { IfOk result (λ frames. All (λ (frame : Frame). frame.ready ≤ latest_instant) frames.items) }
 {
     let mut frames = Vec::new(alloc);
     for cycle in 0..cycles {
@@ -48,9 +49,9 @@ pub fn frames_of(
 pub fn advance(network: &PlainNetwork, frame: &Frame, time: u64) -> Frame
     requires stream { frame.now.stream < stream_count network.now }
     requires hop { frame.now.hop < hop_count network.now frame.now.stream }
-    requires time { time ≤ 2 ^ 40 }
+    requires time { time ≤ latest_free }
     ensures value { result ≡ advanced network.now frame.now time }
-    ensures ready { result.ready ≤ 2 ^ 50 }
+    ensures ready { result.ready ≤ latest_instant }
 {
     let _limits = network.cycle();
     let link = network.route_link(frame.stream, frame.hop);

@@ -1,5 +1,6 @@
 -- The tables that a `Timing` keeps, beside the network that they are of.
 use Rattle.std.specs.Prelude.{◌≡◌, ℕ, ◌≤◌, ◌<◌, List, length, slice_index_or}
+use Rattle.tsn_model.specs.declared.bounds.TheConstants.{MAX_OCCUPANCY, MAX_SPAN, MAX_START}
 use Rattle.tsn_model.specs.Network.{Network, IsWellFormed, stream_count, hop_count, route_link}
 use Rattle.tsn_model.specs.Timing.{occupancy, start, arrival, span}
 use Rattle.tsn_timing.specs.declared.tables.Hop.{Hop}
@@ -16,16 +17,16 @@ pub record IsHop (network : Network) (i k : ℕ) (hop : Hop) : Type 0 where
   pub starts : hop.start ≡ start network i k
   pub occupies : hop.occupancy ≡ occupancy network i (route_link network i k)
   pub some : 1 ≤ hop.occupancy
-  pub short : hop.occupancy ≤ 1233600
-  pub early : hop.start ≤ 51584000
+  pub short : hop.occupancy ≤ MAX_OCCUPANCY
+  pub early : hop.start ≤ MAX_START
 
 -- the numbers of stream i, with how large they are at most
 pub record IsTable (network : Network) (i : ℕ) (table : StreamTable) : Type 0 where
   pub route : AreRight (IsHop network i) (hop_count network i) table.hops.items
   pub arrives : table.arrival ≡ arrival network i
   pub spans : table.span ≡ span network i
-  pub soon : table.arrival ≤ 60000000
-  pub short : table.span ≤ 60000000
+  pub soon : table.arrival ≤ MAX_SPAN
+  pub short : table.span ≤ MAX_SPAN
 
 -- the network is within its limits, and the numbers are those of its streams
 pub record AreTables (network : Network) (tables : List StreamTable) : Type 0 where
