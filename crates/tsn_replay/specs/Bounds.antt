@@ -1,5 +1,5 @@
 -- How late the instants of a replay can be, in ns; the sums that are made of them stay far below the greatest number of 64 bits.
-use Rattle.std.specs.Prelude.{ℕ, ◌^◌, ◌*◌}
+use Rattle.std.specs.Prelude.{ℕ, ◌^◌}
 
 -- the end of the last cycle: 16 cycles of at most a second each
 abbrev pub latest_end : ℕ

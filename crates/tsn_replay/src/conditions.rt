@@ -11,40 +11,40 @@ use crate::background::{Background, BackgroundFrame};
 use crate::fault::ReplayFault;
 use tsn_gate::GateList;
 use tsn_model::bounds::{MAX_OCTETS, MIN_OCTETS};
-use tsn_net::Problem;
+use tsn_model::plain::PlainNetwork;
 
 /// The most background frames of a list.
 const MOST_FRAMES: usize = 10_000;
 
 /// The first cause for which the cycles can't be replayed, but for memory.
 pub fn first_fault(
-    problem: &Problem,
+    network: &PlainNetwork,
     lists: &[GateList],
     cycles: usize,
     background: &Background,
 ) -> Option<ReplayFault>
     requires { cycles ≤ 16 }
     ensures { MatchOption result
-        (NamesLinks problem.now.network lists.now (background_of background.now) × KeepsLimits problem.now.network lists.now cycles (background_of background.now))
-        (HasReplayFault problem.now.network lists.now cycles (background_of background.now)) }
+        (NamesLinks network.now lists.now (background_of background.now) × KeepsLimits network.now lists.now cycles (background_of background.now))
+        (HasReplayFault network.now lists.now cycles (background_of background.now)) }
 {
-    if !names_links(problem, lists, background) {
+    if !names_links(network, lists, background) {
         return Some(ReplayFault::UnknownLink);
     }
-    if !keeps_limits(problem, lists, cycles, background) {
+    if !keeps_limits(network, lists, cycles, background) {
         return Some(ReplayFault::Limit);
     }
     None
 }
 
 /// Whether each list has its own link, and each link that is used or waited on its list.
-fn names_links(problem: &Problem, lists: &[GateList], background: &Background) -> bool
-    ensures { IsTrue result ↔ NamesLinks problem.now.network lists.now (background_of background.now) }
+fn names_links(network: &PlainNetwork, lists: &[GateList], background: &Background) -> bool
+    ensures { IsTrue result ↔ NamesLinks network.now lists.now (background_of background.now) }
 {
-    if !all_exist(lists, problem.links()) || !are_distinct(lists) {
+    if !all_exist(lists, network.links()) || !are_distinct(lists) {
         return false;
     }
-    if !all_used_listed(problem, lists) {
+    if !all_used_listed(network, lists) {
         return false;
     }
     all_waited_listed(lists, background.frames())
@@ -77,11 +77,11 @@ fn are_distinct(lists: &[GateList]) -> bool
 }
 
 /// Whether each link that a stream uses has a list.
-fn all_used_listed(problem: &Problem, lists: &[GateList]) -> bool
-    ensures { IsTrue result ↔ ((i : ℕ) → i < stream_count problem.now.network → HasListedRoute problem.now.network lists.now i) }
+fn all_used_listed(network: &PlainNetwork, lists: &[GateList]) -> bool
+    ensures { IsTrue result ↔ ((i : ℕ) → i < stream_count network.now → HasListedRoute network.now lists.now i) }
 {
-    for stream in 0..problem.streams() {
-        if !is_route_listed(problem, lists, stream) {
+    for stream in 0..network.streams() {
+        if !is_route_listed(network, lists, stream) {
             return false;
         }
     }
@@ -89,12 +89,12 @@ fn all_used_listed(problem: &Problem, lists: &[GateList]) -> bool
 }
 
 /// Whether each link of a stream's route has a list.
-fn is_route_listed(problem: &Problem, lists: &[GateList], stream: usize) -> bool
-    requires { stream < stream_count problem.now.network }
-    ensures { IsTrue result ↔ HasListedRoute problem.now.network lists.now stream }
+fn is_route_listed(network: &PlainNetwork, lists: &[GateList], stream: usize) -> bool
+    requires { stream < stream_count network.now }
+    ensures { IsTrue result ↔ HasListedRoute network.now lists.now stream }
 {
-    for hop in 0..problem.hops(stream) {
-        if !is_listed(lists, problem.route_link(stream, hop)) {
+    for hop in 0..network.hops(stream) {
+        if !is_listed(lists, network.route_link(stream, hop)) {
             return false;
         }
     }
@@ -115,15 +115,15 @@ fn all_waited_listed(lists: &[GateList], frames: &[BackgroundFrame]) -> bool
 
 /// Whether each list lasts the cycle, and the background frames are within their limits.
 fn keeps_limits(
-    problem: &Problem,
+    network: &PlainNetwork,
     lists: &[GateList],
     cycles: usize,
     background: &Background,
 ) -> bool
     requires { cycles ≤ 16 }
-    ensures { IsTrue result ↔ KeepsLimits problem.now.network lists.now cycles (background_of background.now) }
+    ensures { IsTrue result ↔ KeepsLimits network.now lists.now cycles (background_of background.now) }
 {
-    let cycle = problem.cycle();
+    let cycle = network.cycle();
     let end = cycles as u64 * cycle;
     let frames = background.frames();
     all_last(lists, cycle) && frames.len() <= MOST_FRAMES && all_within(frames, end)

@@ -19,7 +19,7 @@ loop-stream-preserved c =
     record {
       done = λ i below. elim (cases_lt i c.loop-stream.stream) [
         | inl old ↦ c.loop-stream.invariant.done i old
-        | inr new ↦ let same : c.loop-stream.stream ≡ i = omega arith in subst (HasListedRoute c.args.problem.now.network c.args.lists.now) same here
+        | inr new ↦ let same : c.loop-stream.stream ≡ i = omega arith in subst (HasListedRoute c.args.network.now c.args.lists.now) same here
       ];
       last = c.loop-stream.invariant.last;
     }

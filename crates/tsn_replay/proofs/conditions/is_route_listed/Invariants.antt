@@ -5,6 +5,6 @@ use Rattle.tsn_replay.proofs.conditions.is_route_listed.Given as goal
 
 abbrev pub invariant-loop-hop : goal.invariant-loop-hop
 invariant-loop-hop l = record {
-  done : (k : ℕ) → k < l.hop → IsListed l.lists (route_link l.problem.network l.stream k);
-  last : l.hop-end ≡ hop_count l.problem.network l.stream;
+  done : (k : ℕ) → k < l.hop → IsListed l.lists (route_link l.network l.stream k);
+  last : l.hop-end ≡ hop_count l.network l.stream;
 }

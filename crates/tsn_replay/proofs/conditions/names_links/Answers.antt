@@ -7,7 +7,7 @@ use Rattle.tsn_replay.proofs.conditions.names_links.Goals as goal
 pub returns : goal.returns
 returns c = (
   λ yes. record {
-    exist = subst (λ n. All (λ (list : LinkGates). list.link < n) c.args.lists.now) c.links.ensures (c.all_exist.ensures.0 c.if-not-all_exist.false);
+    exist = subst (λ n. All (λ (list : LinkGates). list.link < n) c.args.lists.now) c.links.ensures.value (c.all_exist.ensures.0 c.if-not-all_exist.false);
     distinct = c.are_distinct.ensures.0 c.if-not-are_distinct.false;
     used = c.all_used_listed.ensures.0 c.if-not-all_used_listed.false;
     waited = subst (All (λ (frame : FrameValue). IsListed c.args.lists.now frame.link)) c.frames.ensures (c.all_waited_listed.ensures.0 yes);
