@@ -94,7 +94,7 @@ IsFirstPlan network plan.None = ⊥
 
 -- ---- the entries of a leaf over a whole link
 
--- The entries before place k are right, and the one there is wrong, which may hang on those before it.
+-- The entries before place k are right, and the one there is wrong, which may depend on those before it.
 pub record IsFirstWrong (network : Network) (path : List Decision) (link : ℕ) (entries : List Entry) (Wrong : List Entry → Entry → Type 0) : Type 0 where
   pub k : ℕ
   pub entry : Entry
