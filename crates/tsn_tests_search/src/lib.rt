@@ -1,4 +1,4 @@
-//! Tests of conflicts, of looks at nodes of a search, of its book and of the planner. A crate with tests is proved twice, so
+//! Tests of conflicts, of looks at nodes of a search, and of its book. A crate with tests is proved twice, so
 //! they stand apart.
 #![tactic(auto)]
 
@@ -12,8 +12,6 @@ mod branch;
 mod networks;
 #[cfg(test)]
 mod nodes;
-#[cfg(test)]
-mod planner;
 #[cfg(test)]
 mod rows;
 #[cfg(test)]

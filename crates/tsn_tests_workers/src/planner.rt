@@ -22,7 +22,7 @@ pub struct Outcome {
     pub accepted: bool,
 }
 
-fn network(alloc: Global, text: &str) -> Result<Problem, Fail> {
+pub fn network(alloc: Global, text: &str) -> Result<Problem, Fail> {
     match read_problem(alloc, text.as_bytes()) {
         Ok(problem) => Ok(problem),
         Err(_) => Err(Fail::from("the network is refused")),

@@ -1,6 +1,6 @@
-//! The planner and the gate that it passes.
-use crate::networks::{TWO, problem_of};
-use crate::rows::{cut, expect_text, place};
+//! The planner by one worker, and the gate that it passes.
+use crate::networks::TWO;
+use crate::planner::network;
 use std::process::Abort;
 use std::sync::Wait;
 use std::sync::atomic::{AtomicU64, Ordering};
@@ -79,28 +79,20 @@ fn told_plan<R: AllocGlobal + Abort + Threads + Wait + Sync>(
     answer_text(rt, &answer, gate.passes.load(Ordering::SeqCst))
 }
 
-/// Plans by at most as many settlements as the row says, which is to end so.
-fn expect_plan<R: AllocGlobal + Abort + Threads + Wait + Sync>(
-    rt: &R,
-    problem: &Problem,
-    row: &str,
-) {
-    let (limit, wanted) = cut(rt, row, " = ");
-    let found = told_plan(rt, problem, place(rt, limit));
-    expect_text(rt, found.as_str(), wanted, limit);
-}
-
 /// The root and its two sides are settled, as far as the limit goes, each behind one pass of the gate.
-const PLANS: &str = "\
-1 = stopped settled 1 passed 1
-2 = stopped settled 2 passed 2
-3 = optimal 2924 settled 3 passed 3
-1000000 = optimal 2924 settled 3 passed 3";
+const PLANS: [(usize, &str); 4] = [
+    (1, "stopped settled 1 passed 1"),
+    (2, "stopped settled 2 passed 2"),
+    (3, "optimal 2924 settled 3 passed 3"),
+    (1_000_000, "optimal 2924 settled 3 passed 3"),
+];
 
 #[test]
-fn passes_the_gate_once_a_settlement(rt: HostRuntime) {
-    let problem = problem_of(&rt, TWO, "1000000");
-    for row in PLANS.lines() {
-        expect_plan(&rt, &problem, row);
+fn passes_the_gate_once_a_settlement(rt: HostRuntime) -> Result<(), Fail> {
+    let problem = network(rt.alloc(), TWO)?;
+    for (limit, wanted) in PLANS {
+        let found = told_plan(&rt, &problem, limit);
+        assert_eq!(rt; found.as_str(), wanted);
     }
+    Ok(())
 }
