@@ -6,7 +6,6 @@ use Rattle.std.proofs.lemmas.List.{append-nil, map-append, reverse-append, lengt
 use Rattle.std.proofs.lemmas.List.Elements.{All-head, All-tail}
 use Rattle.std.proofs.lemmas.Option.{slice_get-get_or}
 use Rattle.tsn_model.specs.declared.Triple.{Triple}
-use Rattle.tsn_model.specs.declared.Side.{Side}
 use Rattle.tsn_model.specs.declared.Side.TheVariants.{Left, Right}
 use Rattle.tsn_model.specs.declared.Decision.{Decision}
 use Rattle.tsn_model.specs.Network.{Network}
@@ -14,6 +13,7 @@ use Rattle.tsn_model.specs.Certificate.{decided}
 use Rattle.tsn_model.specs.Places.{pending}
 use Rattle.tsn_model.specs.Search.{Outcome, split, solved, pruned, tied, refuted, Event, Settlement, children_of, made_paths}
 use Rattle.tsn_model.proofs.Places.{pending-nil, pending-left, pending-right}
+use Rattle.tsn_model.proofs.Decisions.{take-decided}
 use Rattle.tsn_search_laws.specs.Walk.{path_made, IsPlaceOf}
 use Rattle.tsn_search_laws.proofs.Histories.{made_paths-snoc}
 use Rattle.tsn_branch.specs.declared.outcome.Look.{Look}
@@ -141,18 +141,10 @@ pub after_root : (old walk : List Decision) → pending walk ≡ pending old →
 unfolding after_leaf
 after_root old walk same is = is ∙ ap (λ paths. get_or paths 0 []) (sym (sym same ∙ ap pending is ∙ pending-nil))
 
--- the path above the last decision
-pub taken_back : (front : List Decision) (triple : Triple) (side : Side) → take (length (decided front triple side) - 1) (decided front triple side) ≡ front
-unfolding decided
-taken_back front triple side =
-    let last : List Decision = record { triple = triple; side = side } ∷ [] in
-    let above : length (front ++ last) - 1 ≡ length front = omega (arith, length-append front last) in
-    ap (λ n. take n (front ++ last)) above ∙ take-append_seam front last
-
 -- taking back a right turn leaves what waits
 pub right_taken : (walk front : List Decision) (triple : Triple) → walk ≡ decided front triple Right → (take (length walk - 1) walk ≡ front) × (pending front ≡ pending walk)
 right_taken walk front triple is = (
-  ap (λ (path : List Decision). take (length path - 1) path) is ∙ taken_back front triple Right,
+  ap (λ (path : List Decision). take (length path - 1) path) is ∙ take-decided front triple Right,
   sym (ap pending is ∙ pending-right front triple),
 )
 
@@ -295,7 +287,7 @@ none_below book teller from looks none =
 -- the path above the decision that a walk went down last
 pub above_push : (long path walk : List Decision) (triple : Triple) → long ≡ decided walk triple Left → path ≡ decided walk triple Left → take (length long - 1) path ≡ walk
 above_push long path walk triple first second =
-    ap (λ (p : List Decision). take (length p - 1) path) first ∙ ap (λ (p : List Decision). take (length (decided walk triple Left) - 1) p) second ∙ taken_back walk triple Left
+    ap (λ (p : List Decision). take (length p - 1) path) first ∙ ap (λ (p : List Decision). take (length (decided walk triple Left) - 1) p) second ∙ take-decided walk triple Left
 
 -- ---- what waits
 

@@ -7,7 +7,7 @@ use Rattle.std.proofs.lemmas.List.{length-append, length-set, length-map, get_or
 use Rattle.std.proofs.Math.ListN.{get_or-map}
 use Rattle.std.proofs.lemmas.List.Sums.{fold-append}
 use Rattle.std.proofs.lemmas.List.Filters.{length-filter_both}
-use Rattle.std.proofs.lemmas.List.Elements.{All-append, All-cons, All-nil}
+use Rattle.std.proofs.lemmas.List.Elements.{All-append, All-cons, All-nil, Contains-append_right}
 use Rattle.std.proofs.lemmas.Option.{get_or_from_slice_get}
 use Rattle.tsn_model.specs.declared.Decision.{Decision}
 use Rattle.tsn_model.specs.Network.{Network, IsWellFormed}
@@ -21,9 +21,11 @@ use Rattle.tsn_model.proofs.Conflicts.{conflict_listed}
 use Rattle.tsn_search_laws.proofs.Counting.{length-legal, length-legal_open}
 use Rattle.tsn_model.specs.Certificate.{Leaf}
 use Rattle.tsn_model.specs.Search.{Outcome, split, solved, pruned, tied, refuted, Settlement, children_of, made_paths, open_paths, is_settled, solved_bound, pruned_bound, solved_bounds, pruned_bounds, settled_by, least_or_none, best_bound, solutions, kept_of, tally_of, IsRight, IsAllowed, IsLegal}
-use Rattle.tsn_search_laws.proofs.Lists.{flat_map-snoc, length-Without, Contains-here, Contains-right}
+use Rattle.tsn_model.proofs.Lists.{Contains-head}
+use Rattle.tsn_search_laws.proofs.Lists.{flat_map-snoc, length-Without}
 use Rattle.tsn_search_laws.proofs.Histories.{legal_snoc, open_paths-snoc, open_but, open_but-Without}
-use Rattle.tsn_search_laws.proofs.Following.{settled_by-this, settled_by-another, kept_lower_after, kept_even_after, kept_same_after}
+use Rattle.tsn_search_laws.proofs.Following.{settled_by-this, kept_lower_after, kept_even_after, kept_same_after}
+use Rattle.tsn_search_laws.proofs.Gathering.{tally-another}
 use Rattle.tsn_book.specs.declared.standings.Origin.{Origin}
 use Rattle.tsn_book.specs.declared.standings.Standing.{Standing}
 use Rattle.tsn_book.specs.declared.standings.Standing.TheVariants.{Open}
@@ -99,12 +101,6 @@ tally_of_this network history settlement =
     ∙ ap (λ p. (length mine + 1, p, least_or_none network (solved_bounds (mine ++ settlement ∷ [])))) (pruned_after network mine settlement)
     ∙ ap (λ s. (length mine + 1, fold min (least_or_none network (pruned_bounds mine)) (pruned_bound settlement.event.outcome), s)) (solved_after network mine settlement)
 
--- and no other teller's does
-pub tally_of_other : (network : Network) (k : ℕ) (history : List Settlement) (settlement : Settlement) → settlement.teller ≢ k → tally_of network k (history ++ settlement ∷ []) ≡ tally_of network k history
-unfolding tally_of
-tally_of_other network k history settlement other =
-    ap (λ (h : List Settlement). (length h, least_or_none network (pruned_bounds h), least_or_none network (solved_bounds h))) (settled_by-another k history settlement other)
-
 -- ---- what is kept
 
 pub kept_stays : (network : Network) (history : List Settlement) (settlement : Settlement) (kept : Option ℕ) → kept_of network (history ++ settlement ∷ []) ≡ kept_of network history → IsKept network history kept → IsKept network (history ++ settlement ∷ []) kept
@@ -136,7 +132,7 @@ kept_even network history teller path offsets bound leaf chains kept number next
 
 own_bound : (offsets : List ℕ) (bound : ℕ) (leaf : Leaf) (chains : List (List ℕ)) → Contains (solved_bound (solved offsets bound leaf chains)) bound
 unfolding solved_bound
-own_bound offsets bound leaf chains = Contains-here bound []
+own_bound offsets bound leaf chains = Contains-head bound []
 
 -- with a solved leaf of that flowspan to come something is kept
 some_kept : (network : Network) (history : List Settlement) (settlement : Settlement) (offsets : List ℕ) (bound : ℕ) (leaf : Leaf) (chains : List (List ℕ)) → IsLegal network (history ++ settlement ∷ [])
@@ -146,7 +142,7 @@ some_kept network history settlement offsets bound leaf chains legal is same fir
     let before = legal_beginning network history (settlement ∷ []) legal in
     let past : best_bound network history ≡ network.cycle + 1 = sym (kept_target network history before) ∙ ap (target_of network) (was ∙ none) in
     let low = solved-le-cycle network (history ++ settlement ∷ []) legal bound
-    (solved_among (history ++ settlement ∷ []) settlement bound (Contains-right settlement history (settlement ∷ []) (Contains-here settlement []))
+    (solved_among (history ++ settlement ∷ []) settlement bound (Contains-append_right history (settlement ∷ []) settlement (Contains-head settlement []))
     (subst (λ o. Contains (solved_bound o) bound) (sym is) (own_bound offsets bound leaf chains))) in
     omega (arith, past, same, low)
 
@@ -215,7 +211,7 @@ summary_grows network history teller path outcome legal open_count best kept tal
             | inr turned ↦
                 let other : k ≢ teller = λ same. turned (sym same) in
                 let old : k < length tallies = omega (arith, below, length-set tallies teller new_tally) in
-                get_or-set_other tallies teller k new_tally (0, 0, 0) other ∙ before.tallied k old ∙ sym (tally_of_other network k history settlement turned)
+                get_or-set_other tallies teller k new_tally (0, 0, 0) other ∙ before.tallied k old ∙ sym (tally-another network k history settlement turned)
           ];
       tellers =
           let same = sym (length-set tallies teller new_tally) in

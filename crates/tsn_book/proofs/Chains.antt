@@ -2,11 +2,9 @@
 use Rattle.std.proofs.Common.{◌≡◌, ℕ, ◌+◌, ◌<◌, List, [], ◌∷◌, length, drop, get_or, All, Some, ℤ, pos, ◌+ℤ◌, refl, sym, ap, ◌∙◌, subst, arith}
 use Rattle.std.specs.Prelude.{◌-ℤ◌}
 use Rattle.std.proofs.lemmas.Int.{ints}
-use Rattle.std.proofs.lemmas.List.{drop_more, get_or-map, length-map}
+use Rattle.std.proofs.lemmas.List.{drop_more, get_or-map}
 use Rattle.std.proofs.Math.ListN.{drop_of_length-le}
 use Rattle.tsn_model.specs.declared.Arc.{Arc}
-use Rattle.tsn_model.specs.declared.Triple.{Triple}
-use Rattle.tsn_model.specs.declared.Side.{Side}
 use Rattle.tsn_model.specs.declared.Side.TheVariants.{Left, Right}
 use Rattle.tsn_model.specs.declared.Decision.{Decision}
 use Rattle.tsn_model.specs.Network.{Network, stream_count, route_link, release_of}
@@ -15,6 +13,7 @@ use Rattle.tsn_model.specs.Schedule.{IsConflict}
 use Rattle.tsn_model.specs.Certificate.{LeadsTo, sum_on}
 use Rattle.tsn_model.specs.Arcs.{arc_between, arc_on, arc_of, arcs_of, arc_at, start_of, chain_sum}
 use Rattle.tsn_model.proofs.Routes.{hop_on_found, hop_on_link}
+use Rattle.tsn_model.proofs.Decisions.{arc_on-counted, length-arcs_of}
 
 -- ---- the arc of a decision
 
@@ -44,15 +43,9 @@ arc_weighs network i j link first second on_first on_second =
     let other_starts : start network j second ≡ start_on network j link = (hop_on_found network j link second (sym on_second)).2 in
     λ k. pos (starts k + occupancy network i (same_link k)) -ℤ pos (other_starts k)
 
--- an arc begins at one of its conflict's streams
-arc_on_counted : (network : Network) (triple : Triple) (side : Side) → IsConflict network triple → (arc_on network triple side).from < stream_count network
-unfolding arc_on arc_between
-arc_on_counted network triple Left conflict = let ordered = conflict.ordered in let counted = conflict.counted in omega arith
-arc_on_counted network triple Right conflict = conflict.counted
-
 pub arc_counted : (network : Network) (decision : Decision) → IsConflict network decision.triple → (arc_of network decision).from < stream_count network
 unfolding arc_of
-arc_counted network decision conflict = arc_on_counted network decision.triple decision.side conflict
+arc_counted network decision conflict = arc_on-counted network decision.triple decision.side conflict
 
 -- the arc at a depth of the path is that of the decision there
 pub arc_there : (network : Network) (path : List Decision) (depth : ℕ) (decision : Decision) → depth < length path → decision ≡ get_or path depth decision
@@ -60,10 +53,6 @@ pub arc_there : (network : Network) (path : List Decision) (depth : ℕ) (decisi
 unfolding arcs_of
 arc_there network path depth decision below is =
     get_or-map (arc_of network) path depth decision (record { from = 0; to = 0; weight = pos 0 }) below ∙ ap (arc_of network) (sym is)
-
-pub length-arcs_of : (network : Network) (path : List Decision) → length (arcs_of network path) ≡ length path
-unfolding arcs_of
-length-arcs_of network path = length-map path (arc_of network)
 
 -- ---- a chain, walked back
 

@@ -3,6 +3,7 @@ use Rattle.std.proofs.Common.{◌≡◌, ◌≢◌, ℕ, ◌+◌, ◌<◌, Bool,
 use Rattle.std.specs.List.{slice_index_or}
 use Rattle.std.proofs.lemmas.Bool.{cases_lt, cases_eq, and_from}
 use Rattle.std.proofs.lemmas.List.{append-nil, take_all, drop_all, get_or_past, get_or_default, length-append, length-set, get_or-set_same, get_or-set_other, get_or_append_left, get_or-append-add}
+use Rattle.std.proofs.Math.Bool.{and-false}
 use Rattle.tsn_model.specs.declared.Triple.{Triple}
 use Rattle.tsn_model.specs.declared.Side.{Side}
 use Rattle.tsn_model.specs.declared.Side.TheVariants.{Left, Right}
@@ -81,17 +82,13 @@ other_stays standings closed other place apart none (Split triple children event
 
 -- ---- marking
 
-pub and_false : (b : Bool) → (b && false) ≡ false
-and_false true = refl
-and_false false = refl
-
 -- a split with a child that is open isn't closed
 pub open_above : (closed : List Bool) (other place : ℕ) (children : ℕ) → (place ≡ children) ⊎ (place ≡ children + 1) → flag_at closed place ≡ false
     → flag_at closed other ≡ (flag_at closed children && flag_at closed (children + 1)) → flag_at closed other ≡ false
 open_above closed other place children which unmarked flags =
     elim which [
       | inl is ↦ flags ∙ ap (λ b. b && flag_at closed (children + 1)) (ap (flag_at closed) (sym is) ∙ unmarked)
-      | inr is ↦ flags ∙ ap (λ b. flag_at closed children && b) (ap (flag_at closed) (sym is) ∙ unmarked) ∙ and_false (flag_at closed children)
+      | inr is ↦ flags ∙ ap (λ b. flag_at closed children && b) (ap (flag_at closed) (sym is) ∙ unmarked) ∙ and-false (flag_at closed children)
     ]
 
 -- the new leaf is marked

@@ -14,7 +14,8 @@ use Rattle.tsn_model.specs.declared.Decision.{Decision}
 use Rattle.tsn_model.specs.Network.{Network}
 use Rattle.tsn_model.specs.Certificate.{decided}
 use Rattle.tsn_model.specs.Search.{Outcome, split, solved, pruned, tied, refuted, Settlement, path_eq, children_of, made_paths, open_paths, is_settled, ends_of, IsLegal}
-use Rattle.tsn_search_laws.proofs.Lists.{snoc_induction, Contains-cons, Contains-from_flat_map}
+use Rattle.tsn_model.proofs.Lists.{Contains-cons_cases, from_flat_map}
+use Rattle.tsn_search_laws.proofs.Lists.{snoc_induction}
 use Rattle.tsn_search_laws.proofs.Paths.{path_eq-true, path_eq-refl, path_eq-false, decided-parts, nil-ne-decided}
 use Rattle.tsn_search_laws.proofs.Histories.{settled_at, parent_settled, settled_is_made, settled_once, open_is_made, open_not_settled, child_of}
 use Rattle.tsn_book.specs.declared.standings.Origin.{Origin}
@@ -76,10 +77,10 @@ pub split_of_made : (history : List Settlement) (path : List Decision) (triple :
     → (settlement : Settlement) × Contains history settlement × (settlement.event.path ≡ path) × (settlement.event.outcome ≡ split triple)
 unfolding made_paths
 split_of_made history path triple side found =
-    elim (Contains-cons [] (decided path triple side) (flat_map (λ (s : Settlement). children_of s.event.path s.event.outcome) history) found) [
+    elim (Contains-cons_cases [] (flat_map (λ (s : Settlement). children_of s.event.path s.event.outcome) history) (decided path triple side) found) [
       | inl is ↦ absurd (nil-ne-decided path triple side is)
       | inr later ↦
-          let from = Contains-from_flat_map (λ (s : Settlement). children_of s.event.path s.event.outcome) history (decided path triple side) later in
+          let from = from_flat_map (λ (s : Settlement). children_of s.event.path s.event.outcome) history (decided path triple side) later in
           let child = child_of from.0.event.path from.0.event.outcome (decided path triple side) from.2 in
           let parts = decided-parts from.0.event.path path child.triple triple child.side side child.is in
           (from.0, from.1, parts.0, child.was_split ∙ ap split parts.1)

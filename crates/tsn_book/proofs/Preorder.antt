@@ -4,7 +4,7 @@ use Rattle.std.specs.Prelude.{slice_get}
 use Rattle.std.specs.List.{slice_index_or}
 use Rattle.std.proofs.lemmas.Bool.{both_ways}
 use Rattle.std.proofs.lemmas.List.{append-nil, length-append, length-map, map-append, nil_from_length, get_or_default}
-use Rattle.std.proofs.lemmas.List.Elements.{All-contains}
+use Rattle.std.proofs.lemmas.List.Elements.{All-contains, Contains-append_left, Contains-append_right}
 use Rattle.std.proofs.lemmas.List.Sorted.{IsPermutation-sym, All-permutation, Contains-permutation, length_permutation}
 use Rattle.tsn_model.specs.declared.Triple.{Triple}
 use Rattle.tsn_model.specs.declared.Side.TheVariants.{Left, Right}
@@ -12,11 +12,11 @@ use Rattle.tsn_model.specs.declared.Decision.{Decision}
 use Rattle.tsn_model.specs.Network.{Network}
 use Rattle.tsn_model.specs.Certificate.{Node, split_node, decided}
 use Rattle.tsn_model.specs.Search.{Outcome, split, solved, pruned, tied, refuted, Settlement, children_of, open_paths, kept_of, is_settled, IsLegal}
+use Rattle.tsn_model.proofs.Lists.{Contains-head, Contains-more, AllPairs-head, AllPairs-tail}
 use Rattle.tsn_timing.specs.Solution.{Solution}
 use Rattle.tsn_search_laws.specs.Order.{node_of}
-use Rattle.tsn_search_laws.proofs.Lists.{Contains-here, Contains-there, Contains-left, Contains-right, AllPairs-head, AllPairs-tail}
 use Rattle.tsn_search_laws.proofs.Histories.{settled_at}
-use Rattle.tsn_search_laws.proofs.Growths.{Growth, open_place, leaf_place, branch_place, in_order, open_in, Stands, Backs, legal_growth, grown_tree}
+use Rattle.tsn_search_laws.proofs.Growths.{Growth, open_place, leaf_place, branch_place, in_order, open_in, Stands, Backs, legal_growth, grown_tree, nil-left, nil-right}
 use Rattle.tsn_search_laws.proofs.Preorders.{SettledBefore, in_order_ordered, Precedes-irreflexive}
 use Rattle.tsn_search_laws.proofs.Finished.{history_backed}
 use Rattle.tsn_branch.specs.Outcome.{outcome_of}
@@ -119,7 +119,7 @@ pub rest_among : (network : Network) (plan : Option (List ℕ)) (paths : List (L
     → (settlement : Settlement) → Contains (rest_of walk.growths) settlement → Contains history settlement
 rest_among network plan paths history initial events stack nodes walk settlement found =
     Contains-permutation (in_order walk.whole) history settlement (IsPermutation-sym history (in_order walk.whole) walk.same)
-    (subst (λ xs. Contains xs settlement) (sym walk.parts) (Contains-right settlement walk.done (rest_of walk.growths) found))
+    (subst (λ xs. Contains xs settlement) (sym walk.parts) (Contains-append_right walk.done (rest_of walk.growths) settlement found))
 
 -- the top of the stack
 pub record Top (network : Network) (plan : Option (List ℕ)) (paths : List (List Decision)) (history : List Settlement) (initial events : List Settled) (stack : List ℕ) (place : ℕ) (nodes : List Node) : Type 0 where
@@ -139,7 +139,7 @@ top network plan paths history initial events stack place nodes walk =
     let last = last_waits paths stack place walk.growths walk.waits in
     let head = headed (path_at paths place) last.growth last.grown.stands last.grown.closed in
     let rest : rest_of walk.growths ≡ in_order last.growth ++ rest_of last.others = ap rest_of last.is ∙ rest_of-snoc last.others last.growth in
-    let waiting : Contains (rest_of walk.growths) head.first = subst (λ xs. Contains xs head.first) (sym (rest ∙ ap (λ xs. xs ++ rest_of last.others) head.is)) (Contains-here head.first (head.more ++ rest_of last.others)) in
+    let waiting : Contains (rest_of walk.growths) head.first = subst (λ xs. Contains xs head.first) (sym (rest ∙ ap (λ xs. xs ++ rest_of last.others) head.is)) (Contains-head head.first (head.more ++ rest_of last.others)) in
     record {
       walk = walk;
       others = last.others;
@@ -199,7 +199,7 @@ advance network plan paths history initial events stack nodes walk settlement gr
       counted = as_many ∙ walk.counted;
       kept = λ event other at found d.
           untouched event other at found d
-          ∙ walk.kept event other at (subst (λ xs. Contains xs other) (sym rest) (Contains-there settlement other (rest_of growths) found)) d;
+          ∙ walk.kept event other at (subst (λ xs. Contains xs other) (sym rest) (Contains-more settlement (rest_of growths) other found)) d;
     }
 
 -- the settlement of a place, by its event
@@ -219,27 +219,19 @@ record SplitParts (paths : List (List Decision)) (growth : Growth) (triple : Tri
   left : IsGrown paths children first
   right : IsGrown paths (children + 1) second
 
-first_closed : {X : Type 0} (xs ys : List X) → xs ++ ys ≡ [] → xs ≡ []
-first_closed [] ys none = refl
-first_closed (x ∷ xs) ys none = let clash : x ∷ (xs ++ ys) ≡ [] = none in cc
-
-second_closed : {X : Type 0} (xs ys : List X) → xs ++ ys ≡ [] → ys ≡ []
-second_closed [] ys none = none
-second_closed (x ∷ xs) ys none = let clash : x ∷ (xs ++ ys) ≡ [] = none in cc
-
 split_parts : (network : Network) (paths : List (List Decision)) (history : List Settlement) → IsLegal network history → (place : ℕ) (triple : Triple) (children event : ℕ) → IsPlaced paths history place (Split triple children event)
     → (growth : Growth) → Stands (path_at paths place) growth → open_in (path_at paths place) growth ≡ [] → ((settlement : Settlement) → Contains (in_order growth) settlement → Contains history settlement)
     → SplitParts paths growth triple children
 unfolding in_order open_in children_of
 split_parts network paths history legal place triple children event placed open_place stands closed among = let clash : path_at paths place ∷ [] ≡ [] = closed in cc
 split_parts network paths history legal place triple children event placed (leaf_place settlement) stands closed among =
-    let same = one_settlement network history legal (path_at paths place) (split triple) event placed.0 settlement (among settlement (Contains-here settlement [])) stands.0 in
+    let same = one_settlement network history legal (path_at paths place) (split triple) event placed.0 settlement (among settlement (Contains-head settlement [])) stands.0 in
     let none : children_of settlement.event.path (split triple) ≡ [] = ap (children_of settlement.event.path) (sym (ap (λ (s : Settlement). s.event.outcome) same)) ∙ stands.1 in
     let clash : decided settlement.event.path triple Left ∷ decided settlement.event.path triple Right ∷ [] ≡ [] = none in
     cc
 split_parts network paths history legal place triple children event placed (branch_place settlement its first second) stands closed among =
     let path = path_at paths place in
-    let same = one_settlement network history legal path (split triple) event placed.0 settlement (among settlement (Contains-here settlement (in_order first ++ in_order second))) stands.0 in
+    let same = one_settlement network history legal path (split triple) event placed.0 settlement (among settlement (Contains-head settlement (in_order first ++ in_order second))) stands.0 in
     let is : its ≡ triple = ap (triple_of triple) (sym stands.1 ∙ ap (λ (s : Settlement). s.event.outcome) same) in
     let left : path_at paths children ≡ decided path its Left = placed.2 ∙ ap (λ t. decided path t Left) (sym is) in
     let right : path_at paths (children + 1) ≡ decided path its Right = placed.3 ∙ ap (λ t. decided path t Right) (sym is) in
@@ -252,12 +244,12 @@ split_parts network paths history legal place triple children event placed (bran
       left = record {
         within = omega (arith, placed.1);
         stands = subst (λ p. Stands p first) (sym left) stands.2;
-        closed = subst (λ p. open_in p first ≡ []) (sym left) (first_closed (open_in (decided path its Left) first) (open_in (decided path its Right) second) closed);
+        closed = subst (λ p. open_in p first ≡ []) (sym left) (nil-left (open_in (decided path its Left) first) (open_in (decided path its Right) second) closed);
       };
       right = record {
         within = placed.1;
         stands = subst (λ p. Stands p second) (sym right) stands.3;
-        closed = subst (λ p. open_in p second ≡ []) (sym right) (second_closed (open_in (decided path its Left) first) (open_in (decided path its Right) second) closed);
+        closed = subst (λ p. open_in p second ≡ []) (sym right) (nil-right (open_in (decided path its Left) first) (open_in (decided path its Right) second) closed);
       };
     }
   where
@@ -273,7 +265,7 @@ top_among : (network : Network) (plan : Option (List ℕ)) (paths : List (List D
     → (settlement : Settlement) → Contains (in_order at.growth) settlement → Contains history settlement
 top_among network plan paths history initial events stack place nodes at settlement found =
     rest_among network plan paths history initial events (stack ++ place ∷ []) nodes at.walk settlement
-    (subst (λ xs. Contains xs settlement) (sym at.rest) (Contains-left settlement (in_order at.growth) (rest_of at.others) found))
+    (subst (λ xs. Contains xs settlement) (sym at.rest) (Contains-append_left (in_order at.growth) (rest_of at.others) settlement found))
 
 -- a split is spelled
 pub split_spelled : (network : Network) (plan : Option (List ℕ)) (origins : List Origin) (standings : List Standing) (events : List Settled) → IsTree network origins standings events → (now : List Settled) (stack : List ℕ) (place : ℕ) (nodes : List Node)
@@ -308,10 +300,10 @@ leaf_parts : (network : Network) (paths : List (List Decision)) (history : List 
 unfolding in_order open_in
 leaf_parts network paths history legal place event placed open_place stands closed among = let clash : path_at paths place ∷ [] ≡ [] = closed in cc
 leaf_parts network paths history legal place event placed (leaf_place settlement) stands closed among =
-    let same = one_settlement network history legal (path_at paths place) placed.0 event placed.1 settlement (among settlement (Contains-here settlement [])) stands.0 in
+    let same = one_settlement network history legal (path_at paths place) placed.0 event placed.1 settlement (among settlement (Contains-head settlement [])) stands.0 in
     record { settlement = settlement; is = refl; outcome_is = ap (λ (s : Settlement). s.event.outcome) same; there = placed.1.there.1 ∙ ap (λ s. Some s) (sym same) }
 leaf_parts network paths history legal place event placed (branch_place settlement its first second) stands closed among =
-    let same = one_settlement network history legal (path_at paths place) placed.0 event placed.1 settlement (among settlement (Contains-here settlement (in_order first ++ in_order second))) stands.0 in
+    let same = one_settlement network history legal (path_at paths place) placed.0 event placed.1 settlement (among settlement (Contains-head settlement (in_order first ++ in_order second))) stands.0 in
     absurd (leaf_is_no_split (path_at paths place) placed.0 its placed.2 (sym (ap (λ (s : Settlement). s.event.outcome) same) ∙ stands.1))
 
 -- what is spelled next isn't spelled again
@@ -342,7 +334,7 @@ leaf_tie network plan origins standings events tree before stack place nodes wal
     let at = top network plan paths history events before stack place nodes walk in
     let parts = leaf_parts network paths history tree.legal place event placed at.growth at.grown.stands at.grown.closed (top_among network plan paths history events before stack place nodes at) in
     let rest : rest_of at.walk.growths ≡ parts.settlement ∷ rest_of at.others = at.rest ∙ ap (λ xs. xs ++ rest_of at.others) parts.is in
-    let waiting : Contains (rest_of at.walk.growths) parts.settlement = subst (λ xs. Contains xs parts.settlement) (sym rest) (Contains-here parts.settlement (rest_of at.others)) in
+    let waiting : Contains (rest_of at.walk.growths) parts.settlement = subst (λ xs. Contains xs parts.settlement) (sym rest) (Contains-head parts.settlement (rest_of at.others)) in
     let among = rest_among network plan paths history events before (stack ++ place ∷ []) nodes at.walk parts.settlement waiting in
     let read : Settled = slice_index_or events event d in
     let within : event < length events = omega (arith, placed.1.within, length-history_of origins events) in
@@ -363,7 +355,7 @@ leaf_spelled network plan origins standings events tree before stack place nodes
     let at = top network plan paths history events before stack place nodes walk in
     let parts = leaf_parts network paths history tree.legal place event placed at.growth at.grown.stands at.grown.closed (top_among network plan paths history events before stack place nodes at) in
     let rest : rest_of at.walk.growths ≡ parts.settlement ∷ rest_of at.others = at.rest ∙ ap (λ xs. xs ++ rest_of at.others) parts.is in
-    let waiting : Contains (rest_of at.walk.growths) parts.settlement = subst (λ xs. Contains xs parts.settlement) (sym rest) (Contains-here parts.settlement (rest_of at.others)) in
+    let waiting : Contains (rest_of at.walk.growths) parts.settlement = subst (λ xs. Contains xs parts.settlement) (sym rest) (Contains-head parts.settlement (rest_of at.others)) in
     let none : Settled = record { teller = 0; place = 0; look = FoundSplit (record { left = 0; right = 0; link = 0 }) } in
     let read : Settled = slice_index_or events event none in
     let within : event < length events = omega (arith, placed.1.within, length-history_of origins events) in

@@ -1,9 +1,10 @@
 -- What a teller has solved, by the events of a book.
-use Rattle.std.proofs.Common.{◌≡◌, ℕ, List, [], ◌∷◌, map, Any, Contains, sym, ap, ◌∙◌, subst, inl, inr}
+use Rattle.std.proofs.Common.{◌≡◌, ℕ, List, [], ◌∷◌, map, Any, Contains, sym, ap, ◌∙◌, subst}
 use Rattle.std.specs.Prelude.{◌==◌}
 use Rattle.std.proofs.lemmas.Bool.{eq-eqb, eqb-true}
 use Rattle.tsn_model.specs.Search.{Outcome, split, solved, pruned, tied, refuted, Settlement, solved_bound, solved_bounds, settled_by}
-use Rattle.tsn_search_laws.proofs.Lists.{Contains-here, Contains-there, Contains-cons, Contains-one, Contains-nil, Contains-flat_map, Contains-from_flat_map, Contains-filter, Contains-from_filter, Contains-from_Any, Any-from_Contains}
+use Rattle.tsn_model.proofs.Lists.{Contains-head, Contains-nil, Contains-flat_map, from_flat_map, Contains-filter, from_filter, Contains-map, from_map}
+use Rattle.tsn_search_laws.proofs.Lists.{Contains-one, Contains-from_Any, Any-from_Contains}
 use Rattle.tsn_book.specs.declared.standings.Origin.{Origin}
 use Rattle.tsn_book.specs.declared.log.Settled.{Settled}
 use Rattle.tsn_book.specs.Arena.{paths_of, settlement_of, history_of}
@@ -12,7 +13,7 @@ use Rattle.tsn_book.specs.Solving.{Solves, IsSolvedBy}
 solves_bound : (outcome : Outcome) (flowspan : ℕ) → Solves flowspan outcome → Contains (solved_bound outcome) flowspan
 unfolding solved_bound
 solves_bound (split triple) flowspan is = absurd is
-solves_bound (solved offsets bound leaf chains) flowspan is = subst (Contains (bound ∷ [])) is (Contains-here bound [])
+solves_bound (solved offsets bound leaf chains) flowspan is = subst (Contains (bound ∷ [])) is (Contains-head bound [])
 solves_bound (pruned bound leaf) flowspan is = absurd is
 solves_bound (tied bound leaf chains) flowspan is = absurd is
 solves_bound (refuted leaf) flowspan is = absurd is
@@ -24,22 +25,6 @@ bound_solves (solved offsets bound leaf chains) flowspan found' = Contains-one b
 bound_solves (pruned bound leaf) flowspan found' = absurd (Contains-nil flowspan found')
 bound_solves (tied bound leaf chains) flowspan found' = absurd (Contains-nil flowspan found')
 bound_solves (refuted leaf) flowspan found' = absurd (Contains-nil flowspan found')
-
-Contains-map : {X Y : Type 0} (f : X → Y) (xs : List X) (x : X) → Contains xs x → Contains (map f xs) (f x)
-Contains-map f [] x at = absurd (Contains-nil x at)
-Contains-map {X} {Y} f (z ∷ xs) x at =
-    elim (Contains-cons z x xs at) [
-      | inl is ↦ subst (λ w. Contains (map f (z ∷ xs)) (f w)) is (Contains-here (f z) (map f xs))
-      | inr later ↦ Contains-there (f z) (f x) (map f xs) (Contains-map f xs x later)
-    ]
-
-Contains-from_map : {X Y : Type 0} (f : X → Y) (xs : List X) (y : Y) → Contains (map f xs) y → (x : X) × Contains xs x × (f x ≡ y)
-Contains-from_map f [] y at = absurd (Contains-nil y at)
-Contains-from_map f (z ∷ xs) y at =
-    elim (Contains-cons (f z) y (map f xs) at) [
-      | inl is ↦ (z, Contains-here z xs, is)
-      | inr later ↦ let of = Contains-from_map f xs y later in (of.0, Contains-there z of.0 xs of.1, of.2)
-    ]
 
 -- the flowspan is among those that the teller has solved
 pub solved_found : (origins : List Origin) (events : List Settled) (k flowspan : ℕ) → Any (IsSolvedBy k flowspan) events → Contains (solved_bounds (settled_by k (history_of origins events))) flowspan
@@ -55,9 +40,9 @@ pub found_solved : (origins : List Origin) (events : List Settled) (k flowspan :
 unfolding history_of settlement_of settled_by solved_bounds
 found_solved origins events k flowspan at =
     let paths = paths_of origins in
-    let of = Contains-from_flat_map (λ (t : Settlement). solved_bound t.event.outcome) (settled_by k (history_of origins events)) flowspan at in
-    let mine = Contains-from_filter (λ (t : Settlement). t.teller == k) (map (settlement_of paths) events) of.0 of.1 in
-    let from = Contains-from_map (settlement_of paths) events of.0 mine.0 in
+    let of = from_flat_map (λ (t : Settlement). solved_bound t.event.outcome) (settled_by k (history_of origins events)) flowspan at in
+    let mine = from_filter (λ (t : Settlement). t.teller == k) (map (settlement_of paths) events) of.0 of.1 in
+    let from = from_map (settlement_of paths) events of.0 mine.0 in
     let solves : Solves flowspan (settlement_of paths from.0).event.outcome = subst (λ (t : Settlement). Solves flowspan t.event.outcome) (sym from.2) (bound_solves of.0.event.outcome flowspan of.2) in
     let same : (settlement_of paths from.0).teller ≡ k = ap (λ (t : Settlement). t.teller) from.2 ∙ eqb-true of.0.teller k mine.1 in
     Any-from_Contains (IsSolvedBy k flowspan) events from.0 from.1 (same, solves)

@@ -11,9 +11,9 @@ use Rattle.tsn_model.specs.declared.Decision.{Decision}
 use Rattle.tsn_model.specs.Network.{Network}
 use Rattle.tsn_model.specs.Certificate.{decided}
 use Rattle.tsn_model.specs.Search.{Outcome, split, solved, pruned, tied, refuted, Settlement, made_paths, open_paths, PathBefore, IsFirstOpen, IsLegal}
-use Rattle.tsn_search_laws.proofs.Lists.{Contains-here}
 use Rattle.tsn_search_laws.proofs.Histories.{open_is_made}
 use Rattle.tsn_search_laws.proofs.Counting.{made_decides}
+use Rattle.tsn_search_laws.proofs.Kept.{nil-from_none}
 use Rattle.tsn_book.specs.declared.standings.Origin.{Origin}
 use Rattle.tsn_book.specs.declared.standings.Standing.{Standing}
 use Rattle.tsn_book.specs.declared.standings.Standing.TheVariants.{Open, Split, Leaf}
@@ -224,13 +224,9 @@ pub nothing_open : (network : Network) (origins : List Origin) (standings : List
     → flag_at closed 0 ≡ true → open_paths (history_of origins events) ≡ []
 nothing_open network origins standings events tree closed flags none =
     let root = root_place network origins standings events tree in
-    empty_from (open_paths (history_of origins events)) (λ path found.
+    nil-from_none (open_paths (history_of origins events)) (λ path found.
     none_open network origins standings events tree closed flags path 0 root.0 none
     (subst (λ p. Contains (open_paths (history_of origins events)) (p ++ path)) (sym root.1) found))
-  where
-    empty_from : (paths : List (List Decision)) → ((path : List Decision) → Contains paths path → ⊥) → paths ≡ []
-    empty_from [] no_path = refl
-    empty_from (path ∷ paths) no_path = absurd (no_path path (Contains-here path paths))
 
 -- whether a place is closed, by its standing as it is read
 pub closed_as : (network : Network) (origins : List Origin) (standings : List Standing) (events : List Settled) → IsTree network origins standings events → (closed : List Bool) → AreClosed standings closed

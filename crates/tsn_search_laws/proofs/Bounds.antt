@@ -11,7 +11,8 @@ use Rattle.tsn_model.specs.Network.{Network}
 use Rattle.tsn_model.specs.Certificate.{beyond}
 use Rattle.tsn_model.specs.Search.{Outcome, split, solved, pruned, tied, refuted, Settlement, solved_bound, pruned_bound, solved_bounds, pruned_bounds, settled_by, least_or_none, best_bound, IsRight, IsAllowed, IsLegal}
 use Rattle.tsn_model.specs.Core.{Teller, State, teller_at, IsSound, IsQuiet}
-use Rattle.tsn_search_laws.proofs.Lists.{Contains-split, Contains-flat_map, All-from_Contains, Contains-filter, Contains-from_filter, Contains-one, Contains-nil, Contains-from_flat_map}
+use Rattle.tsn_model.proofs.Lists.{Contains-flat_map, Contains-filter, from_filter, Contains-nil, from_flat_map}
+use Rattle.tsn_search_laws.proofs.Lists.{Contains-split, All-from_Contains, Contains-one}
 use Rattle.tsn_search_laws.proofs.Numbers.{fold-min-le, fold-min-le-each, le-fold-min}
 
 -- the target is at most each solved bound, and each pruned bound is worse
@@ -46,7 +47,7 @@ pruned_among history settlement bound found at = Contains-flat_map (λ (s : Sett
 
 -- ---- the least solved flowspan is a target
 
-solved_bounds-append : (xs ys : List Settlement) → solved_bounds (xs ++ ys) ≡ solved_bounds xs ++ solved_bounds ys
+pub solved_bounds-append : (xs ys : List Settlement) → solved_bounds (xs ++ ys) ≡ solved_bounds xs ++ solved_bounds ys
 unfolding solved_bounds
 solved_bounds-append xs ys = flat_map-append (λ (s : Settlement). solved_bound s.event.outcome) xs ys
 
@@ -83,7 +84,7 @@ unfolding pruned_bounds
 best_is_below network history legal = record {
   solved = best-le-solved network history;
   pruned = All-from_Contains (λ bound. beyond network (best_bound network history) ≤ bound) (pruned_bounds history) (λ bound found.
-      let of = Contains-from_flat_map (λ (s : Settlement). pruned_bound s.event.outcome) history bound found in
+      let of = from_flat_map (λ (s : Settlement). pruned_bound s.event.outcome) history bound found in
       let right = settlement_right network history legal of.0 of.1 in
       let fallen : best_bound network history ≤ best_bound network right.0 =
       subst (λ h. best_bound network h ≤ best_bound network right.0) (sym right.2) (best_bound-append network right.0 (of.0 ∷ right.1)) in
@@ -114,7 +115,7 @@ pub word-le-solved : (network : Network) (state : State) → IsSound network sta
 unfolding solved_bounds
 word-le-solved network state sound all_posted =
     All-from_Contains (λ bound. state.word ≤ bound) (solved_bounds state.history) (λ bound found.
-    let of = Contains-from_flat_map (λ (s : Settlement). solved_bound s.event.outcome) state.history bound found in
+    let of = from_flat_map (λ (s : Settlement). solved_bound s.event.outcome) state.history bound found in
     let k : ℕ = of.0.teller in
     let below : k < length state.tellers = All-contains (λ (s : Settlement). s.teller < length state.tellers) state.history of.0 sound.counted of.1 in
     let mine = solved_among (settled_by k state.history) of.0 bound (settled_by_itself state.history of.0 of.1) of.2 in
@@ -125,7 +126,7 @@ pub word-lt-pruned : (network : Network) (state : State) → IsSound network sta
 unfolding pruned_bounds
 word-lt-pruned network state sound =
     All-from_Contains (λ bound. beyond network state.word ≤ bound) (pruned_bounds state.history) (λ bound found.
-    let of = Contains-from_flat_map (λ (s : Settlement). pruned_bound s.event.outcome) state.history bound found in
+    let of = from_flat_map (λ (s : Settlement). pruned_bound s.event.outcome) state.history bound found in
     let k : ℕ = of.0.teller in
     let below : k < length state.tellers = All-contains (λ (s : Settlement). s.teller < length state.tellers) state.history of.0 sound.counted of.1 in
     let mine = pruned_among (settled_by k state.history) of.0 bound (settled_by_itself state.history of.0 of.1) of.2 in
@@ -140,8 +141,8 @@ word_is_below network state sound quiet = record { solved = word-le-solved netwo
 pub solved_by-among : (k : ℕ) (history : List Settlement) (bound : ℕ) → Contains (solved_bounds (settled_by k history)) bound → Contains (solved_bounds history) bound
 unfolding solved_bounds settled_by
 solved_by-among k history bound found =
-    let of = Contains-from_flat_map (λ (s : Settlement). solved_bound s.event.outcome) (settled_by k history) bound found in
-    Contains-flat_map (λ (s : Settlement). solved_bound s.event.outcome) history of.0 bound (Contains-from_filter (λ (s : Settlement). s.teller == k) history of.0 of.1).0 of.2
+    let of = from_flat_map (λ (s : Settlement). solved_bound s.event.outcome) (settled_by k history) bound found in
+    Contains-flat_map (λ (s : Settlement). solved_bound s.event.outcome) history of.0 bound (from_filter (λ (s : Settlement). s.teller == k) history of.0 of.1).0 of.2
 
 -- the least solved flowspan is at most what each teller has posted
 best-le-posted : (network : Network) (state : State) → IsSound network state → (k : ℕ) → k < length state.tellers → best_bound network state.history ≤ (teller_at state k).posted

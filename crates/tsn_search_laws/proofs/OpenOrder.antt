@@ -1,12 +1,14 @@
 -- The open paths in preorder.
 use Rattle.std.proofs.Common.{◌≢◌, List, [], ◌∷◌, All, AllPairs, Contains, refl, sym, ◌∙◌, subst, ◌⊎◌, inl, inr}
 use Rattle.std.proofs.lemmas.List.Elements.{All-nil, All-cons, All-append, All-weaker, All-contains}
+use Rattle.std.proofs.lemmas.List.Kept.{AllPairs-cons}
 use Rattle.tsn_model.specs.declared.Side.TheVariants.{Left, Right}
 use Rattle.tsn_model.specs.declared.Decision.{Decision}
 use Rattle.tsn_model.specs.Network.{Network}
 use Rattle.tsn_model.specs.Certificate.{decided}
 use Rattle.tsn_model.specs.Search.{Settlement, open_paths, IsLegal, PathBefore}
-use Rattle.tsn_search_laws.proofs.Lists.{Contains-cons, Contains-nil, AllPairs-nil, AllPairs-cons, AllPairs-head, AllPairs-tail, AllPairs-append}
+use Rattle.tsn_model.proofs.Lists.{Contains-cons_cases, Contains-nil, AllPairs-head, AllPairs-tail}
+use Rattle.tsn_search_laws.proofs.Lists.{AllPairs-nil, AllPairs-append_each}
 use Rattle.tsn_search_laws.proofs.Growths.{Growth, open_place, leaf_place, branch_place, open_in, legal_growth}
 use Rattle.tsn_search_laws.proofs.Preorders.{Begins, Begins-itself, Begins-shorter}
 
@@ -26,7 +28,7 @@ unfolding open_in
 open_in_ordered path open_place = AllPairs-cons PathBefore path [] (All-nil (PathBefore path)) (AllPairs-nil PathBefore)
 open_in_ordered path (leaf_place settlement) = AllPairs-nil PathBefore
 open_in_ordered path (branch_place settlement triple first second) =
-    AllPairs-append PathBefore (open_in (decided path triple Left) first) (open_in (decided path triple Right) second)
+    AllPairs-append_each PathBefore (open_in (decided path triple Left) first) (open_in (decided path triple Right) second)
     (open_in_ordered (decided path triple Left) first) (open_in_ordered (decided path triple Right) second)
     (λ a b in_first in_second.
     let left = All-contains (Begins (decided path triple Left)) (open_in (decided path triple Left) first) a (open_in_begin (decided path triple Left) first) in_first in
@@ -37,12 +39,12 @@ open_in_ordered path (branch_place settlement triple first second) =
 order_of : {X : Type 0} (R : X → X → Type 0) (xs : List X) (x y : X) → AllPairs R xs → Contains xs x → Contains xs y → x ≢ y → R x y ⊎ R y x
 order_of R [] x y ordered has_x has_y apart = absurd (Contains-nil x has_x)
 order_of R (z ∷ zs) x y ordered has_x has_y apart =
-    elim (Contains-cons z x zs has_x) [
-      | inl x_first ↦ elim (Contains-cons z y zs has_y) [
+    elim (Contains-cons_cases z zs x has_x) [
+      | inl x_first ↦ elim (Contains-cons_cases z zs y has_y) [
         | inl y_first ↦ absurd (apart (sym x_first ∙ y_first))
         | inr y_later ↦ inl (subst (λ w. R w y) x_first (All-contains (R z) zs y (AllPairs-head R z zs ordered) y_later))
       ]
-      | inr x_later ↦ elim (Contains-cons z y zs has_y) [
+      | inr x_later ↦ elim (Contains-cons_cases z zs y has_y) [
         | inl y_first ↦ inr (subst (λ w. R w x) y_first (All-contains (R z) zs x (AllPairs-head R z zs ordered) x_later))
         | inr y_later ↦ order_of R zs x y (AllPairs-tail R z zs ordered) x_later y_later apart
       ]

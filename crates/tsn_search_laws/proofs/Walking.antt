@@ -1,7 +1,7 @@
 -- A search walked depth first: what waits while a path is walked, and where the walk stands after each settlement.
 use Rattle.std.proofs.Common.{◌≡◌, ◌≢◌, ℕ, ◌+◌, ◌≤◌, ◌<◌, List, [], ◌∷◌, ◌++◌, map, length, get_or, All, Contains, refl, sym, ap, ◌∙◌, subst, arith, append_assoc, ◌⊎◌, inl, inr}
 use Rattle.std.proofs.lemmas.List.{append-nil, length-append, length-map, get_or_append_left, get_or-append-add}
-use Rattle.std.proofs.lemmas.List.Elements.{All-nil, All-cons, All-head, All-tail, All-weaker}
+use Rattle.std.proofs.lemmas.List.Elements.{All-nil, All-cons, All-head, All-tail, All-weaker, Contains-append_left, Contains-append_right, Contains-append_cases}
 use Rattle.tsn_model.specs.declared.Triple.{Triple}
 use Rattle.tsn_model.specs.declared.Side.{Side}
 use Rattle.tsn_model.specs.declared.Side.TheVariants.{Left, Right}
@@ -9,12 +9,14 @@ use Rattle.tsn_model.specs.declared.Decision.{Decision}
 use Rattle.tsn_model.specs.Network.{Network}
 use Rattle.tsn_model.specs.Certificate.{decided}
 use Rattle.tsn_model.specs.Places.{pending}
-use Rattle.tsn_model.specs.Search.{Outcome, split, solved, pruned, tied, refuted, Settlement, children_of, made_paths, is_settled, open_paths, IsLegal, PathBefore, IsFirstOpen}
+use Rattle.tsn_model.specs.Search.{Outcome, split, solved, pruned, tied, refuted, Settlement, children_of, made_paths, is_settled, open_paths, IsLegal, PathBefore}
 use Rattle.tsn_model.proofs.Places.{pending-nil, pending-left, pending-right}
+use Rattle.tsn_model.proofs.Lists.{Contains-nil, Contains-head, Contains-more, Contains-cons_cases}
 use Rattle.tsn_search_laws.specs.Walk.{path_made, IsPlaceOf, IsWalk}
-use Rattle.tsn_search_laws.proofs.Lists.{snoc_induction, Contains-nil, Contains-here, Contains-there, Contains-cons, Contains-left, Contains-right, Contains-append, Contains-Without}
+use Rattle.tsn_search_laws.proofs.Lists.{snoc_induction, Contains-Without}
 use Rattle.tsn_search_laws.proofs.Histories.{legal_front, legal_last, made_paths-snoc, open_but, open_paths-snoc, open_but-Without, open_but_parts}
 use Rattle.tsn_search_laws.proofs.Preorders.{Precedes-irreflexive}
+use Rattle.tsn_search_laws.proofs.Kept.{nil-from_none}
 
 -- ---- what waits while a path is walked
 
@@ -22,33 +24,6 @@ use Rattle.tsn_search_laws.proofs.Preorders.{Precedes-irreflexive}
 pub pending_off-right : (path : List Decision) (decision : Decision) → decision.side ≡ Right → pending (path ++ decision ∷ []) ≡ pending path
 unfolding decided
 pending_off-right path decision right = ap (λ s. pending (decided path decision.triple s)) right ∙ pending-right path decision.triple
-
--- a left turn taken off the end: its right side waited last
-pub pending_off-left : (path : List Decision) (decision : Decision) → decision.side ≡ Left → pending (path ++ decision ∷ []) ≡ decided path decision.triple Right ∷ pending path
-unfolding decided
-pending_off-left path decision left = ap (λ s. pending (decided path decision.triple s)) left ∙ pending-left path decision.triple
-
--- right turns at the end add nothing
-pub pending_rights : (front rights : List Decision) → All (λ (decision : Decision). decision.side ≡ Right) rights → pending (front ++ rights) ≡ pending front
-pending_rights front [] all = ap pending (append-nil front)
-pending_rights front (decision ∷ rights) all =
-    let is_right = λ (d : Decision). d.side ≡ Right in
-    ap pending (sym (append_assoc front (decision ∷ []) rights))
-    ∙ pending_rights (front ++ decision ∷ []) rights (All-tail is_right decision rights all)
-    ∙ pending_off-right front decision (All-head is_right decision rights all)
-
--- where a path never turns left nothing waits
-pub pending_none : (rights : List Decision) → All (λ (decision : Decision). decision.side ≡ Right) rights → pending rights ≡ []
-pending_none rights all = pending_rights [] rights all ∙ pending-nil
-
--- the right side of the last left turn waits last, and below it waits what waited before
-pub pending_turn : (front : List Decision) (decision : Decision) (rights : List Decision) → decision.side ≡ Left → All (λ (other : Decision). other.side ≡ Right) rights
-    → pending (front ++ decision ∷ rights) ≡ decided front decision.triple Right ∷ pending (decided front decision.triple Right)
-pending_turn front decision rights left all =
-    ap pending (sym (append_assoc front (decision ∷ []) rights))
-    ∙ pending_rights (front ++ decision ∷ []) rights all
-    ∙ pending_off-left front decision left
-    ∙ ap (λ ps. decided front decision.triple Right ∷ ps) (sym (pending-right front decision.triple))
 
 -- what comes after a path comes after each that goes on from it
 longer_before : (path other : List Decision) (triple : Triple) (side : Side) → PathBefore path other → PathBefore (decided path triple side) other
@@ -66,7 +41,7 @@ longer_before path other triple side before =
 after_step : (path : List Decision) (triple : Triple) (side : Side) → ((other : List Decision) → Contains (pending path) other → PathBefore path other)
     → (other : List Decision) → Contains (pending (decided path triple side)) other → PathBefore (decided path triple side) other
 after_step path triple Left known other found =
-    elim (Contains-cons (decided path triple Right) other (pending path) (subst (λ ps. Contains ps other) (pending-left path triple) found)) [
+    elim (Contains-cons_cases (decided path triple Right) (pending path) other (subst (λ ps. Contains ps other) (pending-left path triple) found)) [
       | inl is ↦ (path, triple, [], [], sym (append-nil (decided path triple Left)), sym is ∙ sym (append-nil (decided path triple Right)))
       | inr earlier ↦ longer_before path other triple Left (known other earlier)
     ]
@@ -91,7 +66,7 @@ open_now network history settlement legal other found =
     let path = settlement.event.path in
     let children = children_of settlement.event.path settlement.event.outcome in
     let same = open_paths-snoc network history settlement (legal_front network history settlement legal) (legal_last network history settlement legal) in
-    elim (Contains-append other (open_but history path) children (subst (λ ps. Contains ps other) same found)) [
+    elim (Contains-append_cases (open_but history path) children other (subst (λ ps. Contains ps other) same found)) [
       | inl stays ↦ inl (open_but_parts history path other stays)
       | inr child ↦ inr child
     ]
@@ -104,7 +79,7 @@ stays_open network history settlement legal other found apart =
     let before = legal_front network history settlement legal in
     let allowed = legal_last network history settlement legal in
     subst (λ ps. Contains ps other) (sym (open_paths-snoc network history settlement before allowed))
-    (Contains-left other (open_but history path) children
+    (Contains-append_left (open_but history path) children other
     (Contains-Without path other (open_paths history) (open_but history path) (open_but-Without network history path before allowed.is_open) found apart))
 
 child_opens : (network : Network) (history : List Settlement) (settlement : Settlement) → IsLegal network (history ++ settlement ∷ []) → (other : List Decision)
@@ -112,7 +87,7 @@ child_opens : (network : Network) (history : List Settlement) (settlement : Sett
 child_opens network history settlement legal other child =
     subst (λ ps. Contains ps other)
     (sym (open_paths-snoc network history settlement (legal_front network history settlement legal) (legal_last network history settlement legal)))
-    (Contains-right other (open_but history settlement.event.path) (children_of settlement.event.path settlement.event.outcome) child)
+    (Contains-append_right (open_but history settlement.event.path) (children_of settlement.event.path settlement.event.outcome) other child)
 
 -- ---- places
 
@@ -185,19 +160,7 @@ walk_root =
 
 -- the path where a walk stands is open
 pub walk_open : (history : List Settlement) (path : List Decision) (place : ℕ) (waiting : List ℕ) → IsWalk history path place waiting → Contains (open_paths history) path
-walk_open history path place waiting walk = walk.is_open path (Contains-here path (pending path))
-
--- and first in preorder
-pub walk_first : (history : List Settlement) (path : List Decision) (place : ℕ) (waiting : List ℕ) → IsWalk history path place waiting → IsFirstOpen history path
-walk_first history path place waiting walk =
-    record {
-      is_open = walk_open history path place waiting walk;
-      before_others = λ other found different.
-          elim (Contains-cons path other (pending path) (walk.nothing_else other found)) [
-            | inl same ↦ absurd (different (sym same))
-            | inr waits ↦ pending_after path other waits
-          ];
-    }
+walk_open history path place waiting walk = walk.is_open path (Contains-head path (pending path))
 
 -- as many places wait as paths
 pub walk_waits : (history : List Settlement) (path : List Decision) (place : ℕ) (waiting : List ℕ) → IsWalk history path place waiting → length waiting ≡ length (pending path)
@@ -219,26 +182,26 @@ walk_split network history settlement path place waiting triple made legal walk 
     let first : IsPlaceOf after left made = new_place after (made_paths history) (left ∷ right ∷ []) made 0 longer (omega (arith, count)) (omega arith) in
     let second : IsPlaceOf after right (made + 1) = new_place after (made_paths history) (left ∷ right ∷ []) (made + 1) 1 longer (omega (arith, count)) (omega arith) in
     let from_two : (other : List Decision) → Contains (left ∷ right ∷ []) other → Contains (left ∷ right ∷ pending path) other =
-    λ other child. Contains-left other (left ∷ right ∷ []) (pending path) child in
+    λ other child. Contains-append_left (left ∷ right ∷ []) (pending path) other child in
     let opens : (other : List Decision) → Contains (left ∷ right ∷ []) other → Contains (open_paths after) other =
     λ other child. child_opens network history settlement legal other (subst (λ ps. Contains ps other) (sym children) child) in
     let stays : (other : List Decision) → Contains (pending path) other → Contains (open_paths after) other =
     λ other waits.
-    stays_open network history settlement legal other (walk.is_open other (Contains-there path other (pending path) waits))
+    stays_open network history settlement legal other (walk.is_open other (Contains-more path (pending path) other waits))
     (λ same. pending_apart path other waits (sym its_path ∙ same)) in
     let opened : (other : List Decision) → Contains (open_paths after) other → Contains (left ∷ right ∷ pending path) other =
     λ other found.
     elim (open_now network history settlement legal other found) [
       | inr child ↦ from_two other (subst (λ ps. Contains ps other) children child)
       | inl old ↦
-          elim (Contains-cons path other (pending path) (walk.nothing_else other old.0)) [
+          elim (Contains-cons_cases path (pending path) other (walk.nothing_else other old.0)) [
             | inl same ↦ absurd (old.1 (its_path ∙ same))
-            | inr waits ↦ Contains-right other (left ∷ right ∷ []) (pending path) waits
+            | inr waits ↦ Contains-append_right (left ∷ right ∷ []) (pending path) other waits
           ]
     ] in
     record {
       is_open = λ other found.
-          elim (Contains-append other (left ∷ right ∷ []) (pending path) (subst (λ ps. Contains ps other) (sym waits_now) found)) [
+          elim (Contains-append_cases (left ∷ right ∷ []) (pending path) other (subst (λ ps. Contains ps other) (sym waits_now) found)) [
             | inl child ↦ opens other child
             | inr waits ↦ stays other waits
           ];
@@ -268,7 +231,7 @@ open_after_leaf network history settlement path place waiting legal walk its_pat
     elim (open_now network history settlement legal other found) [
       | inr child ↦ absurd (Contains-nil other (subst (λ ps. Contains ps other) none child))
       | inl old ↦
-          elim (Contains-cons path other (pending path) (walk.nothing_else other old.0)) [
+          elim (Contains-cons_cases path (pending path) other (walk.nothing_else other old.0)) [
             | inl same ↦ absurd (old.1 (its_path ∙ same))
             | inr waits ↦ waits
           ]
@@ -285,7 +248,7 @@ walk_leaf network history settlement path place next next_place waiting legal wa
     record {
       is_open = λ other found.
           let waits : Contains (pending path) other = subst (λ ps. Contains ps other) (sym turned) found in
-          stays_open network history settlement legal other (walk.is_open other (Contains-there path other (pending path) waits))
+          stays_open network history settlement legal other (walk.is_open other (Contains-more path (pending path) other waits))
           (λ same. pending_apart path other waits (sym its_path ∙ same));
       nothing_else = λ other found.
           subst (λ ps. Contains ps other) turned (open_after_leaf network history settlement path place (next_place ∷ waiting) legal walk its_path none other found);
@@ -307,9 +270,5 @@ pub walk_end : (network : Network) (history : List Settlement) (settlement : Set
     → IsWalk history path place waiting → settlement.event.path ≡ path → children_of settlement.event.path settlement.event.outcome ≡ [] → pending path ≡ []
     → open_paths (history ++ settlement ∷ []) ≡ []
 walk_end network history settlement path place waiting legal walk its_path none nothing =
-    empty_from (open_paths (history ++ settlement ∷ [])) (λ other found.
+    nil-from_none (open_paths (history ++ settlement ∷ [])) (λ other found.
     Contains-nil other (subst (λ ps. Contains ps other) nothing (open_after_leaf network history settlement path place waiting legal walk its_path none other found)))
-  where
-    empty_from : (paths : List (List Decision)) → ((other : List Decision) → Contains paths other → ⊥) → paths ≡ []
-    empty_from [] no_path = refl
-    empty_from (other ∷ paths) no_path = absurd (no_path other (Contains-here other paths))

@@ -5,7 +5,7 @@ use Rattle.tsn_model.specs.Schedule.{IsValid, flowspan, target_of, IsFirst, HasN
 use Rattle.tsn_model.specs.Arcs.{conflicts_of}
 use Rattle.tsn_model.specs.Certificate.{AcceptsBy, AcceptsFirst, IsNodeShown}
 use Rattle.tsn_model.specs.Search.{Settlement, open_paths, best_bound, kept_of, solved_bounds, IsLegal}
-use Rattle.tsn_search_laws.proofs.Lists.{Contains-here}
+use Rattle.tsn_model.proofs.Lists.{Contains-head}
 use Rattle.tsn_search_laws.proofs.Kept.{kept_valid, kept_target}
 use Rattle.tsn_search_laws.proofs.Finished.{finished_plan}
 use Rattle.tsn_cert.specs.declared.plan.Plan.{Plan}
@@ -62,7 +62,7 @@ module _ (network : Network) (formed : IsWellFormed network) (limit : ℕ) (hist
 
 first_of : {X : Type 0} (xs : List X) → 0 < length xs → (x : X) × Contains xs x
 first_of [] some = absurd (omega arith)
-first_of (x ∷ xs) some = (x, Contains-here x xs)
+first_of (x ∷ xs) some = (x, Contains-head x xs)
 
 -- a search that was done, in which a node is open
 pub stopped : (network : Network) (limit : ℕ) (book : Progress) → IsLawful book → IsSearchOf network limit book → (open_paths book.history ≡ []) ⊎ (length book.history ≡ limit) → 0 < length (open_paths book.history)

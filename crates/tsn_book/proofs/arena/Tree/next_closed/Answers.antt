@@ -1,7 +1,8 @@
 use Rattle.std.proofs.Common.{◌≡◌, ◌<◌, ◌+◌, ◌&&◌, false, length, arith, refl, ap, ◌∙◌}
+use Rattle.std.proofs.Math.Bool.{and-false}
 use Rattle.tsn_book.specs.Arena.{IsChildOf, flag_at}
 use Rattle.tsn_book.proofs.Places.{placed_as, stands_as}
-use Rattle.tsn_book.proofs.Closing.{origin_is, root_closed, parent_split, parent_child, parent_open, child_side, and_false}
+use Rattle.tsn_book.proofs.Closing.{origin_is, root_closed, parent_split, parent_child, parent_open, child_side}
 use Rattle.tsn_book.proofs.arena.Tree.next_closed.Goals as goal
 
 pub returns-in_default : goal.returns-in_default
@@ -80,4 +81,4 @@ returns-else-closed-children c =
     let of : IsChildOf self.places.standings c.in-Child.parent c.args.place = record { triple = c.in-Split.triple; children = c.in-Split.children; event = c.in-Split.event; stands = stands; which = which } in
     let side = child_side self.network self.places.origins self.places.standings self.events.items c.requires.tree c.in-Child.parent c.args.place there of in
     let right : flag_at c.args.closed.now (c.in-Split.children + 1) ≡ false = c.if-closed-children.false in
-    parent_open self.network self.places.origins self.places.standings self.events.items c.requires.tree c.args.closed.now c.args.place c.in-Child.parent closing of (ap (λ b. flag_at c.args.closed.now c.in-Split.children && b) right ∙ and_false (flag_at c.args.closed.now c.in-Split.children))
+    parent_open self.network self.places.origins self.places.standings self.events.items c.requires.tree c.args.closed.now c.args.place c.in-Child.parent closing of (ap (λ b. flag_at c.args.closed.now c.in-Split.children && b) right ∙ and-false (flag_at c.args.closed.now c.in-Split.children))

@@ -2,15 +2,15 @@ use Rattle.std.proofs.Common.{◌≡◌, ◌-◌, List, length, take, sym, ap, �
 use Rattle.tsn_model.specs.declared.Decision.{Decision}
 use Rattle.tsn_model.specs.declared.Side.TheVariants.{Left}
 use Rattle.tsn_model.specs.Search.{split}
+use Rattle.tsn_model.proofs.Decisions.{length-decided, take-decided}
 use Rattle.tsn_search_laws.specs.Walk.{IsPlaceOf}
-use Rattle.tsn_search_laws.proofs.Paths.{length-decided}
 use Rattle.tsn_branch.specs.Look.{SplitsUndecided}
 use Rattle.tsn_branch.specs.declared.outcome.Look.{Look}
 use Rattle.tsn_branch.specs.Outcome.{outcome_of}
 use Rattle.tsn_book.specs.Arena.{settled_in}
 use Rattle.tsn_book.specs.Book.{Progress, IsFault}
 use Rattle.tsn_book.specs.Ledger.{progress_of, next_outcome, with_one}
-use Rattle.tsn_book.proofs.Below.{taken_back, above_push, left_place}
+use Rattle.tsn_book.proofs.Below.{above_push, left_place}
 use Rattle.tsn_book.proofs.Ledgers.{places_made}
 use Rattle.tsn_book.proofs.ledger.Ledger.split_at.Goals as goal
 
@@ -31,7 +31,7 @@ settle_here-requires-clause-undecided c =
 
 pub returns-in-Err-settle_here-clause-stays : goal.returns-in-Err-settle_here-clause-stays
 returns-in-Err-settle_here-clause-stays c =
-    c.pop.ensures ∙ ap (λ (path : List Decision). take (length path - 1) path) c.in_default.ensures.ok ∙ taken_back c.args.walk.now c.args.triple Left
+    c.pop.ensures ∙ ap (λ (path : List Decision). take (length path - 1) path) c.in_default.ensures.ok ∙ take-decided c.args.walk.now c.args.triple Left
 
 pub returns-in-Err-settle_here-clause-fault : goal.returns-in-Err-settle_here-clause-fault
 returns-in-Err-settle_here-clause-fault c =
