@@ -113,11 +113,6 @@ closed_parts path chain end last is joined closed =
       sym (leads_start path end chain end leads),
     )
 
-pub closed_from : (path : List Arc) (chain : List ℕ) (start end : ℕ) → 0 < length chain → IsChainTo path chain end → start ≡ start_of path chain end → start ≡ end → IsClosedChain path chain
-closed_from path chain start end some is_chain begins returns =
-    let P : ℕ → Type 0 = λ s. Leads path s chain end in
-    record { places = is_chain.places; some_arc = some; returns = (end, subst P (sym begins ∙ returns) is_chain.leads) }
-
 -- ---- chains of the code's path
 
 pub arcs-turns : (network : Network) (turns : List Turn) → AreTurns network turns → arcs turns ≡ arcs_of network (decisions turns)

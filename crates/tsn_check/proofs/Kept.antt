@@ -1,15 +1,14 @@
 -- The conflicts that are kept, as those of the network.
-use Rattle.std.proofs.Common.{ℕ, ◌<◌, List, get_or, Contains, sym, subst, arith, Option}
+use Rattle.std.proofs.Common.{ℕ, ◌<◌, List, get_or, Contains, sym, subst, Option}
 use Rattle.tsn_model.specs.declared.Triple.{Triple}
 use Rattle.tsn_model.specs.declared.Decision.{Decision}
-use Rattle.tsn_model.specs.declared.Side.{Side}
-use Rattle.tsn_model.specs.declared.Side.TheVariants.{Left, Right}
 use Rattle.tsn_model.specs.declared.Arc.{Arc}
 use Rattle.tsn_model.specs.Network.{Network, stream_count}
-use Rattle.tsn_model.specs.Arcs.{arc_between, arc_on, arc_of}
+use Rattle.tsn_model.specs.Arcs.{arc_of}
 use Rattle.tsn_model.specs.Schedule.{IsConflict}
 use Rattle.tsn_model.specs.Certificate.{Node, split_node, leaf_node, tie_node, IsNodeShown}
 use Rattle.tsn_model.proofs.Conflicts.{conflict_listed, listed_conflict}
+use Rattle.tsn_model.proofs.Decisions.{arc_on-counted}
 use Rattle.tsn_conflict.specs.Kept.{Kept, AreConflictsOf}
 use Rattle.tsn_check.specs.declared.path.Turn.{Turn}
 use Rattle.tsn_check.specs.Turns.{AreTurns, AreTurnsOf}
@@ -21,12 +20,6 @@ kept_conflict network kept of_network triple has = listed_conflict network tripl
 pub conflict_kept : (network : Network) (kept : Kept) → AreConflictsOf network kept → (triple : Triple) → IsConflict network triple → Contains kept.triples triple
 conflict_kept network kept of_network triple conflict = subst (λ triples. Contains triples triple) (sym of_network.triples) (conflict_listed network of_network.formed triple conflict)
 
--- the arc of a conflict begins at a stream
-from_counted : (network : Network) (triple : Triple) (side : Side) → IsConflict network triple → (arc_on network triple side).from < stream_count network
-unfolding arc_on arc_between
-from_counted network triple Left conflict = let ordered = conflict.ordered in let counted = conflict.counted in omega arith
-from_counted network triple Right conflict = conflict.counted
-
 pub turns_in : (network : Network) (kept : Kept) → AreConflictsOf network kept → (turns : List Turn) → AreTurnsOf kept turns → AreTurns network turns
 unfolding arc_of
 turns_in network kept of_network turns all = λ k d below.
@@ -34,7 +27,7 @@ turns_in network kept of_network turns all = λ k d below.
     let found = get_or turns k d in
     let same = turn.same_arc network of_network in
     let begins : (arc_of network found.decision).from < stream_count network =
-    from_counted network found.decision.triple found.decision.side (kept_conflict network kept of_network found.decision.triple turn.conflict) in
+    arc_on-counted network found.decision.triple found.decision.side (kept_conflict network kept of_network found.decision.triple turn.conflict) in
     record { same_arc = same; begins = subst (λ (arc : Arc). arc.from < stream_count network) (sym same) begins; small = turn.small }
 
 pub branch_of : (network : Network) (kept : Kept) → AreConflictsOf network kept → (target : ℕ) (planned : Option (List ℕ)) (path : List Decision) (node : Node) → IsNodeShown network target planned path node → IsBranchOf kept node

@@ -5,15 +5,16 @@ use Rattle.std.specs.Int.{int_min}
 use Rattle.std.specs.List.{list_any}
 use Rattle.std.proofs.lemmas.Bool.{false≢true}
 use Rattle.std.proofs.lemmas.Int.{ints}
-use Rattle.std.proofs.lemmas.List.{get_or-map, length-map, length-append, length-take, map-append, take_more, take-map}
+use Rattle.std.proofs.lemmas.List.{get_or-map, length-map, length-append, length-take, take_more, take-map}
 use Rattle.std.proofs.lemmas.List.Elements.{All-map, All-push}
 use Rattle.std.proofs.lemmas.List.Folds.{Any-from_list_any, list_any_at}
-use Rattle.std.proofs.lemmas.List.Sums.{fold-append, sum_by-append}
+use Rattle.std.proofs.lemmas.List.Sums.{sum_by-append}
 use Rattle.std.proofs.lemmas.List.Quantifiers.{all_pairs_push}
 use Rattle.tsn_model.specs.declared.Decision.{Decision}
 use Rattle.tsn_model.specs.Network.{Network}
 use Rattle.tsn_model.specs.Timing.{occupancy, start_on, arrival, UsesLink}
 use Rattle.tsn_model.specs.Certificate.{Entry, LeadsTo, AreEntries, sum_on, least, head_of, tail_of, work_of, busy_until, load_bound}
+use Rattle.tsn_model.proofs.Lists.{least-map_push, least-one}
 use Rattle.tsn_cert.specs.Entry.{tree_entry}
 use Rattle.tsn_check.specs.Faults.{IsFirstWrong}
 use Rattle.tsn_check.specs.Steps.{IsWrongEntry, IsRightEntry, IsLoad}
@@ -33,18 +34,6 @@ not_repeated entries stream none =
     false≢true (sym none ∙ list_any_at (λ entry. entry.0 == stream) entries k d below (eq-eqb (get_or entries k d).0 stream same)))
 
 -- ---- the least of some numbers
-
-least-push : (x : ℤ) (xs : List ℤ) (y : ℤ) → least ((x ∷ xs) ++ y ∷ []) ≡ int_min (least (x ∷ xs)) y
-unfolding least
-least-push x xs y = fold-append int_min x xs (y ∷ [])
-
-least-map_push : {X : Type 0} (f : X → ℤ) (xs : List X) (y : X) → 0 < length xs → least (map f (xs ++ y ∷ [])) ≡ int_min (least (map f xs)) (f y)
-least-map_push f [] y some = absurd (omega arith)
-least-map_push f (x ∷ xs) y some = ap least (map-append f (x ∷ xs) (y ∷ [])) ∙ least-push (f x) (map f xs) (f y)
-
-least-one : (x : ℤ) → least (x ∷ []) ≡ x
-unfolding least
-least-one x = refl
 
 -- what holds of two numbers holds of the lesser one
 lesser : (P : ℤ → Type 0) (x y least : ℤ) → least ≡ int_min x y → P x → P y → P least

@@ -1,5 +1,5 @@
 -- What is found of a leaf, as the fault of a node; and what the sums of chains show of a plan.
-use Rattle.std.proofs.Common.{◌≡◌, ◌≢◌, ℕ, ◌+◌, ◌<◌, List, [], length, get_or, ◌∙◌, pos, ◌<ℤ◌, Option, Ok, Err, inl, inr, sym, ap, subst, arith}
+use Rattle.std.proofs.Common.{◌≡◌, ℕ, ◌+◌, ◌<◌, List, [], length, get_or, ◌∙◌, pos, ◌<ℤ◌, Option, Ok, Err, inl, inr, sym, ap, subst, arith}
 use Rattle.std.specs.Prelude.{Result, IsSomeAnd}
 use Rattle.std.proofs.lemmas.Int.{ints}
 use Rattle.std.proofs.lemmas.Bool.{cases_lt}
@@ -100,8 +100,3 @@ module _ (network : Network) (path : List Decision) (chains : List (List ℕ)) (
     ]
   ]
   not_sooner k inside counted same less (inr whole) = let is = whole.1 k counted in omega (arith, ints, is, less)
-
-  -- no difference, and too few chains
-  pub not_whole : SumsAre network path chains offsets (length chains) → length chains ≢ stream_count network → ShowsAfter network path chains offsets → ⊥
-  not_whole same few (inl past) = let is = same past.0 past.1 in let above = past.3 in omega (arith, ints, is, above)
-  not_whole same few (inr whole) = few whole.0

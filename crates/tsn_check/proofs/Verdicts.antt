@@ -1,8 +1,7 @@
 -- What an accepted certificate shows, and what a first fault refutes.
-use Rattle.std.proofs.Common.{◌≡◌, ◌≤◌, ℕ, List, [], ◌∷◌, All, get_or, inl, inr, sym, ap, ◌∙◌, subst, arith}
-use Rattle.std.proofs.lemmas.List.{get_or_default}
+use Rattle.std.proofs.Common.{◌≡◌, ◌≤◌, ℕ, List, [], ◌∷◌, inl, inr, sym, ap, ◌∙◌, subst, arith}
 use Rattle.tsn_model.specs.Network.{Network, IsWellFormed}
-use Rattle.tsn_model.specs.Schedule.{IsValid, HasNoSchedule, target_of}
+use Rattle.tsn_model.specs.Schedule.{HasNoSchedule, target_of}
 use Rattle.tsn_model.specs.Certificate.{AcceptsBy, IsNodeShown}
 use Rattle.tsn_model.proofs.Soundness.{accepted_optimal, accepted_none}
 use Rattle.tsn_model.proofs.Firsts.{accepted_first, accepted_first_none}
@@ -127,10 +126,3 @@ tree_fault_first network timing plan cert target nodes fault same claim aimed li
     inr (inr (right, aim, whole))
 
 -- ---- plans
-
--- each offset of a valid schedule is within the cycle
-pub small_offsets : (network : Network) (offsets : List ℕ) → IsValid network offsets → All (λ offset. offset ≤ network.cycle) offsets
-small_offsets network offsets valid k d below =
-    let arrives = valid.arrived k (omega (arith, valid.count)) in
-    let same : get_or offsets k d ≡ get_or offsets k 0 = get_or_default offsets k d 0 below in
-    omega arith

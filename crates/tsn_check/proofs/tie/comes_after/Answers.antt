@@ -3,16 +3,16 @@ use Rattle.std.specs.Prelude.{slice_index_or}
 use Rattle.std.proofs.lemmas.Int.{ints}
 use Rattle.tsn_model.specs.Schedule.{offset_of}
 use Rattle.tsn_model.specs.Certificate.{sum_on, chain_at}
+use Rattle.tsn_model.proofs.Schedules.{offsets_within}
 use Rattle.tsn_check.specs.Turns.{decisions}
 use Rattle.tsn_check.proofs.Ties.{chain_there, sums_more}
-use Rattle.tsn_check.proofs.Verdicts.{small_offsets}
 use Rattle.tsn_check.proofs.tie.comes_after.Goals as goal
 
 pub overflow_cast-offset : goal.overflow_cast-offset
 overflow_cast-offset c =
     let counted = c.in-Ok.ensures.leads.stream in
     let many = c.requires.valid.count in
-    let small = small_offsets c.args.timing.now c.args.offsets.now c.requires.valid c.loop-stream.stream 0 (omega (arith, counted, many)) in
+    let small = offsets_within c.args.timing.now c.args.offsets.now c.requires.valid c.loop-stream.stream 0 (omega (arith, counted, many)) in
     let short = c.requires.formed.short_cycle in
     omega (arith, ints, small, short)
 
@@ -27,7 +27,7 @@ returns-then-sum-offset c =
     let at_offset : offset_of c.args.offsets.now stream ≡ slice_index_or c.args.offsets.now stream 0 = refl in
     let counted = c.in-Ok.ensures.leads.stream in
     let many = c.requires.valid.count in
-    let small : slice_index_or c.args.offsets.now stream 0 ≤ c.args.timing.now.cycle = small_offsets c.args.timing.now c.args.offsets.now c.requires.valid stream 0 (omega (arith, counted, many)) in
+    let small : slice_index_or c.args.offsets.now stream 0 ≤ c.args.timing.now.cycle = offsets_within c.args.timing.now c.args.offsets.now c.requires.valid stream 0 (omega (arith, counted, many)) in
     let short = c.requires.formed.short_cycle in
     let low = c.in-Ok.ensures.low in
     let high = c.in-Ok.ensures.high in
@@ -45,7 +45,7 @@ loop-stream-preserved c =
     let at_offset : offset_of c.args.offsets.now stream ≡ slice_index_or c.args.offsets.now stream 0 = refl in
     let counted = c.in-Ok.ensures.leads.stream in
     let many = c.requires.valid.count in
-    let small : slice_index_or c.args.offsets.now stream 0 ≤ c.args.timing.now.cycle = small_offsets c.args.timing.now c.args.offsets.now c.requires.valid stream 0 (omega (arith, counted, many)) in
+    let small : slice_index_or c.args.offsets.now stream 0 ≤ c.args.timing.now.cycle = offsets_within c.args.timing.now c.args.offsets.now c.requires.valid stream 0 (omega (arith, counted, many)) in
     let short = c.requires.formed.short_cycle in
     let low = c.in-Ok.ensures.low in
     let high = c.in-Ok.ensures.high in
