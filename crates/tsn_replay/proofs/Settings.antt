@@ -5,6 +5,7 @@ use Rattle.tsn_model.specs.Network.{Network, IsWellFormed, route_link}
 use Rattle.tsn_model.specs.Schedule.{IsValid}
 use Rattle.tsn_model.specs.Bridge.{LinkGates, BackgroundFrame, Background, frame_at}
 use Rattle.tsn_model.specs.Bridge.Background.{nothing, greedy, frames}
+use Rattle.tsn_model.proofs.Schedules.{offsets_within}
 use Rattle.tsn_replay.specs.declared.fault.ReplayFault.{ReplayFault}
 use Rattle.tsn_replay.specs.Openings.{IsGivenFrame, HasBackground}
 use Rattle.tsn_replay.specs.Faults.{IsListed, NamesLinks, KeepsLimits, HasReplayFault}
@@ -14,13 +15,6 @@ pub no_fault : (network : Network) (lists : List LinkGates) (cycles : ℕ) (back
     → MatchOption found (NamesLinks network lists background × KeepsLimits network lists cycles background) (HasReplayFault network lists cycles background) → NamesLinks network lists background × KeepsLimits network lists cycles background
 no_fault network lists cycles background None never both = both
 no_fault network lists cycles background (Some fault) never has = absurd (never fault refl)
-
-small_offsets : (network : Network) (offsets : List ℕ) → IsValid network offsets → All (λ offset. offset ≤ network.cycle) offsets
-small_offsets network offsets valid k d below =
-    let count = valid.count in
-    let arrived = valid.arrived k (omega arith) in
-    let same = get_or_default offsets k d 0 below in
-    omega arith
 
 -- where the list of a link stands
 listed_at : (lists : List LinkGates) (link : ℕ) → IsListed lists link → (place : ℕ) × (place < length lists) × ((d : LinkGates) → (get_or lists place d).link ≡ link)
@@ -59,7 +53,7 @@ pub setting_right : (setting : Setting) → IsWellFormed setting.network → IsV
 setting_right setting formed valid few names keeps = record {
   formed = formed;
   count = valid.count;
-  small = small_offsets setting.network setting.offsets valid;
+  small = offsets_within setting.network setting.offsets valid;
   few = few;
   lists = record { links = names.exist; distinct = names.distinct; used = λ i k i_below k_below. listed_at setting.gates (route_link setting.network i k) (names.used i i_below k k_below) };
   background = has_background setting.network formed setting.gates setting.cycles few setting.background names keeps;

@@ -7,21 +7,15 @@ use Rattle.std.specs.List.Sorted.{IsNonDecreasingBy}
 use Rattle.std.proofs.lemmas.Bool.{cases_lt}
 use Rattle.std.proofs.lemmas.List.{take-append-drop, take_all, get_or_default}
 use Rattle.std.proofs.lemmas.List.Sorted.{IsNonDecreasingBy-from_all_adjacent}
-use Rattle.std.proofs.lemmas.List.Sums.{sum_by-cons, sum_by_more, sum_by_more_le, get_or-le-sum_by}
+use Rattle.std.proofs.lemmas.List.Sums.{get_or-le-sum_by}
 use Rattle.tsn_model.specs.declared.GateEntry.{GateEntry}
 use Rattle.tsn_model.specs.Gates.{IsOctetAt, cycle_of}
 use Rattle.tsn_gate.specs.Entries.{IsGateList}
+use Rattle.tsn_gate.proofs.Playing.{cycle_of_more, cycle_of_part}
+use Rattle.tsn_gate.proofs.Entries.{cycle_of-cons, cycle_of-nil}
 use Rattle.tsn_replay.specs.Openings.{AreEnds, IsEntryAt, OctetHas}
 
 -- ---- there is one octet at an instant
-
-cycle_cons : (x : GateEntry) (xs : List GateEntry) → cycle_of (x ∷ xs) ≡ x.interval + cycle_of xs
-unfolding cycle_of
-cycle_cons x xs = sum_by-cons (λ (e : GateEntry). e.interval) x xs
-
-cycle_nil : cycle_of [] ≡ 0
-unfolding cycle_of
-cycle_nil = refl
 
 same_entry : (xs ys : List GateEntry) (a b : GateEntry) (after rest : List GateEntry) (t : ℕ) → xs ++ a ∷ after ≡ ys ++ b ∷ rest
     → cycle_of xs ≤ t → t < cycle_of xs + a.interval → cycle_of ys ≤ t → t < cycle_of ys + b.interval → a ≡ b
@@ -29,21 +23,21 @@ same_entry [] [] a b after rest t same a_begun a_ends b_begun b_ends = cc
 same_entry [] (y ∷ ys) a b after rest t same a_begun a_ends b_begun b_ends =
     let first : a ≡ y = cc in
     let long = ap (λ (e : GateEntry). e.interval) first in
-    let none = cycle_nil in
-    let some = cycle_cons y ys in
+    let none = cycle_of-nil in
+    let some = cycle_of-cons y ys in
     absurd (omega arith)
 same_entry (x ∷ xs) [] a b after rest t same a_begun a_ends b_begun b_ends =
     let first : x ≡ b = cc in
     let long = ap (λ (e : GateEntry). e.interval) first in
-    let none = cycle_nil in
-    let some = cycle_cons x xs in
+    let none = cycle_of-nil in
+    let some = cycle_of-cons x xs in
     absurd (omega arith)
 same_entry (x ∷ xs) (y ∷ ys) a b after rest t same a_begun a_ends b_begun b_ends =
     let first : x ≡ y = cc in
     let tail : xs ++ a ∷ after ≡ ys ++ b ∷ rest = cc in
     let long = ap (λ (e : GateEntry). e.interval) first in
-    let one = cycle_cons x xs in
-    let other = cycle_cons y ys in
+    let one = cycle_of-cons x xs in
+    let other = cycle_of-cons y ys in
     same_entry xs ys a b after rest (t - x.interval) tail (omega arith) (omega arith) (omega arith) (omega arith)
 
 pub octet_once : (entries : List GateEntry) (t a b : ℕ) → IsOctetAt entries t a → IsOctetAt entries t b → a ≡ b
@@ -62,14 +56,6 @@ cycle-pos entries formed =
     let within = get_or-le-sum_by (λ (e : GateEntry). e.interval) entries 0 (record { interval = 0; octet = 0 }) (omega arith) in
     omega arith
 
-pub cycle_more : (entries : List GateEntry) (index : ℕ) (d : GateEntry) → index < length entries → cycle_of (take (index + 1) entries) ≡ cycle_of (take index entries) + (get_or entries index d).interval
-unfolding cycle_of
-cycle_more entries index d below = sum_by_more (λ (e : GateEntry). e.interval) entries index d below
-
-pub cycle_more-le : (entries : List GateEntry) (index : ℕ) (d : GateEntry) → index < length entries → cycle_of (take index entries) + (get_or entries index d).interval ≤ cycle_of entries
-unfolding cycle_of
-cycle_more-le entries index d below = sum_by_more_le (λ (e : GateEntry). e.interval) entries index d below
-
 pub cycle_none : (entries : List GateEntry) → cycle_of (take 0 entries) ≡ 0
 unfolding cycle_of
 cycle_none entries = refl
@@ -85,7 +71,7 @@ pub span_octet : (entries : List GateEntry) (index : ℕ) (entry : GateEntry) (a
     → at ≤ u → u < at + (cycle_of (take index entries) + entry.interval - at % cycle_of entries) → IsOctetAt entries u entry.octet
 span_octet entries index entry at u below is begun ends since until =
     let long = ap (λ (e : GateEntry). e.interval) is in
-    let within = cycle_more-le entries index entry below in
+    let within = cycle_of_part entries index entry below in
     let place = later_place at u (cycle_of entries) since (omega arith) in
     record {
       before = take index entries;
@@ -105,7 +91,7 @@ ends_rise entries ends are = IsNonDecreasingBy-from_all_adjacent (λ (end : ℕ)
     let counted = are.count in
     let here : get_or ends k d ≡ cycle_of (take (k + 1) entries) = get_or_default ends k d 0 (omega arith) ∙ are.each k (omega arith) in
     let next : get_or ends (k + 1) d ≡ cycle_of (take (k + 1 + 1) entries) = get_or_default ends (k + 1) d 0 (omega arith) ∙ are.each (k + 1) (omega arith) in
-    let more = cycle_more entries (k + 1) (record { interval = 0; octet = 0 }) (omega arith) in
+    let more = cycle_of_more entries (k + 1) (record { interval = 0; octet = 0 }) (omega arith) in
     omega arith)
 
 -- the entry is the first that ends later

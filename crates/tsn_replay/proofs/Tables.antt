@@ -8,7 +8,7 @@ use Rattle.std.proofs.lemmas.List.Elements.{All-map, All-weaker, Contains-push, 
 use Rattle.tsn_model.specs.Network.{Network, IsWellFormed, stream_count, hop_count}
 use Rattle.tsn_model.specs.Bridge.{Passage, ScheduledStart, BridgeRun, IsPassage, StartedAt}
 use Rattle.tsn_model.proofs.Limits.{hops-le}
-use Rattle.tsn_model.proofs.Lists.{All-flat_map, All-range, All-unmap, Contains-nil}
+use Rattle.tsn_model.proofs.Lists.{All-flat_map, All-range, All-unmap, Contains-nil, range_more}
 use Rattle.tsn_model.proofs.OnTime.{passage_cases, same_cycle, cycle_below}
 use Rattle.tsn_replay.specs.declared.trace.Row.{Row}
 use Rattle.tsn_replay.specs.Rows.{stream_passages, cycle_passages, passages_of, place_of, row_of, row_passage, IsTable, IsRow, AreRows}
@@ -22,17 +22,11 @@ pub hop_more : (f : Passage → Row) (cycle stream n : ℕ) → map f (map (pass
 hop_more f cycle stream n =
     ap (map f) (map-range_with_len_more (passage_at cycle stream) 0 n n (omega arith)) ∙ map-append f (map (passage_at cycle stream) (range_with_len 0 n)) (passage_at cycle stream n ∷ [])
 
-map_same : (xs : List ℕ) → map (λ x. x) xs ≡ xs
-map_same [] = refl
-map_same (x ∷ xs) = ap (λ ys. x ∷ ys) (map_same xs)
-
-range_more : (n : ℕ) → range_with_len 0 (n + 1) ≡ range_with_len 0 n ++ n ∷ []
-range_more n = sym (map_same (range_with_len 0 (n + 1))) ∙ (map-range_with_len_more (λ x. x) 0 n n (omega arith) ∙ ap (λ xs. xs ++ n ∷ []) (map_same (range_with_len 0 n)))
-
 pub pieces_more : (f : Passage → Row) (g : ℕ → List Passage) (n : ℕ) → map f (flat_map g (range_with_len 0 (n + 1))) ≡ map f (flat_map g (range_with_len 0 n)) ++ map f (g n)
 pieces_more f g n =
+    let more : range_with_len 0 (n + 1) ≡ range_with_len 0 n ++ n ∷ [] = range_more 0 n ∙ ap (λ m. range_with_len 0 n ++ m ∷ []) (omega arith) in
     let pieces : flat_map g (range_with_len 0 (n + 1)) ≡ flat_map g (range_with_len 0 n) ++ g n =
-    ap (flat_map g) (range_more n) ∙ (flat_map-append g (range_with_len 0 n) (n ∷ []) ∙ ap (λ ys. flat_map g (range_with_len 0 n) ++ ys) (append-nil (g n))) in
+    ap (flat_map g) more ∙ (flat_map-append g (range_with_len 0 n) (n ∷ []) ∙ ap (λ ys. flat_map g (range_with_len 0 n) ++ ys) (append-nil (g n))) in
     ap (map f) pieces ∙ map-append f (flat_map g (range_with_len 0 n)) (g n)
 
 -- ---- places

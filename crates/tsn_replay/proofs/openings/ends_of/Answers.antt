@@ -4,8 +4,9 @@ use Rattle.std.proofs.Math.ListN.{get_or-append}
 use Rattle.std.proofs.lemmas.Bool.{cases_lt}
 use Rattle.std.proofs.lemmas.List.{length-append}
 use Rattle.tsn_model.specs.Gates.{cycle_of}
-use Rattle.tsn_replay.proofs.Spans.{cycle_more, cycle_more-le, cycle_none}
+use Rattle.tsn_replay.proofs.Spans.{cycle_none}
 use Rattle.tsn_replay.proofs.openings.ends_of.Goals as goal
+use Rattle.tsn_gate.proofs.Playing.{cycle_of_more, cycle_of_part}
 
 pub loop-entry-init : goal.loop-entry-init
 loop-entry-init c = record { count = ap length c.new-ends.ensures.items; each = λ k below. absurd (omega arith); end = sym (cycle_none c.args.entries.now); last = refl }
@@ -14,7 +15,7 @@ pub overflow_add-end : goal.overflow_add-end
 overflow_add-end c =
     let below = c.loop-entry-test.true in
     let last = c.loop-entry.invariant.last in
-    let less = cycle_more-le c.args.entries.now c.loop-entry.entry-index (record { interval = 0; octet = 0 }) (omega arith) in
+    let less = cycle_of_part c.args.entries.now c.loop-entry.entry-index (record { interval = 0; octet = 0 }) (omega arith) in
     let end = c.loop-entry.invariant.end in
     let short = c.requires in
     omega arith
@@ -23,7 +24,7 @@ pub loop-entry-preserved : goal.loop-entry-preserved
 loop-entry-preserved c =
     let below = c.loop-entry-test.true in
     let last = c.loop-entry.invariant.last in
-    let more = cycle_more c.args.entries.now c.loop-entry.entry-index (record { interval = 0; octet = 0 }) (omega arith) in
+    let more = cycle_of_more c.args.entries.now c.loop-entry.entry-index (record { interval = 0; octet = 0 }) (omega arith) in
     let end = c.loop-entry.invariant.end in
     let counted = c.loop-entry.invariant.count in
     let sum = c.loop-entry.end + (get_or c.args.entries.now c.loop-entry.entry-index (record { interval = 0; octet = 0 })).interval in

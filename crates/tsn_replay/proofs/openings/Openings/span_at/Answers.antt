@@ -5,8 +5,9 @@ use Rattle.tsn_model.specs.declared.GateEntry.{GateEntry}
 use Rattle.tsn_model.specs.Gates.{cycle_of}
 use Rattle.tsn_model.specs.Bridge.{LinkGates}
 use Rattle.tsn_gate.specs.Entries.{IsGateList}
+use Rattle.tsn_gate.proofs.Playing.{cycle_of_more, cycle_of_part}
 use Rattle.tsn_replay.specs.Openings.{AreEnds}
-use Rattle.tsn_replay.proofs.Spans.{cycle-pos, cycle_more, cycle_more-le, span_octet}
+use Rattle.tsn_replay.proofs.Spans.{cycle-pos, span_octet}
 use Rattle.tsn_replay.proofs.openings.Openings.span_at.Goals as goal
 
 pub nonzero_rem-place : goal.nonzero_rem-place
@@ -31,8 +32,8 @@ overflow_add-result c =
     let counted = are.count in
     let value = get_or_default c.self.inside.ends.items c.entry_at-index.result c.index-2.result.now 0 (let within = at.within in omega arith) ∙ are.each c.entry_at-index.result at.within in
     let is = c.index-2.ensures in
-    let more = cycle_more c.args.self.now.entries c.entry_at-index.result (record { interval = 0; octet = 0 }) at.within in
-    let less = cycle_more-le c.args.self.now.entries c.entry_at-index.result (record { interval = 0; octet = 0 }) at.within in
+    let more = cycle_of_more c.args.self.now.entries c.entry_at-index.result (record { interval = 0; octet = 0 }) at.within in
+    let less = cycle_of_part c.args.self.now.entries c.entry_at-index.result (record { interval = 0; octet = 0 }) at.within in
     let short = formed.short in
     let early = c.requires in
     omega arith
@@ -46,8 +47,8 @@ returns-clause-near c =
     let counted = are.count in
     let value = get_or_default c.self.inside.ends.items c.entry_at-index.result c.index-2.result.now 0 (let within = at.within in omega arith) ∙ are.each c.entry_at-index.result at.within in
     let is = c.index-2.ensures in
-    let more = cycle_more c.args.self.now.entries c.entry_at-index.result (record { interval = 0; octet = 0 }) at.within in
-    let less = cycle_more-le c.args.self.now.entries c.entry_at-index.result (record { interval = 0; octet = 0 }) at.within in
+    let more = cycle_of_more c.args.self.now.entries c.entry_at-index.result (record { interval = 0; octet = 0 }) at.within in
+    let less = cycle_of_part c.args.self.now.entries c.entry_at-index.result (record { interval = 0; octet = 0 }) at.within in
     let short = formed.short in
     omega arith
 
@@ -61,7 +62,7 @@ returns-clause-octet c u since until =
     let value = get_or_default c.self.inside.ends.items c.entry_at-index.result c.index-2.result.now 0 (let within = at.within in omega arith) ∙ are.each c.entry_at-index.result at.within in
     let is = c.index-2.ensures in
     let item : c.index.result.now ≡ get_or c.args.self.now.entries c.entry_at-index.result c.index.result.now = c.index.ensures ∙ ap (λ es. get_or es c.entry_at-index.result c.index.result.now) entries in
-    let more = cycle_more c.args.self.now.entries c.entry_at-index.result c.index.result.now at.within in
+    let more = cycle_of_more c.args.self.now.entries c.entry_at-index.result c.index.result.now at.within in
     let long : c.index.result.now.interval ≡ (get_or c.args.self.now.entries c.entry_at-index.result c.index.result.now).interval = ap (λ (e : GateEntry). e.interval) item in
     let place : c.args.at % c.self.inside.cycle ≡ c.args.at % cycle_of c.args.self.now.entries = ap (λ n. c.args.at % n) size in
     let begun = at.begun in
