@@ -7,12 +7,11 @@ use Rattle.std.proofs.lemmas.List.Elements.{filter-append}
 use Rattle.std.proofs.lemmas.List.FromFn.{length-map-range_with_len, get_or-map-range_with_len}
 use Rattle.std.proofs.lemmas.List.Kept.{AllPairs-filter}
 use Rattle.tsn_model.specs.declared.Triple.{Triple}
-use Rattle.tsn_model.proofs.Lists.{AllPairs-range, Contains-range, Contains-filter}
+use Rattle.tsn_model.proofs.Lists.{AllPairs-range, Contains-range, Contains-filter, range_more}
 use Rattle.tsn_conflict.specs.declared.uses.Use.{Use}
 use Rattle.tsn_conflict.specs.declared.places.Places.{Places}
 use Rattle.tsn_conflict.specs.Raised.{triple_at}
 use Rattle.tsn_conflict.specs.Pairs.{Meets, has_stream, places_with, places_in}
-use Rattle.tsn_conflict.proofs.Triples.{range_more}
 
 -- ---- listing them
 

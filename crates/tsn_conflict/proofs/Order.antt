@@ -1,6 +1,6 @@
 -- The first overlap, by the order of the triples.
-use Rattle.std.proofs.Common.{◌≡◌, ℕ, ◌≤◌, ◌<◌, List, length, get_or, Contains, ◌+◌, sym, ap, ◌∙◌, subst, arith, inl, inr}
-use Rattle.std.proofs.lemmas.Bool.{cases_lt, cases_order}
+use Rattle.std.proofs.Common.{◌≡◌, ℕ, ◌≤◌, ◌<◌, List, length, get_or, Contains, sym, ◌∙◌, subst, arith, inl, inr}
+use Rattle.std.proofs.lemmas.Bool.{cases_order}
 use Rattle.std.proofs.lemmas.List.{get_or_default}
 use Rattle.tsn_model.specs.declared.Triple.{Triple}
 use Rattle.tsn_model.specs.Network.{Network, IsWellFormed}
@@ -23,15 +23,6 @@ never_both a b (inr (inr (x, u, v))) (inr (inr (y, z, w))) = omega arith
 -- the streams of the first n triples don't overlap
 abbrev pub AreApartBefore : Network → List ℕ → ℕ → Type 0
 AreApartBefore network offsets n = (k : ℕ) (d : Triple) → k < n → k < length (conflicts_of network) → Overlaps network offsets (get_or (conflicts_of network) k d) → ⊥
-
-pub apart_more : (network : Network) (offsets : List ℕ) (n : ℕ) (d : Triple) → AreApartBefore network offsets n → (Overlaps network offsets (get_or (conflicts_of network) n d) → ⊥) → AreApartBefore network offsets (n + 1)
-apart_more network offsets n d before here k e order below overlaps = elim (cases_lt k n) [
-  | inl earlier ↦ before k e earlier below overlaps
-  | inr past ↦
-      let is : k ≡ n = omega arith in
-      let at : get_or (conflicts_of network) k e ≡ get_or (conflicts_of network) n d = get_or_default (conflicts_of network) k e d below ∙ ap (λ m. get_or (conflicts_of network) m d) is in
-      here (subst (Overlaps network offsets) at overlaps)
-]
 
 module _ (network : Network) (offsets : List ℕ) (formed : IsWellFormed network) where
   pub all_apart : (n : ℕ) → length (conflicts_of network) ≤ n → AreApartBefore network offsets n → AreApart network offsets

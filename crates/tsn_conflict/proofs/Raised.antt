@@ -1,15 +1,16 @@
 -- What a look for the first overlap knows after some offsets were raised.
-use Rattle.std.proofs.Common.{◌≡◌, ℕ, ◌≤◌, ◌<◌, true, List, length, get_or, All, Contains, sym, ap, ◌∙◌, subst, arith, refl, eq-eqb}
+use Rattle.std.proofs.Common.{◌≡◌, ℕ, ◌≤◌, ◌<◌, true, List, length, get_or, All, sym, ap, ◌∙◌, subst, arith, refl, eq-eqb}
 use Rattle.std.proofs.lemmas.Bool.{or_left, or_right}
 use Rattle.std.proofs.lemmas.List.{get_or_default}
 use Rattle.std.proofs.lemmas.List.Elements.{All-contains}
 use Rattle.tsn_model.specs.declared.Triple.{Triple}
 use Rattle.tsn_model.specs.Network.{Network}
-use Rattle.tsn_model.specs.Schedule.{IsFirstOverlap, Overlaps, TripleBefore, offset_of, AreApart}
+use Rattle.tsn_model.specs.Schedule.{IsFirstOverlap, Overlaps, TripleBefore, AreApart}
 use Rattle.tsn_model.specs.Arcs.{conflicts_of}
 use Rattle.tsn_model.proofs.Conflicts.{conflicts_ordered}
 use Rattle.tsn_conflict.specs.Kept.{Kept, AreConflictsOf}
 use Rattle.tsn_conflict.specs.Raised.{triple_at, OnlyRaisedOverlap}
+use Rattle.tsn_conflict.specs.Laws.{ParentsOverlapStarts}
 use Rattle.tsn_conflict.specs.Pairs.{Meets, IsApartBefore, has_stream}
 use Rattle.tsn_conflict.proofs.Meeting.{conflict_at, meets_from, overlaps_from}
 use Rattle.tsn_conflict.proofs.Order.{AreApartBefore, all_apart, first_from}
@@ -57,14 +58,7 @@ module _ (network : Network) (kept : Kept) (is : AreConflictsOf network kept) (o
 
 -- ---- what a caller knows
 
--- a look from the list's head on asks nothing
-pub premise_at_root : (kept : Kept) (offsets raised : List ℕ) → OnlyRaisedOverlap kept offsets raised 0
-premise_at_root kept offsets raised network is place before none_raised overlaps = omega arith
-
--- where the triple at place `start` is the first overlap by the parent's offsets, and the offsets differ from the parent's for raised streams alone
-pub premise_from_parent : (network : Network) (kept : Kept) (parent offsets raised : List ℕ) (start : ℕ) → AreConflictsOf network kept → start < length kept.triples
-    → IsFirstOverlap network parent (triple_at kept.triples start) → ((stream : ℕ) → (Contains raised stream → ⊥) → offset_of offsets stream ≡ offset_of parent stream)
-    → OnlyRaisedOverlap kept offsets raised start
+pub premise_from_parent : ParentsOverlapStarts
 premise_from_parent network kept parent offsets raised start is below first agree other of_other place before none_raised overlaps =
     let meets = meets_from other kept of_other offsets (triple_at kept.triples place) (conflict_at other kept of_other place (omega arith)) overlaps in
     let left_begun = meets.left_begun in

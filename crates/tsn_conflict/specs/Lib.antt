@@ -1,4 +1,5 @@
 pub mod Kept
 pub mod Raised
+pub mod Laws
 pub mod Rows
 pub mod Pairs

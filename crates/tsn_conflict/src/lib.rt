@@ -4,6 +4,7 @@
 ghost use Rattle.std.specs.Prelude.{IfOk};
 ghost use Rattle.tsn_conflict.specs.Kept.{AreConflictsOf};
 
+pub mod laws;
 mod listing;
 mod pairs;
 mod places;
