@@ -34,13 +34,10 @@ pub fn check_plan(alloc: Global, timing: &Timing, plan: &Plan) -> Result<Valid, 
     let Plan::Schedule { flowspan, offsets } = plan else {
         return Err(CheckFault::PlanInvalid);
     };
+    judge_schedule(timing, *flowspan, offsets.list())?;
     let copy = offsets.list().to_vec(alloc)?;
     let Ok(valid) = timing.valid(copy) else {
-        return Err(CheckFault::PlanInvalid);
+        unreachable!();
     };
-    if timing.flowspan(valid.offsets()) == *flowspan {
-        Ok(valid)
-    } else {
-        Err(CheckFault::FlowspanWrong)
-    }
+    Ok(valid)
 }
