@@ -1,6 +1,6 @@
 -- What is found of a leaf, as the fault of a node; and what the sums of chains show of a plan.
-use Rattle.std.proofs.Common.{◌≡◌, ℕ, ◌+◌, ◌<◌, List, [], length, get_or, ◌∙◌, pos, ◌<ℤ◌, Option, Ok, Err, inl, inr, sym, ap, subst, arith}
-use Rattle.std.specs.Prelude.{Result, IsSomeAnd}
+use Rattle.std.proofs.Common.{◌≡◌, ℕ, ◌+◌, ◌<◌, List, [], length, get_or, ◌∙◌, pos, ◌<ℤ◌, Option, inl, inr, sym, ap, subst, arith}
+use Rattle.std.specs.Prelude.{IsSomeAnd}
 use Rattle.std.proofs.lemmas.Int.{ints}
 use Rattle.std.proofs.lemmas.Bool.{cases_lt}
 use Rattle.std.proofs.lemmas.List.{get_or_default}
@@ -11,7 +11,7 @@ use Rattle.tsn_model.specs.Certificate.{Leaf, Proves, HasBound, AreChains, Ties,
 use Rattle.tsn_cert.specs.declared.plan.Plan.{Plan}
 use Rattle.tsn_cert.specs.declared.plan.Plan.TheVariants as plan
 use Rattle.tsn_check.specs.Faults.{HasChains, IsPlanRight, offsets_in, span_in}
-use Rattle.tsn_check.specs.Steps.{HasFault, HasPartFault, Judges, JudgesLeaf}
+use Rattle.tsn_check.specs.Steps.{HasFault, HasPartFault}
 use Rattle.tsn_check.specs.declared.fault.NodeFault.{NodeFault}
 use Rattle.tsn_check.specs.declared.fault.NodeFault.TheVariants as kinds
 
@@ -23,17 +23,16 @@ schedule_offsets : (s span : ℕ) (planned offsets : List ℕ) → plan.Schedule
 unfolding offsets_or
 schedule_offsets s span planned offsets is = ap offsets_or is
 
--- what is found of a leaf is found of its node
-pub leaf_judged : (network : Network) (target : ℕ) (planned : Option (List ℕ)) (path : List Decision) (proof : Leaf) (result : Result Unit NodeFault) → JudgesLeaf network target path proof result
-    → Judges network target planned path (leaf_node proof) result
-leaf_judged network target planned path proof (Ok done) judged = judged
-leaf_judged network target planned path proof (Err kinds.NotConflict) judged = judged
-leaf_judged network target planned path proof (Err kinds.ChainBroken) judged = judged
-leaf_judged network target planned path proof (Err kinds.BoundTooLow) judged = judged
-leaf_judged network target planned path proof (Err kinds.StreamRepeated) judged = judged
-leaf_judged network target planned path proof (Err kinds.NotOnLink) judged = judged
+-- what is wrong with a leaf's parts is wrong with the leaf
+pub leaf_part : (network : Network) (target : ℕ) (planned : Option (List ℕ)) (path : List Decision) (proof : Leaf) (fault : NodeFault) → HasPartFault network path proof fault
+    → HasFault network target planned path (leaf_node proof) fault
+leaf_part network target planned path proof kinds.NotConflict is = is
+leaf_part network target planned path proof kinds.ChainBroken is = is
+leaf_part network target planned path proof kinds.BoundTooLow is = absurd is
+leaf_part network target planned path proof kinds.StreamRepeated is = is
+leaf_part network target planned path proof kinds.NotOnLink is = is
 
--- what is wrong with a leaf's parts is wrong with the tie
+-- and with the tie
 pub tie_part : (network : Network) (target : ℕ) (planned : Option (List ℕ)) (path : List Decision) (proof : Leaf) (chains : List (List ℕ)) (fault : NodeFault) → HasPartFault network path proof fault
     → HasFault network target planned path (tie_node proof chains) fault
 tie_part network target planned path proof chains kinds.NotConflict is = absurd is

@@ -35,12 +35,6 @@ abbrev pub FindsBound : Network → ℕ → List Decision → Leaf → Result Bo
 FindsBound network target path proof (Ok is_proved) = HasChains network path proof × MatchBool is_proved (Proves network path target proof) (Proves network path target proof → ⊥)
 FindsBound network target path proof (Err fault) = HasPartFault network path proof fault
 
--- the leaf proves the target, or has the fault that is told
-abbrev pub JudgesLeaf : Network → ℕ → List Decision → Leaf → Result Unit NodeFault → Type 0
-JudgesLeaf network target path proof (Ok _) = Proves network path target proof
-JudgesLeaf network target path proof (Err BoundTooLow) = HasChains network path proof × (Proves network path target proof → ⊥)
-JudgesLeaf network target path proof (Err fault) = HasPartFault network path proof fault
-
 -- there is a chain to each of the first streams, or one isn't such a chain
 abbrev pub FindsChains : Network → List Decision → List (List ℕ) → Result Unit NodeFault → Type 0
 FindsChains network path chains (Ok _) = AreChains network path chains

@@ -2,7 +2,7 @@
 ghost use Rattle.std.specs.Prelude.{ℕ, ◌≤◌};
 ghost use Rattle.tsn_model.specs.Certificate.{late, overrun, positive_cycle};
 ghost use Rattle.tsn_check.specs.Turns.{AreTurns, decisions};
-ghost use Rattle.tsn_check.specs.Steps.{JudgesLeaf, FindsSum};
+ghost use Rattle.tsn_check.specs.Steps.{FindsBound, FindsSum};
 
 use crate::chain::{closed_sum, walk_back};
 use crate::fault::NodeFault;
@@ -30,56 +30,44 @@ pub fn sum_to(
     Ok(timing.release(walk.start) as i64 + walk.sum)
 }
 
-/// The stream arrives at the target or after it.
+/// Whether the stream arrives at the target or after it.
 pub fn judge_late(
     timing: &Timing,
     target: u64,
     path: &[Turn],
     stream: usize,
     chain: &Chain,
-) -> Result<(), NodeFault>
+) -> Result<bool, NodeFault>
     requires turns { AreTurns timing.now path.now }
     requires target { target ≤ 2_000_000_000 }
-    ensures { JudgesLeaf timing.now target (decisions path.now) (late stream chain.now) result }
+    ensures { FindsBound timing.now target (decisions path.now) (late stream chain.now) result }
 {
     let sum = sum_to(timing, path, stream, chain)?;
-    if sum + timing.arrival(stream) as i64 >= target as i64 {
-        Ok(())
-    } else {
-        Err(NodeFault::BoundTooLow)
-    }
+    Ok(sum + timing.arrival(stream) as i64 >= target as i64)
 }
 
-/// The stream ends behind the cycle, or arrives after its latest instant.
+/// Whether the stream ends behind the cycle, or arrives after its latest instant.
 pub fn judge_overrun(
     timing: &Timing,
     path: &[Turn],
     stream: usize,
     chain: &Chain,
-) -> Result<(), NodeFault>
+) -> Result<bool, NodeFault>
     requires { AreTurns timing.now path.now }
-    ensures { (target : ℕ) → JudgesLeaf timing.now target (decisions path.now) (overrun stream chain.now) result }
+    ensures { (target : ℕ) → FindsBound timing.now target (decisions path.now) (overrun stream chain.now) result }
 {
     let sum = sum_to(timing, path, stream, chain)?;
     let past_cycle = sum + timing.span(stream) as i64 > timing.cycle() as i64;
-    if past_cycle || sum + timing.arrival(stream) as i64 > timing.latest(stream) as i64 {
-        Ok(())
-    } else {
-        Err(NodeFault::BoundTooLow)
-    }
+    Ok(past_cycle || sum + timing.arrival(stream) as i64 > timing.latest(stream) as i64)
 }
 
-/// The chain is closed, and its sum is above 0.
-pub fn judge_cycle(timing: &Timing, path: &[Turn], chain: &Chain) -> Result<(), NodeFault>
+/// Whether the closed chain's sum is above 0.
+pub fn judge_cycle(timing: &Timing, path: &[Turn], chain: &Chain) -> Result<bool, NodeFault>
     requires { AreTurns timing.now path.now }
-    ensures { (target : ℕ) → JudgesLeaf timing.now target (decisions path.now) (positive_cycle chain.now) result }
+    ensures { (target : ℕ) → FindsBound timing.now target (decisions path.now) (positive_cycle chain.now) result }
 {
     let Some(sum) = closed_sum(path, chain.depths()) else {
         return Err(NodeFault::ChainBroken);
     };
-    if sum > 0 {
-        Ok(())
-    } else {
-        Err(NodeFault::BoundTooLow)
-    }
+    Ok(sum > 0)
 }

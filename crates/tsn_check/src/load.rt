@@ -4,7 +4,7 @@ ghost use Rattle.std.specs.List.{list_any};
 ghost use Rattle.tsn_model.specs.Certificate.{load, overload};
 ghost use Rattle.tsn_cert.specs.Entry.{tree_entry};
 ghost use Rattle.tsn_check.specs.Turns.{AreTurns, decisions};
-ghost use Rattle.tsn_check.specs.Steps.{JudgesLeaf, FindsEntry, FindsLoad};
+ghost use Rattle.tsn_check.specs.Steps.{FindsBound, FindsEntry, FindsLoad};
 
 use crate::fault::NodeFault;
 use crate::leaf::sum_to;
@@ -85,40 +85,32 @@ fn link_load(
     Ok(all)
 }
 
-/// The streams keep the link busy for so long that one of them arrives at the target or after it.
+/// Whether the streams keep the link busy for so long that one of them arrives at the target or after it.
 pub fn judge_load(
     timing: &Timing,
     target: u64,
     path: &[Turn],
     link: usize,
     entries: &Entries,
-) -> Result<(), NodeFault>
+) -> Result<bool, NodeFault>
     requires turns { AreTurns timing.now path.now }
     requires target { target ≤ 2_000_000_000 }
-    ensures { JudgesLeaf timing.now target (decisions path.now) (load link entries.now) result }
+    ensures { FindsBound timing.now target (decisions path.now) (load link entries.now) result }
 {
     let all = link_load(timing, path, link, entries)?;
-    if all.head + all.work as i64 + all.tail >= target as i64 {
-        Ok(())
-    } else {
-        Err(NodeFault::BoundTooLow)
-    }
+    Ok(all.head + all.work as i64 + all.tail >= target as i64)
 }
 
-/// The streams keep the link busy behind the cycle.
+/// Whether the streams keep the link busy behind the cycle.
 pub fn judge_overload(
     timing: &Timing,
     path: &[Turn],
     link: usize,
     entries: &Entries,
-) -> Result<(), NodeFault>
+) -> Result<bool, NodeFault>
     requires { AreTurns timing.now path.now }
-    ensures { (target : ℕ) → JudgesLeaf timing.now target (decisions path.now) (overload link entries.now) result }
+    ensures { (target : ℕ) → FindsBound timing.now target (decisions path.now) (overload link entries.now) result }
 {
     let all = link_load(timing, path, link, entries)?;
-    if all.head + all.work as i64 > timing.cycle() as i64 {
-        Ok(())
-    } else {
-        Err(NodeFault::BoundTooLow)
-    }
+    Ok(all.head + all.work as i64 > timing.cycle() as i64)
 }

@@ -1,13 +1,12 @@
 //! Whether a tie is one with the plan: its leaf has the plan's flowspan for its bound, and no schedule on its path comes
 //! before the plan.
-ghost use Rattle.std.specs.Prelude.{◌≡◌, ℕ, List, MatchBool};
-ghost use Rattle.tsn_model.specs.Network.{Network, IsWellFormed};
+ghost use Rattle.std.specs.Prelude.{◌≡◌, ℕ, MatchBool};
+ghost use Rattle.tsn_model.specs.Network.{IsWellFormed};
 ghost use Rattle.tsn_model.specs.Schedule.{IsValid};
 ghost use Rattle.tsn_model.specs.Certificate.{Leaf, HasBound, AreChains, ShowsAfter, tie_node};
-ghost use Rattle.tsn_model.specs.declared.Decision.{Decision};
 ghost use Rattle.tsn_check.specs.Faults.{offsets_in, span_in, IsPlanRight};
 ghost use Rattle.tsn_check.specs.Turns.{AreTurns, decisions};
-ghost use Rattle.tsn_check.specs.Steps.{Judges, JudgesLeaf, FindsBound, FindsChains};
+ghost use Rattle.tsn_check.specs.Steps.{Judges, FindsBound, FindsChains};
 
 use crate::fault::NodeFault;
 use crate::leaf::sum_to;
@@ -22,20 +21,6 @@ pub fn span_of(plan: &Plan) -> u64
     match plan {
         Plan::Schedule { flowspan, .. } => *flowspan,
         Plan::None => 0,
-    }
-}
-
-/// Whether a leaf proves its target, where its chains and entries are right.
-fn is_proved(judged: Result<(), NodeFault>) -> Result<bool, NodeFault>
-    ensures { (network : Network) (target : ℕ) (path : List Decision) (proof : Leaf) → JudgesLeaf network target path proof judged → FindsBound network target path proof result }
-{
-    match judged {
-        Ok(()) => Ok(true),
-        Err(NodeFault::BoundTooLow) => Ok(false),
-        Err(NodeFault::NotConflict) => Err(NodeFault::NotConflict),
-        Err(NodeFault::ChainBroken) => Err(NodeFault::ChainBroken),
-        Err(NodeFault::StreamRepeated) => Err(NodeFault::StreamRepeated),
-        Err(NodeFault::NotOnLink) => Err(NodeFault::NotOnLink),
     }
 }
 
@@ -83,17 +68,17 @@ fn comes_after(timing: &Timing, path: &[Turn], chains: &[Chain], offsets: &[u64]
 pub fn judge_tie(
     timing: &Timing,
     path: &[Turn],
-    judged: Result<(), NodeFault>,
+    found: Result<bool, NodeFault>,
     chains: &Chains,
     plan: &Plan,
 ) -> Result<(), NodeFault>
     requires turns { AreTurns timing.now path.now }
     requires formed { IsWellFormed timing.now }
     requires plan { IsPlanRight timing.now plan.now }
-    ensures { (proof : Leaf) (target : ℕ) → HasBound proof → JudgesLeaf timing.now (span_in plan.now) (decisions path.now) proof judged
+    ensures { (proof : Leaf) (target : ℕ) → HasBound proof → FindsBound timing.now (span_in plan.now) (decisions path.now) proof found
         → Judges timing.now target (offsets_in plan.now) (decisions path.now) (tie_node proof chains.now) result }
 {
-    let proved = is_proved(judged)?;
+    let proved = found?;
     all_lead(timing, path, chains.list())?;
     let Plan::Schedule { offsets, .. } = plan else {
         return Err(NodeFault::BoundTooLow);

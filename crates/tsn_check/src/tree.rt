@@ -1,12 +1,14 @@
 //! The nodes of a certificate, walked in their order.
-ghost use Rattle.std.specs.Prelude.{◌≡◌, ◌≤◌, ◌⊎◌, [], ◌∷◌, map, IfOk, IfErr, OnOk};
+ghost use Rattle.std.specs.Prelude.{◌≡◌, ◌≤◌, ◌⊎◌, ℕ, List, Option, [], ◌∷◌, map, IfOk, IfErr, OnOk};
 ghost use Rattle.tsn_cert.specs.Node.{tree_node};
+ghost use Rattle.tsn_model.specs.declared.Decision.{Decision};
+ghost use Rattle.tsn_model.specs.Network.{Network};
 ghost use Rattle.tsn_model.specs.Places.{Fills, next_places, pending};
 ghost use Rattle.tsn_conflict.specs.Kept.{AreConflictsOf};
-ghost use Rattle.tsn_model.specs.Certificate.{IsNodeShown};
+ghost use Rattle.tsn_model.specs.Certificate.{Leaf, IsNodeShown, leaf_node};
 ghost use Rattle.tsn_check.specs.Faults.{offsets_in, span_in, IsPlanRight, IsTreeFault};
 ghost use Rattle.tsn_check.specs.Turns.{AreTurns, AreTurnsOf, decisions, places_at};
-ghost use Rattle.tsn_check.specs.Steps.{Judges, IsBranchOf};
+ghost use Rattle.tsn_check.specs.Steps.{Judges, FindsBound, IsBranchOf};
 
 use crate::fault::{CheckFault, NodeFault};
 use crate::leaf::{judge_cycle, judge_late, judge_overrun};
@@ -18,6 +20,18 @@ use tsn_cert::{Node, Plan};
 use tsn_conflict::sharing::Conflicts;
 use tsn_model::Side;
 use tsn_timing::Timing;
+
+/// Whether a leaf is right, of which this is found.
+fn judge_leaf(found: Result<bool, NodeFault>) -> Result<(), NodeFault>
+    ensures { (network : Network) (target : ℕ) (planned : Option (List ℕ)) (path : List Decision) (proof : Leaf) → FindsBound network target path proof found
+        → Judges network target planned path (leaf_node proof) result }
+{
+    match found {
+        Ok(true) => Ok(()),
+        Ok(false) => Err(NodeFault::BoundTooLow),
+        Err(fault) => Err(fault),
+    }
+}
 
 /// Whether the node is right at the end of the path.
 fn judge(
@@ -43,18 +57,18 @@ fn judge(
                 Err(NodeFault::NotConflict)
             }
         }
-        Node::Late(stream, chain) => judge_late(timing, target, path, *stream, chain),
-        Node::Overrun(stream, chain) => judge_overrun(timing, path, *stream, chain),
-        Node::Cycle(chain) => judge_cycle(timing, path, chain),
-        Node::Load(link, entries) => judge_load(timing, target, path, *link, entries),
-        Node::Overload(link, entries) => judge_overload(timing, path, *link, entries),
+        Node::Late(stream, chain) => judge_leaf(judge_late(timing, target, path, *stream, chain)),
+        Node::Overrun(stream, chain) => judge_leaf(judge_overrun(timing, path, *stream, chain)),
+        Node::Cycle(chain) => judge_leaf(judge_cycle(timing, path, chain)),
+        Node::Load(link, entries) => judge_leaf(judge_load(timing, target, path, *link, entries)),
+        Node::Overload(link, entries) => judge_leaf(judge_overload(timing, path, *link, entries)),
         Node::Tie(stream, chain, chains) => {
-            let judged = judge_late(timing, span_of(plan), path, *stream, chain);
-            judge_tie(timing, path, judged, chains, plan)
+            let found = judge_late(timing, span_of(plan), path, *stream, chain);
+            judge_tie(timing, path, found, chains, plan)
         }
         Node::TieLoad(link, entries, chains) => {
-            let judged = judge_load(timing, span_of(plan), path, *link, entries);
-            judge_tie(timing, path, judged, chains, plan)
+            let found = judge_load(timing, span_of(plan), path, *link, entries);
+            judge_tie(timing, path, found, chains, plan)
         }
     }
 }

@@ -1,5 +1,4 @@
-use Rattle.std.proofs.Common.{◌≡◌, ◌∙◌, sym, arith, rules, FitsSigned, w64}
-use Rattle.std.proofs.lemmas.Int.{ints}
+use Rattle.std.proofs.Common.{◌≡◌, ◌∙◌, sym, rules}
 use Rattle.tsn_model.specs.Arcs.{arcs_of, chain_sum}
 use Rattle.tsn_check.specs.Turns.{decisions}
 use Rattle.tsn_check.proofs.Chains.{closed_to, closed_back, sum_same}
@@ -9,22 +8,9 @@ pub returns-in_default : goal.returns-in_default
 returns-in_default c target closed =
     c.in_default.ensures (closed_back c.args.timing.now c.args.path.now c.depths.result.now c.args.chain.now c.requires c.depths.ensures.depths closed)
 
-pub returns-then-sum-gt0 : goal.returns-then-sum-gt0
-returns-then-sum-gt0 c target =
-    let fits : FitsSigned w64 c.in-Some.sum = search rules in
+pub returns : goal.returns
+returns c target =
     let adds : c.in-Some.sum ≡ chain_sum (arcs_of c.args.timing.now (decisions c.args.path.now)) c.args.chain.now =
     c.in-Some.ensures.1 ∙ sum_same c.args.timing.now c.args.path.now c.depths.result.now c.args.chain.now c.requires c.depths.ensures.depths in
-    let above = c.if-sum-gt0.true in (
-      closed_to c.args.timing.now c.args.path.now c.depths.result.now c.args.chain.now c.requires c.depths.ensures.depths c.in-Some.ensures.0,
-      rw (sym adds) (grind (arith, ints)),
-    )
-
-pub returns-else-sum-gt0 : goal.returns-else-sum-gt0
-returns-else-sum-gt0 c target =
-    let fits : FitsSigned w64 c.in-Some.sum = search rules in
-    let adds : c.in-Some.sum ≡ chain_sum (arcs_of c.args.timing.now (decisions c.args.path.now)) c.args.chain.now =
-    c.in-Some.ensures.1 ∙ sum_same c.args.timing.now c.args.path.now c.depths.result.now c.args.chain.now c.requires c.depths.ensures.depths in
-    let below = c.if-sum-gt0.false in (
-      closed_to c.args.timing.now c.args.path.now c.depths.result.now c.args.chain.now c.requires c.depths.ensures.depths c.in-Some.ensures.0,
-      λ proves. let above = rw (sym adds) at proves.1 in grind (arith, ints),
-    )
+    let closed = closed_to c.args.timing.now c.args.path.now c.depths.result.now c.args.chain.now c.requires c.depths.ensures.depths c.in-Some.ensures.0 in
+    (closed, rw (sym adds) (search rules))
