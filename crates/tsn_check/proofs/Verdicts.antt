@@ -3,6 +3,7 @@ use Rattle.std.proofs.Common.{◌≡◌, ◌≤◌, ℕ, List, [], ◌∷◌, in
 use Rattle.tsn_model.specs.Network.{Network, IsWellFormed}
 use Rattle.tsn_model.specs.Schedule.{HasNoSchedule, target_of}
 use Rattle.tsn_model.specs.Certificate.{AcceptsBy, IsNodeShown}
+use Rattle.tsn_model.proofs.Schedules.{flowspan-le-cycle}
 use Rattle.tsn_model.proofs.Soundness.{accepted_optimal, accepted_none}
 use Rattle.tsn_model.proofs.Firsts.{accepted_first, accepted_first_none}
 use Rattle.tsn_cert.specs.declared.plan.Plan.{Plan}
@@ -85,10 +86,9 @@ first_fault_refutes network plan cert fault is certifies = elim is [
 -- ---- what the code found
 
 -- no flowspan of a right plan is above the limit
-pub span-small : (network : Network) (plan : Plan) (target : ℕ) → IsClaim network plan target → span_in plan ≤ 2000000000
-unfolding target_of
-span-small network (plan.Schedule span offsets) target claim = let small = claim.small in let aim = claim.aim in let right = claim.right.1 in omega arith
-span-small network plan.None target claim = omega arith
+pub span-small : (network : Network) (plan : Plan) → IsWellFormed network → IsPlanRight network plan → span_in plan ≤ 2000000000
+span-small network (plan.Schedule span offsets) formed right = let short = formed.short_cycle in let within = flowspan-le-cycle network offsets right.0 in let is = right.1 in omega arith
+span-small network plan.None formed right = omega arith
 
 -- its claim holds, and the nodes fill the root's place
 pub checked : (network timing : Network) (plan : Plan) (cert : Cert) (target : ℕ) (nodes : List tree.Node) → timing ≡ network → IsClaim timing plan target

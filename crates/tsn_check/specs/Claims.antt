@@ -1,12 +1,20 @@
--- What a right plan claims: the target that a certificate of it has to show.
+-- What a right plan claims: the target that a certificate of it has to show; and what the nodes of one are to show.
 use Rattle.std.specs.Prelude.{◌≡◌, ◌≤◌, ℕ}
 use Rattle.tsn_model.specs.Network.{Network, IsWellFormed}
 use Rattle.tsn_model.specs.Schedule.{target_of}
 use Rattle.tsn_cert.specs.declared.plan.Plan.{Plan}
+use Rattle.tsn_conflict.specs.Kept.{AreConflictsOf}
 use Rattle.tsn_check.specs.Faults.{IsPlanRight, offsets_in}
+use Rattle.tsn_check.specs.declared.claim.Claim.{Claim}
 
 pub record IsClaim (network : Network) (plan : Plan) (target : ℕ) : Type 0 where
   pub formed : IsWellFormed network
   pub right : IsPlanRight network plan
   pub aim : target ≡ target_of network (offsets_in plan)
   pub small : target ≤ 2000000000
+
+-- the conflicts are those of the network, the target is within its limit, and the plan is right
+pub record IsWellPosed (claim : Claim) : Type 0 where
+  pub kept : AreConflictsOf claim.timing.now claim.conflicts.now
+  pub small : claim.target ≤ 2000000000
+  pub right : IsPlanRight claim.timing.now claim.plan.now

@@ -2,6 +2,7 @@
 #![tactic(auto)]
 
 mod chain;
+mod claim;
 pub mod fault;
 pub mod laws;
 mod leaf;

@@ -1,25 +1,25 @@
 //! The nodes of a certificate, walked in their order.
-ghost use Rattle.std.specs.Prelude.{◌≡◌, ◌≤◌, ◌⊎◌, ℕ, List, Option, [], ◌∷◌, map, IfOk, IfErr, OnOk};
+ghost use Rattle.std.specs.Prelude.{◌≡◌, ◌⊎◌, ℕ, List, Option, [], ◌∷◌, map, IfOk, IfErr, OnOk};
 ghost use Rattle.tsn_cert.specs.Node.{tree_node};
 ghost use Rattle.tsn_model.specs.declared.Decision.{Decision};
 ghost use Rattle.tsn_model.specs.Network.{Network};
 ghost use Rattle.tsn_model.specs.Places.{Fills, next_places, pending};
-ghost use Rattle.tsn_conflict.specs.Kept.{AreConflictsOf};
 ghost use Rattle.tsn_model.specs.Certificate.{Leaf, IsNodeShown, leaf_node};
-ghost use Rattle.tsn_check.specs.Faults.{offsets_in, span_in, IsPlanRight, IsTreeFault};
+ghost use Rattle.tsn_check.specs.Claims.{IsWellPosed};
+ghost use Rattle.tsn_check.specs.Faults.{offsets_in, IsTreeFault};
 ghost use Rattle.tsn_check.specs.Turns.{AreTurns, AreTurnsOf, decisions, places_at};
 ghost use Rattle.tsn_check.specs.Steps.{Judges, FindsBound, IsBranchOf};
 
+use crate::claim::Claim;
 use crate::fault::{CheckFault, NodeFault};
 use crate::leaf::{judge_cycle, judge_late, judge_overrun};
 use crate::load::{judge_load, judge_overload};
 use crate::path::{Turn, next_place, turn_to};
 use crate::tie::{judge_tie, span_of};
 use std::alloc::Global;
-use tsn_cert::{Node, Plan};
+use tsn_cert::Node;
 use tsn_conflict::sharing::Conflicts;
 use tsn_model::Side;
-use tsn_timing::Timing;
 
 /// Whether a leaf is right, of which this is found.
 fn judge_leaf(found: Result<bool, NodeFault>) -> Result<(), NodeFault>
@@ -34,21 +34,17 @@ fn judge_leaf(found: Result<bool, NodeFault>) -> Result<(), NodeFault>
 }
 
 /// Whether the node is right at the end of the path.
-fn judge(
-    timing: &Timing,
-    conflicts: &Conflicts,
-    target: u64,
-    plan: &Plan,
-    path: &[Turn],
-    node: &Node,
-) -> Result<(), NodeFault>
-    requires conflicts { AreConflictsOf timing.now conflicts.now }
-    requires turns { AreTurns timing.now path.now }
-    requires target { target ≤ 2_000_000_000 }
-    requires plan { IsPlanRight timing.now plan.now }
-    requires span { span_in plan.now ≤ 2_000_000_000 }
-    ensures { Judges timing.now target (offsets_in plan.now) (decisions path.now) (tree_node node.now) result }
+fn judge(claim: &Claim<'_>, path: &[Turn], node: &Node) -> Result<(), NodeFault>
+    requires posed { IsWellPosed claim.now }
+    requires turns { AreTurns claim.now.timing.now path.now }
+    ensures { Judges claim.now.timing.now claim.now.target (offsets_in claim.now.plan.now) (decisions path.now) (tree_node node.now) result }
 {
+    let Claim {
+        timing,
+        conflicts,
+        target,
+        plan,
+    } = *claim;
     match node {
         Node::Branch(triple) => {
             if conflicts.has(*triple) {
@@ -100,21 +96,11 @@ fn go_on(conflicts: &Conflicts, path: &mut Vec<Turn>, node: &Node) -> Result<boo
 }
 
 /// Whether the nodes spell an accepted tree, or else their first fault.
-pub fn check_tree(
-    alloc: Global,
-    timing: &Timing,
-    conflicts: &Conflicts,
-    target: u64,
-    plan: &Plan,
-    nodes: &[Node],
-) -> Result<(), CheckFault>
-    requires conflicts { AreConflictsOf timing.now conflicts.now }
-    requires target { target ≤ 2_000_000_000 }
-    requires plan { IsPlanRight timing.now plan.now }
-    requires span { span_in plan.now ≤ 2_000_000_000 }
-    ensures ok { OnOk result (Fills (IsNodeShown timing.now target (offsets_in plan.now)) ([] ∷ []) (map tree_node nodes.now)) }
+pub fn check_tree(alloc: Global, claim: &Claim<'_>, nodes: &[Node]) -> Result<(), CheckFault>
+    requires { IsWellPosed claim.now }
+    ensures ok { OnOk result (Fills (IsNodeShown claim.now.timing.now claim.now.target (offsets_in claim.now.plan.now)) ([] ∷ []) (map tree_node nodes.now)) }
     ensures err { IfErr result (λ fault. (fault ≡ CheckFault.Memory)
-        ⊎ IsTreeFault timing.now target (offsets_in plan.now) (map tree_node nodes.now) fault) }
+        ⊎ IsTreeFault claim.now.timing.now claim.now.target (offsets_in claim.now.plan.now) (map tree_node nodes.now) fault) }
 {
     let mut path = Vec::new(alloc);
     let mut open = true;
@@ -122,10 +108,10 @@ pub fn check_tree(
         if !open {
             return Err(CheckFault::TreeTooLong(number));
         }
-        if let Err(fault) = judge(timing, conflicts, target, plan, &path, node) {
+        if let Err(fault) = judge(claim, &path, node) {
             return Err(fault.at(number));
         }
-        open = go_on(conflicts, &mut path, node)?;
+        open = go_on(claim.conflicts, &mut path, node)?;
     }
     if open {
         Err(CheckFault::TreeUnfinished(nodes.len()))

@@ -1,20 +1,19 @@
 //! Whether a certificate shows that its plan is optimal, and the first of the optimal ones, or that there is no schedule.
-ghost use Rattle.std.specs.Prelude.{◌≡◌, ◌≤◌, ◌⊎◌, [], ◌∷◌, map, IfOk, IfErr, OnOk, IsOkUnless, Ok};
+ghost use Rattle.std.specs.Prelude.{◌≡◌, ◌⊎◌, [], ◌∷◌, map, IfOk, IfErr, OnOk, IsOkUnless, Ok};
 ghost use Rattle.tsn_model.specs.Schedule.{HasNoSchedule};
-ghost use Rattle.tsn_check.specs.Claims.{IsClaim};
+ghost use Rattle.tsn_check.specs.Claims.{IsClaim, IsWellPosed};
 ghost use Rattle.tsn_model.specs.Certificate.{IsNodeShown};
 ghost use Rattle.tsn_model.specs.Places.{Fills};
 ghost use Rattle.tsn_cert.specs.Node.{tree_node};
-ghost use Rattle.tsn_conflict.specs.Kept.{AreConflictsOf};
-ghost use Rattle.tsn_check.specs.Faults.{Certifies, IsOptimalPlan, IsFirstPlan, IsPlanRight, IsClaimFault, IsTreeFault, IsFirstFault, leaf_target, tie_plan, offsets_in, span_in, verdict_of};
+ghost use Rattle.tsn_check.specs.Faults.{Certifies, IsOptimalPlan, IsFirstPlan, IsClaimFault, IsTreeFault, IsFirstFault, leaf_target, tie_plan, offsets_in, verdict_of};
 
+use crate::claim::Claim;
 use crate::fault::CheckFault;
 use crate::plan::judge_schedule;
 use crate::tree::check_tree;
 use std::alloc::Global;
 use tsn_cert::{Cert, Format, Node, Plan};
 use tsn_conflict::conflicts;
-use tsn_conflict::sharing::Conflicts;
 use tsn_net::Problem;
 use tsn_timing::Timing;
 
@@ -56,15 +55,13 @@ pub fn check(
         return Err(CheckFault::FlowspanWrong);
     }
     let conflicts = conflicts(alloc, &timing)?;
-    check_nodes(
-        alloc,
-        &timing,
-        &conflicts,
-        cert.format,
+    let claim = Claim {
+        timing: &timing,
+        conflicts: &conflicts,
         target,
         plan,
-        cert.nodes.list(),
-    )?;
+    };
+    check_nodes(alloc, &claim, cert.format, cert.nodes.list())?;
     Ok(verdict_on(cert.format, plan))
 }
 
@@ -81,29 +78,30 @@ fn verdict_on(format: Format, plan: &Plan) -> Verdict
     }
 }
 
-/// Whether the nodes spell a tree that is accepted in the format for the plan, or else their first fault.
+/// Whether the nodes spell a tree that is accepted in the format for what the plan claims, or else their first fault.
 fn check_nodes(
     alloc: Global,
-    timing: &Timing,
-    conflicts: &Conflicts,
+    claim: &Claim<'_>,
     format: Format,
-    target: u64,
-    plan: &Plan,
     nodes: &[Node],
 ) -> Result<(), CheckFault>
-    requires conflicts { AreConflictsOf timing.now conflicts.now }
-    requires target { target ≤ 2_000_000_000 }
-    requires plan { IsPlanRight timing.now plan.now }
-    requires span { span_in plan.now ≤ 2_000_000_000 }
-    ensures ok { OnOk result (Fills (IsNodeShown timing.now (leaf_target timing.now format target) (tie_plan format (offsets_in plan.now))) ([] ∷ []) (map tree_node nodes.now)) }
+    requires { IsWellPosed claim.now }
+    ensures ok { OnOk result (Fills (IsNodeShown claim.now.timing.now (leaf_target claim.now.timing.now format claim.now.target) (tie_plan format (offsets_in claim.now.plan.now))) ([] ∷ []) (map tree_node nodes.now)) }
     ensures err { IfErr result (λ fault. (fault ≡ CheckFault.Memory)
-        ⊎ IsTreeFault timing.now (leaf_target timing.now format target) (tie_plan format (offsets_in plan.now)) (map tree_node nodes.now) fault) }
+        ⊎ IsTreeFault claim.now.timing.now (leaf_target claim.now.timing.now format claim.now.target) (tie_plan format (offsets_in claim.now.plan.now)) (map tree_node nodes.now) fault) }
 {
     match format {
-        Format::One => check_tree(alloc, timing, conflicts, target, &Plan::None, nodes),
+        Format::One => {
+            let claim = Claim {
+                plan: &Plan::None,
+                ..*claim
+            };
+            check_tree(alloc, &claim, nodes)
+        }
         Format::Two => {
-            let worse = (target + 1).min(timing.cycle() + 1);
-            check_tree(alloc, timing, conflicts, worse, plan, nodes)
+            let target = (claim.target + 1).min(claim.timing.cycle() + 1);
+            let claim = Claim { target, ..*claim };
+            check_tree(alloc, &claim, nodes)
         }
     }
 }

@@ -30,20 +30,20 @@ returns-then-not-open-clause-err c =
 
 pub judge-requires-clause-turns : goal.judge-requires-clause-turns
 judge-requires-clause-turns c =
-    rw c.deref.ensures.value (turns_in c.args.timing.now c.args.conflicts.now c.requires.conflicts c.loop-number.path.items c.loop-number.invariant.turns)
+    rw c.deref.ensures.value (turns_in c.args.claim.now.timing.now c.args.claim.now.conflicts.now c.requires.kept c.loop-number.path.items c.loop-number.invariant.turns)
 
 pub returns-in-Err-clause-err : goal.returns-in-Err-clause-err
 returns-in-Err-clause-err c =
     let path : List Decision = decisions c.loop-number.path.items in
     let node : tree.Node = tree_node c.index-nodes-number.result in
     let there = node_there c.args.nodes.now c.loop-number.number c.index-nodes-number.result c.loop-number-test.true ∙ ap (λ n. Some (tree_node n)) (sym c.index-nodes-number.is) in
-    let wrong : HasFault c.args.timing.now c.args.target (offsets_in c.args.plan.now) path node c.in-Err.fault = rw c.deref.ensures.value at c.in-Err.ensures in
-    rw c.at.ensures (inr (fault_there c.args.timing.now c.args.target (offsets_in c.args.plan.now) (map tree_node c.args.nodes.now) c.loop-number.number path node c.in-Err.fault
+    let wrong : HasFault c.args.claim.now.timing.now c.args.claim.now.target (offsets_in c.args.claim.now.plan.now) path node c.in-Err.fault = rw c.deref.ensures.value at c.in-Err.ensures in
+    rw c.at.ensures (inr (fault_there c.args.claim.now.timing.now c.args.claim.now.target (offsets_in c.args.claim.now.plan.now) (map tree_node c.args.nodes.now) c.loop-number.number path node c.in-Err.fault
     c.loop-number.invariant.right (c.loop-number.invariant.places ∙ ap (λ is_open. places_at is_open path) c.if-not-open.false) there wrong))
 
 pub go_on-requires-clause-conflict : goal.go_on-requires-clause-conflict
 go_on-requires-clause-conflict c =
-    branch_of c.args.timing.now c.args.conflicts.now c.requires.conflicts c.args.target (offsets_in c.args.plan.now) (decisions c.deref.result.now) (tree_node c.index-nodes-number.result) c.in_default.ensures
+    branch_of c.args.claim.now.timing.now c.args.claim.now.conflicts.now c.requires.kept c.args.claim.now.target (offsets_in c.args.claim.now.plan.now) (decisions c.deref.result.now) (tree_node c.index-nodes-number.result) c.in_default.ensures
 
 pub go_on-requires-clause-turns : goal.go_on-requires-clause-turns
 go_on-requires-clause-turns c = c.loop-number.invariant.turns
@@ -53,10 +53,10 @@ loop-number-preserved c =
     let path : List Decision = decisions c.loop-number.path.items in
     let node : tree.Node = tree_node c.index-nodes-number.result in
     let same : node ≡ tree_node (get_or c.args.nodes.now c.loop-number.number c.index-nodes-number.result) = ap tree_node c.index-nodes-number.is in
-    let right : IsNodeShown c.args.timing.now c.args.target (offsets_in c.args.plan.now) path node = rw c.deref.ensures.value at c.in_default.ensures in
-    let walked = walk_more c.args.timing.now c.args.target (offsets_in c.args.plan.now) c.args.nodes.now c.loop-number.number c.index-nodes-number.result path c.loop-number-test.true
+    let right : IsNodeShown c.args.claim.now.timing.now c.args.claim.now.target (offsets_in c.args.claim.now.plan.now) path node = rw c.deref.ensures.value at c.in_default.ensures in
+    let walked = walk_more c.args.claim.now.timing.now c.args.claim.now.target (offsets_in c.args.claim.now.plan.now) c.args.nodes.now c.loop-number.number c.index-nodes-number.result path c.loop-number-test.true
     c.loop-number.invariant.right (c.loop-number.invariant.places ∙ ap (λ is_open. places_at is_open path) c.if-not-open.false)
-    (subst (IsNodeShown c.args.timing.now c.args.target (offsets_in c.args.plan.now) path) same right) in
+    (subst (IsNodeShown c.args.claim.now.timing.now c.args.claim.now.target (offsets_in c.args.claim.now.plan.now) path) same right) in
     record {
       turns = c.in_ok-open.ensures.turns;
       right = walked.right;
@@ -67,12 +67,12 @@ pub returns-then-open-clause-err : goal.returns-then-open-clause-err
 returns-then-open-clause-err c =
     let past = c.loop-number-test.false in
     let path : List Decision = decisions c.loop-number.path.items in
-    let found = unfinished_there c.args.timing.now c.args.target (offsets_in c.args.plan.now) (map tree_node c.args.nodes.now) c.loop-number.number path (omega (arith, length-map c.args.nodes.now tree_node))
+    let found = unfinished_there c.args.claim.now.timing.now c.args.claim.now.target (offsets_in c.args.claim.now.plan.now) (map tree_node c.args.nodes.now) c.loop-number.number path (omega (arith, length-map c.args.nodes.now tree_node))
     c.loop-number.invariant.right (c.loop-number.invariant.places ∙ ap (λ is_open. places_at is_open path) c.if-open.true) in
     inr (omega (arith, length-map c.args.nodes.now tree_node), found.0, found.1)
 
 pub returns-clause-ok : goal.returns-clause-ok
 returns-clause-ok c =
     let past = c.loop-number-test.false in
-    all_filled c.args.timing.now c.args.target (offsets_in c.args.plan.now) (map tree_node c.args.nodes.now) c.loop-number.number (omega (arith, length-map c.args.nodes.now tree_node))
+    all_filled c.args.claim.now.timing.now c.args.claim.now.target (offsets_in c.args.claim.now.plan.now) (map tree_node c.args.nodes.now) c.loop-number.number (omega (arith, length-map c.args.nodes.now tree_node))
     c.loop-number.invariant.right (c.loop-number.invariant.places ∙ ap (λ is_open. places_at is_open (decisions c.loop-number.path.items)) c.if-open.false)

@@ -8,7 +8,7 @@ use Rattle.tsn_check.proofs.tree.check_tree.Given as goal
 
 abbrev pub invariant-loop-number : goal.invariant-loop-number
 invariant-loop-number l = record {
-  turns : AreTurnsOf l.conflicts l.path.items;
-  right : AreRight (IsNodeShown l.timing l.target (offsets_in l.plan)) ([] ∷ []) (take l.number (map tree_node l.nodes));
+  turns : AreTurnsOf l.claim.conflicts.now l.path.items;
+  right : AreRight (IsNodeShown l.claim.timing.now l.claim.target (offsets_in l.claim.plan.now)) ([] ∷ []) (take l.number (map tree_node l.nodes));
   places : places_after (take l.number (map tree_node l.nodes)) ≡ places_at l.open (decisions l.path.items);
 }

@@ -1,6 +1,6 @@
 use Rattle.std.proofs.Common.{inl, inr, ◌∙◌, sym}
 use Rattle.std.proofs.lemmas.Result.{err_from_is_err_and}
-use Rattle.tsn_check.proofs.Verdicts.{checked, span-small, shown_optimal, shown_first, shown_none, tree_fault_first, first_fault_refutes}
+use Rattle.tsn_check.proofs.Verdicts.{checked, shown_optimal, shown_first, shown_none, tree_fault_first, first_fault_refutes}
 use Rattle.tsn_check.proofs.verdict.check.Goals as goal
 
 pub returns-in_err-check_nodes-clause-complete : goal.returns-in_err-check_nodes-clause-complete
@@ -12,9 +12,6 @@ returns-in_err-check_nodes-clause-complete c certifies =
           (tree_fault_first c.args.problem.now.network c.in_ok-timing.timing c.args.plan.now c.args.cert.now c.in_ok-target.target _ c.in_err-check_nodes.field-0.0
           c.in_ok-timing.ensures c.in_ok-target.ensures.claim c.if-cert-target.false c.list.ensures fault) certifies)
     ])
-
-pub check_nodes-requires-clause-span : goal.check_nodes-requires-clause-span
-check_nodes-requires-clause-span c = span-small c.in_ok-timing.timing c.args.plan.now c.in_ok-target.target c.in_ok-target.ensures.claim
 
 pub returns-clause-accepted : goal.returns-clause-accepted
 returns-clause-accepted c =

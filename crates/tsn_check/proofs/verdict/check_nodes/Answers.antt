@@ -13,11 +13,11 @@ returns-in-One-clause-ok c = rw c.in-One.is c.check_tree.ensures.ok
 pub returns-in-Two-clause-ok : goal.returns-in-Two-clause-ok
 unfolding beyond
 returns-in-Two-clause-ok c =
-    let worse : c.min-worse.result ≡ beyond c.args.timing.now c.args.target = c.min-worse.ensures ∙ ap (λ n. min (c.args.target + 1) (n + 1)) c.cycle.ensures.value in
-    rw c.in-Two.is (subst (λ t. OnOk c.check_tree-in-Two.result (Fills (IsNodeShown c.args.timing.now t (offsets_in c.args.plan.now)) ([] ∷ []) (map tree_node c.args.nodes.now))) worse c.check_tree-in-Two.ensures.ok)
+    let worse : c.min-target.result ≡ beyond c.args.claim.now.timing.now c.args.claim.now.target = c.min-target.ensures ∙ ap (λ n. min (c.args.claim.now.target + 1) (n + 1)) c.cycle.ensures.value in
+    rw c.in-Two.is (subst (λ t. OnOk c.check_tree-in-Two.result (Fills (IsNodeShown c.args.claim.now.timing.now t (offsets_in c.args.claim.now.plan.now)) ([] ∷ []) (map tree_node c.args.nodes.now))) worse c.check_tree-in-Two.ensures.ok)
 
 pub returns-in-Two-clause-err : goal.returns-in-Two-clause-err
 unfolding beyond
 returns-in-Two-clause-err c =
-    let worse : c.min-worse.result ≡ beyond c.args.timing.now c.args.target = c.min-worse.ensures ∙ ap (λ n. min (c.args.target + 1) (n + 1)) c.cycle.ensures.value in
-    rw c.in-Two.is (subst (λ t. IfErr c.check_tree-in-Two.result (λ fault. (fault ≡ Memory) ⊎ IsTreeFault c.args.timing.now t (offsets_in c.args.plan.now) (map tree_node c.args.nodes.now) fault)) worse c.check_tree-in-Two.ensures.err)
+    let worse : c.min-target.result ≡ beyond c.args.claim.now.timing.now c.args.claim.now.target = c.min-target.ensures ∙ ap (λ n. min (c.args.claim.now.target + 1) (n + 1)) c.cycle.ensures.value in
+    rw c.in-Two.is (subst (λ t. IfErr c.check_tree-in-Two.result (λ fault. (fault ≡ Memory) ⊎ IsTreeFault c.args.claim.now.timing.now t (offsets_in c.args.claim.now.plan.now) (map tree_node c.args.nodes.now) fault)) worse c.check_tree-in-Two.ensures.err)
