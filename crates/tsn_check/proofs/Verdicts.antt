@@ -8,6 +8,7 @@ use Rattle.tsn_model.proofs.Soundness.{accepted_optimal, accepted_none}
 use Rattle.tsn_model.proofs.Firsts.{accepted_first, accepted_first_none}
 use Rattle.tsn_cert.specs.declared.plan.Plan.{Plan}
 use Rattle.tsn_cert.specs.declared.plan.Plan.TheVariants as plan
+use Rattle.tsn_cert.specs.declared.plan.TheConstants.{MAX_TIME}
 use Rattle.tsn_cert.specs.declared.cert.Cert.{Cert}
 use Rattle.tsn_cert.specs.declared.cert.Format.{Format}
 use Rattle.tsn_cert.specs.declared.cert.Format.TheVariants.{One, Two}
@@ -86,7 +87,7 @@ first_fault_refutes network plan cert fault is certifies = elim is [
 -- ---- what the code found
 
 -- no flowspan of a right plan is above the limit
-pub span-small : (network : Network) (plan : Plan) → IsWellFormed network → IsPlanRight network plan → span_in plan ≤ 2000000000
+pub span-small : (network : Network) (plan : Plan) → IsWellFormed network → IsPlanRight network plan → span_in plan ≤ MAX_TIME
 span-small network (plan.Schedule span offsets) formed right = let short = formed.short_cycle in let within = flowspan-le-cycle network offsets right.0 in let is = right.1 in omega arith
 span-small network plan.None formed right = omega arith
 

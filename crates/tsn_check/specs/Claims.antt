@@ -3,6 +3,7 @@ use Rattle.std.specs.Prelude.{◌≡◌, ◌≤◌, ℕ}
 use Rattle.tsn_model.specs.Network.{Network, IsWellFormed}
 use Rattle.tsn_model.specs.Schedule.{target_of}
 use Rattle.tsn_cert.specs.declared.plan.Plan.{Plan}
+use Rattle.tsn_cert.specs.declared.plan.TheConstants.{MAX_TIME}
 use Rattle.tsn_conflict.specs.Kept.{AreConflictsOf}
 use Rattle.tsn_check.specs.Faults.{IsPlanRight, offsets_in}
 use Rattle.tsn_check.specs.declared.claim.Claim.{Claim}
@@ -11,10 +12,10 @@ pub record IsClaim (network : Network) (plan : Plan) (target : ℕ) : Type 0 whe
   pub formed : IsWellFormed network
   pub right : IsPlanRight network plan
   pub aim : target ≡ target_of network (offsets_in plan)
-  pub small : target ≤ 2000000000
+  pub small : target ≤ MAX_TIME
 
 -- the conflicts are those of the network, the target is within its limit, and the plan is right
 pub record IsWellPosed (claim : Claim) : Type 0 where
   pub kept : AreConflictsOf claim.timing.now claim.conflicts.now
-  pub small : claim.target ≤ 2000000000
+  pub small : claim.target ≤ MAX_TIME
   pub right : IsPlanRight claim.timing.now claim.plan.now

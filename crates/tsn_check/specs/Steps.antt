@@ -1,6 +1,7 @@
 -- What a node is found to be at the end of a path, and where the walk goes on from it.
 use Rattle.std.specs.Prelude.{◌≡◌, ◌≢◌, ℕ, ◌*◌, ◌≤◌, List, [], ◌∷◌, length, map, All, ℤ, pos, ◌+ℤ◌, ◌≤ℤ◌, Bool, MatchBool, Result, Ok, Err, Option, Contains}
 use Rattle.tsn_model.specs.declared.Decision.{Decision}
+use Rattle.tsn_model.specs.declared.bounds.TheConstants.{MAX_OCCUPANCY, MAX_SPAN, MAX_WORK}
 use Rattle.tsn_model.specs.Network.{Network}
 use Rattle.tsn_model.specs.Timing.{UsesLink}
 use Rattle.tsn_model.specs.Certificate.{Entry, LeadsTo, AreEntries, sum_on, least, head_of, tail_of, work_of, Leaf, Proves, AreChains, Node, split_node, leaf_node, tie_node, IsNodeShown}
@@ -74,9 +75,9 @@ pub record IsLoad (network : Network) (path : List Decision) (link : ℕ) (entri
   pub tail : found.tail ≡ least (map (tail_of network link) entries)
   pub low_head : pos 0 ≤ℤ (found.head +ℤ pos 20000000000)
   pub high_head : found.head ≤ℤ pos 20000000000
-  pub short_work : found.work ≤ 1233600 * length entries
-  pub low_tail : pos 0 ≤ℤ (found.tail +ℤ pos 60000000)
-  pub high_tail : found.tail ≤ℤ pos 60000000
+  pub short_work : found.work ≤ MAX_OCCUPANCY * length entries
+  pub low_tail : pos 0 ≤ℤ (found.tail +ℤ pos MAX_SPAN)
+  pub high_tail : found.tail ≤ℤ pos MAX_SPAN
 
 -- the entry is right, and what it comes to is told, or what is wrong with it
 abbrev pub FindsEntry : Network → List Decision → ℕ → List Entry → Entry → Result LinkLoad NodeFault → Type 0
@@ -85,7 +86,7 @@ FindsEntry network path link before entry (Err fault) = IsWrongEntry network pat
 
 -- the entries are right, and what they come to is told, or what is wrong with the first that isn't
 abbrev pub FindsLoad : Network → List Decision → ℕ → List Entry → Result LinkLoad NodeFault → Type 0
-FindsLoad network path link entries (Ok found) = AreEntries network path link entries × IsLoad network path link entries found × (found.work ≤ 157900800)
+FindsLoad network path link entries (Ok found) = AreEntries network path link entries × IsLoad network path link entries found × (found.work ≤ MAX_WORK)
 FindsLoad network path link entries (Err fault) = IsFirstWrong network path link entries (IsWrongEntry network path link fault)
 
 -- ---- branches

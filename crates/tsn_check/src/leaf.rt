@@ -8,6 +8,7 @@ use crate::chain::{closed_sum, walk_back};
 use crate::fault::NodeFault;
 use crate::path::Turn;
 use tsn_cert::Chain;
+use tsn_cert::plan::MAX_TIME;
 use tsn_timing::Timing;
 
 /// The sum of a chain to a stream of the network, in nanoseconds: the release of the stream where the chain begins, and
@@ -39,7 +40,7 @@ pub fn judge_late(
     chain: &Chain,
 ) -> Result<bool, NodeFault>
     requires turns { AreTurns timing.now path.now }
-    requires target { target ≤ 2_000_000_000 }
+    requires target { target ≤ MAX_TIME }
     ensures { FindsBound timing.now target (decisions path.now) (late stream chain.now) result }
 {
     let sum = sum_to(timing, path, stream, chain)?;

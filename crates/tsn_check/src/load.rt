@@ -9,6 +9,7 @@ ghost use Rattle.tsn_check.specs.Steps.{FindsBound, FindsEntry, FindsLoad};
 use crate::fault::NodeFault;
 use crate::leaf::sum_to;
 use crate::path::Turn;
+use tsn_cert::plan::MAX_TIME;
 use tsn_cert::{Chain, Entries};
 use tsn_timing::Timing;
 
@@ -94,7 +95,7 @@ pub fn judge_load(
     entries: &Entries,
 ) -> Result<bool, NodeFault>
     requires turns { AreTurns timing.now path.now }
-    requires target { target ≤ 2_000_000_000 }
+    requires target { target ≤ MAX_TIME }
     ensures { FindsBound timing.now target (decisions path.now) (load link entries.now) result }
 {
     let all = link_load(timing, path, link, entries)?;
