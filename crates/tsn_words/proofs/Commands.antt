@@ -1,12 +1,11 @@
--- A command with one more below it, or with one more argument.
-use Rattle.std.proofs.Common.{◌≡◌, false, ◌||◌, ◌∙◌, ap₂}
-use Rattle.clap.specs.Words.{AddsArg, AddsSubcommand, App, Rule, app_of, rule_of, with_rule, with_subcommand}
+-- A command with more arguments, or with one more below it.
+use Rattle.std.proofs.Common.{◌≡◌, suc, false, ◌||◌, ◌∙◌, ap₂, All, List, [], ◌∷◌, map, arith, refl, subst, Result, Ok, Err, IfOk, IsOkAnd}
+use Rattle.std.specs.List.{fold}
+use Rattle.std.specs.declared.alloc.AllocError.{AllocError}
+use Rattle.clap.specs.Words.{AddsArg, AddsInTurn, App, Rule, app_of, rule_of, with_rule, with_subcommand}
 use Rattle.clap.specs.declared.builder.arg.Arg.{Arg}
 use Rattle.clap.specs.declared.builder.command.Command.{Command}
 use Rattle.clap.specs.declared.builder.command.Command.TheViews.{out-Command as fields_of}
-
-pub added : (old below new : Command) (a b : App) → app_of old ≡ a → app_of below ≡ b → (fields_of below).has_globals ≡ false → AddsSubcommand old below new → app_of new ≡ with_subcommand a b.top
-added old below new a b is_old is_below local adds = adds.shape local ∙ ap₂ (λ x (y : App). with_subcommand x y.top) is_old is_below
 
 -- a command that reads words so, and hands no argument on to commands below it
 pub record Reads (command : Command) (a : App) : Type 0 where
@@ -19,3 +18,19 @@ argument_added old argument new a rule reads is_rule local adds = record {
   app = adds.shape local ∙ ap₂ with_rule reads.app is_rule;
   local = adds.globals ∙ ap₂ ◌||◌ reads.local local;
 }
+
+-- a command with more arguments
+pub arguments_added : (old new : Command) (arguments : List Arg) (a : App) → Reads old a → All (λ x. x.global ≡ false) arguments → AddsInTurn AddsArg old arguments new
+    → Reads new (fold with_rule a (map rule_of arguments))
+arguments_added old new [] a reads local adds = subst (λ c. Reads c a) adds reads
+arguments_added old new (x ∷ xs) a reads local adds =
+    let one = argument_added old x adds.0 a (rule_of x) reads refl (local 0 x (omega arith)) adds.1 in
+    arguments_added adds.0 new xs (with_rule a (rule_of x)) one (λ i d below. local (suc i) d (omega arith)) adds.2
+
+-- a command with one more below it, where both could be made
+pub command_added : (old below new : Result Command AllocError) (a b : App) → IfOk old (λ c. app_of c ≡ a) → IfOk below (λ c. app_of c ≡ b)
+    → IfOk new (λ c. IsOkAnd old (λ x. IsOkAnd below (λ y. app_of c ≡ with_subcommand (app_of x) (app_of y).top))) → IfOk new (λ c. app_of c ≡ with_subcommand a b.top)
+command_added (Ok old) (Ok below) (Ok new) a b is_old is_below adds = adds ∙ ap₂ (λ x (y : App). with_subcommand x y.top) is_old is_below
+command_added old below (Err fault) a b is_old is_below adds = tt
+command_added (Err fault) below (Ok new) a b is_old is_below adds = absurd adds
+command_added (Ok old) (Err fault) (Ok new) a b is_old is_below adds = absurd adds

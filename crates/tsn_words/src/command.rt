@@ -1,8 +1,9 @@
 //! The words as `clap` reads them.
-ghost use Rattle.std.specs.Prelude.{◌≡◌, ◌≢◌, ◌≤◌, ◌⊎◌, All, IfErr, IfOk, IfSome, codes, false, map, option_map, None, true};
-ghost use Rattle.clap.specs.Words.{IsUnsignedIn, app_of, first_of, found_of, kind_of, rows_of, rule_of, subcommand_rows_of};
+ghost use Rattle.std.specs.Prelude.{◌≡◌, ◌≢◌, ◌≤◌, All, IfErr, IfOk, IfSome, IsOkAnd, codes, false, is_some, map, option_map, None, Some, true};
+ghost use Rattle.std.specs.List.{fold};
+ghost use Rattle.clap.specs.Words.{IsUnsignedIn, app_of, first_of, found_of, kind_of, new_app, rows_of, rule_of, subcommand_rows_of, with_rule, with_subcommand};
 ghost use Rattle.clap.specs.declared.builder.command.Command.TheViews.{out-Command as fields_of};
-ghost use Rattle.tsn_words.specs.Grammar.{AsksFor, HasOffsets, IsAsked, IsChartOf, IsCheckOf, IsGatesOf, IsGiven, IsNumberOr, IsPlanOf, IsRefused, IsReplayOf, IsValidOf, IsWhole, IsWithin, gates_format, has_format, number_of, replay_format, takes_words};
+ghost use Rattle.tsn_words.specs.Grammar.{AsksFor, HasOffsets, IsAsked, IsGiven, IsNumberOr, IsRefused, IsWhole, IsWithin, gates_format, has_format, number_of, replay_format, takes_words};
 ghost use Rattle.tsn_words.specs.Grammar as grammar;
 
 use crate::words::{
@@ -10,8 +11,9 @@ use crate::words::{
     MAX_STEPS, MAX_UNTIL, MAX_WORKERS, PlanWords, ReplayFormat, ReplayWords, ValidWords, Words,
     WordsFault,
 };
+use clap::builder::ValueParser;
 use clap::error::ErrorKind;
-use clap::{Arg, ArgAction, ArgMatches, Command, Error, value_parser};
+use clap::{Arg, ArgAction, ArgMatches, Command, Error};
 use std::alloc::{AllocError, Global};
 
 /// The command that the words ask for; the first word is the program's name.
@@ -32,115 +34,170 @@ pub fn words_from<'a>(alloc: Global, words: &'a [&'a str]) -> Result<Words<'a>, 
 fn program<'a>(alloc: Global) -> Result<Command<'a>, AllocError>
     ensures { IfOk result (λ c. app_of c ≡ grammar.tsn) }
 {
-    Command::new(alloc, "tsn")
+    let command = with_command(planner(alloc), gates_command(alloc));
+    let command = with_command(command, replay_command(alloc));
+    with_command(command, chart_command(alloc))
+}
+
+/// The program without the commands that show a plan.
+fn planner<'a>(alloc: Global) -> Result<Command<'a>, AllocError>
+    ensures { IfOk result (λ c. app_of c ≡ with_subcommand (with_subcommand (with_subcommand grammar.alone grammar.valid.top) grammar.plan.top) grammar.check.top) }
+{
+    let alone = Command::new(alloc, "tsn")
         .about("Plans no-wait schedules for time-triggered Ethernet networks")
-        .subcommand_required(true)
-        .subcommand(valid_command(alloc)?)?
-        .subcommand(plan_command(alloc)?)?
-        .subcommand(check_command(alloc)?)?
-        .subcommand(gates_command(alloc)?)?
-        .subcommand(replay_command(alloc)?)?
-        .subcommand(chart_command(alloc)?)
+        .subcommand_required(true);
+    let command = with_command(Ok(alone), valid_command(alloc));
+    let command = with_command(command, plan_command(alloc));
+    with_command(command, check_command(alloc))
+}
+
+/// A command with one more below it, where both could be made.
+fn with_command<'a>(
+    command: Result<Command<'a>, AllocError>,
+    below: Result<Command<'a>, AllocError>,
+) -> Result<Command<'a>, AllocError>
+    requires { IfOk below (λ b. (fields_of b).has_globals ≡ false) }
+    ensures { IfOk result (λ c. IsOkAnd command.entry (λ a. IsOkAnd below.entry (λ b. app_of c ≡ with_subcommand (app_of a) (app_of b).top))) }
+{
+    command?.subcommand(below?)
 }
 
 fn valid_command<'a>(alloc: Global) -> Result<Command<'a>, AllocError>
     ensures app { IfOk result (λ c. app_of c ≡ grammar.valid) }
     ensures local { IfOk result (λ c. (fields_of c).has_globals ≡ false) }
 {
-    Command::new(alloc, "valid")
-        .about("Judges a list of offsets")
-        .arg(network_argument(alloc))?
-        .arg(offsets_argument(alloc))
+    let arguments = vec![in alloc; network_argument(alloc), offsets_argument(alloc)]?;
+    new_command(alloc, "valid", "Judges a list of offsets", arguments)
 }
 
 fn plan_command<'a>(alloc: Global) -> Result<Command<'a>, AllocError>
     ensures app { IfOk result (λ c. app_of c ≡ grammar.plan) }
     ensures local { IfOk result (λ c. (fields_of c).has_globals ≡ false) }
 {
-    Command::new(alloc, "plan")
-        .about("Finds a schedule of least flowspan, and shows that it is")
-        .arg(network_argument(alloc))?
-        .arg(workers_option(alloc))?
-        .arg(steps_option(alloc))?
-        .arg(plan_option(alloc))?
-        .arg(cert_option(alloc))?
-        .arg(progress_flag(alloc))
+    let arguments = vec![in alloc;
+        network_argument(alloc),
+        workers_option(alloc),
+        steps_option(alloc),
+        plan_option(alloc),
+        cert_option(alloc),
+        progress_flag(alloc),
+    ]?;
+    new_command(
+        alloc,
+        "plan",
+        "Finds a schedule of least flowspan, and shows that it is",
+        arguments,
+    )
 }
 
 fn check_command<'a>(alloc: Global) -> Result<Command<'a>, AllocError>
     ensures app { IfOk result (λ c. app_of c ≡ grammar.check) }
     ensures local { IfOk result (λ c. (fields_of c).has_globals ≡ false) }
 {
-    Command::new(alloc, "check")
-        .about("Checks that a certificate shows its plan to be optimal")
-        .arg(network_argument(alloc))?
-        .arg(plan_argument(alloc))?
-        .arg(cert_argument(alloc))
+    let arguments = vec![in alloc;
+        network_argument(alloc),
+        plan_argument(alloc),
+        cert_argument(alloc),
+    ]?;
+    new_command(
+        alloc,
+        "check",
+        "Checks that a certificate shows its plan to be optimal",
+        arguments,
+    )
 }
 
 fn gates_command<'a>(alloc: Global) -> Result<Command<'a>, AllocError>
     ensures app { IfOk result (λ c. app_of c ≡ grammar.gates) }
     ensures local { IfOk result (λ c. (fields_of c).has_globals ≡ false) }
 {
-    Command::new(alloc, "gates")
-        .about("Prints the gate control lists of a plan")
-        .arg(network_argument(alloc))?
-        .arg(plan_argument(alloc))?
-        .arg(lists_format_option(alloc))
+    let arguments = vec![in alloc;
+        network_argument(alloc),
+        plan_argument(alloc),
+        lists_format_option(alloc),
+    ]?;
+    new_command(
+        alloc,
+        "gates",
+        "Prints the gate control lists of a plan",
+        arguments,
+    )
 }
 
 fn replay_command<'a>(alloc: Global) -> Result<Command<'a>, AllocError>
     ensures app { IfOk result (λ c. app_of c ≡ grammar.replay) }
     ensures local { IfOk result (λ c. (fields_of c).has_globals ≡ false) }
 {
-    Command::new(alloc, "replay")
-        .about("Replays cycles of a plan by its gate control lists")
-        .arg(network_argument(alloc))?
-        .arg(plan_argument(alloc))?
-        .arg(cycles_option(alloc))?
-        .arg(greedy_flag(alloc))?
-        .arg(replay_format_option(alloc))
+    let arguments = vec![in alloc;
+        network_argument(alloc),
+        plan_argument(alloc),
+        cycles_option(alloc),
+        greedy_flag(alloc),
+        replay_format_option(alloc),
+    ]?;
+    new_command(
+        alloc,
+        "replay",
+        "Replays cycles of a plan by its gate control lists",
+        arguments,
+    )
 }
 
 fn chart_command<'a>(alloc: Global) -> Result<Command<'a>, AllocError>
     ensures app { IfOk result (λ c. app_of c ≡ grammar.chart) }
     ensures local { IfOk result (λ c. (fields_of c).has_globals ≡ false) }
 {
-    Command::new(alloc, "chart")
-        .about("Draws a plan as an SVG picture")
-        .arg(network_argument(alloc))?
-        .arg(plan_argument(alloc))?
-        .arg(until_option(alloc))
+    let arguments = vec![in alloc;
+        network_argument(alloc),
+        plan_argument(alloc),
+        until_option(alloc),
+    ]?;
+    new_command(alloc, "chart", "Draws a plan as an SVG picture", arguments)
+}
+
+/// A command that takes some arguments.
+fn new_command<'a>(
+    alloc: Global,
+    name: &'a str,
+    about: &'a str,
+    arguments: Vec<Arg<'a>>,
+) -> Result<Command<'a>, AllocError>
+    requires { All (λ a. a.global ≡ false) arguments.items }
+    ensures app { IfOk result (λ c. app_of c ≡ fold with_rule (new_app name.entry.now) (map rule_of arguments.entry.items)) }
+    ensures local { IfOk result (λ c. (fields_of c).has_globals ≡ false) }
+{
+    Command::new(alloc, name).about(about).args(arguments)
 }
 
 fn network_argument<'a>(alloc: Global) -> Arg<'a>
     ensures rule { rule_of result ≡ grammar.file (codes "NET") }
     ensures local { result.global ≡ false }
 {
-    Arg::new(alloc, "NET")
-        .required(true)
-        .action(ArgAction::Set)
-        .help("The network file, or - for standard input")
+    file_argument(alloc, "NET", "The network file, or - for standard input")
 }
 
 fn plan_argument<'a>(alloc: Global) -> Arg<'a>
     ensures rule { rule_of result ≡ grammar.file (codes "PLAN") }
     ensures local { result.global ≡ false }
 {
-    Arg::new(alloc, "PLAN")
-        .required(true)
-        .action(ArgAction::Set)
-        .help("The plan file")
+    file_argument(alloc, "PLAN", "The plan file")
 }
 
 fn cert_argument<'a>(alloc: Global) -> Arg<'a>
     ensures rule { rule_of result ≡ grammar.file (codes "CERT") }
     ensures local { result.global ≡ false }
 {
-    Arg::new(alloc, "CERT")
+    file_argument(alloc, "CERT", "The certificate file")
+}
+
+fn file_argument<'a>(alloc: Global, name: &'a str, help: &'a str) -> Arg<'a>
+    ensures rule { rule_of result ≡ grammar.file name.entry.now }
+    ensures local { result.global ≡ false }
+{
+    Arg::new(alloc, name)
         .required(true)
         .action(ArgAction::Set)
-        .help("The certificate file")
+        .help(help)
 }
 
 fn offsets_argument<'a>(alloc: Global) -> Arg<'a>
@@ -151,7 +208,7 @@ fn offsets_argument<'a>(alloc: Global) -> Arg<'a>
         .required(true)
         .action(ArgAction::Append)
         .num_args(1..)
-        .value_parser(value_parser!(u64).range(0..=2_000_000_000))
+        .value_parser(ValueParser::unsigned(0, MAX_OFFSET))
         .help("The offset of each stream in nanoseconds, in the file's order")
 }
 
@@ -159,104 +216,139 @@ fn workers_option<'a>(alloc: Global) -> Arg<'a>
     ensures rule { rule_of result ≡ grammar.number_option (codes "workers") MAX_WORKERS }
     ensures local { result.global ≡ false }
 {
-    Arg::new(alloc, "workers")
-        .long("workers")
-        .action(ArgAction::Set)
-        .value_parser(value_parser!(u64).range(1..=MAX_WORKERS as i64))
-        .help("How many workers plan, 1 if not given")
+    number_option(
+        alloc,
+        "workers",
+        MAX_WORKERS,
+        "How many workers plan, 1 if not given",
+    )
 }
 
 fn steps_option<'a>(alloc: Global) -> Arg<'a>
     ensures rule { rule_of result ≡ grammar.number_option (codes "steps") 1000000000 }
     ensures local { result.global ≡ false }
 {
-    Arg::new(alloc, "steps")
-        .long("steps")
-        .action(ArgAction::Set)
-        .value_parser(value_parser!(u64).range(1..=1_000_000_000))
-        .help("The most nodes to settle, 1000000 if not given")
-}
-
-fn plan_option<'a>(alloc: Global) -> Arg<'a>
-    ensures rule { rule_of result ≡ grammar.word_option (codes "plan") }
-    ensures local { result.global ≡ false }
-{
-    Arg::new(alloc, "plan")
-        .long("plan")
-        .action(ArgAction::Set)
-        .help("The file to write the plan to")
-}
-
-fn cert_option<'a>(alloc: Global) -> Arg<'a>
-    ensures rule { rule_of result ≡ grammar.word_option (codes "cert") }
-    ensures local { result.global ≡ false }
-{
-    Arg::new(alloc, "cert")
-        .long("cert")
-        .action(ArgAction::Set)
-        .help("The file to write the certificate to")
-}
-
-fn progress_flag<'a>(alloc: Global) -> Arg<'a>
-    ensures rule { rule_of result ≡ grammar.flag (codes "progress") }
-    ensures local { result.global ≡ false }
-{
-    Arg::new(alloc, "progress")
-        .long("progress")
-        .action(ArgAction::SetTrue)
-        .help("Tell on standard error, about once a second, how far the plan has got")
+    number_option(
+        alloc,
+        "steps",
+        MAX_STEPS,
+        "The most nodes to settle, 1000000 if not given",
+    )
 }
 
 fn cycles_option<'a>(alloc: Global) -> Arg<'a>
     ensures rule { rule_of result ≡ grammar.number_option (codes "cycles") 16 }
     ensures local { result.global ≡ false }
 {
-    Arg::new(alloc, "cycles")
-        .long("cycles")
-        .action(ArgAction::Set)
-        .value_parser(value_parser!(u64).range(1..=16))
-        .help("How many cycles to replay, 1 if not given")
-}
-
-fn greedy_flag<'a>(alloc: Global) -> Arg<'a>
-    ensures rule { rule_of result ≡ grammar.flag (codes "greedy") }
-    ensures local { result.global ≡ false }
-{
-    Arg::new(alloc, "greedy")
-        .long("greedy")
-        .action(ArgAction::SetTrue)
-        .help("Let a background frame of 1522 octets always wait on each link")
-}
-
-fn lists_format_option<'a>(alloc: Global) -> Arg<'a>
-    ensures rule { rule_of result ≡ grammar.word_option (codes "format") }
-    ensures local { result.global ≡ false }
-{
-    Arg::new(alloc, "format")
-        .long("format")
-        .action(ArgAction::Set)
-        .help("How they are printed: table if not given, taprio or json")
-}
-
-fn replay_format_option<'a>(alloc: Global) -> Arg<'a>
-    ensures rule { rule_of result ≡ grammar.word_option (codes "format") }
-    ensures local { result.global ≡ false }
-{
-    Arg::new(alloc, "format")
-        .long("format")
-        .action(ArgAction::Set)
-        .help("How it is printed: table if not given, or csv")
+    number_option(
+        alloc,
+        "cycles",
+        MAX_CYCLES,
+        "How many cycles to replay, 1 if not given",
+    )
 }
 
 fn until_option<'a>(alloc: Global) -> Arg<'a>
     ensures rule { rule_of result ≡ grammar.number_option (codes "until") 1000000000 }
     ensures local { result.global ≡ false }
 {
-    Arg::new(alloc, "until")
-        .long("until")
+    number_option(
+        alloc,
+        "until",
+        MAX_UNTIL,
+        "Where the chart ends, in nanoseconds, at the cycle's end if not given",
+    )
+}
+
+/// An option with a number from 1 to `most`.
+fn number_option<'a>(alloc: Global, name: &'a str, most: usize, help: &'a str) -> Arg<'a>
+    ensures rule { rule_of result ≡ grammar.number_option name.entry.now most }
+    ensures local { result.global ≡ false }
+{
+    Arg::new(alloc, name)
+        .long(name)
         .action(ArgAction::Set)
-        .value_parser(value_parser!(u64).range(1..=1_000_000_000))
-        .help("Where the chart ends, in nanoseconds, at the cycle's end if not given")
+        .value_parser(ValueParser::unsigned(1, most as u64))
+        .help(help)
+}
+
+fn plan_option<'a>(alloc: Global) -> Arg<'a>
+    ensures rule { rule_of result ≡ grammar.word_option (codes "plan") }
+    ensures local { result.global ≡ false }
+{
+    word_option(alloc, "plan", "The file to write the plan to")
+}
+
+fn cert_option<'a>(alloc: Global) -> Arg<'a>
+    ensures rule { rule_of result ≡ grammar.word_option (codes "cert") }
+    ensures local { result.global ≡ false }
+{
+    word_option(alloc, "cert", "The file to write the certificate to")
+}
+
+fn lists_format_option<'a>(alloc: Global) -> Arg<'a>
+    ensures rule { rule_of result ≡ grammar.word_option (codes "format") }
+    ensures local { result.global ≡ false }
+{
+    word_option(
+        alloc,
+        "format",
+        "How they are printed: table if not given, taprio or json",
+    )
+}
+
+fn replay_format_option<'a>(alloc: Global) -> Arg<'a>
+    ensures rule { rule_of result ≡ grammar.word_option (codes "format") }
+    ensures local { result.global ≡ false }
+{
+    word_option(
+        alloc,
+        "format",
+        "How it is printed: table if not given, or csv",
+    )
+}
+
+/// An option with a word.
+fn word_option<'a>(alloc: Global, name: &'a str, help: &'a str) -> Arg<'a>
+    ensures rule { rule_of result ≡ grammar.word_option name.entry.now }
+    ensures local { result.global ≡ false }
+{
+    Arg::new(alloc, name)
+        .long(name)
+        .action(ArgAction::Set)
+        .help(help)
+}
+
+fn progress_flag<'a>(alloc: Global) -> Arg<'a>
+    ensures rule { rule_of result ≡ grammar.flag (codes "progress") }
+    ensures local { result.global ≡ false }
+{
+    flag(
+        alloc,
+        "progress",
+        "Tell on standard error, about once a second, how far the plan has got",
+    )
+}
+
+fn greedy_flag<'a>(alloc: Global) -> Arg<'a>
+    ensures rule { rule_of result ≡ grammar.flag (codes "greedy") }
+    ensures local { result.global ≡ false }
+{
+    flag(
+        alloc,
+        "greedy",
+        "Let a background frame of 1522 octets always wait on each link",
+    )
+}
+
+fn flag<'a>(alloc: Global, name: &'a str, help: &'a str) -> Arg<'a>
+    ensures rule { rule_of result ≡ grammar.flag name.entry.now }
+    ensures local { result.global ≡ false }
+{
+    Arg::new(alloc, name)
+        .long(name)
+        .action(ArgAction::SetTrue)
+        .help(help)
 }
 
 /// Why `clap` refuses the words.
@@ -280,43 +372,44 @@ fn command_of<'a>(alloc: Global, matches: &ArgMatches<'a>) -> Result<Words<'a>, 
     ensures refused { IfErr result (λ fault. IsRefused fault → has_format (subcommand_rows_of matches.now) ≡ false) }
 {
     match matches.subcommand() {
-        Some(("valid", words)) => Ok(Words::Valid(valid_words(alloc, words)?)),
-        Some(("plan", words)) => Ok(Words::Plan(plan_words(words))),
-        Some(("check", words)) => Ok(Words::Check(check_words(words))),
-        Some(("gates", words)) => Ok(Words::Gates(gates_words(alloc, words)?)),
-        Some(("replay", words)) => Ok(Words::Replay(replay_words(alloc, words)?)),
-        Some(("chart", words)) => Ok(Words::Chart(chart_words(words))),
+        Some(("valid", words)) => valid_words(alloc, words),
+        Some(("plan", words)) => Ok(plan_words(words)),
+        Some(("check", words)) => Ok(check_words(words)),
+        Some(("gates", words)) => gates_words(alloc, words),
+        Some(("replay", words)) => replay_words(alloc, words),
+        Some(("chart", words)) => Ok(chart_words(words)),
         _ => unreachable!(),
     }
 }
 
-fn valid_words<'a>(alloc: Global, words: &ArgMatches<'a>) -> Result<ValidWords<'a>, AllocError>
+fn valid_words<'a>(alloc: Global, words: &ArgMatches<'a>) -> Result<Words<'a>, WordsFault>
     requires network { IsGiven (codes "NET") (rows_of (found_of words.now)) }
     requires offsets { HasOffsets (rows_of (found_of words.now)) }
-    ensures { IfOk result (IsValidOf (rows_of (found_of words.now))) }
+    ensures asked { IfOk result (IsAsked (Some (codes "valid", rows_of (found_of words.now)))) }
+    ensures memory { IfErr result (λ fault. fault ≡ WordsFault.Memory) }
 {
     let network = text_of(words, "NET");
     let Some(texts) = words.get_strs("OFFSET") else {
         unreachable!()
     };
     let offsets = offsets_of(alloc, texts)?;
-    Ok(ValidWords { network, offsets })
+    Ok(Words::Valid(ValidWords { network, offsets }))
 }
 
-fn plan_words<'a>(words: &ArgMatches<'a>) -> PlanWords<'a>
+fn plan_words<'a>(words: &ArgMatches<'a>) -> Words<'a>
     requires network { IsGiven (codes "NET") (rows_of (found_of words.now)) }
     requires workers { IsWithin (codes "workers") MAX_WORKERS (rows_of (found_of words.now)) }
     requires steps { IsWithin (codes "steps") MAX_STEPS (rows_of (found_of words.now)) }
-    ensures { IsPlanOf (rows_of (found_of words.now)) result }
+    ensures { IsAsked (Some (codes "plan", rows_of (found_of words.now))) result }
 {
-    PlanWords {
+    Words::Plan(PlanWords {
         network: text_of(words, "NET"),
         workers: number_or(words.get_str("workers"), MAX_WORKERS, 1),
         steps: number_or(words.get_str("steps"), MAX_STEPS, DEFAULT_STEPS),
         plan: words.get_str("plan"),
         cert: words.get_str("cert"),
         progress: words.get_flag("progress"),
-    }
+    })
 }
 
 /// The word of an argument that is given.
@@ -348,34 +441,35 @@ fn number_or(word: Option<&str>, most: usize, default: usize) -> usize
     }
 }
 
-fn check_words<'a>(words: &ArgMatches<'a>) -> CheckWords<'a>
+fn check_words<'a>(words: &ArgMatches<'a>) -> Words<'a>
     requires network { IsGiven (codes "NET") (rows_of (found_of words.now)) }
     requires plan { IsGiven (codes "PLAN") (rows_of (found_of words.now)) }
     requires cert { IsGiven (codes "CERT") (rows_of (found_of words.now)) }
-    ensures { IsCheckOf (rows_of (found_of words.now)) result }
+    ensures { IsAsked (Some (codes "check", rows_of (found_of words.now))) result }
 {
-    CheckWords {
+    Words::Check(CheckWords {
         network: text_of(words, "NET"),
         plan: text_of(words, "PLAN"),
         cert: text_of(words, "CERT"),
-    }
+    })
 }
 
-fn gates_words<'a>(alloc: Global, words: &ArgMatches<'a>) -> Result<GatesWords<'a>, WordsFault>
+fn gates_words<'a>(alloc: Global, words: &ArgMatches<'a>) -> Result<Words<'a>, WordsFault>
     requires network { IsGiven (codes "NET") (rows_of (found_of words.now)) }
     requires plan { IsGiven (codes "PLAN") (rows_of (found_of words.now)) }
-    ensures asked { IfOk result (IsGatesOf (rows_of (found_of words.now))) }
+    ensures asked { IfOk result (IsAsked (Some (codes "gates", rows_of (found_of words.now)))) }
+    ensures known { IfOk result (λ _. is_some (gates_format (first_of (codes "format") (rows_of (found_of words.now)))) ≡ true) }
     ensures refused { IfErr result (λ fault. IsRefused fault → gates_format (first_of (codes "format") (rows_of (found_of words.now))) ≡ None) }
 {
     let word = words.get_str("format");
     let Some(format) = gates_format(word) else {
         return Err(unknown_format(alloc, word, "table, taprio, json"));
     };
-    Ok(GatesWords {
+    Ok(Words::Gates(GatesWords {
         network: text_of(words, "NET"),
         plan: text_of(words, "PLAN"),
         format,
-    })
+    }))
 }
 
 /// The format that a word names, if it names one.
@@ -396,24 +490,25 @@ fn gates_format(word: Option<&str>) -> Option<GatesFormat>
     }
 }
 
-fn replay_words<'a>(alloc: Global, words: &ArgMatches<'a>) -> Result<ReplayWords<'a>, WordsFault>
+fn replay_words<'a>(alloc: Global, words: &ArgMatches<'a>) -> Result<Words<'a>, WordsFault>
     requires network { IsGiven (codes "NET") (rows_of (found_of words.now)) }
     requires plan { IsGiven (codes "PLAN") (rows_of (found_of words.now)) }
     requires cycles { IsWithin (codes "cycles") MAX_CYCLES (rows_of (found_of words.now)) }
-    ensures asked { IfOk result (IsReplayOf (rows_of (found_of words.now))) }
+    ensures asked { IfOk result (IsAsked (Some (codes "replay", rows_of (found_of words.now)))) }
+    ensures known { IfOk result (λ _. is_some (replay_format (first_of (codes "format") (rows_of (found_of words.now)))) ≡ true) }
     ensures refused { IfErr result (λ fault. IsRefused fault → replay_format (first_of (codes "format") (rows_of (found_of words.now))) ≡ None) }
 {
     let word = words.get_str("format");
     let Some(format) = replay_format(word) else {
         return Err(unknown_format(alloc, word, "table, csv"));
     };
-    Ok(ReplayWords {
+    Ok(Words::Replay(ReplayWords {
         network: text_of(words, "NET"),
         plan: text_of(words, "PLAN"),
         cycles: number_or(words.get_str("cycles"), MAX_CYCLES, 1),
         greedy: words.get_flag("greedy"),
         format,
-    })
+    }))
 }
 
 /// The format that a word names, if it names one.
@@ -444,17 +539,17 @@ fn unknown_format(alloc: Global, word: Option<&str>, formats: &str) -> WordsFaul
     }
 }
 
-fn chart_words<'a>(words: &ArgMatches<'a>) -> ChartWords<'a>
+fn chart_words<'a>(words: &ArgMatches<'a>) -> Words<'a>
     requires network { IsGiven (codes "NET") (rows_of (found_of words.now)) }
     requires plan { IsGiven (codes "PLAN") (rows_of (found_of words.now)) }
     requires until { IsWithin (codes "until") MAX_UNTIL (rows_of (found_of words.now)) }
-    ensures { IsChartOf (rows_of (found_of words.now)) result }
+    ensures { IsAsked (Some (codes "chart", rows_of (found_of words.now))) result }
 {
-    ChartWords {
+    Words::Chart(ChartWords {
         network: text_of(words, "NET"),
         plan: text_of(words, "PLAN"),
         until: number_or(words.get_str("until"), MAX_UNTIL, MAX_UNTIL),
-    }
+    })
 }
 
 fn offsets_of(alloc: Global, words: &[&str]) -> Result<Vec<u64>, AllocError>

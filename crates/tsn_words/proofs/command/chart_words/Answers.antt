@@ -1,5 +1,5 @@
-use Rattle.std.proofs.Common.{ℕ, IfSome, codes, Option}
-use Rattle.clap.specs.Words.{IsUnsignedIn, Text, found_of}
+use Rattle.std.proofs.Common.{ℕ, IfSome, codes, Option, refl}
+use Rattle.clap.specs.Words.{IsUnsignedIn, Text, found_of, rows_of}
 use Rattle.tsn_words.specs.Grammar.{IsNumberOr}
 use Rattle.tsn_words.specs.declared.words.TheConstants.{MAX_UNTIL}
 use Rattle.tsn_words.proofs.Getters.{of_got, of_rows}
@@ -14,4 +14,4 @@ pub returns : goal.returns
 returns c =
     let found = found_of c.args.words.now in
     let P : ℕ → Option Text → Type 0 = λ number word. IsNumberOr word MAX_UNTIL number in
-    (c.text_of.ensures, c.text_of-2.ensures, of_rows found (codes "until") _ (P c.number_or.result) c.get_str.ensures c.number_or.ensures.value)
+    (rows_of found, refl, (c.text_of.ensures, c.text_of-2.ensures, of_rows found (codes "until") _ (P c.number_or.result) c.get_str.ensures c.number_or.ensures.value))

@@ -1,5 +1,5 @@
-use Rattle.std.proofs.Common.{◌≡◌, sym, codes, Option, Some, None}
-use Rattle.clap.specs.Words.{Text, found_of}
+use Rattle.std.proofs.Common.{◌≡◌, sym, codes, Option, Some, None, refl, ap, is_some, true}
+use Rattle.clap.specs.Words.{Text, found_of, rows_of}
 use Rattle.tsn_words.specs.Grammar.{gates_format}
 use Rattle.tsn_words.proofs.Getters.{of_rows}
 use Rattle.tsn_words.proofs.command.gates_words.Goals as goal
@@ -12,4 +12,9 @@ returns-in_default-clause-refused c refused =
 pub returns-clause-asked : goal.returns-clause-asked
 returns-clause-asked c =
     let P : Option Text → Type 0 = λ o. gates_format o ≡ Some c.in-Some.format in
-    (c.text_of.ensures, c.text_of-2.ensures, of_rows (found_of c.args.words.now) (codes "format") _ P c.get_str-word.ensures (sym c.in-Some.ensures))
+    (rows_of (found_of c.args.words.now), refl, (c.text_of.ensures, c.text_of-2.ensures, of_rows (found_of c.args.words.now) (codes "format") _ P c.get_str-word.ensures (sym c.in-Some.ensures)))
+
+pub returns-clause-known : goal.returns-clause-known
+returns-clause-known c =
+    let P : Option Text → Type 0 = λ o. is_some (gates_format o) ≡ true in
+    of_rows (found_of c.args.words.now) (codes "format") _ P c.get_str-word.ensures (sym (ap is_some c.in-Some.ensures))

@@ -1,5 +1,5 @@
-use Rattle.std.proofs.Common.{ℕ, ◌∙◌, IfSome, sym, codes, Option}
-use Rattle.clap.specs.Words.{IsUnsignedIn, Text, found_of}
+use Rattle.std.proofs.Common.{ℕ, ◌∙◌, IfSome, sym, codes, Option, refl}
+use Rattle.clap.specs.Words.{IsUnsignedIn, Text, found_of, rows_of}
 use Rattle.clap.proofs.WalkLemmas.{first_value-rows, one_text-rows}
 use Rattle.tsn_words.specs.Grammar.{IsNumberOr}
 use Rattle.tsn_words.specs.declared.words.TheConstants.{DEFAULT_STEPS, MAX_STEPS, MAX_WORKERS}
@@ -21,10 +21,14 @@ returns c =
     let found = found_of c.args.words.now in
     let progress = one_text-rows found (codes "progress") in
     let P : ℕ → ℕ → Option Text → Type 0 = λ default number word. IsNumberOr word default number in (
-      c.text_of.ensures,
-      of_rows found (codes "workers") _ (P 1 c.number_or.result) c.get_str.ensures c.number_or.ensures.value,
-      of_rows found (codes "steps") _ (P DEFAULT_STEPS c.number_or-2.result) c.get_str-2.ensures c.number_or-2.ensures.value,
-      sym (first_value-rows found (codes "plan")) ∙ sym c.get_str-3.ensures,
-      sym (first_value-rows found (codes "cert")) ∙ sym c.get_str-4.ensures,
-      (λ is. c.get_flag.ensures.value (progress ∙ is), λ is. c.get_flag.ensures.other (progress ∙ is), λ is. c.get_flag.ensures.none (progress ∙ is)),
+      rows_of found,
+      refl,
+      (
+        c.text_of.ensures,
+        of_rows found (codes "workers") _ (P 1 c.number_or.result) c.get_str.ensures c.number_or.ensures.value,
+        of_rows found (codes "steps") _ (P DEFAULT_STEPS c.number_or-2.result) c.get_str-2.ensures c.number_or-2.ensures.value,
+        sym (first_value-rows found (codes "plan")) ∙ sym c.get_str-3.ensures,
+        sym (first_value-rows found (codes "cert")) ∙ sym c.get_str-4.ensures,
+        (λ is. c.get_flag.ensures.value (progress ∙ is), λ is. c.get_flag.ensures.other (progress ∙ is), λ is. c.get_flag.ensures.none (progress ∙ is)),
+      ),
     )

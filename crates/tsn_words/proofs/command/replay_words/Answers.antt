@@ -1,5 +1,5 @@
-use Rattle.std.proofs.Common.{◌≡◌, ℕ, ◌∙◌, IfSome, sym, codes, Option, Some, None}
-use Rattle.clap.specs.Words.{IsUnsignedIn, Text, found_of}
+use Rattle.std.proofs.Common.{◌≡◌, ℕ, ◌∙◌, IfSome, sym, codes, Option, Some, None, refl, ap, is_some, true}
+use Rattle.clap.specs.Words.{IsUnsignedIn, Text, found_of, rows_of}
 use Rattle.clap.proofs.WalkLemmas.{one_text-rows}
 use Rattle.tsn_words.specs.Grammar.{IsNumberOr, replay_format}
 use Rattle.tsn_words.specs.declared.words.TheConstants.{MAX_CYCLES}
@@ -22,9 +22,18 @@ returns-clause-asked c =
     let found = found_of c.args.words.now in
     let greedy = one_text-rows found (codes "greedy") in
     let P : ℕ → Option Text → Type 0 = λ number word. IsNumberOr word 1 number in (
-      c.text_of.ensures,
-      c.text_of-2.ensures,
-      of_rows found (codes "cycles") _ (P c.number_or.result) c.get_str.ensures c.number_or.ensures.value,
-      (λ is. c.get_flag.ensures.value (greedy ∙ is), λ is. c.get_flag.ensures.other (greedy ∙ is), λ is. c.get_flag.ensures.none (greedy ∙ is)),
-      of_rows found (codes "format") _ F c.get_str-word.ensures (sym c.in-Some.ensures),
+      rows_of found,
+      refl,
+      (
+        c.text_of.ensures,
+        c.text_of-2.ensures,
+        of_rows found (codes "cycles") _ (P c.number_or.result) c.get_str.ensures c.number_or.ensures.value,
+        (λ is. c.get_flag.ensures.value (greedy ∙ is), λ is. c.get_flag.ensures.other (greedy ∙ is), λ is. c.get_flag.ensures.none (greedy ∙ is)),
+        of_rows found (codes "format") _ F c.get_str-word.ensures (sym c.in-Some.ensures),
+      ),
     )
+
+pub returns-clause-known : goal.returns-clause-known
+returns-clause-known c =
+    let P : Option Text → Type 0 = λ o. is_some (replay_format o) ≡ true in
+    of_rows (found_of c.args.words.now) (codes "format") _ P c.get_str-word.ensures (sym (ap is_some c.in-Some.ensures))

@@ -1,7 +1,7 @@
-use Rattle.std.proofs.Common.{◌≡◌, ◌≤◌, ◌∙◌, List, All, Option, Some, None, sym, ap, codes, map, length, rules, arith}
+use Rattle.std.proofs.Common.{◌≡◌, ◌≤◌, ◌∙◌, List, All, Option, Some, None, sym, ap, codes, map, length, rules, arith, refl}
 use Rattle.std.specs.Prelude.{MatchOption}
 use Rattle.std.proofs.Math.ListN.{length-map}
-use Rattle.clap.specs.Words.{IsUnsignedIn, Text, found_of}
+use Rattle.clap.specs.Words.{IsUnsignedIn, Text, found_of, rows_of}
 use Rattle.clap.proofs.WalkLemmas.{raw_values-rows}
 use Rattle.tsn_words.specs.declared.words.TheConstants.{MAX_OFFSET}
 use Rattle.tsn_words.proofs.Getters.{all_got, are_numbers}
@@ -27,9 +27,9 @@ invariant_of-result-clause-some c =
     let enough : 1 ≤ length c.in_ok-offsets.offsets.items = omega arith in
     search rules
 
-pub returns : goal.returns
-returns c =
+pub returns-clause-asked : goal.returns-clause-asked
+returns-clause-asked c =
     let found = found_of c.args.words.now in
     let texts = map (λ word. word.now) c.in-Some.texts.now in
     let has : Has (Some texts) = all_got found (codes "OFFSET") _ Has c.in-Some.ensures c.requires.offsets in
-    (c.text_of-network.ensures, (texts, sym (raw_values-rows found (codes "OFFSET")) ∙ sym c.in-Some.ensures, are_numbers 0 MAX_OFFSET texts has.1, c.in_ok-offsets.ensures.values))
+    (rows_of found, refl, (c.text_of-network.ensures, (texts, sym (raw_values-rows found (codes "OFFSET")) ∙ sym c.in-Some.ensures, are_numbers 0 MAX_OFFSET texts has.1, c.in_ok-offsets.ensures.values)))
