@@ -1,6 +1,6 @@
 -- A stack with one more arc, with one less, and as it was.
-use Rattle.std.proofs.Common.{◌≡◌, ℕ, ◌-◌, ◌<◌, List, [], ◌∷◌, ◌++◌, length, map, take, drop, Contains, refl, sym, ap, ◌∙◌, inl, inr, ⊎_elim, arith}
-use Rattle.std.proofs.lemmas.List.{drop-map, get_or_push, length_push}
+use Rattle.std.proofs.Common.{◌≡◌, ℕ, ◌+◌, ◌-◌, ◌<◌, List, [], ◌∷◌, ◌++◌, length, map, take, drop, Contains, refl, sym, ap, ◌∙◌, inl, inr, ⊎_elim, arith, length-drop}
+use Rattle.std.proofs.lemmas.List.{drop-map, get_or_past, get_or_push, length-map, length_push, nil_from_length, take_all, take_at}
 use Rattle.std.proofs.lemmas.List.Elements.{All-map, All-push, All-take}
 use Rattle.tsn_model.specs.declared.Arc.{Arc}
 use Rattle.tsn_model.specs.Schedule.{offset_of}
@@ -8,12 +8,13 @@ use Rattle.tsn_diff.specs.declared.listing.Listing.{Listing}
 use Rattle.tsn_diff.specs.declared.trail.Former.{Former}
 use Rattle.tsn_diff.specs.declared.trail.Trail.{Trail}
 use Rattle.tsn_diff.specs.Limits.{IsArcAmong}
+use Rattle.tsn_diff.specs.Offsets.{IsLeast}
 use Rattle.tsn_diff.specs.Forest.{Labelling}
 use Rattle.tsn_diff.specs.Listing.{IsListing}
 use Rattle.tsn_diff.specs.Trail.{IsTrail, put_back_all}
 use Rattle.tsn_diff.specs.Spread.{base_of, IsStart, IsNoted, IsWide}
-use Rattle.tsn_diff.specs.Stack.{IsStack, RisesAt, KeepsOthers, last_mark}
-use Rattle.tsn_diff.proofs.Layers.{IsLayered-push, IsLayered-pop}
+use Rattle.tsn_diff.specs.Stack.{IsStack, RisesAt, KeepsOthers, AreRaisedLast, RiseAt, last_mark}
+use Rattle.tsn_diff.proofs.Layers.{IsLeast-same, IsLayered-push, IsLayered-pop, noted_last}
 use Rattle.tsn_diff.proofs.Solutions.{Solves-from_forest}
 use Rattle.tsn_diff.proofs.Trails.{put_back_others}
 
@@ -52,7 +53,8 @@ module _ (releases : List ℕ) (labels : Labelling) (listing : Listing) (trail :
         record {
           among = rw arcs (All-push (IsArcAmong (length releases)) listing.arcs.items arc s.among among);
           layered = rw (arcs, marks) (IsLayered-push releases labels listing.arcs.items listing.marks.items trail.formers.items s.layered arc new more.formers.items noted.before noted.back
-              (Solves-from_forest releases (listing.arcs.items ++ arc ∷ []) new wide.forest (wide.raised releases s.layered.solves.raised) wide.met));
+              (Solves-from_forest releases (listing.arcs.items ++ arc ∷ []) new wide.forest (wide.raised releases s.layered.solves.raised) wide.met)
+              wide.each);
           listed = rw (← count) listed;
           noted = rw (← count) noted.streams;
         }
@@ -82,3 +84,33 @@ module _ (releases : List ℕ) (labels : Labelling) (listing : Listing) (trail :
 
     pub KeepsOthers-popped : KeepsOthers (drop (last_mark listing.marks.items) trail.streams.items) labels.offsets new.offsets
     KeepsOthers-popped = rw back (KeepsOthers-back (length releases) (last_mark listing.marks.items) labels trail s.noted)
+
+  -- what is lent as raised is what the last arc raised
+  raised_by : (before : List Arc) (arc : Arc) → listing.arcs.items ≡ before ++ arc ∷ [] → (old : List ℕ) → IsLeast releases before old → RisesAt (drop (last_mark listing.marks.items) trail.streams.items) old labels.offsets
+  raised_by before arc is old least =
+      let marks = listing.marks.items in
+      let last = length marks - 1 in
+      let long : length marks ≡ length before + 1 = omega (arith, s.layered.count, ap length is, length_push before arc) in
+      let front : take last listing.arcs.items ≡ before = ap (λ (xs : List Arc). take last xs) is ∙ take_at before (arc ∷ []) last (omega arith) in
+      let whole : take (last + 1) listing.arcs.items ≡ listing.arcs.items = take_all (last + 1) listing.arcs.items (omega (arith, s.layered.count)) in
+      let back = put_back_all (drop (last_mark marks) trail.formers.items) labels in
+      let below : IsLeast releases before back.offsets = rw front at (s.layered.below last (omega arith)).least in
+      let rises : RiseAt (drop (last_mark marks) trail.formers.items) old labels.offsets = rw (noted_last marks trail.formers.items (omega arith)) at (s.layered.rises last (omega arith) old labels.offsets (rw front least) (rw whole s.layered.solves.least)) in
+      let P = λ (stream : ℕ). offset_of old stream < offset_of labels.offsets stream in
+      record {
+        each = rw (streams_from (length releases) (last_mark marks) trail s.noted) (All-map P (λ (f : Former). f.stream) (drop (last_mark marks) trail.formers.items) rises);
+        others = λ stream.
+            ⊎_elim (λ (same : offset_of back.offsets stream ≡ offset_of labels.offsets stream). inl (sym same ∙ IsLeast-same releases before back.offsets old below least stream))
+            (λ (among : Contains (drop (last_mark marks) trail.streams.items) stream). inr among) (KeepsOthers-back (length releases) (last_mark marks) labels trail s.noted stream);
+      }
+
+  -- nothing is, where there is no arc
+  raised_none : listing.arcs.items ≡ [] → drop (last_mark listing.marks.items) trail.streams.items ≡ []
+  raised_none none =
+      let marks = listing.marks.items in
+      let no_marks : length marks ≡ 0 = omega (arith, s.layered.count, ap length none) in
+      let noted : length trail.formers.items ≡ 0 = omega (arith, s.layered.first, get_or_past marks 0 (length trail.formers.items) (omega arith)) in
+      nil_from_length (drop (last_mark marks) trail.streams.items) (omega (arith, length-drop (last_mark marks) trail.streams.items, ap length s.noted.streams, length-map trail.formers.items (λ (f : Former). f.stream)))
+
+  pub AreRaisedLast-stack : AreRaisedLast releases listing.arcs.items labels.offsets (drop (last_mark listing.marks.items) trail.streams.items)
+  AreRaisedLast-stack = record { none = raised_none; last = raised_by }

@@ -5,7 +5,7 @@ ghost use Rattle.tsn_diff.specs.Answers.{Solves, Refutes};
 ghost use Rattle.tsn_diff.specs.Labels.{labelling_of};
 ghost use Rattle.tsn_diff.specs.Listing.{IsListing};
 ghost use Rattle.tsn_diff.specs.Spread.{all_arcs, base_of, IsStart, IsNoted, IsWide};
-ghost use Rattle.tsn_diff.specs.Stack.{RisesAt, KeepsOthers};
+ghost use Rattle.tsn_diff.specs.Stack.{RisesAt, KeepsOthers, AreRaisedLast};
 
 use crate::labels::Labels;
 use crate::listing::Listing;
@@ -123,6 +123,7 @@ impl ArcStack {
     pub fn raised(&self) -> &[usize]
         ensures value { result.now ≡ self.now.raised }
         ensures below { All (λ stream. stream < length self.now.releases) self.now.raised }
+        ensures last { AreRaisedLast self.now.releases self.now.arcs self.now.labels.offsets self.now.raised }
     {
         let mark = self.listing.marks.last().copied().unwrap_or(0);
         &self.wave.trail.streams[mark..]
