@@ -10,8 +10,7 @@ use Rattle.tsn_model.specs.Schedule.{offset_of, IsValid, AreApart, IsFirstViolat
 use Rattle.tsn_model.proofs.Validity.{valid_from_parts, violation_refutes}
 use Rattle.tsn_model.specs.Arcs.{arcs_of, HoldsAll, start_of}
 use Rattle.tsn_model.specs.Certificate.{sum_on, positive_cycle}
-use Rattle.tsn_diff.specs.Offsets.{Meets}
-use Rattle.tsn_diff.specs.Forest.{Labelling, chain_of}
+use Rattle.tsn_diff.specs.Offsets.{Meets, LeastOffsets, chain_of}
 use Rattle.tsn_diff.specs.Answers as diff
 use Rattle.tsn_diff.specs.Answers.{Answers, Solves}
 use Rattle.tsn_diff.specs.declared.solve.Outcome.{Outcome}
@@ -33,8 +32,8 @@ pub answers_on : (network : Network) (path : List Decision) (releases : List ℕ
 answers_on network path releases arcs outcome none same answers =
     subst (λ rs. Answers rs (arcs_of network path) outcome) none (subst (λ as'. Answers releases as' outcome) same answers)
 
-module _ (network : Network) (path : List Decision) (labels : Labelling) (solves : Solves (releases_of network) (arcs_of network path) labels) where
-  pub count : length labels.offsets ≡ stream_count network
+module _ (network : Network) (path : List Decision) (lowest : LeastOffsets) (solves : Solves (releases_of network) (arcs_of network path) lowest) where
+  pub count : length lowest.offsets ≡ stream_count network
   count = solves.least.meets.count ∙ length-releases network
 
   meets_from : (other : List ℕ) → length other ≡ stream_count network → AreReleased network other → HoldsAll other (arcs_of network path) → Meets (releases_of network) (arcs_of network path) other
@@ -44,7 +43,7 @@ module _ (network : Network) (path : List Decision) (labels : Labelling) (solves
     met = held;
   }
 
-  pub AreLeast-from : AreLeast network path labels.offsets
+  pub AreLeast-from : AreLeast network path lowest.offsets
   AreLeast-from = record {
     count = count;
     released = λ i below. let same = released_at network i in let late = solves.least.meets.released i (rw (length-releases network) below) in omega arith;
@@ -52,18 +51,18 @@ module _ (network : Network) (path : List Decision) (labels : Labelling) (solves
     least = λ other long released held i below. solves.least.least other (meets_from other long released held) i (rw (length-releases network) below);
   }
 
-  pub IsShownBy-from : (i : ℕ) → i < stream_count network → IsShownBy network path labels.offsets i (chain_of labels i)
+  pub IsShownBy-from : (i : ℕ) → i < stream_count network → IsShownBy network path lowest.offsets i (chain_of lowest i)
   unfolding sum_on
   IsShownBy-from i below =
       let shows = solves.chains i (rw (length-releases network) below) in
       let sum = shows.sum in
-      let release = released_at network (start_of (arcs_of network path) (chain_of labels i) i) in
+      let release = released_at network (start_of (arcs_of network path) (chain_of lowest i) i) in
       record {
         leads = record { stream = below; chain_to = shows.leads };
         sum = omega (arith, ints, sum, release);
       }
 
-  pub short : IsWellFormed network → (i : ℕ) → i < stream_count network → length (chain_of labels i) ≤ 128
+  pub short : IsWellFormed network → (i : ℕ) → i < stream_count network → length (chain_of lowest i) ≤ 128
   short formed i below =
       let shows = solves.chains i (rw (length-releases network) below) in
       let shorter = shows.short in
@@ -97,9 +96,9 @@ least_same network path first second a b =
     omega arith)
 
 -- the least offsets are a valid schedule where all streams are done in time and none overlap, so they have no violation
-pub no_violation : (network : Network) (path : List Decision) (labels : Labelling) → Solves (releases_of network) (arcs_of network path) labels → AllFit network labels.offsets → AreApart network labels.offsets
-    → (offsets : List ℕ) → offsets ≡ labels.offsets → (violation : Violation) → IsFirstViolation network offsets violation → ⊥
-no_violation network path labels solves fit apart offsets same violation first =
-    let least = AreLeast-from network path labels solves in
-    let valid = valid_from_parts network labels.offsets least.count (λ i below. (fit i below).0) apart least.released (λ i below. (fit i below).1) in
+pub no_violation : (network : Network) (path : List Decision) (lowest : LeastOffsets) → Solves (releases_of network) (arcs_of network path) lowest → AllFit network lowest.offsets → AreApart network lowest.offsets
+    → (offsets : List ℕ) → offsets ≡ lowest.offsets → (violation : Violation) → IsFirstViolation network offsets violation → ⊥
+no_violation network path lowest solves fit apart offsets same violation first =
+    let least = AreLeast-from network path lowest solves in
+    let valid = valid_from_parts network lowest.offsets least.count (λ i below. (fit i below).0) apart least.released (λ i below. (fit i below).1) in
     violation_refutes network offsets violation first (subst (IsValid network) (sym same) valid)

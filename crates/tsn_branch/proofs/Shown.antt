@@ -16,7 +16,7 @@ use Rattle.tsn_branch.specs.Links.{users_of, work_on, tail_on, head_by, busy_by,
 use Rattle.tsn_branch.specs.Look.{IsShownBy, ShowsLink}
 use Rattle.tsn_model.specs.Arcs.{arcs_of}
 use Rattle.tsn_model.proofs.Routes.{UsesLink-counted}
-use Rattle.tsn_diff.specs.Forest.{Labelling, chain_of}
+use Rattle.tsn_diff.specs.Offsets.{LeastOffsets, chain_of}
 use Rattle.tsn_diff.specs.Answers.{Solves}
 use Rattle.tsn_branch.specs.declared.loads.User.{User}
 use Rattle.tsn_branch.specs.Loads.{user_on, entry_by}
@@ -88,21 +88,21 @@ module _ (network : Network) (path : List Decision) (offsets : List ℕ) (link :
       λ k. busy_shown entries shows k +ℤ tail k
 
 -- the streams of a link with the chains of the least offsets show it
-module _ (network : Network) (path : List Decision) (labels : Labelling) (solves : Solves (releases_of network) (arcs_of network path) labels) (link : ℕ) where
-  streams_back : (streams : List ℕ) → map (λ (entry : Entry). entry.stream) (map (entry_by labels) (map (user_on network link) streams)) ≡ streams
+module _ (network : Network) (path : List Decision) (lowest : LeastOffsets) (solves : Solves (releases_of network) (arcs_of network path) lowest) (link : ℕ) where
+  streams_back : (streams : List ℕ) → map (λ (entry : Entry). entry.stream) (map (entry_by lowest) (map (user_on network link) streams)) ≡ streams
   streams_back [] = refl
   streams_back (i ∷ streams) = ap (λ is. i ∷ is) (streams_back streams)
 
-  pub shown_by : (found : ℕ) (users : List User) (entries : List Entry) → found ≡ link → users ≡ map (user_on network link) (users_of network link) → entries ≡ map (entry_by labels) users
-      → ShowsLink network path labels.offsets found entries
+  pub shown_by : (found : ℕ) (users : List User) (entries : List Entry) → found ≡ link → users ≡ map (user_on network link) (users_of network link) → entries ≡ map (entry_by lowest) users
+      → ShowsLink network path lowest.offsets found entries
   shown_by found users entries same all are =
-      let whole : entries ≡ map (entry_by labels) (map (user_on network link) (users_of network link)) = are ∙ ap (map (entry_by labels)) all in
-      let shows : ShowsLink network path labels.offsets link entries = record {
+      let whole : entries ≡ map (entry_by lowest) (map (user_on network link) (users_of network link)) = are ∙ ap (map (entry_by lowest)) all in
+      let shows : ShowsLink network path lowest.offsets link entries = record {
         streams = ap (map (λ (entry : Entry). entry.stream)) whole ∙ streams_back (users_of network link);
         chains =
-            subst (All (λ (entry : Entry). IsShownBy network path labels.offsets entry.stream entry.chain)) (sym whole)
-            (All-map (λ (entry : Entry). IsShownBy network path labels.offsets entry.stream entry.chain) (entry_by labels) (map (user_on network link) (users_of network link))
-            (All-map (λ (user : User). IsShownBy network path labels.offsets user.stream (chain_of labels user.stream)) (user_on network link) (users_of network link)
-            (λ k d below. IsShownBy-from network path labels solves (get_or (users_of network link) k d) (UsesLink-counted network (get_or (users_of network link) k d) link (users_use network link k d below)))));
+            subst (All (λ (entry : Entry). IsShownBy network path lowest.offsets entry.stream entry.chain)) (sym whole)
+            (All-map (λ (entry : Entry). IsShownBy network path lowest.offsets entry.stream entry.chain) (entry_by lowest) (map (user_on network link) (users_of network link))
+            (All-map (λ (user : User). IsShownBy network path lowest.offsets user.stream (chain_of lowest user.stream)) (user_on network link) (users_of network link)
+            (λ k d below. IsShownBy-from network path lowest solves (get_or (users_of network link) k d) (UsesLink-counted network (get_or (users_of network link) k d) link (users_use network link k d below)))));
       } in
-      subst (λ l. ShowsLink network path labels.offsets l entries) (sym same) shows
+      subst (λ l. ShowsLink network path lowest.offsets l entries) (sym same) shows

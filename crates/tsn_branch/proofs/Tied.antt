@@ -10,7 +10,7 @@ use Rattle.tsn_model.specs.Schedule.{flowspan, IsNotAfter}
 use Rattle.tsn_model.specs.Arcs.{arcs_of}
 use Rattle.tsn_model.specs.Certificate.{Leaf, late, load, Entry}
 use Rattle.tsn_timing.specs.Solution.{Solution}
-use Rattle.tsn_diff.specs.Forest.{Labelling, chain_of}
+use Rattle.tsn_diff.specs.Offsets.{LeastOffsets, chain_of}
 use Rattle.tsn_diff.specs.Answers.{Solves}
 use Rattle.tsn_branch.specs.declared.loads.FirstLoad.{FirstLoad}
 use Rattle.tsn_branch.specs.declared.loads.FirstLoad.TheVariants.{Overload, Load}
@@ -28,13 +28,13 @@ pub record Remains (network : Network) (path : List Decision) (offsets : List �
   pub not_before : IsNotAfter best.offsets offsets
   pub shown : ShowsUpto network path offsets best.offsets chains
 
-module _ (network : Network) (path : List Decision) (labels : Labelling) (solves : Solves (releases_of network) (arcs_of network path) labels) (target : ℕ) (best : Solution) (chains : List (List ℕ))
-    (remains : Remains network path labels.offsets target best chains) where
+module _ (network : Network) (path : List Decision) (lowest : LeastOffsets) (solves : Solves (releases_of network) (arcs_of network path) lowest) (target : ℕ) (best : Solution) (chains : List (List ℕ))
+    (remains : Remains network path lowest.offsets target best chains) where
   tie_from : (bound : ℕ) (leaf : Leaf) → IsPruning network path best.flowspan bound leaf → IsTie network path target best bound leaf chains
   tie_from bound leaf pruning = record {
     pruned_by_best = pruning;
-    offsets = labels.offsets;
-    are_least = AreLeast-from network path labels solves;
+    offsets = lowest.offsets;
+    are_least = AreLeast-from network path lowest solves;
     fit = remains.fit;
     below = remains.below;
     unloaded = remains.unloaded;
@@ -42,31 +42,31 @@ module _ (network : Network) (path : List Decision) (labels : Labelling) (solves
     shown = remains.shown;
   }
 
-  pub late_tie : (last end : ℕ) (chain : List ℕ) → IsFirstLast network labels.offsets last → end ≡ flowspan network labels.offsets → best.flowspan ≤ end → chain ≡ chain_of labels last
+  pub late_tie : (last end : ℕ) (chain : List ℕ) → IsFirstLast network lowest.offsets last → end ≡ flowspan network lowest.offsets → best.flowspan ≤ end → chain ≡ chain_of lowest last
       → IsTie network path target best end (late last chain) chains
   late_tie last end chain first is met same =
       tie_from end (late last chain) (
-        labels.offsets,
-        AreLeast-from network path labels solves,
+        lowest.offsets,
+        AreLeast-from network path lowest solves,
         remains.fit,
         is,
         met,
-        (first, subst (IsShownBy network path labels.offsets last) (sym same) (IsShownBy-from network path labels solves last first.counted)),
+        (first, subst (IsShownBy network path lowest.offsets last) (sym same) (IsShownBy-from network path lowest solves last first.counted)),
       )
 
-  pub load_tie : (place bound link : ℕ) (entries : List Entry) → flowspan network labels.offsets < best.flowspan → IsFirstLoad network labels.offsets best.flowspan (Load place bound)
-      → slice_get (shared_links network) place ≡ Some link → ShowsLink network path labels.offsets link entries → IsTie network path target best bound (load link entries) chains
+  pub load_tie : (place bound link : ℕ) (entries : List Entry) → flowspan network lowest.offsets < best.flowspan → IsFirstLoad network lowest.offsets best.flowspan (Load place bound)
+      → slice_get (shared_links network) place ≡ Some link → ShowsLink network path lowest.offsets link entries → IsTie network path target best bound (load link entries) chains
   load_tie place bound link entries below is there shows =
       let same_some : Some is.0 ≡ Some link = sym is.1.there ∙ there in
       let same : is.0 ≡ link = cc same_some in
       tie_from bound (load link entries) (
-        labels.offsets,
-        AreLeast-from network path labels solves,
+        lowest.offsets,
+        AreLeast-from network path lowest solves,
         remains.fit,
         below,
         record { place = place; there = there; unloaded_before = is.1.unloaded_before },
-        subst (λ found. busy_by network labels.offsets found ≤ℤ pos network.cycle) same is.2,
-        subst (λ found. pos bound ≡ load_by network labels.offsets found) same is.3,
+        subst (λ found. busy_by network lowest.offsets found ≤ℤ pos network.cycle) same is.2,
+        subst (λ found. pos bound ≡ load_by network lowest.offsets found) same is.3,
         is.4,
         shows,
       )

@@ -11,7 +11,7 @@ use Rattle.tsn_model.specs.Arcs.{arcs_of}
 use Rattle.tsn_model.specs.Certificate.{LeadsTo, sum_on, chain_at}
 use Rattle.tsn_model.specs.Search.{ShowsOffsets}
 use Rattle.tsn_model.proofs.ListOrder.{before_at}
-use Rattle.tsn_diff.specs.Forest.{Labelling, chain_of}
+use Rattle.tsn_diff.specs.Offsets.{LeastOffsets, chain_of}
 use Rattle.tsn_diff.specs.Answers.{Solves}
 use Rattle.tsn_branch.specs.Releases.{releases_of}
 use Rattle.tsn_branch.specs.Look.{ShowsUpto}
@@ -62,30 +62,30 @@ module _ (offsets best : List ℕ) (long : length best ≡ length offsets) where
 
 -- ---- the chains
 
-module _ (network : Network) (path : List Decision) (labels : Labelling) (solves : Solves (releases_of network) (arcs_of network path) labels) where
-  chain_upto : (i : ℕ) → i < stream_count network → chain_at (chains_upto labels (stream_count network)) i ≡ chain_of labels i
-  chain_upto i below = get_or-map-range_with_len (chain_of labels) 0 (stream_count network) i i [] below (omega arith)
+module _ (network : Network) (path : List Decision) (lowest : LeastOffsets) (solves : Solves (releases_of network) (arcs_of network path) lowest) where
+  chain_upto : (i : ℕ) → i < stream_count network → chain_at (chains_upto lowest (stream_count network)) i ≡ chain_of lowest i
+  chain_upto i below = get_or-map-range_with_len (chain_of lowest) 0 (stream_count network) i i [] below (omega arith)
 
-  pub upto_shows : ShowsOffsets network path (chains_upto labels (stream_count network)) labels.offsets
+  pub upto_shows : ShowsOffsets network path (chains_upto lowest (stream_count network)) lowest.offsets
   upto_shows = (
-    length-map-range_with_len (chain_of labels) 0 (stream_count network),
+    length-map-range_with_len (chain_of lowest) 0 (stream_count network),
     (λ i below.
-        let low : i < stream_count network = omega (arith, below, length-map-range_with_len (chain_of labels) 0 (stream_count network)) in
-        subst (λ chain. LeadsTo network path chain i) (sym (chain_upto i low)) (IsShownBy-from network path labels solves i low).leads),
-    (λ i below. ap (λ chain. sum_on network path chain i) (chain_upto i below) ∙ (IsShownBy-from network path labels solves i below).sum),
+        let low : i < stream_count network = omega (arith, below, length-map-range_with_len (chain_of lowest) 0 (stream_count network)) in
+        subst (λ chain. LeadsTo network path chain i) (sym (chain_upto i low)) (IsShownBy-from network path lowest solves i low).leads),
+    (λ i below. ap (λ chain. sum_on network path chain i) (chain_upto i below) ∙ (IsShownBy-from network path lowest solves i below).sum),
   )
 
-  pub upto_tie : (best : List ℕ) (n : ℕ) → IsCompared labels.offsets best n → ShowsUpto network path labels.offsets best (chains_upto labels n)
+  pub upto_tie : (best : List ℕ) (n : ℕ) → IsCompared lowest.offsets best n → ShowsUpto network path lowest.offsets best (chains_upto lowest n)
   upto_tie best n compared =
-      let long = count network path labels solves in
+      let long = count network path lowest solves in
       let within = compared.within in
-      let all = length-map-range_with_len (chain_of labels) 0 (stream_count network) in (
-        chains_upto labels (stream_count network),
+      let all = length-map-range_with_len (chain_of lowest) 0 (stream_count network) in (
+        chains_upto lowest (stream_count network),
         upto_shows,
         elim compared.upto [
           | inl is ↦
-              sym (take-map-range_with_len (chain_of labels) 0 (stream_count network) n (omega arith)) ∙ ap (λ k. take k (chains_upto labels (stream_count network))) is
+              sym (take-map-range_with_len (chain_of lowest) 0 (stream_count network) n (omega arith)) ∙ ap (λ k. take k (chains_upto lowest (stream_count network))) is
           | inr (whole, same) ↦
-              ap (chains_upto labels) (whole ∙ long) ∙ sym (take_all (common labels.offsets best + 1) (chains_upto labels (stream_count network)) (omega (arith, whole, same, long, all)))
+              ap (chains_upto lowest) (whole ∙ long) ∙ sym (take_all (common lowest.offsets best + 1) (chains_upto lowest (stream_count network)) (omega (arith, whole, same, long, all)))
         ],
       )

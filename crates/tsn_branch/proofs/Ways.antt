@@ -22,7 +22,7 @@ use Rattle.tsn_branch.specs.Descent.{Way, IsSeen, WasSeen, AllSeen, Stands, Spli
 use Rattle.tsn_branch.proofs.Leasts.{AreLeast-from}
 use Rattle.tsn_branch.proofs.Descents.{by_last, above, arcs-decided, arcs-nil, seen_none, seen_more, seen_above, seen_turned, seen_last, take-inner}
 
-pub stands_root : (network : Network) (stack : Stack) (found : Option Seen) → stack.releases ≡ releases_of network → stack.arcs ≡ [] → Stands network (record { path = []; stack = stack; seen = []; found = found })
+pub stands_root : (network : Network) (stack : Stack) (found : Option Seen) → stack.least.releases ≡ releases_of network → stack.least.arcs ≡ [] → Stands network (record { path = []; stack = stack; seen = []; found = found })
 stands_root network stack found none is = record { releases = none; arcs = is ∙ sym (arcs-nil network); split_above = seen_none network [] }
 
 pub stands_down : (network : Network) (triple : Triple) (way : Way) (here : Seen) (found : Option Seen) → Splits network triple way → way.found ≡ Some here
@@ -39,9 +39,9 @@ stands_down network triple way here found splits is =
     some_same e = cc e
 
 -- the path's arcs but the last, where there is one
-pub stands_back : (network : Network) (path : List Decision) (old new : Stack) (seen : List Seen) (found : Option Seen) → old.releases ≡ releases_of network → old.arcs ≡ arcs_of network path → AllSeen network path seen
+pub stands_back : (network : Network) (path : List Decision) (old new : Stack) (seen : List Seen) (found : Option Seen) → old.least.releases ≡ releases_of network → old.least.arcs ≡ arcs_of network path → AllSeen network path seen
     → (front : List Decision) (triple : Triple) (side : Side) → path ≡ decided front triple side
-    → new.releases ≡ old.releases → ((before : List Arc) (last : Arc) → old.arcs ≡ before ++ last ∷ [] → new.arcs ≡ before)
+    → new.least.releases ≡ old.least.releases → ((before : List Arc) (last : Arc) → old.least.arcs ≡ before ++ last ∷ [] → new.least.arcs ≡ before)
     → Stands network (record { path = path; stack = new; seen = seen; found = found })
 stands_back network path old new seen found none is all front triple side whole same popped = record {
   releases = same ∙ none;
@@ -59,36 +59,36 @@ front_held offsets arcs arc held =
 
 -- the arc was put in last, and both labellings solve their arcs
 pub record Puts (arc : Arc) (old new : Stack) : Type 0 where
-  pub arcs : new.arcs ≡ old.arcs ++ arc ∷ []
-  pub rises : RisesAt new.raised old.labels.offsets new.labels.offsets
-  pub solved_before : Solves old.releases old.arcs old.labels
-  pub solved : Solves new.releases new.arcs new.labels
+  pub arcs : new.least.arcs ≡ old.least.arcs ++ arc ∷ []
+  pub rises : RisesAt new.raised old.least.offsets new.least.offsets
+  pub solved_before : Solves old.least.releases old.least.arcs old.least
+  pub solved : Solves new.least.releases new.least.arcs new.least
 
 pub was_seen : (network : Network) (front : List Decision) (triple : Triple) (side : Side) (old new : Stack) (last : Seen)
-    → old.releases ≡ releases_of network → new.releases ≡ old.releases → old.arcs ≡ arcs_of network front → Puts (arc_on network triple side) old new → IsSeen network front last
-    → WasSeen network new.raised new.labels.offsets last
+    → old.least.releases ≡ releases_of network → new.least.releases ≡ old.least.releases → old.least.arcs ≡ arcs_of network front → Puts (arc_on network triple side) old new → IsSeen network front last
+    → WasSeen network new.raised new.least.offsets last
 was_seen network front triple side old new last none same is puts seen =
-    let first : Solves (releases_of network) (arcs_of network front) old.labels = subst (λ rs. Solves rs (arcs_of network front) old.labels) none (subst (λ as'. Solves old.releases as' old.labels) is puts.solved_before) in
-    let arcs : new.arcs ≡ arcs_of network (decided front triple side) = puts.arcs ∙ ap (λ as'. as' ++ arc_on network triple side ∷ []) is ∙ sym (arcs-decided network front triple side) in
-    let second : Solves (releases_of network) (arcs_of network (decided front triple side)) new.labels =
-    subst (λ rs. Solves rs (arcs_of network (decided front triple side)) new.labels) (same ∙ none) (subst (λ as'. Solves new.releases as' new.labels) arcs puts.solved) in
-    let before = AreLeast-from network front old.labels first in
-    let now = AreLeast-from network (decided front triple side) new.labels second in
+    let first : Solves (releases_of network) (arcs_of network front) old.least = subst (λ rs. Solves rs (arcs_of network front) old.least) none (subst (λ as'. Solves old.least.releases as' old.least) is puts.solved_before) in
+    let arcs : new.least.arcs ≡ arcs_of network (decided front triple side) = puts.arcs ∙ ap (λ as'. as' ++ arc_on network triple side ∷ []) is ∙ sym (arcs-decided network front triple side) in
+    let second : Solves (releases_of network) (arcs_of network (decided front triple side)) new.least =
+    subst (λ rs. Solves rs (arcs_of network (decided front triple side)) new.least) (same ∙ none) (subst (λ as'. Solves new.least.releases as' new.least) arcs puts.solved) in
+    let before = AreLeast-from network front old.least first in
+    let now = AreLeast-from network (decided front triple side) new.least second in
     record {
       within = seen.within;
-      before = old.labels.offsets;
+      before = old.least.offsets;
       rose = record {
         count = before.count ∙ sym now.count;
         risen = λ i. elim (cases_lt i (stream_count network)) [
-          | inl below ↦ before.least new.labels.offsets now.count now.released
-              (front_held new.labels.offsets (arcs_of network front) (arc_on network triple side) (subst (HoldsAll new.labels.offsets) (arcs-decided network front triple side) now.held)) i below
+          | inl below ↦ before.least new.least.offsets now.count now.released
+              (front_held new.least.offsets (arcs_of network front) (arc_on network triple side) (subst (HoldsAll new.least.offsets) (arcs-decided network front triple side) now.held)) i below
           | inr past ↦
-              let none_before = get_or_past old.labels.offsets i 0 (subst (λ n. n ≤ i) (sym before.count) past) in
+              let none_before = get_or_past old.least.offsets i 0 (subst (λ n. n ≤ i) (sym before.count) past) in
               omega arith
         ];
         others = λ i never. elim (puts.rises.others i) [ inl same_offset ↦ same_offset | inr has ↦ absurd (never has) ];
       };
-      was_seen = seen.by_least old.labels.offsets before;
+      was_seen = seen.by_least old.least.offsets before;
     }
 
 pub length-arcs : (network : Network) (path : List Decision) → length (arcs_of network path) ≡ length path
@@ -97,10 +97,10 @@ length-arcs network path = length-map path (arc_of network)
 
 pub leads_down : (network : Network) (front : List Decision) (triple : Triple) (side : Side) (path : List Decision) (old new : Stack) (seen : List Seen) (found : Option Seen)
     → path ≡ decided front triple side
-    → old.releases ≡ releases_of network → new.releases ≡ old.releases → old.arcs ≡ arcs_of network (take (length path - 1) path) → Puts (arc_on network triple side) old new → AllSeen network path seen
+    → old.least.releases ≡ releases_of network → new.least.releases ≡ old.least.releases → old.least.arcs ≡ arcs_of network (take (length path - 1) path) → Puts (arc_on network triple side) old new → AllSeen network path seen
     → Leads network (record { path = path; stack = new; seen = seen; found = found })
 leads_down network front triple side path old new seen found whole none same is puts all =
-    let is_front : old.arcs ≡ arcs_of network front = is ∙ ap (arcs_of network) (ap (λ p. take (length p - 1) p) whole ∙ above front triple side) in
+    let is_front : old.least.arcs ≡ arcs_of network front = is ∙ ap (arcs_of network) (ap (λ p. take (length p - 1) p) whole ∙ above front triple side) in
     record {
       releases = same ∙ none;
       arcs = puts.arcs ∙ ap (λ as'. as' ++ arc_on network triple side ∷ []) is_front ∙ sym (ap (arcs_of network) whole ∙ arcs-decided network front triple side);
@@ -134,8 +134,8 @@ stands_root_again network way is leads = record {
 
 -- a decision up: the arc above is taken out too, where there is one
 pub stands_up : (network : Network) (path : List Decision) (old new : Stack) (seen : List Seen) (before after : Option Seen)
-    → Stands network (record { path = path; stack = old; seen = seen; found = before }) → 0 < length old.arcs
-    → new.releases ≡ old.releases → ((before : List Arc) (last : Arc) → old.arcs ≡ before ++ last ∷ [] → new.arcs ≡ before)
+    → Stands network (record { path = path; stack = old; seen = seen; found = before }) → 0 < length old.least.arcs
+    → new.least.releases ≡ old.least.releases → ((before : List Arc) (last : Arc) → old.least.arcs ≡ before ++ last ∷ [] → new.least.arcs ≡ before)
     → Stands network (record { path = take (length path - 1) path; stack = new; seen = take (length seen - 1) seen; found = after })
 stands_up network path old new seen before after stands some same popped =
     let shorter : List Decision = take (length path - 1) path in
@@ -152,7 +152,7 @@ stands_up network path old new seen before after stands some same popped =
     }
 
 pub stands_up_empty : (network : Network) (path : List Decision) (old : Stack) (seen : List Seen) (before after : Option Seen)
-    → Stands network (record { path = path; stack = old; seen = seen; found = before }) → length old.arcs ≡ 0
+    → Stands network (record { path = path; stack = old; seen = seen; found = before }) → length old.least.arcs ≡ 0
     → Stands network (record { path = take (length path - 1) path; stack = old; seen = take (length seen - 1) seen; found = after })
 stands_up_empty network path old seen before after stands none =
     let shorter : List Decision = take (length path - 1) path in
@@ -175,13 +175,13 @@ stands_turned network front triple path turned stack seen before after was now s
 }
 
 pub refutes_down : (network : Network) (front : List Decision) (triple : Triple) (side : Side) (path : List Decision) (old : Stack) (chain : List ℕ)
-    → path ≡ decided front triple side → old.releases ≡ releases_of network → old.arcs ≡ arcs_of network (take (length path - 1) path)
-    → Refutes (length old.releases) (old.arcs ++ arc_on network triple side ∷ []) chain → Refutes (length (releases_of network)) (arcs_of network path) chain
+    → path ≡ decided front triple side → old.least.releases ≡ releases_of network → old.least.arcs ≡ arcs_of network (take (length path - 1) path)
+    → Refutes (length old.least.releases) (old.least.arcs ++ arc_on network triple side ∷ []) chain → Refutes (length (releases_of network)) (arcs_of network path) chain
 refutes_down network front triple side path old chain whole none is refutes =
-    let is_front : old.arcs ≡ arcs_of network front = is ∙ ap (arcs_of network) (ap (λ p. take (length p - 1) p) whole ∙ above front triple side) in
-    let all : old.arcs ++ arc_on network triple side ∷ [] ≡ arcs_of network path =
+    let is_front : old.least.arcs ≡ arcs_of network front = is ∙ ap (arcs_of network) (ap (λ p. take (length p - 1) p) whole ∙ above front triple side) in
+    let all : old.least.arcs ++ arc_on network triple side ∷ [] ≡ arcs_of network path =
     ap (λ as'. as' ++ arc_on network triple side ∷ []) is_front ∙ sym (ap (arcs_of network) whole ∙ arcs-decided network front triple side) in
-    subst (λ n. Refutes n (arcs_of network path) chain) (ap length none) (subst (λ as'. Refutes (length old.releases) as' chain) all refutes)
+    subst (λ n. Refutes n (arcs_of network path) chain) (ap length none) (subst (λ as'. Refutes (length old.least.releases) as' chain) all refutes)
 
 pub of_some : {X : Type 0} (A : Type 0) (B : X → Type 0) (o : Option X) (x : X) → o ≡ Some x → MatchOption o A B → B x
 of_some A B o x is holds = subst (λ p. MatchOption p A B) is holds
@@ -208,6 +208,6 @@ none_hold network path depth above n d chain within order refutes =
     refutes.none (λ i. pos (offset_of offsets i)) (subst (HoldsAll offsets) (arcs_more network path depth d (omega arith)) front)
 
 -- a way to a node, of which nothing was seen above
-pub stands_at : (network : Network) (path : List Decision) (stack : Stack) (found : Option Seen) → stack.releases ≡ releases_of network → stack.arcs ≡ arcs_of network (take (length path - 1) path)
+pub stands_at : (network : Network) (path : List Decision) (stack : Stack) (found : Option Seen) → stack.least.releases ≡ releases_of network → stack.least.arcs ≡ arcs_of network (take (length path - 1) path)
     → Stands network (record { path = path; stack = stack; seen = []; found = found })
 stands_at network path stack found none is = record { releases = none; arcs = is; split_above = seen_none network path }

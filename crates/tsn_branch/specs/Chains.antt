@@ -2,11 +2,11 @@
 use Rattle.std.specs.Prelude.{◌≡◌, ℕ, ◌+◌, ◌≤◌, ◌⊎◌, List, map, length}
 use Rattle.std.specs.List.{range_with_len}
 use Rattle.tsn_model.specs.Schedule.{IsNotAfter, common}
-use Rattle.tsn_diff.specs.Forest.{Labelling, chain_of}
+use Rattle.tsn_diff.specs.Offsets.{LeastOffsets, chain_of}
 
 -- the chains of the first n streams
-abbrev pub chains_upto : Labelling → ℕ → List (List ℕ)
-chains_upto labels n = map (chain_of labels) (range_with_len 0 n)
+abbrev pub chains_upto : LeastOffsets → ℕ → List (List ℕ)
+chains_upto lowest n = map (chain_of lowest) (range_with_len 0 n)
 
 -- the second list isn't after the first one, and this many streams go up to the first at which they differ, or else are all
 pub record IsCompared (offsets best : List ℕ) (count : ℕ) : Type 0 where

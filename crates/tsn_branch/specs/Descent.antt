@@ -11,7 +11,7 @@ use Rattle.tsn_model.specs.Arcs.{conflicts_of, arcs_of}
 use Rattle.tsn_model.specs.Search.{Outcome, split, solved, pruned, tied, refuted, ShowsOffsets}
 use Rattle.tsn_conflict.specs.Raised.{triple_at}
 use Rattle.tsn_diff.specs.Stack.{Stack}
-use Rattle.tsn_diff.specs.Forest.{Labelling}
+use Rattle.tsn_diff.specs.Offsets.{LeastOffsets}
 use Rattle.tsn_diff.specs.Answers.{Solves}
 use Rattle.tsn_timing.specs.Solution.{Solution}
 use Rattle.tsn_branch.specs.Outcome.{outcome_of}
@@ -72,11 +72,11 @@ IsSolution network path end (tied bound leaf chains) = ⊥
 IsSolution network path end (refuted leaf) = ⊥
 
 -- the look is a tie with the best schedule, on each path of which these are the least offsets, where that node isn't pruned at its target
-abbrev pub IsTieBy : Network → Labelling → Option Solution → Look → Type 0
-IsTieBy network labels best look =
+abbrev pub IsTieBy : Network → LeastOffsets → Option Solution → Look → Type 0
+IsTieBy network lowest best look =
     Closes (outcome_of look)
-    × ((path : List Decision) (target : ℕ) → Solves (releases_of network) (arcs_of network path) labels → flowspan network labels.offsets < target
-    → All (IsUnloaded network labels.offsets target) (shared_links network) → IsLook network path target best (outcome_of look))
+    × ((path : List Decision) (target : ℕ) → Solves (releases_of network) (arcs_of network path) lowest → flowspan network lowest.offsets < target
+    → All (IsUnloaded network lowest.offsets target) (shared_links network) → IsLook network path target best (outcome_of look))
 
 -- the nodes above the end of the path, from that depth on, were split so
 pub record AllSeen (network : Network) (path : List Decision) (seen : List Seen) : Type 0 where
@@ -86,14 +86,14 @@ pub record AllSeen (network : Network) (path : List Decision) (seen : List Seen)
 
 -- the arcs are those of the decisions above the last one
 pub record Stands (network : Network) (way : Way) : Type 0 where
-  pub releases : way.stack.releases ≡ releases_of network
-  pub arcs : way.stack.arcs ≡ arcs_of network (take (length way.path - 1) way.path)
+  pub releases : way.stack.least.releases ≡ releases_of network
+  pub arcs : way.stack.least.arcs ≡ arcs_of network (take (length way.path - 1) way.path)
   pub split_above : AllSeen network way.path way.seen
 
 -- the arcs are those of the path, whose end is to be split on the triple
 pub record Splits (network : Network) (triple : Triple) (way : Way) : Type 0 where
-  pub releases : way.stack.releases ≡ releases_of network
-  pub arcs : way.stack.arcs ≡ arcs_of network way.path
+  pub releases : way.stack.least.releases ≡ releases_of network
+  pub arcs : way.stack.least.arcs ≡ arcs_of network way.path
   pub split_above : AllSeen network way.path way.seen
   pub seen_here : Seen
   pub found : way.found ≡ Some seen_here
@@ -101,10 +101,10 @@ pub record Splits (network : Network) (triple : Triple) (way : Way) : Type 0 whe
 
 -- the arcs are those of the path, and its least offsets are raised from those of the node above
 pub record Leads (network : Network) (way : Way) : Type 0 where
-  pub releases : way.stack.releases ≡ releases_of network
-  pub arcs : way.stack.arcs ≡ arcs_of network way.path
+  pub releases : way.stack.least.releases ≡ releases_of network
+  pub arcs : way.stack.least.arcs ≡ arcs_of network way.path
   pub split_above : AllSeen network way.path way.seen
-  pub raised : (seen : Seen) → slice_get way.seen (length way.seen - 1) ≡ Some seen → WasSeen network way.stack.raised way.stack.labels.offsets seen
+  pub raised : (seen : Seen) → slice_get way.seen (length way.seen - 1) ≡ Some seen → WasSeen network way.stack.raised way.stack.least.offsets seen
 
 -- after a look: to be split, or as before
 abbrev pub IsAfter : Network → Outcome → Way → Type 0

@@ -10,7 +10,7 @@ use Rattle.tsn_model.specs.Network.{Network}
 use Rattle.tsn_model.specs.Timing.{occupancy, arrival, hop_on, start_on}
 use Rattle.tsn_model.specs.Schedule.{offset_of}
 use Rattle.tsn_model.specs.Certificate.{Entry, least}
-use Rattle.tsn_diff.specs.Forest.{Labelling, chain_of}
+use Rattle.tsn_diff.specs.Offsets.{LeastOffsets, chain_of}
 use Rattle.tsn_branch.specs.Links.{users_of, shared_links, busy_by, load_by, IsUnloaded}
 use Rattle.tsn_branch.specs.declared.loads.User.{User}
 use Rattle.tsn_branch.specs.declared.loads.LinkTable.{LinkTable}
@@ -64,8 +64,8 @@ pub record IsEarly (n : ℕ) (user : User) : Type 0 where
   pub early : user.start ≤ 51584000
 
 -- a user with the chain that shows its least offset
-abbrev pub entry_by : Labelling → User → Entry
-entry_by labels user = record { stream = user.stream; chain = chain_of labels user.stream }
+abbrev pub entry_by : LeastOffsets → User → Entry
+entry_by lowest user = record { stream = user.stream; chain = chain_of lowest user.stream }
 
 -- the earliest instant at which one of the users starts by the offsets
 abbrev pub head_in : List ℕ → List User → ℤ

@@ -89,7 +89,7 @@ fn least_below(alloc: Global, net: &Net, above: &Least, arcs: &[Arc]) -> Result<
     ensures { IfOk result (Answers net.now arcs.now) }
 {
     match arcs.split_last() {
-        Some((last, front)) => net.least_from(alloc, above, front, *last),
+        Some((last, _)) => above.with_arc(alloc, *last),
         None => net.least(alloc, arcs),
     }
 }

@@ -5,7 +5,7 @@ ghost use Rattle.tsn_model.specs.Network.{IsWellFormed, stream_count};
 ghost use Rattle.tsn_model.specs.Schedule.{ComesBefore, IsNotAfter};
 ghost use Rattle.tsn_model.specs.Arcs.{arcs_of};
 ghost use Rattle.tsn_diff.specs.Answers.{Solves};
-ghost use Rattle.tsn_diff.specs.Forest.{chain_of};
+ghost use Rattle.tsn_diff.specs.Offsets.{chain_of};
 ghost use Rattle.tsn_branch.specs.Chains.{chains_upto, IsCompared};
 ghost use Rattle.tsn_branch.specs.Look.{ShowsUpto};
 ghost use Rattle.tsn_branch.specs.Releases.{releases_of};

@@ -8,7 +8,7 @@ ghost use Rattle.tsn_conflict.specs.Kept.{AreConflictsOf};
 ghost use Rattle.tsn_conflict.specs.Raised.{OnlyRaisedOverlap};
 ghost use Rattle.tsn_timing.specs.Solution.{Solution, IsSolved};
 ghost use Rattle.tsn_diff.specs.Answers.{Answers, Solves};
-ghost use Rattle.tsn_diff.specs.Forest.{chain_of};
+ghost use Rattle.tsn_diff.specs.Offsets.{chain_of};
 ghost use Rattle.tsn_branch.specs.Outcome.{outcome_of};
 ghost use Rattle.tsn_branch.specs.Look.{IsLook, AllFit, IsFirstLast, IsUntied, ShowsLink};
 ghost use Rattle.tsn_branch.specs.Links.{shared_links, IsUnloaded};

@@ -29,14 +29,14 @@ pub fn call<R: Print + AllocGlobal>(
     let Outcome::Least(least) = net.least(rt.alloc(), others)? else {
         return Ok(());
     };
-    let outcome = match net.least_from(rt.alloc(), &least, others, *last) {
+    let outcome = match least.with_arc(rt.alloc(), *last) {
         Ok(outcome) => outcome,
         Err(NoMemory) => {
-            let _ = println!(rt; "least_from: no memory");
-            net.least_from(rt.alloc(), &least, others, *last)?
+            let _ = println!(rt; "with_arc: no memory");
+            least.with_arc(rt.alloc(), *last)?
         }
     };
-    tell(rt, "least_from", outcome);
+    tell(rt, "with_arc", outcome);
     Ok(())
 }
 

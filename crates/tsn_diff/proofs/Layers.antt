@@ -7,12 +7,12 @@ use Rattle.std.proofs.lemmas.List.Elements.{All-drop, All-map}
 use Rattle.tsn_model.specs.declared.Arc.{Arc}
 use Rattle.tsn_diff.specs.declared.trail.Former.{Former}
 use Rattle.tsn_diff.specs.declared.trail.Trail.{Trail}
-use Rattle.tsn_diff.specs.Forest.{Labelling}
+use Rattle.tsn_diff.specs.Forest.{Labelling, Settles}
 use Rattle.tsn_model.specs.Schedule.{offset_of}
 use Rattle.tsn_diff.specs.Offsets.{IsLeast}
-use Rattle.tsn_diff.specs.Answers.{Solves}
 use Rattle.tsn_diff.specs.Trail.{IsTrail, put_back_all}
 use Rattle.tsn_diff.specs.Stack.{IsLayered, RiseAt, last_mark, mark_at, noted_for}
+use Rattle.tsn_diff.proofs.Solutions.{IsLeast-settled}
 use Rattle.tsn_diff.proofs.Trails.{put_back_all-append}
 
 -- least offsets are one list
@@ -86,9 +86,9 @@ module _ (releases : List ℕ) (labels : Labelling) (arcs : List Arc) (marks : L
         ⊎_elim (λ (old : 0 < length marks). get_or_append_left marks (mark ∷ []) (length more) 0 old ∙ get_or_any marks 0 (length more) mark old ∙ s.first)
         (λ (m : length marks ≤ 0). get_or_push marks mark (length more) 0 (omega arith) ∙ sym (get_or_past marks 0 mark m) ∙ s.first) (cases_lt 0 (length marks))
 
-    pub IsLayered-push : Solves releases (arcs ++ arc ∷ []) new → RiseAt (drop mark more) labels.offsets new.offsets → IsLayered releases new (arcs ++ arc ∷ []) (marks ++ mark ∷ []) more
-    IsLayered-push solves each = record {
-      solves = solves;
+    pub IsLayered-push : Settles releases (arcs ++ arc ∷ []) new → RiseAt (drop mark more) labels.offsets new.offsets → IsLayered releases new (arcs ++ arc ∷ []) (marks ++ mark ∷ []) more
+    IsLayered-push settles each = record {
+      settles = settles;
       count = omega (arith, length_push marks mark, length_push arcs arc, s.count);
       marks_in = λ k l.
           ⊎_elim (λ (old : k < length marks). rw (old_mark k old) (omega (arith, s.marks_in k old, long)))
@@ -104,7 +104,7 @@ module _ (releases : List ℕ) (labels : Labelling) (arcs : List Arc) (marks : L
           (λ (old : k < length marks).
           rw (old_mark k old, take-append-le k arcs (arc ∷ []) (omega (arith, s.count)), back_from k old) (s.below k old))
           (λ (m : length marks ≤ k).
-          rw (is_last k l m, new_mark, take_at arcs (arc ∷ []) (length marks) (sym s.count), back) s.solves) (cases_lt k (length marks));
+          rw (is_last k l m, new_mark, take_at arcs (arc ∷ []) (length marks) (sym s.count), back) s.settles) (cases_lt k (length marks));
       first = still_first;
       rises = λ k l a b p q.
           ⊎_elim
@@ -115,7 +115,7 @@ module _ (releases : List ℕ) (labels : Labelling) (arcs : List Arc) (marks : L
           let last = is_last k l m in
           let before = rw (last, take_at arcs (arc ∷ []) (length marks) (sym s.count)) at p in
           let after = rw (take_all (k + 1) (arcs ++ arc ∷ []) (omega (arith, s.count, length_push arcs arc))) at q in
-          rw (last, last_noted) (RiseAt-same releases arcs (arcs ++ arc ∷ []) labels.offsets new.offsets a b s.solves.least solves.least before after (drop mark more) each)) (cases_lt k (length marks));
+          rw (last, last_noted) (RiseAt-same releases arcs (arcs ++ arc ∷ []) labels.offsets new.offsets a b (IsLeast-settled releases arcs labels s.settles) (IsLeast-settled releases (arcs ++ arc ∷ []) new settles) before after (drop mark more) each)) (cases_lt k (length marks));
     }
 
   module _ (some : 0 < length arcs) where
@@ -162,7 +162,7 @@ module _ (releases : List ℕ) (labels : Labelling) (arcs : List Arc) (marks : L
 
     pub IsLayered-pop : IsLayered releases (put_back_all (drop (last_mark marks) formers) labels) (take (length arcs - 1) arcs) (take (length marks - 1) marks) (take (last_mark marks) formers)
     IsLayered-pop = record {
-      solves = rw (← s.count) (s.below last last_in);
+      settles = rw (← s.count) (s.below last last_in);
       count = omega (arith, length-take last marks, length-take (length arcs - 1) arcs, s.count);
       marks_in = λ k l. rw (kept_mark k (kept_in k l), fewer) (s.rising k last (omega (arith, kept_in k l)) last_in);
       rising = λ j k m l. rw (kept_mark k (kept_in k l), kept_mark j (omega (arith, kept_in k l))) (s.rising j k m (omega (arith, kept_in k l)));

@@ -1,7 +1,7 @@
 use Rattle.std.proofs.Common.{◌≡◌, ◌≢◌, ℕ, zero, suc, ◌+◌, ◌-◌, ◌<◌, ◌==◌, cond, List, [], ◌∷◌, ◌++◌, length, get_or, set, take, All, subst, Vec, Global, refl, sym, ap, ◌∙◌, ⊎_elim, arith, append-nil, append_assoc, length-append, eqb-true, get_or-set_same, get_or-set_other}
 use Rattle.std.proofs.lemmas.Bool.{cases_eq, eq-eqb, ne_eqb}
 use Rattle.std.proofs.lemmas.List.{get_or_at, get_or_push, length_push, take_at}
-use Rattle.std.proofs.lemmas.List.Elements.{All-nil, All-cons, All-head, All-tail}
+use Rattle.std.proofs.lemmas.List.Elements.{All-nil, All-cons, All-head, All-tail, All-take}
 use Rattle.tsn_model.specs.Arcs.{arc_at}
 use Rattle.tsn_model.specs.declared.Arc.{Arc}
 use Rattle.tsn_diff.specs.declared.listing.Placed.{Placed}
@@ -11,14 +11,22 @@ use Rattle.tsn_diff.specs.Spread.{IsPlaced}
 use Rattle.tsn_diff.proofs.Cases.{by_bool}
 
 -- a list without its last element
-take_front : {X : Type 0} (xs : List X) (y : X) → take (length (xs ++ y ∷ []) - 1) (xs ++ y ∷ []) ≡ xs
+pub take_front : {X : Type 0} (xs : List X) (y : X) → take (length (xs ++ y ∷ []) - 1) (xs ++ y ∷ []) ≡ xs
 take_front xs y = take_at xs (y ∷ []) _ (omega (arith, length_push xs y))
+
+-- lists that are one with their last elements are one without
+pub front_same : {X : Type 0} (xs ys : List X) (x y : X) → xs ++ x ∷ [] ≡ ys ++ y ∷ [] → xs ≡ ys
+front_same {X} xs ys x y is = sym (take_front xs x) ∙ ap (λ (zs : List X). take (length zs - 1) zs) is ∙ take_front ys y
 
 -- what holds of each element holds of the last one
 pub All-last : {X : Type 0} (P : X → Type 0) (xs : List X) (y : X) → All P (xs ++ y ∷ []) → P y
 All-last P xs y all =
     let here = all (length xs) y (omega (arith, length_push xs y)) in
     subst P (get_or_push xs y y (length xs) refl) here
+
+-- what holds of each element holds of each but the last
+pub All-front : {X : Type 0} (P : X → Type 0) (xs : List X) (y : X) → All P (xs ++ y ∷ []) → All P xs
+All-front P xs y all = rw (← take_at xs (y ∷ []) (length xs) refl) (All-take P (length xs) (xs ++ y ∷ []) all)
 
 -- the arcs that leave a stream, with one more arc
 leaving_from-push : (place : ℕ) (arcs : List Arc) (arc : Arc) (stream : ℕ) → leaving_from place (arcs ++ arc ∷ []) stream ≡ leaving_from place arcs stream ++ cond (arc.from == stream) (record { place = place + length arcs; arc = arc } ∷ []) []
@@ -97,6 +105,6 @@ pub arcs_leaving-all : (P : Arc → Type 0) (arcs : List Arc) (stream : ℕ) →
 arcs_leaving-all P arcs stream all q l e = leaving_from-all P 0 arcs stream all q l e
 
 -- the list of a stream, as it is read
-pub leaving_is : (n : ℕ) (listing : Listing) (arcs : List Arc) (stream : ℕ) (list : Vec Placed Global) (items : List Placed) → IsListing n listing → listing.arcs.items ≡ arcs → stream < n → items ≡ list.items → list ≡ get_or listing.leaving.items stream list → items ≡ arcs_leaving arcs stream
-leaving_is n listing arcs stream list items listed same l value read =
-    value ∙ ap (λ (v : Vec Placed Global). v.items) read ∙ listed.leaving stream list l ∙ ap (λ (xs : List Arc). arcs_leaving xs stream) same
+pub leaving_is : (n : ℕ) (listing : Listing) (arcs : List Arc) (stream : ℕ) (list : Vec Placed Global) (items : List Placed) → IsListing n arcs listing → stream < n → items ≡ list.items → list ≡ get_or listing.leaving.items stream list → items ≡ arcs_leaving arcs stream
+leaving_is n listing arcs stream list items listed l value read =
+    value ∙ ap (λ (v : Vec Placed Global). v.items) read ∙ listed.leaving stream list l

@@ -3,6 +3,7 @@ use Rattle.std.proofs.lemmas.Bool.{cases_lt}
 use Rattle.std.proofs.lemmas.Int.{ints}
 use Rattle.std.proofs.lemmas.List.{get_or-replicate, get_or_past, get_or_append_left, length-replicate}
 use Rattle.std.proofs.lemmas.List.Elements.{All-nil, All-push}
+use Rattle.std.proofs.lemmas.List.FromFn.{length-map-range_with_len}
 use Rattle.tsn_model.specs.declared.Arc.{Arc}
 use Rattle.tsn_diff.specs.declared.labels.Step.{Step}
 use Rattle.tsn_model.specs.Schedule.{offset_of}
@@ -11,12 +12,13 @@ use Rattle.tsn_model.proofs.Chains.{met_along}
 use Rattle.tsn_diff.specs.Limits.{IsArcAmong}
 use Rattle.tsn_model.specs.Arcs.{chain_sum, start_of}
 use Rattle.tsn_diff.specs.Offsets.{Shows}
-use Rattle.tsn_diff.specs.Offsets.{Meets}
-use Rattle.tsn_diff.specs.Forest.{Labelling, last_of, Path, IsForest, IsRaised, steps_back, places_of, chain_of}
+use Rattle.tsn_diff.specs.Offsets.{Meets, IsLeast, chain_of}
+use Rattle.tsn_diff.specs.Forest.{Labelling, last_of, Path, IsForest, IsRaised, Settles, steps_back, places_of, chain_by, least_by}
 use Rattle.tsn_diff.specs.Progress.{Closes}
 use Rattle.tsn_diff.specs.Forest.Path.{here, back}
 use Rattle.tsn_diff.specs.Answers.{Solves, Refutes}
 use Rattle.tsn_diff.proofs.Cases.{by_option}
+use Rattle.tsn_diff.proofs.Views.{chain_of-least_by}
 use Rattle.tsn_diff.proofs.Paths.{length-path, length-path_any, Path-steps_back, steps_back_is, Rooted-here}
 use Rattle.tsn_diff.proofs.Sums.{leads_of, places_in, explained, start_of-leads, length-places_of, Leads-push, chain_sum-push}
 
@@ -28,7 +30,16 @@ pub nil_from_none : {last : List (Option Step)} {i r : ℕ} {ss : List Step} →
 nil_from_none here e = refl
 nil_from_none (back h p) e = cc
 
-module _ (releases : List ℕ) (arcs : List Arc) (labels : Labelling) (forest : IsForest arcs labels) (raised : IsRaised releases labels) (met : HoldsAll labels.offsets arcs) where
+module _ (releases : List ℕ) (arcs : List Arc) (labels : Labelling) (s : Settles releases arcs labels) where
+  abbrev forest : IsForest arcs labels
+  forest = s.forest
+
+  abbrev raised : IsRaised releases labels
+  raised = s.raised
+
+  abbrev met : HoldsAll labels.offsets arcs
+  met = s.met
+
   root_in : (i : ℕ) → i < length releases → (forest.rooted i).root < length releases
   root_in i l = let r = forest.rooted i in let k : r.root < length labels.offsets = top_below (length labels.offsets) (λ j s h. (forest.steps j s h).from_in) r.path (omega (arith, raised.count)) in omega (arith, raised.count)
 
@@ -62,30 +73,34 @@ module _ (releases : List ℕ) (arcs : List Arc) (labels : Labelling) (forest : 
       let k : length r.steps < length labels.offsets = length-path (length labels.offsets) (λ j s h. (forest.steps j s h).from_in) r.path r.ends (omega (arith, raised.count)) in
       omega (arith, raised.count)
 
-  chain_of_is : (i : ℕ) → i < length releases → chain_of labels i ≡ places_of (forest.rooted i).steps
-  chain_of_is i l =
+  chain_by_is : (i : ℕ) → i < length releases → chain_by labels i ≡ places_of (forest.rooted i).steps
+  chain_by_is i l =
       let r = forest.rooted i in
       let k = short i l in
       ap places_of (steps_back_is (length labels.last) r.path r.ends (omega (arith, forest.count, raised.count)))
 
-  Shows-from_forest : (i : ℕ) → i < length releases → Shows releases arcs (chain_of labels i) i (slice_index labels.offsets i)
+  Shows-from_forest : (i : ℕ) → i < length releases → Shows releases arcs (chain_of (least_by releases arcs labels) i) i (slice_index labels.offsets i)
   Shows-from_forest i l =
       let r = forest.rooted i in
       let way = leads_of arcs labels.offsets labels.last forest.steps r.path in
       let start : start_of arcs (places_of r.steps) i ≡ r.root = start_of-leads arcs r.root (places_of r.steps) i way in
-      rw (chain_of_is i l) (record {
+      rw (chain_of-least_by releases arcs labels i (omega (arith, forest.count, raised.count)), chain_by_is i l) (record {
         leads = record { places = places_in arcs labels.offsets labels.last forest.steps r.path; leads = rw start way };
         sum = rw start (exact i);
         short = rw length-places_of (short i l);
         empty = λ e. by_option (last_of labels.last i) (λ n. ap places_of (nil_from_none r.path n)) (λ s h. let k = raised.raised i s h in absurd (omega arith));
       })
 
-  pub Solves-from_forest : Solves releases arcs labels
-  Solves-from_forest = record {
-    least = record { meets = Meets-from_forest; least = least_from_forest };
+  pub IsLeast-settled : IsLeast releases arcs labels.offsets
+  IsLeast-settled = record { meets = Meets-from_forest; least = least_from_forest }
+
+  pub Solves-settled : Solves releases arcs (least_by releases arcs labels)
+  Solves-settled = record {
+    releases_are = refl;
+    arcs_are = refl;
+    least = IsLeast-settled;
+    count = omega (arith, length-map-range_with_len (chain_by labels) 0 (length labels.last), forest.count, raised.count);
     chains = Shows-from_forest;
-    forest = forest;
-    raised = raised;
   }
 
 -- the steps from the first stream of an arc back to its last one
@@ -139,10 +154,14 @@ IsRaised-unraised offsets = record {
   raised = λ i s h. let e = last_of-replicate (length offsets) i in cc;
 }
 
--- they solve no arcs at all
-pub Solves-unraised : (offsets : List ℕ) → length offsets ≤ 128 → All (λ release. release ≤ 1000000000) offsets → Solves offsets [] (record { offsets = offsets; last = replicate (length offsets) None })
-Solves-unraised offsets few early =
-    Solves-from_forest offsets [] (record { offsets = offsets; last = replicate (length offsets) None }) (IsForest-unraised [] offsets few early) (IsRaised-unraised offsets) (All-nil (Holds offsets))
+-- they settle no arcs at all
+pub Settles-unraised : (offsets : List ℕ) → length offsets ≤ 128 → All (λ release. release ≤ 1000000000) offsets → Settles offsets [] (record { offsets = offsets; last = replicate (length offsets) None })
+Settles-unraised offsets few early = record {
+  among = All-nil (IsArcAmong (length offsets));
+  forest = IsForest-unraised [] offsets few early;
+  raised = IsRaised-unraised offsets;
+  met = All-nil (Holds offsets);
+}
 
 -- one more arc breaks no chain
 pub IsForest-more : (arcs : List Arc) (labels : Labelling) (arc : Arc) → IsForest arcs labels → IsForest (arcs ++ arc ∷ []) labels

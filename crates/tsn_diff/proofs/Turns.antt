@@ -73,9 +73,9 @@ module _ (base : Base) (labels : Labelling) (wave : Wave) (listing : Listing) (a
   }
 
   -- the new arc has the place after the others
-  pub IsPlaced-new : (place : ℕ) → place ≡ length listing.arcs.items → IsPlaced (all_arcs base) (record { place = place; arc = arc })
+  pub IsPlaced-new : (place : ℕ) → place ≡ length listing.marks.items → IsPlaced (all_arcs base) (record { place = place; arc = arc })
   IsPlaced-new place e =
-      let at : place ≡ length base.arcs = e ∙ ap length start.arcs_are in
+      let at : place ≡ length base.arcs = e ∙ start.listed.marks in
       let in_all : place < length (all_arcs base) = omega (arith, at, length-append base.arcs (base.arc ∷ [])) in
       record { place_in = in_all; arc = arc_at-new base place in_all (omega (arith, at)) ∙ start.arc_is }
 
@@ -123,8 +123,8 @@ module _ (base : Base) (labels : Labelling) (standings : List Standing) (wave : 
         lifted = ⊎_elim (λ (e : i ≡ stream). rw (e, stands) tt) (λ (e : i ≢ stream). rw (stands_other i e) q.lifted) (cases_eq i stream);
       }
 
-  pub IsTurn-settled : (listing : Listing) → IsListing (length base.labels.offsets) listing → listing.arcs.items ≡ base.arcs → IsTurn base labels after wave listing stream
-  IsTurn-settled listing listed same = record {
+  pub IsTurn-settled : (listing : Listing) → IsListing (length base.labels.offsets) base.arcs listing → IsTurn base labels after wave listing stream
+  IsTurn-settled listing listed = record {
     moves = record {
       among = w.among;
       met = w.met;
@@ -145,7 +145,6 @@ module _ (base : Base) (labels : Labelling) (standings : List Standing) (wave : 
       queued = All-weaker (IsQueued (length base.labels.offsets) standings) (IsQueued (length base.labels.offsets) after) queued_still wave.queue.items w.queued;
     };
     listed = listed;
-    same = same;
     stream_in = place.stream_in;
     settled = stands;
   }

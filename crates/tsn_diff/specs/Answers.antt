@@ -1,18 +1,17 @@
-use Rattle.std.specs.Prelude.{ℕ, ◌<◌, ℤ, List, length, slice_index, All}
+use Rattle.std.specs.Prelude.{◌≡◌, ℕ, ◌<◌, ℤ, List, length, slice_index, All}
 use Rattle.tsn_model.specs.declared.Arc.{Arc}
 use Rattle.tsn_diff.specs.declared.solve.Outcome.{Outcome}
 use Rattle.tsn_diff.specs.declared.solve.Outcome.TheVariants.{Least, Positive}
 use Rattle.tsn_model.specs.Arcs.{IsMet}
-use Rattle.tsn_diff.specs.Offsets.{IsLeast, Shows, IsPositiveCycle}
-use Rattle.tsn_diff.specs.Forest.{Labelling, IsForest, IsRaised, chain_of}
+use Rattle.tsn_diff.specs.Offsets.{IsLeast, Shows, LeastOffsets, chain_of, IsPositiveCycle}
 
--- the least offsets, with a chain for each stream that shows its offset
-pub record Solves (releases : List ℕ) (arcs : List Arc) (labels : Labelling) : Type 0 where
-  pub least : IsLeast releases arcs labels.offsets
-  pub chains : (stream : ℕ) → stream < length releases → Shows releases arcs (chain_of labels stream) stream (slice_index labels.offsets stream)
-  -- how the chains hang together, which `least_from` goes on from
-  pub forest : IsForest arcs labels
-  pub raised : IsRaised releases labels
+-- the least offsets under these releases that meet these arcs, with a chain for each stream that shows its offset
+pub record Solves (releases : List ℕ) (arcs : List Arc) (found : LeastOffsets) : Type 0 where
+  pub releases_are : found.releases ≡ releases
+  pub arcs_are : found.arcs ≡ arcs
+  pub least : IsLeast releases arcs found.offsets
+  pub count : length found.chains ≡ length releases
+  pub chains : (stream : ℕ) → stream < length releases → Shows releases arcs (chain_of found stream) stream (slice_index found.offsets stream)
 
 -- a closed chain of positive sum, for which no offsets at all meet every arc
 pub record Refutes (n : ℕ) (arcs : List Arc) (chain : List ℕ) : Type 0 where

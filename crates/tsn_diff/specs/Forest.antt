@@ -1,9 +1,12 @@
-use Rattle.std.specs.Prelude.{◌≡◌, ℕ, zero, suc, ◌<◌, ◌≤◌, ◌==◌, pos, ◌+ℤ◌, ◌≤ℤ◌, Bool, false, cond, List, [], ◌∷◌, length, slice_index, slice_index_or, Option, Some, None, map, reverse}
+use Rattle.std.specs.Prelude.{◌≡◌, ℕ, zero, suc, ◌-◌, ◌<◌, ◌≤◌, ◌==◌, pos, ◌+ℤ◌, ◌≤ℤ◌, Bool, false, cond, List, [], ◌∷◌, length, slice_index, slice_index_or, slice_get, All, Option, Some, None, map, reverse}
+use Rattle.std.specs.List.{range_with_len}
 use Rattle.std.specs.Option.{option_map_or}
 use Rattle.tsn_model.specs.declared.Arc.{Arc}
 use Rattle.tsn_diff.specs.declared.labels.Step.{Step}
 use Rattle.tsn_diff.specs.declared.solve.TheConstants.{MAX_STREAMS, MAX_RELEASE}
-use Rattle.tsn_model.specs.Arcs.{arc_at}
+use Rattle.tsn_model.specs.Arcs.{arc_at, HoldsAll}
+use Rattle.tsn_diff.specs.Limits.{IsArcAmong}
+use Rattle.tsn_diff.specs.Offsets.{LeastOffsets}
 
 -- offsets, and for each stream the last step of its chain
 pub record Labelling : Type 0 where
@@ -63,9 +66,29 @@ steps_back (suc n) last top stream =
 abbrev pub places_of : List Step → List ℕ
 places_of steps = reverse (map (λ step. step.place) steps)
 
--- the chain of a stream
-abbrev pub chain_of : Labelling → ℕ → List ℕ
-chain_of labels stream = places_of (steps_back (length labels.last) labels.last None stream)
+-- the chain that a stream's steps make
+abbrev pub chain_by : Labelling → ℕ → List ℕ
+chain_by labels stream = places_of (steps_back (length labels.last) labels.last None stream)
+
+-- the offsets with the chains that the steps make
+abbrev pub least_by : List ℕ → List Arc → Labelling → LeastOffsets
+least_by releases arcs labels =
+    record { releases = releases; arcs = arcs; offsets = labels.offsets; chains = map (chain_by labels) (range_with_len 0 (length labels.last)) }
+
+-- the last step of a chain
+abbrev pub step_of : List Arc → List ℕ → Option Step
+step_of arcs chain = option_map_or (λ place. Some (record { place = place; from = (arc_at arcs place).from })) (slice_get chain (length chain - 1)) None
+
+-- the labels whose steps make the chains
+abbrev pub labelling_by : LeastOffsets → Labelling
+labelling_by least = record { offsets = least.offsets; last = map (step_of least.arcs) least.chains }
+
+-- the labels meet every arc, and are raised from the releases no more than their steps explain
+pub record Settles (releases : List ℕ) (arcs : List Arc) (labels : Labelling) : Type 0 where
+  pub among : All (IsArcAmong (length releases)) arcs
+  pub forest : IsForest arcs labels
+  pub raised : IsRaised releases labels
+  pub met : HoldsAll labels.offsets arcs
 
 -- every step begins at one of the streams
 pub record HasSteps (labels : Labelling) : Type 0 where

@@ -15,8 +15,8 @@ abbrev pub arcs_leaving : List Arc → ℕ → List Placed
 arcs_leaving arcs stream = leaving_from 0 arcs stream
 
 -- every arc begins at a stream, each stream's arcs are listed, and each arc has a mark
-pub record IsListing (streams : ℕ) (listing : Listing) : Type 0 where
-  pub from_in : All (λ arc. arc.from < streams) listing.arcs.items
+pub record IsListing (streams : ℕ) (arcs : List Arc) (listing : Listing) : Type 0 where
+  pub from_in : All (λ arc. arc.from < streams) arcs
   pub count : length listing.leaving.items ≡ streams
-  pub leaving : (stream : ℕ) (default : Vec Placed Global) → stream < streams → (slice_index_or listing.leaving.items stream default).items ≡ arcs_leaving listing.arcs.items stream
-  pub marks : length listing.marks.items ≡ length listing.arcs.items
+  pub leaving : (stream : ℕ) (default : Vec Placed Global) → stream < streams → (slice_index_or listing.leaving.items stream default).items ≡ arcs_leaving arcs stream
+  pub marks : length listing.marks.items ≡ length arcs

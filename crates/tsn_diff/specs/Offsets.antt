@@ -1,5 +1,5 @@
 -- Offsets under releases and arcs: the least ones with chains that show them, and closed chains that show that there are none.
-use Rattle.std.specs.Prelude.{◌≡◌, ℕ, ◌<◌, ◌≤◌, pos, ◌+ℤ◌, ◌<ℤ◌, List, [], length, slice_index}
+use Rattle.std.specs.Prelude.{◌≡◌, ℕ, ◌<◌, ◌≤◌, pos, ◌+ℤ◌, ◌<ℤ◌, List, [], length, slice_index, slice_index_or}
 use Rattle.tsn_model.specs.declared.Arc.{Arc}
 use Rattle.tsn_model.specs.Schedule.{offset_of}
 use Rattle.tsn_model.specs.Arcs.{HoldsAll, start_of, chain_sum, IsChainTo, IsClosedChain}
@@ -26,6 +26,17 @@ pub record Shows (releases : List ℕ) (arcs : List Arc) (chain : List ℕ) (str
   pub sum : pos offset ≡ pos (release_of releases (start_of arcs chain stream)) +ℤ chain_sum arcs chain
   pub short : length chain < length releases
   pub empty : offset ≡ release_of releases stream → chain ≡ []
+
+-- offsets that were found for these releases and arcs, and a chain for each stream
+pub record LeastOffsets : Type 0 where
+  pub releases : List ℕ
+  pub arcs : List Arc
+  pub offsets : List ℕ
+  pub chains : List (List ℕ)
+
+-- the chain of a stream
+abbrev pub chain_of : LeastOffsets → ℕ → List ℕ
+chain_of least stream = slice_index_or least.chains stream []
 
 -- a closed chain of 1 to n arcs, whose sum is above 0
 pub record IsPositiveCycle (n : ℕ) (arcs : List Arc) (chain : List ℕ) : Type 0 where

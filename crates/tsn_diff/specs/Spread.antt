@@ -29,8 +29,8 @@ abbrev pub all_arcs : Base → List Arc
 all_arcs base = base.arcs ++ base.arc ∷ []
 
 -- where the wave of an arc starts
-abbrev pub base_of : Labelling → Listing → Trail → Arc → Base
-base_of labels listing trail arc = record { arcs = listing.arcs.items; arc = arc; labels = labels; formers = trail.formers.items }
+abbrev pub base_of : Labelling → List Arc → Trail → Arc → Base
+base_of labels arcs trail arc = record { arcs = arcs; arc = arc; labels = labels; formers = trail.formers.items }
 
 -- an arc with its place
 pub record IsPlaced (arcs : List Arc) (placed : Placed) : Type 0 where
@@ -119,8 +119,7 @@ pub record IsRise (base : Base) (labels : Labelling) (standings : List Standing)
 -- a stream whose arcs are to be looked at now
 pub record IsTurn (base : Base) (labels : Labelling) (standings : List Standing) (wave : Wave) (listing : Listing) (stream : ℕ) : Type 0 where
   pub moves : IsWave base labels standings wave
-  pub listed : IsListing (length base.labels.offsets) listing
-  pub same : listing.arcs.items ≡ base.arcs
+  pub listed : IsListing (length base.labels.offsets) base.arcs listing
   pub stream_in : stream < length base.labels.offsets
   pub settled : standing_of standings stream ≡ Settled
 
@@ -135,13 +134,12 @@ MeetsFrom arcs offsets stream = (place : ℕ) → place < length arcs → (arc_a
 -- what a wave starts with
 pub record IsStart (base : Base) (labels : Labelling) (trail : Trail) (listing : Listing) (arc : Arc) : Type 0 where
   pub labels_are : base.labels ≡ labels
-  pub arcs_are : listing.arcs.items ≡ base.arcs
   pub arc_is : base.arc ≡ arc
   pub formers_are : base.formers ≡ trail.formers.items
   pub among : All (IsArcAmong (length base.labels.offsets)) (all_arcs base)
   pub forest : IsForest base.arcs base.labels
   pub met : HoldsAll base.labels.offsets base.arcs
-  pub listed : IsListing (length base.labels.offsets) listing
+  pub listed : IsListing (length base.labels.offsets) base.arcs listing
   pub noted : IsTrail (length base.labels.offsets) trail
 
 -- a wave that has ended: every arc is met, and the offsets rose at the streams that were noted

@@ -1,7 +1,8 @@
-ghost use Rattle.std.specs.Prelude.{◌≡◌, ◌++◌, ◌≤◌, ◌<◌, ℕ, List, [], ◌∷◌, All, IfOk, IsTrue, ◌↔◌, length, replicate};
+ghost use Rattle.std.specs.Prelude.{◌≡◌, ◌++◌, ◌≤◌, ◌<◌, [], ◌∷◌, All, IfOk, IsTrue, ◌↔◌, length, replicate};
 ghost use Rattle.tsn_diff.specs.Limits.{IsArcAmong};
 ghost use Rattle.tsn_diff.specs.Answers.{Answers, Solves};
-ghost use Rattle.tsn_diff.specs.Forest.{IsForest, IsRaised, chain_of};
+ghost use Rattle.tsn_diff.specs.Forest.{IsForest, IsRaised, Settles, labelling_by};
+ghost use Rattle.tsn_diff.specs.Offsets.{chain_of};
 ghost use Rattle.tsn_diff.specs.Labels.{labelling_of};
 ghost use Rattle.tsn_diff.specs.Releases.{releases_of};
 
@@ -40,9 +41,11 @@ pub enum Outcome {
     Positive(Vec<usize>),
 }
 
-/// The least offsets that meet a list of arcs, with the chains that show them.
+/// The least offsets of streams of some releases that meet a list of arcs, with the chains that show them.
 #[derive(Debug, Drop)]
 pub struct Least {
+    pub(crate) net: Net,
+    pub(crate) arcs: Vec<Arc>,
     pub(crate) labels: Labels,
 }
 
@@ -60,15 +63,15 @@ impl Model for Net {
 }
 
 impl Model for Least {
-    ghost use Rattle.std.specs.Prelude.{◌≡◌, ℕ, ◌<◌, length, Some};
-    ghost use Rattle.tsn_diff.specs.Forest.{Labelling, HasSteps};
+    ghost use Rattle.tsn_diff.specs.Offsets.{LeastOffsets};
+    ghost use Rattle.tsn_diff.specs.Forest.{Settles, least_by};
     ghost use Rattle.tsn_diff.specs.Labels.{labelling_of};
 
-    ghost Value = { Labelling };
+    ghost Value = { LeastOffsets };
 
-    ghost view = { λ least. labelling_of least.labels };
+    ghost view = { λ least. least_by least.net least.arcs.items (labelling_of least.labels) };
 
-    ghost invariant = { λ least. HasSteps (labelling_of least.labels) };
+    ghost invariant = { λ least. Settles least.net least.arcs.items (labelling_of least.labels) };
 }
 
 impl Net {
@@ -116,40 +119,35 @@ impl Net {
         requires { All (IsArcAmong (length self.now)) arcs.now }
         ensures { IfOk result (Answers self.now arcs.now) }
     {
+        let all = Vec::from_slice(alloc, arcs)?;
         let labels = self.releases.labels(alloc)?;
-        Ok(settle(alloc, labels, arcs)?)
-    }
-
-    /// The same for `arcs` with `arc` put last, starting from the least offsets for `arcs`.
-    pub fn least_from(
-        &self,
-        alloc: Global,
-        least: &Least,
-        arcs: &[Arc],
-        arc: Arc,
-    ) -> Result<Outcome, NoMemory>
-        requires arcs { All (IsArcAmong (length self.now)) arcs.now }
-        requires arc { IsArcAmong (length self.now) arc }
-        requires least { Solves self.now arcs.now least.now }
-        ensures { IfOk result (Answers self.now (arcs.now ++ arc ∷ [])) }
-    {
-        let all = with_arc(alloc, arcs, arc)?;
-        let labels = Labels {
-            offsets: Vec::from_slice(alloc, &least.labels.offsets)?,
-            last: Vec::from_slice(alloc, &least.labels.last)?,
-        };
-        Ok(settle(alloc, labels, &all)?)
+        Ok(settle(alloc, self.copied(alloc)?, all, labels)?)
     }
 }
 
 impl Net {
     /// The offsets that no arc has raised.
-    pub(crate) fn unraised(&self, alloc: Global) -> Result<Least, NoMemory>
-        ensures { IfOk result (Solves self.now []) }
+    pub(crate) fn unraised(self, alloc: Global) -> Result<Least, NoMemory>
+        ensures solves { IfOk result (Solves self []) }
+        ensures settles { IfOk result (λ least. Settles self [] (labelling_by least)) }
     {
+        let labels = self.releases.labels(alloc)?;
         Ok(Least {
-            labels: self.releases.labels(alloc)?,
+            net: self,
+            arcs: Vec::new(alloc),
+            labels,
         })
+    }
+
+    /// The same releases once more.
+    fn copied(&self, alloc: Global) -> Result<Net, AllocError>
+        ensures { IfOk result (λ net. net ≡ self.now) }
+    {
+        let releases = match &self.releases {
+            Releases::Zero(streams) => Releases::Zero(*streams),
+            Releases::Listed(releases) => Releases::Listed(Vec::from_slice(alloc, releases)?),
+        };
+        Ok(Net { releases })
     }
 }
 
@@ -177,12 +175,34 @@ impl Least {
         &self.labels.offsets
     }
 
+    /// The arcs for which these are the least offsets.
+    pub fn arcs(&self) -> &[Arc]
+        ensures value { result.now ≡ self.now.arcs }
+        ensures among { All (IsArcAmong (length self.now.releases)) self.now.arcs }
+        ensures solves { Solves self.now.releases self.now.arcs self.now }
+    {
+        &self.arcs
+    }
+
     /// A chain that shows the stream's offset, by the places of its arcs: empty where the offset is the release.
     pub fn chain(&self, alloc: Global, stream: usize) -> Result<Vec<usize>, NoMemory>
         requires { stream < length self.now.offsets }
         ensures { IfOk result (λ chain. chain.items ≡ chain_of self.now stream) }
     {
         Ok(self.labels.chain(alloc, None, stream)?)
+    }
+
+    /// The least offsets with one more arc put last, or a closed chain of positive sum. The error says that there was no memory.
+    pub fn with_arc(&self, alloc: Global, arc: Arc) -> Result<Outcome, NoMemory>
+        requires { IsArcAmong (length self.now.releases) arc }
+        ensures { IfOk result (Answers self.now.releases (self.now.arcs ++ arc ∷ [])) }
+    {
+        let all = arcs_and(alloc, &self.arcs, arc)?;
+        let labels = Labels {
+            offsets: Vec::from_slice(alloc, &self.labels.offsets)?,
+            last: Vec::from_slice(alloc, &self.labels.last)?,
+        };
+        Ok(settle(alloc, self.net.copied(alloc)?, all, labels)?)
     }
 }
 
@@ -194,7 +214,7 @@ pub(crate) fn is_among(arc: &Arc, streams: usize) -> bool
 }
 
 /// The arcs with one more put last.
-fn with_arc(alloc: Global, arcs: &[Arc], arc: Arc) -> Result<Vec<Arc>, AllocError>
+fn arcs_and(alloc: Global, arcs: &[Arc], arc: Arc) -> Result<Vec<Arc>, AllocError>
     ensures { IfOk result (λ all. all.items ≡ arcs.now ++ arc ∷ []) }
 {
     let mut all = Vec::with_capacity(alloc, arcs.len() + 1)?;
@@ -204,15 +224,20 @@ fn with_arc(alloc: Global, arcs: &[Arc], arc: Arc) -> Result<Vec<Arc>, AllocErro
 }
 
 /// Corrects the labels round by round until every arc is met or a chain closes.
-fn settle(alloc: Global, mut labels: Labels, arcs: &[Arc]) -> Result<Outcome, AllocError>
-    requires arcs { All (IsArcAmong (length labels.offsets.items)) arcs.now }
-    requires forest { IsForest arcs.now (labelling_of labels) }
-    ensures { IfOk result (λ outcome. (releases : List ℕ) → IsRaised releases (labelling_of labels) →
-        Answers releases arcs.now outcome) }
+fn settle(
+    alloc: Global,
+    net: Net,
+    arcs: Vec<Arc>,
+    mut labels: Labels,
+) -> Result<Outcome, AllocError>
+    requires among { All (IsArcAmong (length net)) arcs.items }
+    requires forest { IsForest arcs.items (labelling_of labels) }
+    requires raised { IsRaised net (labelling_of labels) }
+    ensures { IfOk result (Answers net arcs.items) }
 {
     loop {
-        match labels.round(arcs) {
-            Progress::Steady => return Ok(Outcome::Least(Least { labels })),
+        match labels.round(&arcs) {
+            Progress::Steady => return Ok(Outcome::Least(Least { net, arcs, labels })),
             Progress::Raised => {}
             Progress::Closed(place) => {
                 return Ok(Outcome::Positive(labels.cycle(alloc, place, arcs[place])?));

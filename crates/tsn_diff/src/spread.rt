@@ -157,7 +157,7 @@ impl Wave {
             return Ok(None);
         };
         let placed = Placed {
-            place: listing.arcs.len(),
+            place: listing.marks.len(),
             arc,
         };
         let mut standings = [Standing::Calm; MAX_STREAMS];

@@ -36,7 +36,7 @@ pub fn solved_by_adding(
     let Outcome::Least(least) = net.least(alloc, others)? else {
         return Ok(None);
     };
-    Ok(Some(net.least_from(alloc, &least, others, last)?))
+    Ok(Some(least.with_arc(alloc, last)?))
 }
 
 /// The least offsets with the chain of each stream, or the length and the sum of a closed chain.

@@ -1,19 +1,19 @@
 use Rattle.std.proofs.Common.{◌≡◌, ◌++◌, ◌∷◌, [], length, is_ok, sym, ap, ◌∙◌, arith}
 use Rattle.std.proofs.lemmas.Bool.{cond-true}
 use Rattle.std.proofs.lemmas.List.FromFn.{length-map-range_with_len, map-range_with_len_more}
-use Rattle.tsn_diff.specs.Forest.{chain_of}
+use Rattle.tsn_diff.specs.Offsets.{chain_of}
 use Rattle.tsn_branch.specs.Chains.{chains_upto}
 use Rattle.tsn_branch.proofs.chains.chains_to.Goals as goal
 
 pub loop-stream-preserved : goal.loop-stream-preserved
 loop-stream-preserved c =
-    let labels = c.args.least.now in
+    let lowest = c.args.least.now in
     let n = c.loop-stream.stream in
     let pushed : c.push.new.self.items ≡ c.loop-stream.list.items ++ c.in_ok-chain.chain ∷ [] =
     c.push.ensures.items ∙ cond-true (is_ok c.push.result) (c.loop-stream.list.items ++ c.in_ok-chain.chain ∷ []) c.loop-stream.list.items (sym c.in_ok-map_err.ensures.variant) in
     pushed ∙ ap (λ chains. chains ++ c.in_ok-chain.chain ∷ []) c.loop-stream.invariant
-    ∙ ap (λ chain. chains_upto labels n ++ chain ∷ []) c.in_ok-chain.ensures
-    ∙ sym (map-range_with_len_more (chain_of labels) 0 n n (omega arith))
+    ∙ ap (λ chain. chains_upto lowest n ++ chain ∷ []) c.in_ok-chain.ensures
+    ∙ sym (map-range_with_len_more (chain_of lowest) 0 n n (omega arith))
 
 pub of-requires-clause-some_chain : goal.of-requires-clause-some_chain
 of-requires-clause-some_chain c =

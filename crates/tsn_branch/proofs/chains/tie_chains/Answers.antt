@@ -7,11 +7,11 @@ use Rattle.tsn_branch.proofs.chains.tie_chains.Goals as goal
 pub returns : goal.returns
 returns c =
     let network = c.args.timing.now in
-    let labels = c.args.least.now in
+    let lowest = c.args.least.now in
     let best = c.args.best.now in
     let n = c.in-Some.count in
-    let compared : IsCompared labels.offsets best n =
+    let compared : IsCompared lowest.offsets best n =
     subst (λ (offsets : List ℕ). IsCompared offsets best n) c.offsets.ensures (subst (λ (others : List ℕ). IsCompared c.offsets.result.now others n) c.offsets-2.ensures c.in-Some.ensures) in (
       compared.not_before,
-      λ path solves. subst (ShowsUpto network path labels.offsets best) (sym c.in_ok-chains_to.ensures) (upto_tie network path labels solves best n compared),
+      λ path solves. subst (ShowsUpto network path lowest.offsets best) (sym c.in_ok-chains_to.ensures) (upto_tie network path lowest solves best n compared),
     )

@@ -19,15 +19,15 @@ pub returns-in-Overrun : goal.returns-in-Overrun
 returns-in-Overrun c =
     λ path solves.
     let network = c.args.timing.now in
-    let labels = c.args.least.now in
-    let first : IsFirstOverrun network labels.offsets c.in-Overrun.stream = subst (AreEnds network labels.offsets) c.in-Overrun.is c.requires.ends in (
+    let lowest = c.args.least.now in
+    let first : IsFirstOverrun network lowest.offsets c.in-Overrun.stream = subst (AreEnds network lowest.offsets) c.in-Overrun.is c.requires.ends in (
       tt,
       (
-        labels.offsets,
-        AreLeast-from network path labels solves,
+        lowest.offsets,
+        AreLeast-from network path lowest solves,
         first,
-        subst (λ (chain : List ℕ). IsShownBy network path labels.offsets c.in-Overrun.stream chain) (sym c.in_ok-chain_to-in-Overrun.ensures)
-            (IsShownBy-from network path labels solves c.in-Overrun.stream first.counted),
+        subst (λ (chain : List ℕ). IsShownBy network path lowest.offsets c.in-Overrun.stream chain) (sym c.in_ok-chain_to-in-Overrun.ensures)
+            (IsShownBy-from network path lowest solves c.in-Overrun.stream first.counted),
       ),
     )
 
@@ -35,18 +35,18 @@ pub returns-then-end-target : goal.returns-then-end-target
 returns-then-end-target c =
     λ path solves.
     let network = c.args.timing.now in
-    let labels = c.args.least.now in
-    let (fit, last, end) = subst (AreEnds network labels.offsets) c.in-Within.is c.requires.ends in (
+    let lowest = c.args.least.now in
+    let (fit, last, end) = subst (AreEnds network lowest.offsets) c.in-Within.is c.requires.ends in (
       tt,
       (
-        labels.offsets,
-        AreLeast-from network path labels solves,
+        lowest.offsets,
+        AreLeast-from network path lowest solves,
         fit,
         end,
         c.if-end-target.true,
         (
           last,
-          subst (λ (chain : List ℕ). IsShownBy network path labels.offsets c.in-Within.last chain) (sym c.in_ok-chain_to.ensures) (IsShownBy-from network path labels solves c.in-Within.last last.counted),
+          subst (λ (chain : List ℕ). IsShownBy network path lowest.offsets c.in-Within.last chain) (sym c.in_ok-chain_to.ensures) (IsShownBy-from network path lowest solves c.in-Within.last last.counted),
         ),
       ),
     )
@@ -92,36 +92,36 @@ pub returns-in-Some-first_violated_from : goal.returns-in-Some-first_violated_fr
 returns-in-Some-first_violated_from c =
     λ path solves.
     let network = c.args.timing.now in
-    let labels = c.args.least.now in
+    let lowest = c.args.least.now in
     let conflicts = c.requires.conflicts in
-    let ends = subst (AreEnds network labels.offsets) c.in-Within.is c.requires.ends in
+    let ends = subst (AreEnds network lowest.offsets) c.in-Within.is c.requires.ends in
     let (fit, last, end) = ends in
     let found = c.in-Some-first_violated_from.ensures network conflicts in
     let place = c.in-Some-first_violated_from.place in
-    let overlap : IsFirstOverlap network labels.offsets (triple_at (conflicts_of network) place) =
-    subst (λ (ts : List Triple). IsFirstOverlap network labels.offsets (triple_at ts place)) conflicts.triples
+    let overlap : IsFirstOverlap network lowest.offsets (triple_at (conflicts_of network) place) =
+    subst (λ (ts : List Triple). IsFirstOverlap network lowest.offsets (triple_at ts place)) conflicts.triples
     (subst (λ (offsets : List ℕ). IsFirstOverlap network offsets (triple_at c.args.conflicts.now.triples place)) c.offsets-2.ensures found.1) in
     let unloaded = subst (λ (offsets : List ℕ). All (IsUnloaded network offsets c.args.target) (shared_links network)) c.offsets.ensures c.in-Open.ensures.0 in
-    let untied = subst (λ o. IfNone o (IsUntied network labels.offsets (option_copied c.args.best))) c.in_default.is c.in_ok-tie.ensures.none in
-    let least = AreLeast-from network path labels solves in (
+    let untied = subst (λ o. IfNone o (IsUntied network lowest.offsets (option_copied c.args.best))) c.in_default.is c.in_ok-tie.ensures.none in
+    let least = AreLeast-from network path lowest solves in (
       record {
         within = subst (λ (ts : List Triple). place < length ts) conflicts.triples found.0;
         by_least = λ offsets other.
-            subst (λ list. IsSeenBy network list (record { place = place; last = c.in-Within.last; end = c.in-Within.end })) (least_same network path labels.offsets offsets least other)
+            subst (λ list. IsSeenBy network list (record { place = place; last = c.in-Within.last; end = c.in-Within.end })) (least_same network path lowest.offsets offsets least other)
             (record { ended = record { fit = fit; last_first = last; end_is = end }; overlap = overlap });
       },
-      (labels.offsets, least, fit, omega (arith, end, c.if-end-target.false), overlap, unloaded, untied),
+      (lowest.offsets, least, fit, omega (arith, end, c.if-end-target.false), overlap, unloaded, untied),
     )
 
 pub returns : goal.returns
 returns c =
     λ path solves.
     let network = c.args.timing.now in
-    let labels = c.args.least.now in
-    let (fit, last, end) = subst (AreEnds network labels.offsets) c.in-Within.is c.requires.ends in
+    let lowest = c.args.least.now in
+    let (fit, last, end) = subst (AreEnds network lowest.offsets) c.in-Within.is c.requires.ends in
     let unloaded = subst (λ (offsets : List ℕ). All (IsUnloaded network offsets c.args.target) (shared_links network)) c.offsets.ensures c.in-Open.ensures.0 in
-    let untied = subst (λ o. IfNone o (IsUntied network labels.offsets (option_copied c.args.best))) c.in_default.is c.in_ok-tie.ensures.none in
-    solution_found network path labels.offsets c.in-Within.end c.args.target (option_copied c.args.best) (outcome_of c.in_ok-look.look) (omega (arith, c.if-end-target.false)) (AreLeast-from network path labels solves) unloaded untied
+    let untied = subst (λ o. IfNone o (IsUntied network lowest.offsets (option_copied c.args.best))) c.in_default.is c.in_ok-tie.ensures.none in
+    solution_found network path lowest.offsets c.in-Within.end c.args.target (option_copied c.args.best) (outcome_of c.in_ok-look.look) (omega (arith, c.if-end-target.false)) (AreLeast-from network path lowest solves) unloaded untied
     (subst (λ n. IsSolution network path n (outcome_of c.in_ok-look.look)) (sym end) (c.in_ok-look.ensures path solves))
 
 pub solved-requires-clause-fit : goal.solved-requires-clause-fit
@@ -148,8 +148,8 @@ pub returns-in-Some : goal.returns-in-Some
 returns-in-Some c =
     λ path solves.
     let network = c.args.timing.now in
-    let labels = c.args.least.now in
-    let (fit, last, end) = subst (AreEnds network labels.offsets) c.in-Within.is c.requires.ends in
+    let lowest = c.args.least.now in
+    let (fit, last, end) = subst (AreEnds network lowest.offsets) c.in-Within.is c.requires.ends in
     let unloaded = subst (λ (offsets : List ℕ). All (IsUnloaded network offsets c.args.target) (shared_links network)) c.offsets.ensures c.in-Open.ensures.0 in
-    let found = subst (λ o. IfSome o (IsTieBy network labels (option_copied c.args.best))) c.in-Some.is c.in_ok-tie.ensures.some in
+    let found = subst (λ o. IfSome o (IsTieBy network lowest (option_copied c.args.best))) c.in-Some.is c.in_ok-tie.ensures.some in
     (found.0, found.1 path c.args.target solves (omega (arith, end, c.if-end-target.false)) unloaded)

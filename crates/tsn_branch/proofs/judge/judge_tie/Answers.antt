@@ -12,20 +12,20 @@ use Rattle.tsn_branch.proofs.judge.judge_tie.Goals as goal
 pub returns-then-end-limit-clause-some : goal.returns-then-end-limit-clause-some
 returns-then-end-limit-clause-some c =
     let network = c.args.timing.now in
-    let labels = c.args.least.now in
+    let lowest = c.args.least.now in
     let best = c.args.best.now in
     let chains = c.in-Some.chains in
     let found = of_some _ _ c.in_ok-chains.field-0 chains c.in-Some.is c.in_ok-chains.ensures in
     let (fit, last, end) = c.requires.ends in (
       tt,
       λ path target solves below unloaded.
-          late_tie network path labels solves target best chains
+          late_tie network path lowest solves target best chains
           (record {
             fit = fit;
             below = below;
             unloaded = unloaded;
-            not_before = subst (λ (others : List ℕ). IsNotAfter others labels.offsets) c.valid.ensures found.0;
-            shown = subst (λ (others : List ℕ). ShowsUpto network path labels.offsets others chains) c.valid.ensures (found.1 path solves);
+            not_before = subst (λ (others : List ℕ). IsNotAfter others lowest.offsets) c.valid.ensures found.0;
+            shown = subst (λ (others : List ℕ). ShowsUpto network path lowest.offsets others chains) c.valid.ensures (found.1 path solves);
           })
           c.args.last c.args.end c.in_ok-chain_to.field-0 last end (omega (arith, c.if-end-limit.true, c.flowspan-limit.ensures)) c.in_ok-chain_to.ensures,
     )
@@ -50,25 +50,25 @@ entries_at-requires-clause-place c =
 pub returns-clause-some : goal.returns-clause-some
 returns-clause-some c =
     let network = c.args.timing.now in
-    let labels = c.args.least.now in
+    let lowest = c.args.least.now in
     let best = c.args.best.now in
     let chains = c.in-Some-2.chains in
     let place = c.in-Load.place in
     let bound = c.in-Load.bound in
     let found = of_some _ _ c.in_ok-chains-2.field-0 chains c.in-Some-2.is c.in_ok-chains-2.ensures in
     let (fit, last, end) = c.requires.ends in
-    let first = subst (IsTightest network labels.offsets best.flowspan) c.in-Some-tightest.is c.requires.tightest in
-    let is = subst (IsFirstLoad network labels.offsets best.flowspan) c.in-Load.is first in (
+    let first = subst (IsTightest network lowest.offsets best.flowspan) c.in-Some-tightest.is c.requires.tightest in
+    let is = subst (IsFirstLoad network lowest.offsets best.flowspan) c.in-Load.is first in (
       tt,
       λ path target solves below unloaded.
           subst (λ (link : ℕ). IsTie network path target best bound (load link c.in_ok-link.entries) chains) (omega arith)
-          (load_tie network path labels solves target best chains
+          (load_tie network path lowest solves target best chains
           (record {
             fit = fit;
             below = below;
             unloaded = unloaded;
-            not_before = subst (λ (others : List ℕ). IsNotAfter others labels.offsets) c.valid-2.ensures found.0;
-            shown = subst (λ (others : List ℕ). ShowsUpto network path labels.offsets others chains) c.valid-2.ensures (found.1 path solves);
+            not_before = subst (λ (others : List ℕ). IsNotAfter others lowest.offsets) c.valid-2.ensures found.0;
+            shown = subst (λ (others : List ℕ). ShowsUpto network path lowest.offsets others chains) c.valid-2.ensures (found.1 path solves);
           })
           place bound c.in_ok-link.link c.in_ok-link.entries (omega (arith, end, c.if-end-limit.false, c.flowspan-limit.ensures)) is c.in_ok-link.ensures.link
           (c.in_ok-link.ensures.shown path solves)),

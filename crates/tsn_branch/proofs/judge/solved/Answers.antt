@@ -2,7 +2,7 @@ use Rattle.std.proofs.Common.{◌≡◌, List, ℕ, sym, ap, ◌∙◌, subst, a
 use Rattle.tsn_model.specs.Schedule.{flowspan}
 use Rattle.tsn_model.specs.Network.{stream_count}
 use Rattle.tsn_model.specs.Search.{ShowsOffsets}
-use Rattle.tsn_diff.specs.Forest.{chain_of}
+use Rattle.tsn_diff.specs.Offsets.{chain_of}
 use Rattle.tsn_branch.specs.Chains.{chains_upto}
 use Rattle.tsn_branch.proofs.Tying.{upto_shows}
 use Rattle.tsn_branch.specs.Look.{AreLeast, IsFirstLast, IsShownBy}
@@ -13,21 +13,21 @@ pub returns : goal.returns
 returns c =
     λ path solves.
     let network = c.args.timing.now in
-    let labels = c.args.least.now in
+    let lowest = c.args.least.now in
     let found = c.of-solved.result in
     let last = c.requires.last in
-    let same : labels.offsets ≡ found.offsets = sym c.offsets.ensures ∙ sym c.in_ok-from_slice.ensures.items ∙ sym c.in-Ok.ensures.same ∙ sym c.of-solved.ensures.schedule in (
-      subst (AreLeast network path) same (AreLeast-from network path labels solves),
+    let same : lowest.offsets ≡ found.offsets = sym c.offsets.ensures ∙ sym c.in_ok-from_slice.ensures.items ∙ sym c.in-Ok.ensures.same ∙ sym c.of-solved.ensures.schedule in (
+      subst (AreLeast network path) same (AreLeast-from network path lowest solves),
       c.of-solved.ensures.solved.0,
       sym c.of-solved.ensures.solved.1 ∙ ap (flowspan network) (sym same),
       sym c.of-solved.ensures.solved.1,
       (
         subst (λ (offsets : List ℕ). IsFirstLast network offsets c.args.last) same last,
         subst (λ (chain : List ℕ). IsShownBy network path found.offsets c.args.last chain) (sym c.in_ok-chain_to.ensures)
-            (subst (λ (offsets : List ℕ). IsShownBy network path offsets c.args.last (chain_of labels c.args.last)) same (IsShownBy-from network path labels solves c.args.last last.counted)),
+            (subst (λ (offsets : List ℕ). IsShownBy network path offsets c.args.last (chain_of lowest c.args.last)) same (IsShownBy-from network path lowest solves c.args.last last.counted)),
       ),
-      subst (λ (chains : List (List ℕ)). ShowsOffsets network path chains found.offsets) (sym (c.in_ok-chains.ensures ∙ ap (chains_upto labels) c.streams.ensures.value))
-          (subst (λ (offsets : List ℕ). ShowsOffsets network path (chains_upto labels (stream_count network)) offsets) same (upto_shows network path labels solves)),
+      subst (λ (chains : List (List ℕ)). ShowsOffsets network path chains found.offsets) (sym (c.in_ok-chains.ensures ∙ ap (chains_upto lowest) c.streams.ensures.value))
+          (subst (λ (offsets : List ℕ). ShowsOffsets network path (chains_upto lowest (stream_count network)) offsets) same (upto_shows network path lowest solves)),
     )
 
 pub unreachable-requires : goal.unreachable-requires

@@ -1,6 +1,6 @@
 use Rattle.std.proofs.Common.{Ok, length, pos, ap, arith}
 use Rattle.tsn_diff.specs.Labels.{labelling_of}
-use Rattle.tsn_diff.specs.Spread.{all_arcs, base_of}
+use Rattle.tsn_diff.specs.Spread.{all_arcs}
 use Rattle.tsn_diff.specs.Limits.{IsArcAmong}
 use Rattle.tsn_diff.proofs.Listings.{All-last}
 use Rattle.tsn_diff.proofs.Forests.{HasSteps-from_forest}
@@ -8,45 +8,45 @@ use Rattle.tsn_diff.proofs.Solutions.{Refutes-from_closes, Refutes-same}
 use Rattle.tsn_diff.proofs.stack.put_in.Goals as goal
 
 pub spread-requires : goal.spread-requires
-spread-requires c = c.requires
+spread-requires g c = c.requires.0
 
 pub returns-in_err-closing-clause-noted : goal.returns-in_err-closing-clause-noted
-returns-in_err-closing-clause-noted c = c.in_err-closing.ensures.noted
+returns-in_err-closing-clause-noted g c = c.in_err-closing.ensures.noted
 
 pub cycle-requires-clause-steps : goal.cycle-requires-clause-steps
-cycle-requires-clause-steps c = let closing = rw c.in-Some.is at c.in_ok-closing.ensures.closing in HasSteps-from_forest closing.0
+cycle-requires-clause-steps g c = let closing = rw c.in-Some.is at c.in_ok-closing.ensures.closing in HasSteps-from_forest closing.0
 
 pub cycle-requires-clause-stream : goal.cycle-requires-clause-stream
-cycle-requires-clause-stream c =
+cycle-requires-clause-stream g c =
     let closing = rw c.in-Some.is at c.in_ok-closing.ensures.closing in
     let there = closing.1.there in
-    let ends = rw there.arc at (c.requires.among c.in-Some.closing.place (record { from = 0; to = 0; weight = pos 0 }) there.place_in) in
+    let ends = rw there.arc at (c.requires.0.among c.in-Some.closing.place (record { from = 0; to = 0; weight = pos 0 }) there.place_in) in
     omega (arith, ends.from_below, c.in_ok-closing.ensures.noted.last)
 
 pub returns-in_err-cycle-clause-noted : goal.returns-in_err-cycle-clause-noted
-returns-in_err-cycle-clause-noted c = c.in_ok-closing.ensures.noted
+returns-in_err-cycle-clause-noted g c = c.in_ok-closing.ensures.noted
 
 pub returns-in-Some-clause-noted : goal.returns-in-Some-clause-noted
-returns-in-Some-clause-noted c = c.in_ok-closing.ensures.noted
+returns-in-Some-clause-noted g c = c.in_ok-closing.ensures.noted
 
 pub returns-in-Some-clause-closed : goal.returns-in-Some-clause-closed
-returns-in-Some-clause-closed c =
-    let base = base_of (labelling_of c.args.labels.now) c.args.listing.now c.args.wave.now.trail c.args.arc in
+returns-in-Some-clause-closed g c =
     let closing = rw c.in-Some.is at c.in_ok-closing.ensures.closing in
     let n = c.spread.ensures.noted in
-    let refutes = Refutes-from_closes (all_arcs base) (labelling_of c.spread.new.labels) c.in-Some.closing.place closing.0 (rw n.offsets c.requires.among) closing.1.closes in
-    rw (c.in_ok-cycle.ensures, ← closing.1.there.arc) (Refutes-same _ _ (all_arcs base) _ n.offsets refutes)
+    let refutes = Refutes-from_closes (all_arcs g.base) (labelling_of c.spread.new.labels) c.in-Some.closing.place closing.0 (rw n.offsets c.requires.0.among) closing.1.closes in
+    rw (c.in_ok-cycle.ensures, ← closing.1.there.arc) (Refutes-same _ _ (all_arcs g.base) _ n.offsets refutes)
 
-pub push-requires-clause-from : goal.push-requires-clause-from
-push-requires-clause-from c =
-    let ends = All-last (IsArcAmong (length c.args.labels.now.offsets.items)) c.args.listing.now.arcs.items c.args.arc c.requires.among in
-    omega (arith, ends.from_below, c.requires.listed.count)
+pub push-requires : goal.push-requires
+push-requires g c =
+    let ends = All-last (IsArcAmong (length g.base.labels.offsets)) g.base.arcs g.base.arc c.requires.0.among in
+    let from = rw c.requires.0.arc_is at ends.from_below in
+    omega (arith, from, c.requires.0.listed.count)
 
 pub returns-in_err-push-clause-noted : goal.returns-in_err-push-clause-noted
-returns-in_err-push-clause-noted c = c.in_ok-closing.ensures.noted
+returns-in_err-push-clause-noted g c = c.in_ok-closing.ensures.noted
 
 pub returns-clause-noted : goal.returns-clause-noted
-returns-clause-noted c = c.in_ok-closing.ensures.noted
+returns-clause-noted g c = c.in_ok-closing.ensures.noted
 
 pub returns-clause-wide : goal.returns-clause-wide
-returns-clause-wide c = c.in_ok-closing.ensures.wide (ap Ok c.in_default.is)
+returns-clause-wide g c = c.in_ok-closing.ensures.wide (ap Ok c.in_default.is)

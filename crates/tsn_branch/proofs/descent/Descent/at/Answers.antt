@@ -1,10 +1,10 @@
-use Rattle.std.proofs.Common.{◌≡◌, ◌<◌, ◌-◌, ◌+◌, List, [], ◌∷◌, ◌++◌, None, length, take, get_or, sym, ap, ◌∙◌, subst, arith}
+use Rattle.std.proofs.Common.{◌≡◌, ◌<◌, ◌-◌, List, [], ◌∷◌, ◌++◌, None, length, take, get_or, sym, ap, ◌∙◌, subst, arith}
 use Rattle.std.specs.Prelude.{Contains, IfNone, IfSome}
 use Rattle.std.proofs.lemmas.List.Elements.{All-get_or}
 use Rattle.tsn_model.specs.declared.Arc.{Arc}
 use Rattle.tsn_model.specs.declared.Decision.{Decision}
 use Rattle.tsn_model.specs.declared.Side.TheVariants.{Left}
-use Rattle.tsn_model.specs.Arcs.{arcs_of, arc_on}
+use Rattle.tsn_model.specs.Arcs.{arcs_of}
 use Rattle.tsn_diff.specs.Answers.{Refutes}
 use Rattle.tsn_branch.specs.Path.{Fits}
 use Rattle.tsn_branch.specs.Look.{HasNoOffsets}
@@ -39,7 +39,7 @@ loop-depth-preserved c =
     let above = c.saturating_sub-above.ensures in
     let within : depth < length path = omega arith in
     let arc = c.arc-arc.ensures.value network c.requires.conflicts in
-    let put = subst (λ o. IfNone o (c.push.new.self.arcs ≡ c.loop-depth.stack.arcs ++ c.arc-arc.result ∷ [])) c.in_default.is c.in_ok-_closed.ensures.arcs in
+    let put = subst (λ o. IfNone o (c.push.new.self.least.arcs ≡ c.loop-depth.stack.least.arcs ++ c.arc-arc.result ∷ [])) c.in_default.is c.in_ok-_closed.ensures.arcs in
     record {
       releases = c.push.ensures.releases ∙ c.loop-depth.invariant.releases;
       arcs = put ∙ (λ i. c.loop-depth.invariant.arcs i ++ arc i ∷ []) ∙ sym (arcs_more network path depth (record { triple = record { left = 0; right = 0; link = 0 }; side = Left }) within);
@@ -68,7 +68,7 @@ returns-in-Some-clause-none c =
     let arcs = c.loop-depth.invariant.arcs in
     let arc = c.arc-arc.ensures.value network c.requires.conflicts in
     let none : Decision = record { triple = record { left = 0; right = 0; link = 0 }; side = Left } in
-    let refutes = subst (λ o. IfSome o (λ chain. Refutes (length c.loop-depth.stack.releases) (c.loop-depth.stack.arcs ++ c.arc-arc.result ∷ []) chain.items)) c.in-Some.is c.in_ok-_closed.ensures.closed in
-    let on_path = subst (λ (as' : List Arc). Refutes (length c.loop-depth.stack.releases) as' c.in-Some._closed.items) (λ i. arcs i ++ arc i ∷ []) refutes in
-    let found = none_hold network path depth (length path - 1) (length c.loop-depth.stack.releases) none c.in-Some._closed.items (omega arith) (omega arith) on_path in
+    let refutes = subst (λ o. IfSome o (λ chain. Refutes (length c.loop-depth.stack.least.releases) (c.loop-depth.stack.least.arcs ++ c.arc-arc.result ∷ []) chain.items)) c.in-Some.is c.in_ok-_closed.ensures.closed in
+    let on_path = subst (λ (as' : List Arc). Refutes (length c.loop-depth.stack.least.releases) as' c.in-Some._closed.items) (λ i. arcs i ++ arc i ∷ []) refutes in
+    let found = none_hold network path depth (length path - 1) (length c.loop-depth.stack.least.releases) none c.in-Some._closed.items (omega arith) (omega arith) on_path in
     subst (λ (p : List Decision). HasNoOffsets network (take (length p - 1) p)) c.path-path.ensures.value found

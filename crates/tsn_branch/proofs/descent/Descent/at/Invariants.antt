@@ -5,6 +5,6 @@ use Rattle.tsn_branch.proofs.descent.Descent.at.Given as goal
 
 abbrev pub invariant-loop-depth : goal.invariant-loop-depth
 invariant-loop-depth l = record {
-  releases : l.stack.releases ≡ releases_of l.fn.timing;
-  arcs : l.stack.arcs ≡ arcs_of l.fn.timing (take l.depth l.path);
+  releases : l.stack.least.releases ≡ releases_of l.fn.timing;
+  arcs : l.stack.least.arcs ≡ arcs_of l.fn.timing (take l.depth l.path);
 }

@@ -26,11 +26,11 @@ returns-in-Some-2-clause-led c =
     let here : Stands network (record { path = c.self.inside.node; stack = c.self.inside.stack; seen = c.self.inside.seen.items; found = c.self.inside.found }) = subst (Stands network) (sym c.self.view_is) c.requires.stands in
     let node : c.self.inside.node ≡ decided front last.triple last.side = sym c.path.ensures.value ∙ whole in
     let arc = c.arc-arc.ensures.value network c.requires.conflicts in
-    let refutes = subst (λ (a : Arc). Refutes (length c.self.inside.stack.releases) (c.self.inside.stack.arcs ++ a ∷ []) c.in-Some-2.chain.items) arc
-    (subst (λ o. IfSome o (λ chain. Refutes (length c.self.inside.stack.releases) (c.self.inside.stack.arcs ++ c.arc-arc.result ∷ []) chain.items)) c.in-Some-2.is c.in_ok-chain.ensures.closed) in
+    let refutes = subst (λ (a : Arc). Refutes (length c.self.inside.stack.least.releases) (c.self.inside.stack.least.arcs ++ a ∷ []) c.in-Some-2.chain.items) arc
+    (subst (λ o. IfSome o (λ chain. Refutes (length c.self.inside.stack.least.releases) (c.self.inside.stack.least.arcs ++ c.arc-arc.result ∷ []) chain.items)) c.in-Some-2.is c.in_ok-chain.ensures.closed) in
     let left : c.push.new.self ≡ c.self.inside.stack = subst (λ o. OnSome o (c.push.new.self ≡ c.self.inside.stack)) c.in-Some-2.is c.in_ok-chain.ensures.refused in
     let there_is = ap (λ (way : Way). way.path) c.self.view_is in (
-      record { releases = c.push.ensures.releases ∙ here.releases; arcs = ap (λ (stack : Stack). stack.arcs) left ∙ here.arcs; split_above = here.split_above },
+      record { releases = c.push.ensures.releases ∙ here.releases; arcs = ap (λ (stack : Stack). stack.least.arcs) left ∙ here.arcs; split_above = here.split_above },
       subst (λ p. Refutes (length (releases_of network)) (arcs_of network p) c.in-Some-2.chain.items) there_is
           (refutes_down network front last.triple last.side c.self.inside.node c.self.inside.stack c.in-Some-2.chain.items node here.releases here.arcs refutes),
     )
@@ -49,8 +49,8 @@ returns-clause-led c =
     let node : c.self.inside.node ≡ decided front last.triple last.side = sym c.path.ensures.value ∙ whole in
     let arc = c.arc-arc.ensures.value network c.requires.conflicts in
     let puts = subst (λ (a : Arc). Puts a c.self.inside.stack c.push.new.self) arc (record {
-      arcs = subst (λ o. IfNone o (c.push.new.self.arcs ≡ c.self.inside.stack.arcs ++ c.arc-arc.result ∷ [])) c.in_default-2.is c.in_ok-chain.ensures.arcs;
-      rises = subst (λ o. IfNone o (RisesAt c.push.new.self.raised c.self.inside.stack.labels.offsets c.push.new.self.labels.offsets)) c.in_default-2.is c.in_ok-chain.ensures.raised;
+      arcs = subst (λ o. IfNone o (c.push.new.self.least.arcs ≡ c.self.inside.stack.least.arcs ++ c.arc-arc.result ∷ [])) c.in_default-2.is c.in_ok-chain.ensures.arcs;
+      rises = subst (λ o. IfNone o (RisesAt c.push.new.self.raised c.self.inside.stack.least.offsets c.push.new.self.least.offsets)) c.in_default-2.is c.in_ok-chain.ensures.raised;
       solved_before = c.push.ensures.solved_before;
       solved = c.push.ensures.solved;
     }) in

@@ -5,7 +5,7 @@ use Rattle.tsn_model.specs.declared.Side.TheVariants.{Left, Right}
 use Rattle.tsn_model.specs.declared.Decision.{Decision}
 use Rattle.tsn_model.specs.Certificate.{decided}
 use Rattle.tsn_model.specs.Places.{pending}
-use Rattle.tsn_model.proofs.Places.{pending-nil, pending-left, pending-right}
+use Rattle.tsn_model.proofs.Places.{pending-left, pending-right}
 use Rattle.tsn_branch.specs.Path.{Fits}
 use Rattle.tsn_branch.specs.Descent.{Way, Stands}
 use Rattle.tsn_branch.proofs.Descents.{above, length-decided, fits_turned, take-inner, kept_turned}

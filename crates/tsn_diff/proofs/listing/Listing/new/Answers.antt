@@ -1,4 +1,4 @@
-use Rattle.std.proofs.Common.{◌+◌, ◌<◌, ◌≤◌, length, ⊎_elim, arith, ap, ◌∙◌}
+use Rattle.std.proofs.Common.{◌+◌, ◌<◌, ◌≤◌, length, ⊎_elim, arith, refl, ap, ◌∙◌}
 use Rattle.std.proofs.lemmas.Bool.{cases_lt}
 use Rattle.std.proofs.lemmas.List.{get_or_append_left, get_or_push, length_push}
 use Rattle.std.proofs.lemmas.List.Elements.{All-nil}
@@ -23,8 +23,8 @@ loop-preserved c =
 pub returns-clause-listing : goal.returns-clause-listing
 returns-clause-listing c =
     record {
-      from_in = rw c.new-2.ensures.items (All-nil (λ (arc : Arc). arc.from < c.args.streams));
+      from_in = All-nil (λ (arc : Arc). arc.from < c.args.streams);
       count = omega (arith, c.loop.invariant.count);
-      leaving = λ i d l. rw c.new-2.ensures.items (c.loop.invariant.none i d (omega arith));
-      marks = rw (c.new-2.ensures.items, c.new-3.ensures.items);
+      leaving = λ i d l. c.loop.invariant.none i d (omega arith);
+      marks = rw c.new-2.ensures.items refl;
     }

@@ -1,16 +1,19 @@
-use Rattle.std.proofs.Common.{ℕ, List, length, replicate, None, ◌∙◌, subst}
+use Rattle.std.proofs.Common.{ℕ, List, length, replicate, None, sym, ◌∙◌, subst}
 use Rattle.tsn_diff.specs.Forest.{IsRaised}
 use Rattle.tsn_diff.proofs.Solutions.{IsForest-unraised, IsRaised-unraised}
 use Rattle.tsn_diff.proofs.solve.Net.least.Goals as goal
 
-pub settle-requires-clause-forest : goal.settle-requires-clause-forest
-settle-requires-clause-forest c =
+pub settle-requires : goal.settle-requires
+settle-requires c =
     let offsets = c.in_ok-labels.ensures.offsets in
-    rw c.in_ok-labels.ensures.last (IsForest-unraised c.args.arcs.now c.in_ok-labels.labels.offsets.items (rw offsets c.self.invariant.0) (rw offsets c.self.invariant.1))
+    let items = c.in_ok-labels.labels.offsets.items in
+    let all = c.in_ok-all.ensures.items in
+    let net = c.in_ok-copied.ensures in
+    record {
+      among = rw (all, net) c.requires;
+      forest = rw (all, c.in_ok-labels.ensures.last) (IsForest-unraised c.args.arcs.now items (rw offsets c.self.invariant.0) (rw offsets c.self.invariant.1));
+      raised = rw c.in_ok-labels.ensures.last (subst (λ (releases : List ℕ). IsRaised releases (record { offsets = items; last = replicate (length items) None })) (offsets ∙ c.self.view_is ∙ sym net) (IsRaised-unraised items));
+    }
 
 pub returns : goal.returns
-returns c =
-    let offsets = c.in_ok-labels.labels.offsets.items in
-    let raised = IsRaised-unraised offsets in
-    c.in_ok-settle.ensures c.args.self.now
-    (rw c.in_ok-labels.ensures.last (subst (λ (releases : List ℕ). IsRaised releases (record { offsets = offsets; last = replicate (length offsets) None })) (c.in_ok-labels.ensures.offsets ∙ c.self.view_is) raised))
+returns c = rw (c.in_ok-copied.ensures, c.in_ok-all.ensures.items) at c.in_ok-settle.ensures

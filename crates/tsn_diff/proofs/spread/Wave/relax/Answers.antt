@@ -21,7 +21,7 @@ loop-placed-init g c = record {
 
 pub asked-requires-clause-arc : goal.asked-requires-clause-arc
 asked-requires-clause-arc g c =
-    let items = leaving_is _ c.args.listing.now g.base.arcs c.args.stream c.index-leaving.result.now _ c.requires.listed c.requires.same c.requires.stream_in c.deref-placed-items.ensures.value c.index-leaving.ensures in
+    let items = leaving_is _ c.args.listing.now g.base.arcs c.args.stream c.index-leaving.result.now _ c.requires.listed c.requires.stream_in c.deref-placed-items.ensures.value c.index-leaving.ensures in
     among_placed g.base (labelling_of c.loop-placed.labels) c.loop-placed.standings c.loop-placed.self _ c.loop-placed.invariant.wave (placed_among g.base c.args.stream _ items c.loop-placed.placed-index _ c.loop-placed-test.true).0
 
 pub asked-requires-clause-small : goal.asked-requires-clause-small
@@ -29,7 +29,7 @@ asked-requires-clause-small g c = let w = c.loop-placed.invariant.wave in all_sm
 
 pub raise-requires : goal.raise-requires
 raise-requires g c =
-    let items = leaving_is _ c.args.listing.now g.base.arcs c.args.stream c.index-leaving.result.now _ c.requires.listed c.requires.same c.requires.stream_in c.deref-placed-items.ensures.value c.index-leaving.ensures in
+    let items = leaving_is _ c.args.listing.now g.base.arcs c.args.stream c.index-leaving.result.now _ c.requires.listed c.requires.stream_in c.deref-placed-items.ensures.value c.index-leaving.ensures in
     record {
       moves = c.loop-placed.invariant.wave;
       there = (placed_among g.base c.args.stream _ items c.loop-placed.placed-index _ c.loop-placed-test.true).0;
@@ -42,7 +42,7 @@ returns-then-branch-clause-goes_on g c =
 
 pub returns-then-branch-clause-closing : goal.returns-then-branch-clause-closing
 returns-then-branch-clause-closing g c =
-    let items = leaving_is _ c.args.listing.now g.base.arcs c.args.stream c.index-leaving.result.now _ c.requires.listed c.requires.same c.requires.stream_in c.deref-placed-items.ensures.value c.index-leaving.ensures in
+    let items = leaving_is _ c.args.listing.now g.base.arcs c.args.stream c.index-leaving.result.now _ c.requires.listed c.requires.stream_in c.deref-placed-items.ensures.value c.index-leaving.ensures in
     record {
       there = (placed_among g.base c.args.stream _ items c.loop-placed.placed-index _ c.loop-placed-test.true).0;
       closes = c.in_ok-raise.ensures.closes (ap Ok c.if-branch.true);
@@ -50,7 +50,7 @@ returns-then-branch-clause-closing g c =
 
 pub loop-placed-preserved : goal.loop-placed-preserved
 loop-placed-preserved g c =
-    let items = leaving_is _ c.args.listing.now g.base.arcs c.args.stream c.index-leaving.result.now _ c.requires.listed c.requires.same c.requires.stream_in c.deref-placed-items.ensures.value c.index-leaving.ensures in
+    let items = leaving_is _ c.args.listing.now g.base.arcs c.args.stream c.index-leaving.result.now _ c.requires.listed c.requires.stream_in c.deref-placed-items.ensures.value c.index-leaving.ensures in
     let k = c.loop-placed.placed-index in
     let none : Placed = record { place = 0; arc = record { from = 0; to = 0; weight = pos 0 } } in
     let here = placed_among g.base c.args.stream _ items k none c.loop-placed-test.true in
@@ -72,5 +72,5 @@ loop-placed-preserved g c =
 
 pub returns-clause-met : goal.returns-clause-met
 returns-clause-met g c =
-    let items = leaving_is _ c.args.listing.now g.base.arcs c.args.stream c.index-leaving.result.now _ c.requires.listed c.requires.same c.requires.stream_in c.deref-placed-items.ensures.value c.index-leaving.ensures in
+    let items = leaving_is _ c.args.listing.now g.base.arcs c.args.stream c.index-leaving.result.now _ c.requires.listed c.requires.stream_in c.deref-placed-items.ensures.value c.index-leaving.ensures in
     λ e. MeetsFrom-leaving g.base (labelling_of c.loop-placed.labels) c.loop-placed.standings c.loop-placed.self c.args.stream c.loop-placed.invariant.wave c.loop-placed.invariant.settled (rw (← items) (λ k d l. c.loop-placed.invariant.met k d (omega (arith, c.loop-placed-test.false))))

@@ -35,7 +35,7 @@ raise-requires g c =
     let wave : Wave = record { trail = c.args.self.now.trail; queue = c.clear.new.self } in
     record {
       moves = IsWave-start g.base _ wave c.args.listing.now c.args.arc c.requires c.fix_chain.new.standings (omega (arith, c.requires.forest.few, c.fix_chain.auto.standings)) c.fix_chain.ensures.fixed c.fix_chain.ensures.others c.clear.ensures.items;
-      there = IsPlaced-new g.base _ wave c.args.listing.now c.args.arc c.requires c.len.result (c.len.ensures ∙ c.args.listing.now.arcs.ok.0);
+      there = IsPlaced-new g.base _ wave c.args.listing.now c.args.arc c.requires c.len.result (c.len.ensures ∙ c.args.listing.now.marks.ok.0);
       asked = c.in-Some.ensures;
     }
 
@@ -54,7 +54,7 @@ loop-turn-init g c =
 pub relax-requires : goal.relax-requires
 relax-requires g c =
     let w = c.loop-turn.invariant.wave in
-    IsTurn-settled g.base _ c.loop-turn.standings c.loop-turn.self c.loop-turn.turn c.index-stream.result.now w (omega (arith, c.loop-turn-test.true, c.len-in-loop-turn.ensures, c.loop-turn.self.queue.ok.0)) c.index-stream.ensures c.args.listing.now c.requires.listed c.requires.arcs_are
+    IsTurn-settled g.base _ c.loop-turn.standings c.loop-turn.self c.loop-turn.turn c.index-stream.result.now w (omega (arith, c.loop-turn-test.true, c.len-in-loop-turn.ensures, c.loop-turn.self.queue.ok.0)) c.index-stream.ensures c.args.listing.now c.requires.listed
 
 pub loop-turn-smaller : goal.loop-turn-smaller
 loop-turn-smaller g c =

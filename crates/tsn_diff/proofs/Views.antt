@@ -1,0 +1,57 @@
+-- Least offsets as they are seen, and the labels behind them.
+use Rattle.std.proofs.Common.{◌≡◌, ℕ, zero, suc, ◌-◌, ◌<◌, List, [], ◌∷◌, ◌++◌, length, map, Option, Some, None, refl, sym, ap, ◌∙◌, arith}
+use Rattle.std.specs.List.{range_with_len}
+use Rattle.std.specs.Prelude.{slice_get}
+use Rattle.std.proofs.lemmas.List.{ext_get_or, get_or-map, get_or_push, length-map, length_push}
+use Rattle.std.proofs.lemmas.List.FromFn.{get_or-map-range_with_len, length-map-range_with_len}
+use Rattle.std.proofs.lemmas.Option.{slice_get-get_or}
+use Rattle.tsn_model.specs.declared.Arc.{Arc}
+use Rattle.tsn_model.specs.Arcs.{arc_at}
+use Rattle.tsn_diff.specs.declared.labels.Step.{Step}
+use Rattle.tsn_diff.specs.Offsets.{chain_of}
+use Rattle.tsn_diff.specs.Forest.{Labelling, IsForest, last_of, steps_back, places_of, chain_by, least_by, step_of, labelling_by}
+use Rattle.tsn_diff.proofs.Cases.{by_option}
+use Rattle.tsn_diff.proofs.Sums.{places_of-cons}
+
+-- a stream's chain is the one that its steps make
+pub chain_of-least_by : (releases : List ℕ) (arcs : List Arc) (labels : Labelling) (i : ℕ) → i < length labels.last → chain_of (least_by releases arcs labels) i ≡ chain_by labels i
+chain_of-least_by releases arcs labels i l = get_or-map-range_with_len (chain_by labels) 0 (length labels.last) i i [] l (omega arith)
+
+steps_none : (n : ℕ) (last : List (Option Step)) (i : ℕ) → last_of last i ≡ None → steps_back n last None i ≡ []
+steps_none zero last i none = refl
+steps_none (suc n) last i none = rw none refl
+
+steps_some : (n : ℕ) (last : List (Option Step)) (i : ℕ) (step : Step) → 0 < n → last_of last i ≡ Some step → steps_back n last None i ≡ step ∷ steps_back (n - 1) last None step.from
+steps_some zero last i step some is = absurd (omega arith)
+steps_some (suc n) last i step some is = let e : suc n - 1 ≡ n = omega arith in rw (is, e) refl
+
+-- a chain ends with the place that was put last
+end_of : (chain : List ℕ) (place : ℕ) → slice_get (chain ++ place ∷ []) (length (chain ++ place ∷ []) - 1) ≡ Some place
+end_of chain place =
+    let long = length_push chain place in
+    slice_get-get_or (chain ++ place ∷ []) (length (chain ++ place ∷ []) - 1) place (omega arith) ∙ ap Some (get_or_push chain place place (length (chain ++ place ∷ []) - 1) (omega arith))
+
+-- a chain ends with the stream's last step
+step_of-chain_by : (arcs : List Arc) (labels : Labelling) → IsForest arcs labels → (i : ℕ) → i < length labels.last → step_of arcs (chain_by labels i) ≡ last_of labels.last i
+step_of-chain_by arcs labels forest i l =
+    by_option (last_of labels.last i)
+    (λ none. ap (λ (steps : List Step). step_of arcs (places_of steps)) (steps_none (length labels.last) labels.last i none) ∙ sym none)
+    (λ step is.
+    let rest = steps_back (length labels.last - 1) labels.last None step.from in
+    let begins : (arc_at arcs step.place).from ≡ step.from = (forest.steps i step is).begins in
+    let ends = end_of (places_of rest) step.place in
+    ap (λ (steps : List Step). step_of arcs (places_of steps)) (steps_some (length labels.last) labels.last i step (omega arith) is) ∙ ap (step_of arcs) (places_of-cons step rest)
+    ∙ rw (ends, begins, is) refl)
+
+-- so the labels can be told from what is seen
+pub labelling_by-least_by : (releases : List ℕ) (arcs : List Arc) (labels : Labelling) → IsForest arcs labels → labelling_by (least_by releases arcs labels) ≡ labels
+labelling_by-least_by releases arcs labels forest =
+    let chains = map (chain_by labels) (range_with_len 0 (length labels.last)) in
+    let long : length chains ≡ length labels.last = length-map-range_with_len (chain_by labels) 0 (length labels.last) in
+    let count : length (map (step_of arcs) chains) ≡ length labels.last = length-map chains (step_of arcs) ∙ long in
+    let same : map (step_of arcs) chains ≡ labels.last =
+    ext_get_or None (map (step_of arcs) chains) labels.last count
+    (λ i l.
+    let below : i < length labels.last = omega arith in
+    get_or-map (step_of arcs) chains i [] None (omega arith) ∙ ap (step_of arcs) (chain_of-least_by releases arcs labels i below) ∙ step_of-chain_by arcs labels forest i below) in
+    rw same refl
