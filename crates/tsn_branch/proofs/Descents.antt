@@ -6,13 +6,14 @@ use Rattle.std.proofs.lemmas.List.Elements.{All-pop, All-push}
 use Rattle.std.proofs.Math.Seq.{set-append_seam, get_or-append_seam}
 use Rattle.std.proofs.lemmas.Bool.{cases_lt}
 use Rattle.std.proofs.lemmas.Option.{slice_get_within, get_or_from_slice_get}
-use Rattle.std.proofs.lemmas.List.{take_all, take_more, length-append, length-take, length-take-le, take-append-le, get_or_append_left, get_or-append-add, map-append, get_or-take}
+use Rattle.std.proofs.lemmas.List.{take_all, take_more, length-append, length-take, length-take-le, take-append-le, get_or_append_left, get_or-append-add, get_or-take}
 use Rattle.tsn_model.specs.declared.Triple.{Triple}
 use Rattle.tsn_model.specs.declared.Side.{Side}
 use Rattle.tsn_model.specs.declared.Decision.{Decision}
 use Rattle.tsn_model.specs.Network.{Network}
-use Rattle.tsn_model.specs.Arcs.{arcs_of, arc_of, arc_on}
+use Rattle.tsn_model.specs.Arcs.{arcs_of}
 use Rattle.tsn_model.specs.Certificate.{decided}
+use Rattle.tsn_model.proofs.Decisions.{length-decided}
 use Rattle.tsn_branch.specs.declared.seen.Seen.{Seen}
 use Rattle.tsn_branch.specs.Path.{DecidesOnce, Fits}
 use Rattle.tsn_branch.specs.Descent.{IsSeen, AllSeen}
@@ -24,23 +25,6 @@ unfolding decided
 by_last path last some is =
     let k : ℕ = length path - 1 in
     sym (take_all (k + 1) path (omega arith)) ∙ take_more path k last (omega arith) ∙ ap (λ d. take k path ++ d ∷ []) (sym is)
-
-pub length-decided : (front : List Decision) (triple : Triple) (side : Side) → length (decided front triple side) ≡ length front + 1
-unfolding decided
-length-decided front triple side = length-append front (record { triple = triple; side = side } ∷ [])
-
--- the path above the last decision
-pub above : (front : List Decision) (triple : Triple) (side : Side) → take (length (decided front triple side) - 1) (decided front triple side) ≡ front
-unfolding decided
-above front triple side =
-    let long = length-append front (record { triple = triple; side = side } ∷ []) in
-    let same : length (front ++ record { triple = triple; side = side } ∷ []) - 1 ≡ length front = omega arith in
-    ap (λ n. take n (front ++ record { triple = triple; side = side } ∷ [])) same
-    ∙ take-append-le (length front) front (record { triple = triple; side = side } ∷ []) (omega arith) ∙ take_all (length front) front (omega arith)
-
-pub arcs-decided : (network : Network) (front : List Decision) (triple : Triple) (side : Side) → arcs_of network (decided front triple side) ≡ arcs_of network front ++ arc_on network triple side ∷ []
-unfolding arcs_of arc_of decided
-arcs-decided network front triple side = map-append (arc_of network) front (record { triple = triple; side = side } ∷ [])
 
 pub arcs-nil : (network : Network) → arcs_of network [] ≡ []
 unfolding arcs_of

@@ -6,51 +6,34 @@ use Rattle.std.specs.List.{range_with_len}
 use Rattle.std.proofs.lemmas.Bool.{cond-true, cond-false, leb-true}
 use Rattle.std.proofs.lemmas.Bool.Decides.{nat_tests}
 use Rattle.std.proofs.lemmas.Int.{ints, fold-int_min_reached}
-use Rattle.std.proofs.lemmas.List.{map_push, map-append, length-map, length-take, take_more, get_or-map}
+use Rattle.std.proofs.lemmas.List.{map_push, length-map, length-take, take_more, get_or-map}
 use Rattle.std.proofs.lemmas.Simd.{map-map}
 use Rattle.std.proofs.lemmas.List.Elements.{filter-append, filter_passes, All-head, All-tail, All-contains, All-map, All-more}
-use Rattle.std.proofs.lemmas.List.FromFn.{map-range_with_len_more, length-range_with_len}
-use Rattle.std.proofs.lemmas.List.Sums.{fold-append, sum_by-append, sum_by-le}
+use Rattle.std.proofs.lemmas.List.FromFn.{length-range_with_len}
+use Rattle.std.proofs.lemmas.List.Sums.{sum_by-append, sum_by-le}
 use Rattle.tsn_model.specs.Network.{Network, IsWellFormed, stream_count, hop_count, route_link}
 use Rattle.tsn_model.specs.Timing.{occupancy, arrival, hop_on, UsesLink, start_on}
 use Rattle.tsn_model.specs.Certificate.{least}
 use Rattle.tsn_branch.specs.Links.{users_of, shared_links, work_on, tail_on, head_by, busy_by, load_by, IsUnloaded}
 use Rattle.tsn_branch.specs.Loads.{SharedLink, IsEarly, head_in, link_in, user_on, link_with, shared_link, users_upto, shared_upto}
+use Rattle.tsn_model.proofs.Lists.{least-map_push, least-one, range_more}
 use Rattle.tsn_model.proofs.Limits.{start-le, occupancy-le, transfer-le, hops-pos, route_exists}
 use Rattle.tsn_model.proofs.Routes.{use_of, UsesLink-counted, UsesLink-exists}
 use Rattle.tsn_branch.specs.declared.loads.User.{User}
 use Rattle.tsn_branch.specs.declared.loads.LinkTable.{LinkTable}
 
--- ---- the least of some numbers
-
-least-push : (x : ℤ) (xs : List ℤ) (y : ℤ) → least ((x ∷ xs) ++ y ∷ []) ≡ int_min (least (x ∷ xs)) y
-unfolding least
-least-push x xs y = fold-append int_min x xs (y ∷ [])
-
-pub least-map_push : {X : Type 0} (f : X → ℤ) (xs : List X) (y : X) → 0 < length xs → least (map f (xs ++ y ∷ [])) ≡ int_min (least (map f xs)) (f y)
-least-map_push f [] y some = absurd (omega arith)
-least-map_push f (x ∷ xs) y some = ap least (map-append f (x ∷ xs) (y ∷ [])) ∙ least-push (f x) (map f xs) (f y)
-
-pub least-one : (x : ℤ) → least (x ∷ []) ≡ x
-unfolding least
-least-one x = refl
-
 -- ---- the streams of a link, and the shared links, one after another
 
-range_more : (n : ℕ) → range_with_len 0 (n + 1) ≡ range_with_len 0 n ++ n ∷ []
-range_more n = sym (map_same (range_with_len 0 (n + 1))) ∙ map-range_with_len_more (λ x. x) 0 n n (omega arith) ∙ ap (λ xs. xs ++ n ∷ []) (map_same (range_with_len 0 n))
-  where
-    map_same : (xs : List ℕ) → map (λ x. x) xs ≡ xs
-    map_same [] = refl
-    map_same (x ∷ xs) = ap (λ ys. x ∷ ys) (map_same xs)
+range_next : (n : ℕ) → range_with_len 0 (n + 1) ≡ range_with_len 0 n ++ n ∷ []
+range_next n = range_more 0 n ∙ ap (λ m. range_with_len 0 n ++ m ∷ []) (omega arith)
 
 pub kept_more : (p : ℕ → Bool) (n : ℕ) → p n ≡ true → filter p (range_with_len 0 (n + 1)) ≡ filter p (range_with_len 0 n) ++ n ∷ []
 kept_more p n passes =
-    ap (filter p) (range_more n) ∙ filter-append p (range_with_len 0 n) (n ∷ []) ∙ ap (λ ys. filter p (range_with_len 0 n) ++ ys) (cond-true (p n) (n ∷ []) [] passes)
+    ap (filter p) (range_next n) ∙ filter-append p (range_with_len 0 n) (n ∷ []) ∙ ap (λ ys. filter p (range_with_len 0 n) ++ ys) (cond-true (p n) (n ∷ []) [] passes)
 
 pub kept_same : (p : ℕ → Bool) (n : ℕ) → p n ≡ false → filter p (range_with_len 0 (n + 1)) ≡ filter p (range_with_len 0 n)
 kept_same p n fails =
-    ap (filter p) (range_more n) ∙ filter-append p (range_with_len 0 n) (n ∷ []) ∙ ap (λ ys. filter p (range_with_len 0 n) ++ ys) (cond-false (p n) (n ∷ []) [] fails)
+    ap (filter p) (range_next n) ∙ filter-append p (range_with_len 0 n) (n ∷ []) ∙ ap (λ ys. filter p (range_with_len 0 n) ++ ys) (cond-false (p n) (n ∷ []) [] fails)
     ∙ append-nil (filter p (range_with_len 0 n))
 
 module _ (network : Network) (link : ℕ) where

@@ -19,8 +19,9 @@ use Rattle.tsn_branch.specs.Releases.{releases_of}
 use Rattle.tsn_branch.specs.Look.{HasNoOffsets}
 use Rattle.tsn_branch.specs.declared.seen.Seen.{Seen}
 use Rattle.tsn_branch.specs.Descent.{Way, IsSeen, WasSeen, AllSeen, Stands, Splits, Leads}
+use Rattle.tsn_model.proofs.Decisions.{length-arcs_of, arcs_of-decided, take-decided}
 use Rattle.tsn_branch.proofs.Leasts.{AreLeast-from}
-use Rattle.tsn_branch.proofs.Descents.{by_last, above, arcs-decided, arcs-nil, seen_none, seen_more, seen_above, seen_turned, seen_last, take-inner}
+use Rattle.tsn_branch.proofs.Descents.{by_last, arcs-nil, seen_none, seen_more, seen_above, seen_turned, seen_last, take-inner}
 
 pub stands_root : (network : Network) (stack : Stack) (found : Option Seen) → stack.least.releases ≡ releases_of network → stack.least.arcs ≡ [] → Stands network (record { path = []; stack = stack; seen = []; found = found })
 stands_root network stack found none is = record { releases = none; arcs = is ∙ sym (arcs-nil network); split_above = seen_none network [] }
@@ -31,7 +32,7 @@ stands_down network triple way here found splits is =
     let same : splits.seen_here ≡ here = some_same (sym splits.found ∙ is) in
     record {
       releases = splits.releases;
-      arcs = splits.arcs ∙ ap (arcs_of network) (sym (above way.path triple Left));
+      arcs = splits.arcs ∙ ap (arcs_of network) (sym (take-decided way.path triple Left));
       split_above = seen_more network way.path way.seen here triple Left splits.split_above (subst (IsSeen network way.path) same splits.is_seen);
     }
   where
@@ -45,8 +46,8 @@ pub stands_back : (network : Network) (path : List Decision) (old new : Stack) (
     → Stands network (record { path = path; stack = new; seen = seen; found = found })
 stands_back network path old new seen found none is all front triple side whole same popped = record {
   releases = same ∙ none;
-  arcs = popped (arcs_of network front) (arc_on network triple side) (is ∙ ap (arcs_of network) whole ∙ arcs-decided network front triple side)
-      ∙ ap (arcs_of network) (sym (ap (λ p. take (length p - 1) p) whole ∙ above front triple side));
+  arcs = popped (arcs_of network front) (arc_on network triple side) (is ∙ ap (arcs_of network) whole ∙ arcs_of-decided network front triple side)
+      ∙ ap (arcs_of network) (sym (ap (λ p. take (length p - 1) p) whole ∙ take-decided front triple side));
   split_above = all;
 }
 
@@ -69,7 +70,7 @@ pub was_seen : (network : Network) (front : List Decision) (triple : Triple) (si
     → WasSeen network new.raised new.least.offsets last
 was_seen network front triple side old new last none same is puts seen =
     let first : Solves (releases_of network) (arcs_of network front) old.least = subst (λ rs. Solves rs (arcs_of network front) old.least) none (subst (λ as'. Solves old.least.releases as' old.least) is puts.solved_before) in
-    let arcs : new.least.arcs ≡ arcs_of network (decided front triple side) = puts.arcs ∙ ap (λ as'. as' ++ arc_on network triple side ∷ []) is ∙ sym (arcs-decided network front triple side) in
+    let arcs : new.least.arcs ≡ arcs_of network (decided front triple side) = puts.arcs ∙ ap (λ as'. as' ++ arc_on network triple side ∷ []) is ∙ sym (arcs_of-decided network front triple side) in
     let second : Solves (releases_of network) (arcs_of network (decided front triple side)) new.least =
     subst (λ rs. Solves rs (arcs_of network (decided front triple side)) new.least) (same ∙ none) (subst (λ as'. Solves new.least.releases as' new.least) arcs puts.solved) in
     let before = AreLeast-from network front old.least first in
@@ -81,7 +82,7 @@ was_seen network front triple side old new last none same is puts seen =
         count = before.count ∙ sym now.count;
         risen = λ i. elim (cases_lt i (stream_count network)) [
           | inl below ↦ before.least new.least.offsets now.count now.released
-              (front_held new.least.offsets (arcs_of network front) (arc_on network triple side) (subst (HoldsAll new.least.offsets) (arcs-decided network front triple side) now.held)) i below
+              (front_held new.least.offsets (arcs_of network front) (arc_on network triple side) (subst (HoldsAll new.least.offsets) (arcs_of-decided network front triple side) now.held)) i below
           | inr past ↦
               let none_before = get_or_past old.least.offsets i 0 (subst (λ n. n ≤ i) (sym before.count) past) in
               omega arith
@@ -91,19 +92,15 @@ was_seen network front triple side old new last none same is puts seen =
       was_seen = seen.by_least old.least.offsets before;
     }
 
-pub length-arcs : (network : Network) (path : List Decision) → length (arcs_of network path) ≡ length path
-unfolding arcs_of
-length-arcs network path = length-map path (arc_of network)
-
 pub leads_down : (network : Network) (front : List Decision) (triple : Triple) (side : Side) (path : List Decision) (old new : Stack) (seen : List Seen) (found : Option Seen)
     → path ≡ decided front triple side
     → old.least.releases ≡ releases_of network → new.least.releases ≡ old.least.releases → old.least.arcs ≡ arcs_of network (take (length path - 1) path) → Puts (arc_on network triple side) old new → AllSeen network path seen
     → Leads network (record { path = path; stack = new; seen = seen; found = found })
 leads_down network front triple side path old new seen found whole none same is puts all =
-    let is_front : old.least.arcs ≡ arcs_of network front = is ∙ ap (arcs_of network) (ap (λ p. take (length p - 1) p) whole ∙ above front triple side) in
+    let is_front : old.least.arcs ≡ arcs_of network front = is ∙ ap (arcs_of network) (ap (λ p. take (length p - 1) p) whole ∙ take-decided front triple side) in
     record {
       releases = same ∙ none;
-      arcs = puts.arcs ∙ ap (λ as'. as' ++ arc_on network triple side ∷ []) is_front ∙ sym (ap (arcs_of network) whole ∙ arcs-decided network front triple side);
+      arcs = puts.arcs ∙ ap (λ as'. as' ++ arc_on network triple side ∷ []) is_front ∙ sym (ap (arcs_of network) whole ∙ arcs_of-decided network front triple side);
       split_above = all;
       raised = λ last at.
           let within = slice_get_within seen (length seen - 1) last at in
@@ -141,13 +138,13 @@ stands_up network path old new seen before after stands some same popped =
     let shorter : List Decision = take (length path - 1) path in
     let none : Decision = record { triple = record { left = 0; right = 0; link = 0 }; side = Left } in
     let last : Decision = get_or shorter (length shorter - 1) none in
-    let long = ap length stands.arcs ∙ length-arcs network shorter in
+    let long = ap length stands.arcs ∙ length-arcs_of network shorter in
     let at : last ≡ get_or shorter (length shorter - 1) last = sym (get_or_default shorter (length shorter - 1) last none (omega arith)) in
     let whole = by_last shorter last (omega arith) at in
     record {
       releases = same ∙ stands.releases;
       arcs = popped (arcs_of network (take (length shorter - 1) shorter)) (arc_on network last.triple last.side)
-          (stands.arcs ∙ ap (arcs_of network) whole ∙ arcs-decided network (take (length shorter - 1) shorter) last.triple last.side);
+          (stands.arcs ∙ ap (arcs_of network) whole ∙ arcs_of-decided network (take (length shorter - 1) shorter) last.triple last.side);
       split_above = seen_above network path seen stands.split_above;
     }
 
@@ -156,7 +153,7 @@ pub stands_up_empty : (network : Network) (path : List Decision) (old : Stack) (
     → Stands network (record { path = take (length path - 1) path; stack = old; seen = take (length seen - 1) seen; found = after })
 stands_up_empty network path old seen before after stands none =
     let shorter : List Decision = take (length path - 1) path in
-    let long = ap length stands.arcs ∙ length-arcs network shorter in
+    let long = ap length stands.arcs ∙ length-arcs_of network shorter in
     let empty : shorter ≡ [] = nil_from_length shorter (omega arith) in
     record {
       releases = stands.releases;
@@ -170,7 +167,7 @@ pub stands_turned : (network : Network) (front : List Decision) (triple : Triple
     → Stands network (record { path = turned; stack = stack; seen = seen; found = after })
 stands_turned network front triple path turned stack seen before after was now stands = record {
   releases = stands.releases;
-  arcs = stands.arcs ∙ ap (arcs_of network) (ap (λ p. take (length p - 1) p) was ∙ above front triple Left ∙ sym (ap (λ p. take (length p - 1) p) now ∙ above front triple Right));
+  arcs = stands.arcs ∙ ap (arcs_of network) (ap (λ p. take (length p - 1) p) was ∙ take-decided front triple Left ∙ sym (ap (λ p. take (length p - 1) p) now ∙ take-decided front triple Right));
   split_above = subst (λ p. AllSeen network p seen) (sym now) (seen_turned network front triple Left Right seen (subst (λ p. AllSeen network p seen) was stands.split_above));
 }
 
@@ -178,9 +175,9 @@ pub refutes_down : (network : Network) (front : List Decision) (triple : Triple)
     → path ≡ decided front triple side → old.least.releases ≡ releases_of network → old.least.arcs ≡ arcs_of network (take (length path - 1) path)
     → Refutes (length old.least.releases) (old.least.arcs ++ arc_on network triple side ∷ []) chain → Refutes (length (releases_of network)) (arcs_of network path) chain
 refutes_down network front triple side path old chain whole none is refutes =
-    let is_front : old.least.arcs ≡ arcs_of network front = is ∙ ap (arcs_of network) (ap (λ p. take (length p - 1) p) whole ∙ above front triple side) in
+    let is_front : old.least.arcs ≡ arcs_of network front = is ∙ ap (arcs_of network) (ap (λ p. take (length p - 1) p) whole ∙ take-decided front triple side) in
     let all : old.least.arcs ++ arc_on network triple side ∷ [] ≡ arcs_of network path =
-    ap (λ as'. as' ++ arc_on network triple side ∷ []) is_front ∙ sym (ap (arcs_of network) whole ∙ arcs-decided network front triple side) in
+    ap (λ as'. as' ++ arc_on network triple side ∷ []) is_front ∙ sym (ap (arcs_of network) whole ∙ arcs_of-decided network front triple side) in
     subst (λ n. Refutes n (arcs_of network path) chain) (ap length none) (subst (λ as'. Refutes (length old.least.releases) as' chain) all refutes)
 
 pub of_some : {X : Type 0} (A : Type 0) (B : X → Type 0) (o : Option X) (x : X) → o ≡ Some x → MatchOption o A B → B x

@@ -1,6 +1,6 @@
 -- How busy the links are that several streams share.
 --     users_of, shared_links         the streams of a link, and the links of two or more streams
---     work_on, tail_on               what doesn't hang on the offsets
+--     work_on, tail_on               what doesn't depend on the offsets
 --     head_by, busy_by, load_by      how long a link is busy by a list of offsets, and what flowspan that asks for
 --     IsUnloaded, IsFirstLoaded      the first link that is busy too long
 use Rattle.std.specs.Prelude.{◌≡◌, ℕ, ◌+◌, List, map, length, take, filter, slice_get, Some, is_some, nat_le, sum_by, All, ℤ, pos, ◌+ℤ◌, ◌-ℤ◌, ◌≤ℤ◌, ◌<ℤ◌}

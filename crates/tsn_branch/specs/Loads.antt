@@ -6,6 +6,7 @@
 --     IsTightest, IsLoading       the same where there is one, and for a target and a limit at once
 use Rattle.std.specs.Prelude.{◌≡◌, ℕ, ◌+◌, ◌≤◌, ◌<◌, nat_le, List, map, take, filter, length, is_some, sum_by, slice_get, Some, Option, MatchOption, All, Contains, ℤ, pos, ◌+ℤ◌, ◌-ℤ◌, ◌≤ℤ◌, ◌<ℤ◌}
 use Rattle.std.specs.List.{range_with_len}
+use Rattle.tsn_model.specs.declared.bounds.TheConstants.{MAX_START}
 use Rattle.tsn_model.specs.Network.{Network}
 use Rattle.tsn_model.specs.Timing.{occupancy, arrival, hop_on, start_on}
 use Rattle.tsn_model.specs.Schedule.{offset_of}
@@ -61,7 +62,7 @@ link_in table = record { link = table.link; users = table.users.items; work = ta
 -- one of the first n streams, early on its link
 pub record IsEarly (n : ℕ) (user : User) : Type 0 where
   pub counted : user.stream < n
-  pub early : user.start ≤ 51584000
+  pub early : user.start ≤ MAX_START
 
 -- a user with the chain that shows its least offset
 abbrev pub entry_by : LeastOffsets → User → Entry

@@ -26,6 +26,7 @@ use crate::outcome::{Leaf, Look};
 use crate::seen::{Finding, Seen};
 use std::alloc::Global;
 use tsn_cert::{Chain, Entries};
+use tsn_conflict::laws::parents_overlap_starts;
 use tsn_conflict::sharing::Conflicts;
 use tsn_diff::{Least, Outcome};
 use tsn_model::NoMemory;
@@ -121,6 +122,7 @@ pub fn judge_raised(
         → IsFinding timing.now path target (option_copied best.entry) finding) }
 {
     let ends = ends_after(timing, least.offsets(), raised, parent.last, parent.end);
+    parents_overlap_starts();
     judge_ends(
         alloc,
         timing,

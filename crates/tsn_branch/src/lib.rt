@@ -74,7 +74,7 @@ pub fn look(
 
 /// Looks at a node as `look` does, from the least offsets of the node above it where they are at hand: `parent`, by the path
 /// without its last decision. A look that finds a split comes with the least offsets of the node, from which its children may
-/// be looked at. Which of several chains shows an offset may hang on what was at hand.
+/// be looked at. Which of several chains shows an offset may depend on what was at hand.
 ///
 /// The target is in nanoseconds. The error says that there was no memory.
 pub fn look_from(

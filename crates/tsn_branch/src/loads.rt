@@ -7,6 +7,7 @@ ghost use Rattle.tsn_branch.specs.Loads.{AreLoadsOf, IsFirstLoad, IsLoading, Rea
 use std::alloc::{AllocError, Global};
 use std::marker::Model;
 use tsn_model::NoMemory;
+use tsn_model::bounds::{MAX_OCCUPANCY, MAX_SPAN, MAX_START, MAX_WORK};
 use tsn_timing::Timing;
 
 /// A stream on a link, and when its frame starts there, in nanoseconds from its offset.
@@ -16,7 +17,7 @@ pub struct User {
     pub start: u64,
 }
 
-/// A link that several streams use, with what doesn't hang on their offsets, in nanoseconds.
+/// A link that several streams use, with what doesn't depend on their offsets, in nanoseconds.
 #[derive(Debug, Drop)]
 pub struct LinkTable {
     pub link: usize,
@@ -29,7 +30,7 @@ pub struct LinkTable {
     pub tail: i64,
 }
 
-/// The links that two or more streams use, as far as they don't hang on offsets.
+/// The links that two or more streams use, as far as they don't depend on offsets.
 #[derive(Debug, Drop)]
 pub struct Loads {
     tables: Vec<LinkTable>,
@@ -123,10 +124,10 @@ impl LinkTable {
         requires stream { stream < stream_count timing.now }
         requires few { stream < 128 }
         requires upto { link_in self.old ≡ link_with timing.now self.old.link (users_upto timing.now self.old.link stream) }
-        requires short { self.old.work ≤ 1_233_600 * stream }
+        requires short { self.old.work ≤ MAX_OCCUPANCY * stream }
         ensures upto { OnOk result (link_in self.new
             ≡ link_with timing.now self.old.link (users_upto timing.now self.old.link (stream + 1))) }
-        ensures short { OnOk result (self.new.work ≤ 1_233_600 * (stream + 1)) }
+        ensures short { OnOk result (self.new.work ≤ MAX_OCCUPANCY * (stream + 1)) }
     {
         let Some(hop) = timing.hop_on(stream, self.link) else {
             return Ok(());
@@ -152,7 +153,7 @@ fn head(users: &[User], offsets: &[u64]) -> u64
     requires users { All (IsEarly (length offsets.now)) users.now }
     requires small { All (λ offset. offset ≤ 1_000_000_000) offsets.now }
     ensures value { pos result ≡ head_in offsets.now users.now }
-    ensures bound { result ≤ 1_051_584_000 }
+    ensures bound { result ≤ 1_000_000_000 + MAX_START }
 {
     let first = users[0];
     let mut least = offsets[first.stream] + first.start;
@@ -168,9 +169,9 @@ fn head(users: &[User], offsets: &[u64]) -> u64
 fn is_calm(table: &LinkTable, offsets: &[u64], cycle: u64, target: u64) -> bool
     requires users { All (IsEarly (length offsets.now)) table.now.users.items }
     requires small { All (λ offset. offset ≤ 1_000_000_000) offsets.now }
-    requires short_work { table.now.work ≤ 157_900_800 }
-    requires low_tail { pos 0 ≤ℤ (table.now.tail +ℤ pos 60_000_000) }
-    requires high_tail { table.now.tail ≤ℤ pos 60_000_000 }
+    requires short_work { table.now.work ≤ MAX_WORK }
+    requires low_tail { pos 0 ≤ℤ (table.now.tail +ℤ pos MAX_SPAN) }
+    requires high_tail { table.now.tail ≤ℤ pos MAX_SPAN }
     ensures { IsTrue result → IsCalm offsets.now cycle target (link_in table.now) }
 {
     for user in &table.users {

@@ -3,15 +3,16 @@ use Rattle.tsn_model.specs.declared.Side.TheVariants.{Left}
 use Rattle.tsn_model.specs.declared.Decision.{Decision}
 use Rattle.std.proofs.lemmas.List.{get_or_default}
 use Rattle.tsn_branch.specs.Descent.{Leads}
+use Rattle.tsn_model.proofs.Decisions.{length-arcs_of}
 use Rattle.tsn_branch.proofs.Descents.{by_last}
-use Rattle.tsn_branch.proofs.Ways.{stands_back, length-arcs}
+use Rattle.tsn_branch.proofs.Ways.{stands_back}
 use Rattle.tsn_branch.proofs.descent.Descent.draw_back.Goals as goal
 
 pub pop-requires : goal.pop-requires
 pop-requires c =
     let (network, given) = c.requires in
     let leads : Leads network (record { path = c.self.inside.node; stack = c.self.inside.stack; seen = c.self.inside.seen.items; found = c.self.inside.found }) = subst (Leads network) (sym c.self.view_is) given in
-    let long = ap length leads.arcs ∙ length-arcs network c.self.inside.node in
+    let long = ap length leads.arcs ∙ length-arcs_of network c.self.inside.node in
     let path = ap length c.path-depth.ensures.value in
     let some = c.if-depth-gt0.true in
     omega (arith, long)

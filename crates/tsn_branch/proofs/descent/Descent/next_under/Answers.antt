@@ -8,7 +8,8 @@ use Rattle.tsn_model.specs.Places.{pending}
 use Rattle.tsn_model.proofs.Places.{pending-left, pending-right}
 use Rattle.tsn_branch.specs.Path.{Fits}
 use Rattle.tsn_branch.specs.Descent.{Way, Stands}
-use Rattle.tsn_branch.proofs.Descents.{above, length-decided, fits_turned, take-inner, kept_turned}
+use Rattle.tsn_model.proofs.Decisions.{length-decided, take-decided}
+use Rattle.tsn_branch.proofs.Descents.{fits_turned, take-inner, kept_turned}
 use Rattle.tsn_branch.proofs.Ways.{stands_turned}
 use Rattle.tsn_branch.proofs.descent.Descent.next_under.Goals as goal
 
@@ -53,7 +54,7 @@ loop-side-smaller c =
     let (front, triple, is) = c.in-Some.ensures in
     let path : c.loop-side.self.path ≡ decided front triple c.in-Some.side = ap (λ (way : Way). way.path) (sym c.self.view_is) ∙ is in
     let long = ap length path ∙ length-decided front triple c.in-Some.side in
-    let shorter : length c.up.new.self.path ≡ length front = ap length (c.up.ensures.path ∙ ap (λ p. take (length p - 1) p) path ∙ above front triple c.in-Some.side) in
+    let shorter : length c.up.new.self.path ≡ length front = ap length (c.up.ensures.path ∙ ap (λ p. take (length p - 1) p) path ∙ take-decided front triple c.in-Some.side) in
     let falls : length c.up.new.self.path < length c.loop-side.self.path = omega arith in
     falls
 
@@ -67,7 +68,7 @@ loop-side-preserved c =
       stands = λ network stands. c.up.ensures.stands network (c.loop-side.invariant.stands network stands);
       fits = λ triples fits. subst (Fits triples) (sym c.up.ensures.path) (All-take (λ (d : Decision). Contains triples d.triple) (length c.loop-side.self.path - 1) c.loop-side.self.path (c.loop-side.invariant.fits triples fits));
       kept = ap (take c.args.floor) c.up.ensures.path ∙ take-inner c.args.floor (length c.loop-side.self.path - 1) c.loop-side.self.path (omega arith) ∙ c.loop-side.invariant.kept;
-      same = ap pending (c.up.ensures.path ∙ ap (λ p. take (length p - 1) p) path ∙ above front triple Right) ∙ sym (ap pending path ∙ pending-right front triple) ∙ c.loop-side.invariant.same;
+      same = ap pending (c.up.ensures.path ∙ ap (λ p. take (length p - 1) p) path ∙ take-decided front triple Right) ∙ sym (ap pending path ∙ pending-right front triple) ∙ c.loop-side.invariant.same;
     }
 
 pub returns-clause-none : goal.returns-clause-none

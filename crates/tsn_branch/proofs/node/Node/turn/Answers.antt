@@ -4,7 +4,8 @@ use Rattle.tsn_model.specs.declared.Triple.{Triple}
 use Rattle.tsn_model.specs.declared.Decision.{Decision}
 use Rattle.tsn_model.specs.declared.Side.TheVariants.{Left, Right}
 use Rattle.tsn_branch.specs.Path.{IsLastSide}
-use Rattle.tsn_branch.proofs.Descents.{length-decided, set_last, get_last}
+use Rattle.tsn_model.proofs.Decisions.{length-decided}
+use Rattle.tsn_branch.proofs.Descents.{set_last, get_last}
 use Rattle.tsn_branch.proofs.node.Node.turn.Goals as goal
 
 some_decision : (path : List Decision) → IsLastSide path Left → 1 ≤ length path
