@@ -1,11 +1,11 @@
 -- How the answers of a run's stages make its answer.
-use Rattle.std.proofs.Common.{◌≡◌, ◌≤◌, ◌<◌, Bool, length, inl, inr, ℕ, List, [], ◌∷◌, ◌++◌, Option, Some, None, Result, Ok, Err, refl, All}
+use Rattle.std.proofs.Common.{◌≡◌, ◌+◌, ◌≤◌, ◌<◌, Bool, length, inl, inr, ℕ, List, [], ◌∷◌, ◌++◌, Option, Some, None, Result, Ok, Err, refl, All}
 use Rattle.std.proofs.lemmas.List.Elements.{All-nil, All-cons}
 use Rattle.std.specs.Io.KnownBytes.{Appends, Keeps}
 use Rattle.tsn_cli.specs.declared.answer.Answer.{Answer}
 use Rattle.tsn_cli.specs.declared.device.ReadFault.{ReadFault}
 use Rattle.tsn_cli.specs.declared.device.ReadFault.TheVariants.{Broken, TooLong, Memory}
-use Rattle.tsn_cli.specs.Run.{max_file, Command, Reading, GivesFile, GivesTooMuch, GoesOn, IsUnread, IsOutput, reading_of}
+use Rattle.tsn_cli.specs.Run.{max_file, piece, Command, Reading, GivesFile, GivesTooMuch, GoesOn, IsUnread, IsOutput, reading_of}
 use Rattle.tsn_cli.specs.Outcome.{ComesTo, output_of}
 
 pub Keeps-same : (o : Option (List ℕ)) → Keeps o o
@@ -35,8 +35,8 @@ ComesTo-unread command files reading readings Memory goes unread long = inr (ref
 ComesTo-unread command files reading readings Broken goes unread long = inl (goes, unread)
 
 -- what a source gave that gave too much
-pub given_too_much : (reading : Reading) (limit : ℕ) → ((bytes : List ℕ) × Appends reading.before reading.after bytes × (max_file < length bytes) × (length bytes ≤ limit)) → GivesTooMuch reading
-given_too_much reading limit (bytes, given, long, _) = record { bytes = bytes; given = given; long = long }
+pub given_too_much : (reading : Reading) → ((bytes : List ℕ) × Appends reading.before reading.after bytes × (max_file < length bytes) × (length bytes ≤ max_file + piece)) → GivesTooMuch reading
+given_too_much reading (bytes, given, long, little) = record { bytes = bytes; given = given; long = long; little = little }
 
 -- what a run comes to in which no read failed
 pub IsOutput-comes : (command : Command) (readings : List Reading) (outcome : Result Answer ReadFault) → ComesTo command [] readings outcome → (outcome ≡ Err Broken → ⊥)

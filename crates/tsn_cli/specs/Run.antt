@@ -3,12 +3,16 @@
 --     Writing, TakesAll, TakesBeginning     the sinks over a run
 --     Output, Command, Answers, BreaksOff   what a command answers, and how far it goes where a read fails
 --     Ends, EndsEarly                       a run that was done, and one in which a write failed
-use Rattle.std.specs.Prelude.{◌≡◌, ◌≤◌, ◌<◌, ◌⊎◌, ℕ, List, [], ◌∷◌, ◌++◌, Bool, IsTrue, length, take, codes, Option, All}
+use Rattle.std.specs.Prelude.{◌≡◌, ◌+◌, ◌≤◌, ◌<◌, ◌⊎◌, ℕ, List, [], ◌∷◌, ◌++◌, Bool, IsTrue, length, take, codes, Option, All}
 use Rattle.std.specs.Io.KnownBytes.{Appends, Keeps}
 
 -- the most bytes of a file
 abbrev pub max_file : ℕ
 max_file = 1099511627776
+
+-- the most bytes that a command asks a source for at a time
+abbrev pub piece : ℕ
+piece = 4096
 
 -- a source over a run: the bytes that it had given before and has given after (None where it can't tell), and whether it is at its end after
 pub record Reading : Type 0 where
@@ -25,11 +29,12 @@ pub record GivesFile (reading : Reading) (bytes : List ℕ) : Type 0 where
   pub ended : IsTrue reading.at_end
   pub short : length bytes ≤ max_file
 
--- a source that gave more than a file may have
+-- a source that gave more than a file may have, by a piece at most
 pub record GivesTooMuch (reading : Reading) : Type 0 where
   pub bytes : List ℕ
   pub given : Appends reading.before reading.after bytes
   pub long : max_file < length bytes
+  pub little : length bytes ≤ max_file + piece
 
 -- a source that gave nothing
 abbrev pub IsUnread : Reading → Type 0

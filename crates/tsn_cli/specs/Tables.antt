@@ -16,7 +16,6 @@ use Rattle.tsn_cert.specs.declared.plan.Plan.TheVariants as plan
 use Rattle.tsn_cert.specs.Plan.{plan_in}
 use Rattle.tsn_check.specs.declared.fault.CheckFault.{CheckFault}
 use Rattle.tsn_check.specs.Faults.{IsPlanFault}
-use Rattle.tsn_check.specs.Numbers.{number_of}
 use Rattle.tsn_gate.specs.GateLists.{AreWantedLists}
 use Rattle.tsn_gate.specs.Table as gate
 use Rattle.tsn_gate.specs.Taprio.{script_text}
@@ -33,7 +32,7 @@ use Rattle.tsn_cli.specs.declared.table.Table.{Table}
 use Rattle.tsn_cli.specs.declared.table.Table.TheVariants.{Gates, Replay, Chart}
 use Rattle.tsn_cli.specs.Run.{Output, Command, IsLine}
 use Rattle.tsn_cli.specs.Valid.{RefusesNetwork}
-use Rattle.tsn_cli.specs.Check.{RefusesPlan}
+use Rattle.tsn_cli.specs.Check.{RefusesPlan, cause_text}
 
 -- the lists in a format
 abbrev pub lists_text : GatesFormat → NamedNetwork → List LinkGates → List ℕ
@@ -85,7 +84,7 @@ ShowsPlan table problem plan.None output = ⊥
 
 -- how a plan is rejected
 abbrev pub rejected_plan : CheckFault → List ℕ
-rejected_plan fault = codes "plan refused K" ++ decimal (number_of fault) ++ codes "\n"
+rejected_plan fault = codes "plan refused " ++ cause_text fault ++ codes "\n"
 
 -- it isn't, and this is the first fault
 abbrev pub RejectsPlan : Network → Plan → Output → Type 0

@@ -242,7 +242,7 @@ pub(crate) fn file_refusal(alloc: Global, kind: &str, fault: FileFault) -> Resul
 
 /// A fault of a plan or its certificate, printed with its number, and its node if it has one: `K1`, `K3 node 2`.
 #[derive(Clone, Copy)]
-struct Cause(CheckFault);
+pub(crate) struct Cause(pub(crate) CheckFault);
 
 impl fmt::Display for Cause {
     ghost use Rattle.tsn_cli.specs.Check.{cause_text};

@@ -13,7 +13,7 @@ ghost use Rattle.tsn_replay.specs.declared.trace.Row.{Row};
 ghost use Rattle.tsn_cli.specs.Tables.{CanShow, ChartAnswers, GatesAnswers, JudgesPlan, RejectsPlan, ReplayAnswers, ShowsLists, ShowsPicture, ShowsPlan, ShowsReplay, ShowsTable, TableAnswers, background_for, lists_text, rejected_plan, rows_text};
 
 use crate::answer::Answer;
-use crate::check::file_refusal;
+use crate::check::{Cause, file_refusal};
 use crate::device::{ReadFault, Sink, Source, read_all};
 use crate::format::{GatesFormat, ReplayFormat};
 use crate::run::{DEVICE, DONE, MAX_FILE, REJECTED, respond};
@@ -402,8 +402,8 @@ fn rejection(alloc: Global, fault: CheckFault) -> Result<Answer, NoMemory>
     if fault == CheckFault::Memory {
         return Err(NoMemory);
     }
-    let number = fault.number();
-    let text = format!(in alloc; "plan refused K{number}\n")?;
+    let cause = Cause(fault);
+    let text = format!(in alloc; "plan refused {cause}\n")?;
     Ok(Answer {
         status: REJECTED,
         text,

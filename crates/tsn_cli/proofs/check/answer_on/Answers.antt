@@ -13,7 +13,7 @@ returns-in_err-file-clause-comes g c network stated =
     let cert = reading_of (g.C.Source.given c.args.cert.now) (g.C.Source.given c.args.cert.now) (g.C.Source.is_at_end c.args.cert.now) in
     rw (p.1, p.2)
     (ComesTo-unread CheckAnswers (network ∷ []) plan (cert ∷ []) c.in_err-file.field-0.0 (goes_on_after_network network _ stated) (one_unread _ _)
-    (λ is. given_too_much plan _ (c.in_err-file.ensures.too_long (ap Err is))))
+    (λ is. given_too_much plan (c.in_err-file.ensures.too_long (ap Err is))))
 
 pub returns-clause-comes : goal.returns-clause-comes
 returns-clause-comes g c network stated =

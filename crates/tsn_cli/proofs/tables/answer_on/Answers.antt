@@ -13,4 +13,4 @@ returns-in_err-file-clause-comes g c network stated =
     let plan = reading_of (g.P.Source.given c.args.plan.now) (g.P.Source.given c.read_all.new.source) (g.P.Source.is_at_end c.read_all.new.source) in
     rw (p.1, p.2)
     (ComesTo-unread (TableAnswers c.args.table) (network ∷ []) plan [] c.in_err-file.field-0.0 (goes_on_after_network network _ stated) (All-nil IsUnread)
-    (λ is. given_too_much plan _ (c.in_err-file.ensures.too_long (ap Err is))))
+    (λ is. given_too_much plan (c.in_err-file.ensures.too_long (ap Err is))))
