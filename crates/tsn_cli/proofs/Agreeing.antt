@@ -1,5 +1,5 @@
 -- One network file has one plan file.
-use Rattle.std.proofs.Common.{◌≡◌, ℕ, ◌⊎◌, inl, inr, List, [], ◌∷◌, slice_get, Option, Some, refl, sym, ap, ◌∙◌, subst, arith}
+use Rattle.std.proofs.Common.{◌≡◌, ℕ, inl, inr, List, [], ◌∷◌, slice_get, Some, sym, ap, ◌∙◌, subst, arith}
 use Rattle.tsn_net.specs.Problem.{NamedNetwork}
 use Rattle.tsn_net.proofs.Stating.{stated_once}
 use Rattle.tsn_cert.specs.Plan.{plan_text}

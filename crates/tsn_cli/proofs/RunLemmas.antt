@@ -3,8 +3,8 @@ use Rattle.std.proofs.Common.{◌≡◌, ◌+◌, ◌≤◌, ◌<◌, Bool, leng
 use Rattle.std.proofs.lemmas.List.Elements.{All-nil, All-cons}
 use Rattle.std.specs.Io.KnownBytes.{Appends, Keeps}
 use Rattle.tsn_cli.specs.declared.answer.Answer.{Answer}
-use Rattle.tsn_cli.specs.declared.device.ReadFault.{ReadFault}
-use Rattle.tsn_cli.specs.declared.device.ReadFault.TheVariants.{Broken, TooLong, Memory}
+use Rattle.tsn_device.specs.declared.device.ReadFault.{ReadFault}
+use Rattle.tsn_device.specs.declared.device.ReadFault.TheVariants.{Broken, TooLong, Memory}
 use Rattle.tsn_cli.specs.Run.{max_file, piece, Command, Reading, GivesFile, GivesTooMuch, GoesOn, IsUnread, IsOutput, reading_of}
 use Rattle.tsn_cli.specs.Outcome.{ComesTo, output_of}
 

@@ -1,11 +1,11 @@
 -- The gate lists that a schedule asks for can be replayed.
-use Rattle.std.proofs.Common.{◌≡◌, ℕ, ◌<◌, ◌*◌, List, [], length, All, Bool, true, false, refl, arith}
+use Rattle.std.proofs.Common.{◌≡◌, ℕ, ◌<◌, ◌*◌, List, length, All, Bool, true, false, refl, arith}
 use Rattle.std.proofs.lemmas.List.Elements.{All-nil}
 use Rattle.tsn_model.specs.Network.{Network, IsWellFormed, route_link}
-use Rattle.tsn_model.specs.Bridge.{LinkGates, Background}
+use Rattle.tsn_model.specs.Bridge.{LinkGates}
 use Rattle.tsn_model.proofs.OnTime.{hop_uses}
 use Rattle.tsn_gate.specs.GateLists.{AreWantedLists}
-use Rattle.tsn_replay.specs.Faults.{NamesLinks, KeepsLimits, IsListed, IsWithin, frames_of, HasReplayFault}
+use Rattle.tsn_replay.specs.Faults.{NamesLinks, KeepsLimits, IsListed, IsWithin, HasReplayFault}
 use Rattle.tsn_replay.specs.declared.fault.ReplayFault.{ReplayFault}
 use Rattle.tsn_replay.specs.declared.fault.ReplayFault.TheVariants.{UnknownLink, Limit, Memory}
 use Rattle.tsn_cli.specs.Tables.{background_for}

@@ -1,8 +1,8 @@
 -- The output of a run in which no read failed, and how far it has gone.
 use Rattle.std.specs.Prelude.{ℕ, ◌⊎◌, List, [], ◌∷◌, codes, string_bytes, Result, Ok, Err}
 use Rattle.tsn_cli.specs.declared.answer.Answer.{Answer}
-use Rattle.tsn_cli.specs.declared.device.ReadFault.{ReadFault}
-use Rattle.tsn_cli.specs.declared.device.ReadFault.TheVariants.{Broken, TooLong, Memory}
+use Rattle.tsn_device.specs.declared.device.ReadFault.{ReadFault}
+use Rattle.tsn_device.specs.declared.device.ReadFault.TheVariants.{Broken, TooLong, Memory}
 use Rattle.tsn_cli.specs.Run.{Output, Command, Reading, Answers, BreaksOff, IsLine}
 
 abbrev pub line_of : ℕ → List ℕ → Output

@@ -1,8 +1,8 @@
 -- The output of a run that tells three texts, in which no read failed.
 use Rattle.std.specs.Prelude.{ℕ, List, [], ◌∷◌, codes, string_bytes, Result, Ok, Err}
 use Rattle.tsn_cli.specs.declared.answer.Told.{Told}
-use Rattle.tsn_cli.specs.declared.device.ReadFault.{ReadFault}
-use Rattle.tsn_cli.specs.declared.device.ReadFault.TheVariants.{Broken, TooLong, Memory}
+use Rattle.tsn_device.specs.declared.device.ReadFault.{ReadFault}
+use Rattle.tsn_device.specs.declared.device.ReadFault.TheVariants.{Broken, TooLong, Memory}
 use Rattle.tsn_cli.specs.Run.{Output}
 
 -- a line, with nothing in the other texts

@@ -9,13 +9,13 @@ ghost use Rattle.tsn_cli.specs.Outcome.{ComesTo, output_of};
 ghost use Rattle.tsn_cli.specs.Check.{CheckAnswers, JudgesCert, ShowsClaim, ShowsNothing, accepted_line, refusal_line, rejected_line};
 
 use crate::answer::Answer;
-use crate::device::{ReadFault, Sink, Source, read_all};
 use crate::run::{DEVICE, DONE, MAX_FILE, REFUSED, REJECTED, respond};
 use crate::valid::refusal;
 use std::alloc::Global;
 use std::fmt;
 use tsn_cert::{Cert, FileFault, Plan, cert_from_json, plan_from_json};
 use tsn_check::{CheckFault, Verdict, check};
+use tsn_device::device::{ReadFault, Sink, Source, read_all};
 use tsn_model::NoMemory;
 use tsn_net::{Problem, read_problem};
 

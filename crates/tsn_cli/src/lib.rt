@@ -3,10 +3,8 @@
 
 mod answer;
 mod check;
-pub mod device;
 pub mod format;
 pub mod laws;
-pub mod memory;
 mod plan;
 pub mod run;
 mod table;
@@ -18,4 +16,5 @@ pub use check::check_run;
 pub use format::{GatesFormat, ReplayFormat};
 pub use plan::plan_run;
 pub use tables::{chart_run, gates_run, replay_run};
+pub use tsn_device::{device, memory};
 pub use valid::valid_run;

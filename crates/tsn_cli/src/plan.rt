@@ -7,7 +7,6 @@ ghost use Rattle.tsn_cli.specs.Told.{line_alone, told_by};
 ghost use Rattle.tsn_worker.specs.declared.answer.Answer.TheVariants.{Optimal, NoSchedule, Stopped};
 
 use crate::answer::{Answer as Line, Told};
-use crate::device::{ReadFault, Sink, Source, read_all};
 use crate::run::{DEVICE, DONE, MAX_FILE};
 use crate::told::tell;
 use crate::valid::refusal;
@@ -16,6 +15,7 @@ use std::sync::Wait;
 use std::thread::Threads;
 use tsn_book::Book;
 use tsn_cert::{Cert, Offsets, Plan, cert_to_json, plan_to_json};
+use tsn_device::device::{ReadFault, Sink, Source, read_all};
 use tsn_model::NoMemory;
 use tsn_net::read_problem;
 use tsn_worker::{Answer, Gate, plan};

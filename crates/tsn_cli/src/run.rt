@@ -1,11 +1,11 @@
 //! What the runs of all commands share: their statuses, and how a run ends.
-ghost use Rattle.std.specs.Prelude.{◌≡◌, ◌≢◌, ◌<◌, ◌+◌, ◌-◌, ◌^◌, ℕ, [], ◌∷◌, take};
-ghost use Rattle.std.specs.Io.KnownBytes.{Appends};
+ghost use Rattle.std.specs.Prelude.{◌≡◌, ◌≢◌, ◌<◌, ◌+◌, ◌-◌, ◌^◌, [], ◌∷◌};
 ghost use Rattle.tsn_cli.specs.Run.{TakesAll, TakesBeginning, writing_of};
 ghost use Rattle.tsn_cli.specs.Outcome.{output_of};
 
 use crate::answer::Answer;
-use crate::device::{ReadFault, Sink, write_all};
+use tsn_device::device::{ReadFault, Sink};
+pub use tsn_device::run::{DEVICE, finish};
 
 /// The command did what it was asked for.
 pub const DONE: u8 = 0;
@@ -22,9 +22,6 @@ pub const REJECTED: u8 = 6;
 /// A growth was refused.
 pub const MEMORY: u8 = 7;
 
-/// A read or a write failed.
-pub const DEVICE: u8 = 8;
-
 /// The line of `MEMORY`.
 pub const NO_MEMORY_LINE: &[u8] = b"no memory\n";
 
@@ -33,23 +30,6 @@ pub const TOO_LONG_LINE: &[u8] = b"too long\n";
 
 /// The most bytes of a file.
 pub const MAX_FILE: usize = 1_099_511_627_776;
-
-/// Writes the text, and answers the status, or `DEVICE` where a write fails: then a beginning of the text was written.
-pub fn finish<W: Sink>(sink: &mut W, status: u8, text: &[u8]) -> u8
-    requires few_failures { W.failed sink.old < 2 ^ 64 - 1 }
-    requires not_device { status ≢ DEVICE }
-    ensures whole { result ≢ DEVICE → (result ≡ status)
-        × Appends (W.taken sink.old) (W.taken sink.new) text.now
-        × (W.failed sink.new ≡ W.failed sink.old) }
-    ensures device { result ≡ DEVICE → W.failed sink.new ≡ W.failed sink.old + 1 }
-    ensures beginning { W.failed sink.new ≢ W.failed sink.old
-        → (n : ℕ) × Appends (W.taken sink.old) (W.taken sink.new) (take n text.now) }
-{
-    match write_all(sink, text) {
-        Ok(()) => status,
-        Err(_) => DEVICE,
-    }
-}
 
 /// Writes the answer, or the line of the fault for which there is none, and says the status.
 pub(crate) fn respond<W: Sink>(sink: &mut W, outcome: Result<Answer, ReadFault>) -> u8

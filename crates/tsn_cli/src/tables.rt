@@ -14,7 +14,6 @@ ghost use Rattle.tsn_cli.specs.Tables.{CanShow, ChartAnswers, GatesAnswers, Judg
 
 use crate::answer::Answer;
 use crate::check::{Cause, file_refusal};
-use crate::device::{ReadFault, Sink, Source, read_all};
 use crate::format::{GatesFormat, ReplayFormat};
 use crate::run::{DEVICE, DONE, MAX_FILE, REJECTED, respond};
 use crate::table::Table;
@@ -23,6 +22,7 @@ use std::alloc::Global;
 use tsn_cert::{Plan, plan_from_json};
 use tsn_chart::chart;
 use tsn_check::{CheckFault, check_plan};
+use tsn_device::device::{ReadFault, Sink, Source, read_all};
 use tsn_gate::{GateList, gate_lists, to_taprio};
 use tsn_model::NoMemory;
 use tsn_net::{Problem, read_problem};

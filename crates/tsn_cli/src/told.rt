@@ -4,8 +4,8 @@ ghost use Rattle.tsn_cli.specs.Run.{TakesAll, TakesBeginning, writing_of};
 ghost use Rattle.tsn_cli.specs.Told.{told_by};
 
 use crate::answer::Told;
-use crate::device::{ReadFault, Sink, write_all};
 use crate::run::{DEVICE, MEMORY, NO_MEMORY_LINE, REFUSED, TOO_LONG_LINE, finish};
+use tsn_device::device::{ReadFault, Sink, write_all};
 
 /// Writes the texts, or the line of the fault for which there are none, and says the status.
 pub(crate) fn tell<P: Sink, C: Sink, W: Sink>(

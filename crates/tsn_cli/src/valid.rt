@@ -7,10 +7,10 @@ ghost use Rattle.tsn_cli.specs.Outcome.{output_of};
 ghost use Rattle.tsn_cli.specs.Valid.{ValidAnswers, Accepts, Rejects};
 
 use crate::answer::Answer;
-use crate::device::{ReadFault, Sink, Source, read_all};
 use crate::run::{DEVICE, DONE, MAX_FILE, REFUSED, REJECTED, respond};
 use std::alloc::Global;
 use std::fmt;
+use tsn_device::device::{ReadFault, Sink, Source, read_all};
 use tsn_model::{NoMemory, Triple, Violation};
 use tsn_net::{Code, NetFault, read_problem};
 use tsn_timing::{Timing, Validity};

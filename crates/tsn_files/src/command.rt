@@ -1,6 +1,5 @@
 //! The commands, over files and standard streams.
-use crate::sink::{FileSink, WriterSink};
-use crate::source::FileSource;
+use crate::report::{failure_line, file_of, source_line};
 use std::alloc::Global;
 use std::io;
 use std::rt::{Clock, Files};
@@ -10,6 +9,7 @@ use tsn_cli::run::{REFUSED, REJECTED};
 use tsn_cli::{
     GatesFormat, ReplayFormat, chart_run, check_run, gates_run, plan_run, replay_run, valid_run,
 };
+use tsn_device::{FileSink, FileSource, WriterSink};
 use tsn_progress::Progress;
 use tsn_reason::{File, cert_reason, network_reason, offsets_reason, plan_reason};
 use tsn_words::{ChartWords, CheckWords, GatesWords, PlanWords, ReplayWords, ValidWords, Words};
@@ -48,12 +48,9 @@ pub fn valid<'a, R: Files + Input, P: Print, E: Eprint>(
     let mut network = FileSource::network(rt, alloc, words.network);
     let mut sink = WriterSink::new(STANDARD_OUTPUT, io::writer(output));
     let status = valid_run(alloc, &mut network, &words.offsets, &mut sink);
-    let line = network.line(alloc, status).or(sink.line(alloc, status)).or(offsets_line(
-        alloc,
-        status,
-        network.given(),
-        &words.offsets,
-    ));
+    let line = source_line(alloc, status, &network)
+        .or(failure_line(alloc, status, sink.failure()))
+        .or(offsets_line(alloc, status, file_of(&network), &words.offsets));
     tell(told, line);
     status
 }
@@ -100,12 +97,11 @@ fn plan_at<'a, R: Files + Input + Threads + Wait + Sync, P: Print, E: Eprint, G:
         &mut cert,
         &mut sink,
     );
-    let line = network
-        .line(alloc, status)
-        .or(plan.line(alloc, status))
-        .or(cert.line(alloc, status))
-        .or(sink.line(alloc, status))
-        .or(network_line(alloc, status, network.given()));
+    let line = source_line(alloc, status, &network)
+        .or(failure_line(alloc, status, plan.failure()))
+        .or(failure_line(alloc, status, cert.failure()))
+        .or(failure_line(alloc, status, sink.failure()))
+        .or(network_line(alloc, status, file_of(&network)));
     tell(told, line);
     status
 }
@@ -123,12 +119,17 @@ pub fn check<'a, R: Files + Input, P: Print, E: Eprint>(
     let mut cert = FileSource::file(rt, alloc, words.cert);
     let mut sink = WriterSink::new(STANDARD_OUTPUT, io::writer(output));
     let status = check_run(alloc, &mut network, &mut plan, &mut cert, &mut sink);
-    let line = network
-        .line(alloc, status)
-        .or(plan.line(alloc, status))
-        .or(cert.line(alloc, status))
-        .or(sink.line(alloc, status))
-        .or(cert_line(alloc, status, network.given(), plan.given(), cert.given()));
+    let line = source_line(alloc, status, &network)
+        .or(source_line(alloc, status, &plan))
+        .or(source_line(alloc, status, &cert))
+        .or(failure_line(alloc, status, sink.failure()))
+        .or(cert_line(
+            alloc,
+            status,
+            file_of(&network),
+            file_of(&plan),
+            file_of(&cert),
+        ));
     tell(told, line);
     status
 }
@@ -146,11 +147,10 @@ pub fn gates<'a, R: Files + Input, P: Print, E: Eprint>(
     let mut sink = WriterSink::new(STANDARD_OUTPUT, io::writer(output));
     let format = gates_format(words.format);
     let status = gates_run(alloc, &mut network, &mut plan, format, &mut sink);
-    let line = network
-        .line(alloc, status)
-        .or(plan.line(alloc, status))
-        .or(sink.line(alloc, status))
-        .or(plan_line(alloc, status, network.given(), plan.given()));
+    let line = source_line(alloc, status, &network)
+        .or(source_line(alloc, status, &plan))
+        .or(failure_line(alloc, status, sink.failure()))
+        .or(plan_line(alloc, status, file_of(&network), file_of(&plan)));
     tell(told, line);
     status
 }
@@ -175,11 +175,10 @@ pub fn replay<'a, R: Files + Input, P: Print, E: Eprint>(
         replay_format(words.format),
         &mut sink,
     );
-    let line = network
-        .line(alloc, status)
-        .or(plan.line(alloc, status))
-        .or(sink.line(alloc, status))
-        .or(plan_line(alloc, status, network.given(), plan.given()));
+    let line = source_line(alloc, status, &network)
+        .or(source_line(alloc, status, &plan))
+        .or(failure_line(alloc, status, sink.failure()))
+        .or(plan_line(alloc, status, file_of(&network), file_of(&plan)));
     tell(told, line);
     status
 }
@@ -197,11 +196,10 @@ pub fn chart<'a, R: Files + Input, P: Print, E: Eprint>(
     let mut sink = WriterSink::new(STANDARD_OUTPUT, io::writer(output));
     let until = words.until as u64;
     let status = chart_run(alloc, &mut network, &mut plan, until, &mut sink);
-    let line = network
-        .line(alloc, status)
-        .or(plan.line(alloc, status))
-        .or(sink.line(alloc, status))
-        .or(plan_line(alloc, status, network.given(), plan.given()));
+    let line = source_line(alloc, status, &network)
+        .or(source_line(alloc, status, &plan))
+        .or(failure_line(alloc, status, sink.failure()))
+        .or(plan_line(alloc, status, file_of(&network), file_of(&plan)));
     tell(told, line);
     status
 }

@@ -2,12 +2,7 @@
 #![tactic(auto)]
 
 pub mod command;
-mod kept;
-mod reader;
 mod report;
-pub mod sink;
-pub mod source;
 
 pub use command::run;
-pub use sink::{FileSink, WriterSink};
-pub use source::FileSource;
+pub use tsn_device::{FileSink, FileSource, WriterSink};

@@ -1,5 +1,5 @@
 use Rattle.std.proofs.Common.{◌≡◌, List, [], ◌∷◌, Err}
-use Rattle.tsn_cli.specs.declared.device.ReadFault.TheVariants.{Broken}
+use Rattle.tsn_device.specs.declared.device.ReadFault.TheVariants.{Broken}
 use Rattle.tsn_cli.specs.Run.{Reading, reading_of}
 use Rattle.tsn_cli.specs.Outcome.{output_of}
 use Rattle.tsn_cli.specs.Tables.{ReplayAnswers}

@@ -1,18 +1,16 @@
 //! Files and standard input, as sources.
-ghost use Rattle.std.specs.Prelude.{◌≡◌, ◌≤◌, ◌<◌, ◌+◌, ◌-◌, ◌^◌, ◌↔◌, IsTrue, IfOk, OnOk, OnErr, None, codes, false, length, take};
+ghost use Rattle.std.specs.Prelude.{◌≡◌, ◌≤◌, ◌<◌, ◌+◌, ◌-◌, ◌^◌, ◌↔◌, IsSome, IsTrue, IfOk, OnOk, OnErr, None, codes, false, length, take};
 ghost use Rattle.std.specs.Io.KnownBytes.{Appends, Keeps, ReadConsumes};
 ghost use Rattle.either.specs.Either.{either};
-ghost use Rattle.tsn_files.specs.Known.{is_over, known_of};
+ghost use Rattle.tsn_device.specs.Known.{is_over, known_of};
 
+use crate::device::{Broken, Source};
+use crate::failure::{Action, Failure};
 use crate::kept::Kept;
 use crate::reader::LateReader;
-use crate::report::{Action, failure_line, too_long_line};
 use std::alloc::Global;
 use std::io::Error;
 use std::rt::Files;
-use tsn_cli::device::{Broken, Source};
-use tsn_cli::run::{DEVICE, REFUSED};
-use tsn_reason::File;
 
 /// A file or standard input. It is opened when it is first read, and keeps what it gave and why a read failed.
 #[derive(Drop)]
@@ -21,6 +19,7 @@ pub struct FileSource<'a, R: Files + Input> {
     kept: Kept,
     cause: Option<Error>,
     failures: u64,
+    ghost told: { IsSome cause ↔ 0 < failures },
 }
 
 impl<'a, R: Files + Input> FileSource<'a, R> {
@@ -52,25 +51,33 @@ impl<'a, R: Files + Input> FileSource<'a, R> {
         }
     }
 
-    /// The line on it, where it ended a run of this status.
-    pub(crate) fn line(&self, alloc: Global, status: u8) -> Option<String> {
-        let name = self.reader.name();
-        match status {
-            DEVICE => failure_line(alloc, name, Action::Read, self.cause),
-            REFUSED => too_long_line(alloc, name, self.kept.count()),
-            _ => None,
-        }
+    /// The path of the file, or that it is standard input.
+    pub fn name(&self) -> &'a str {
+        self.reader.name()
     }
 
-    /// All that it gave, where that was kept.
-    pub(crate) fn given(&self) -> Option<File<'_>> {
-        match self.kept.bytes() {
-            Some(bytes) => Some(File {
-                name: self.reader.name(),
-                bytes,
+    /// Why the last read that failed did so, if one failed.
+    pub fn failure(&self) -> Option<Failure<'a>>
+        ensures { IsSome result ↔ 0 < self.now.failures }
+    {
+        match self.cause {
+            Some(cause) => Some(Failure {
+                name: self.name(),
+                action: Action::Read,
+                cause,
             }),
             None => None,
         }
+    }
+
+    /// How many bytes it gave.
+    pub fn count(&self) -> usize {
+        self.kept.count()
+    }
+
+    /// All that it gave, where that was kept.
+    pub fn bytes(&self) -> Option<&[u8]> {
+        self.kept.bytes()
     }
 }
 

@@ -78,7 +78,7 @@ pub enum ReadFault {
 }
 
 impl From<Broken> for ReadFault {
-    ghost use Rattle.tsn_cli.specs.declared.device.ReadFault.TheVariants.{Broken};
+    ghost use Rattle.tsn_device.specs.declared.device.ReadFault.TheVariants.{Broken};
 
     ghost from_gives = { λ _ e. e ≡ Broken };
 
@@ -88,7 +88,7 @@ impl From<Broken> for ReadFault {
 }
 
 impl From<AllocError> for ReadFault {
-    ghost use Rattle.tsn_cli.specs.declared.device.ReadFault.TheVariants.{Memory};
+    ghost use Rattle.tsn_device.specs.declared.device.ReadFault.TheVariants.{Memory};
 
     ghost from_gives = { λ _ e. e ≡ Memory };
 
@@ -98,7 +98,7 @@ impl From<AllocError> for ReadFault {
 }
 
 impl From<NoMemory> for ReadFault {
-    ghost use Rattle.tsn_cli.specs.declared.device.ReadFault.TheVariants.{Memory};
+    ghost use Rattle.tsn_device.specs.declared.device.ReadFault.TheVariants.{Memory};
 
     ghost from_gives = { λ _ e. e ≡ Memory };
 

@@ -2,8 +2,8 @@
 --     contents_in    what it holds
 --     IsMade         it is made, where it is wanted
 use Rattle.std.specs.Prelude.{ℕ, List, Option, None, Some, IsSome}
-use Rattle.tsn_files.specs.declared.sink.Wanted.{Wanted}
-use Rattle.tsn_files.specs.Known.{known_of}
+use Rattle.tsn_device.specs.declared.sink.Wanted.{Wanted}
+use Rattle.tsn_device.specs.Known.{known_of}
 
 -- what a wanted file holds, as far as is known; nothing is known of one that isn't wanted or isn't made
 abbrev pub contents_in : {F : Type 0} → (F → Option (List ℕ)) → Option (Wanted F) → Option (List ℕ)

@@ -1,6 +1,6 @@
 use Rattle.std.proofs.Common.{ℕ, ◌∙◌, arith, length-drop}
-use Rattle.tsn_cli.proofs.KnownLemmas.{Appends_more}
-use Rattle.tsn_cli.proofs.device.write_all.Goals as goal
+use Rattle.tsn_device.proofs.KnownLemmas.{Appends_more}
+use Rattle.tsn_device.proofs.device.write_all.Goals as goal
 
 pub pieces-preserved : goal.pieces-preserved
 pieces-preserved g c = record {

@@ -2,15 +2,13 @@
 ghost use Rattle.std.specs.Prelude.{◌≡◌, ◌≤◌, ◌<◌, ◌+◌, ◌-◌, ◌^◌, ◌↔◌, length, take, IfOk, OnOk, OnErr, IsSome};
 ghost use Rattle.std.specs.Io.{WritesAtMost};
 ghost use Rattle.std.specs.Io.KnownBytes.{Appends, Keeps, WriteAppends};
-ghost use Rattle.tsn_files.specs.Known.{known_of};
+ghost use Rattle.tsn_device.specs.Known.{known_of};
 
-use crate::report::{Action, failure_line};
-use std::alloc::Global;
+use crate::device::{Broken, Sink};
+use crate::failure::{Action, Failure};
 use std::io::{Error, ErrorKind, Write};
 use std::rt::Files;
 use std::{fs, io};
-use tsn_cli::device::{Broken, Sink};
-use tsn_cli::run::DEVICE;
 
 /// A writer. A write that takes no byte of some is a failure. It keeps why a write failed.
 #[derive(Drop)]
@@ -19,6 +17,7 @@ pub struct WriterSink<'a, W: Write + Drop> {
     writer: W,
     cause: Option<Error>,
     failures: u64,
+    ghost told: { IsSome cause ↔ 0 < failures },
 }
 
 impl<'a, W: Write + Drop> WriterSink<'a, W> {
@@ -35,11 +34,17 @@ impl<'a, W: Write + Drop> WriterSink<'a, W> {
         }
     }
 
-    /// The line on it, where it ended a run of this status.
-    pub(crate) fn line(&self, alloc: Global, status: u8) -> Option<String> {
-        match status {
-            DEVICE => failure_line(alloc, self.name, Action::Write, self.cause),
-            _ => None,
+    /// Why the last write that failed did so, if one failed.
+    pub fn failure(&self) -> Option<Failure<'a>>
+        ensures { IsSome result ↔ 0 < self.now.failures }
+    {
+        match self.cause {
+            Some(cause) => Some(Failure {
+                name: self.name,
+                action: Action::Write,
+                cause,
+            }),
+            None => None,
         }
     }
 }
@@ -102,6 +107,8 @@ pub struct FileSink<'a, R: Files> {
     wanted: Option<Wanted<'a, R::File>>,
     cause: Option<Error>,
     failures: u64,
+    ghost told: { IsSome cause ↔ 0 < failures },
+    ghost of_a_file: { 0 < failures → IsSome wanted },
 }
 
 impl<'a, R: Files> FileSink<'a, R> {
@@ -122,19 +129,23 @@ impl<'a, R: Files> FileSink<'a, R> {
         }
     }
 
-    /// The line on it, where it ended a run of this status.
-    pub(crate) fn line(&self, alloc: Global, status: u8) -> Option<String> {
-        match &self.wanted {
-            Some(wanted) if status == DEVICE => {
-                failure_line(alloc, wanted.path, Action::Write, self.cause)
-            }
+    /// Why the last write that failed did so, if one failed.
+    pub fn failure(&self) -> Option<Failure<'a>>
+        ensures { IsSome result ↔ 0 < self.now.failures }
+    {
+        match (&self.wanted, self.cause) {
+            (Some(wanted), Some(cause)) => Some(Failure {
+                name: wanted.path,
+                action: Action::Write,
+                cause,
+            }),
             _ => None,
         }
     }
 }
 
 impl<'a, R: Files> Sink for FileSink<'a, R> {
-    ghost use Rattle.tsn_files.specs.Wanted.{contents_in, IsMade};
+    ghost use Rattle.tsn_device.specs.Wanted.{contents_in, IsMade};
 
     ghost taken = { λ s. contents_in R.File.contents s.wanted };
 

@@ -2,7 +2,7 @@
 ghost use Rattle.std.specs.Prelude.{◌≡◌, ◌≤◌, ◌<◌, IsTrue, IfOk, length, not};
 ghost use Rattle.either.specs.Either.{either, is_left};
 ghost use Rattle.std.specs.Io.KnownBytes.{ReadConsumes};
-ghost use Rattle.tsn_files.specs.Known.{is_over, known_of};
+ghost use Rattle.tsn_device.specs.Known.{is_over, known_of};
 
 use either::{Either, Left, Right};
 use std::io::Read;

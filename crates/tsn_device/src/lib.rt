@@ -1,0 +1,15 @@
+//! What commands read from and write to: readers and writers of bytes, in memory, of files and of standard streams.
+#![tactic(auto)]
+
+pub mod device;
+pub mod failure;
+mod kept;
+pub mod memory;
+mod reader;
+pub mod run;
+pub mod sink;
+pub mod source;
+
+pub use failure::{Action, Failure};
+pub use sink::{FileSink, WriterSink};
+pub use source::FileSource;
