@@ -6,6 +6,7 @@ use Rattle.std.proofs.lemmas.List.Elements.{All-nil, All-cons, All-head, All-tai
 use Rattle.tsn_share.specs.Names.{Names}
 use Rattle.tsn_share.specs.Teller.{Known, IsEven, fresh_teller, tellers_from}
 use Rattle.tsn_share.specs.Gathered.{IsInOrder}
+use Rattle.tsn_worker.specs.Team.{AreBack}
 
 -- tellers with no event are even, and in order
 pub fresh_length : (names : Names) (first count : ℕ) → length (tellers_from names first count) ≡ count
@@ -61,16 +62,10 @@ order_by_numbers before after same order =
     let second = length-map before f in
     sym (at_map f after k d) ∙ ap (λ ns. slice_index_or ns k (f d)) same ∙ at_map f before k d ∙ order k d (omega (arith, long, first, second))
 
--- what comes back of the tellers: each even, in order, and as many as there were
-pub record Back (count : ℕ) (tellers : List Known) : Type 0 where
-  pub counted : length tellers ≡ count
-  pub order : IsInOrder tellers
-  pub even : All IsEven tellers
-
 module _ (names : Names) (count : ℕ) (front : List Known) (t last : Known) {M : Type 0} (f : M → Known) (old slice new : List M) (len : ℕ) (pushed : List Known) where
   pub come_back : tellers_from names 0 count ≡ front ++ t ∷ [] → map f old ≡ front → slice ≡ old → length new ≡ length slice → length slice ≡ len
       → All (λ m. IsEven (f m)) new → ((k : ℕ) (d : M) → k < length slice → (f (slice_index_or new k d)).standing.number ≡ (f (slice_index_or slice k d)).standing.number)
-      → IsEven last → last.standing.number ≡ t.standing.number → pushed ≡ map f (take len (new ++ drop (length new) old)) ++ last ∷ [] → Back count pushed
+      → IsEven last → last.standing.number ≡ t.standing.number → pushed ≡ map f (take len (new ++ drop (length new) old)) ++ last ∷ [] → AreBack count pushed
   come_back all team is kept long even each last_even last_number then =
       let after = map f (take len (new ++ drop (length new) old)) in
       let number : Known → ℕ = λ k. k.standing.number in

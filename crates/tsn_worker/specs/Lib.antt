@@ -2,3 +2,4 @@ pub mod Answer
 pub mod Search
 pub mod Below
 pub mod Laws
+pub mod Team

@@ -12,11 +12,11 @@ use crate::best::Best;
 use crate::board::Board;
 use crate::gate::{Gate, News};
 use crate::news::{known, splits_among};
+use crate::tables::Tables;
 use std::alloc::Global;
 use std::sync::Wait;
 use tsn_book::BookFault;
-use tsn_branch::{Loads, Node};
-use tsn_conflict::sharing::Conflicts;
+use tsn_branch::Node;
 use tsn_share::{Named, Shared, Teller, observe_as, post_as, settle_below_as};
 use tsn_timing::{Solved, Timing};
 
@@ -40,9 +40,7 @@ impl Below {
         &mut self,
         rt: &impl Wait,
         alloc: Global,
-        timing: &Timing,
-        conflicts: &Conflicts,
-        loads: &Loads,
+        tables: &Tables,
         shared: &Shared<K>,
         gate: &G,
         board: &Board,
@@ -51,15 +49,15 @@ impl Below {
         best: &mut Best<K>,
         most: usize,
     ) -> Turn
-        requires network { timing.now ≡ K.names.race.network }
-        requires conflicts { AreConflictsOf timing.now conflicts.now }
-        requires loads { AreLoadsOf timing.now loads.now }
-        requires below { IsBelow timing.now conflicts.now.triples self.old }
+        requires network { tables.now.timing ≡ K.names.race.network }
+        requires conflicts { AreConflictsOf tables.now.timing tables.now.conflicts }
+        requires loads { AreLoadsOf tables.now.timing tables.now.loads }
+        requires below { IsBelow tables.now.timing tables.now.conflicts.triples self.old }
         requires most { (1 ≤ most) × (most ≤ BATCH) }
         requires even { IsEven teller.old }
         ensures even { IsEven teller.new }
         ensures number { teller.new.standing.number ≡ teller.old.standing.number }
-        ensures below { IsGoingOn result → IsBelow timing.now conflicts.now.triples self.new }
+        ensures below { IsGoingOn result → IsBelow tables.now.timing tables.now.conflicts.triples self.new }
     {
         let seen = observe_as(shared, teller);
         if best.refresh(rt, shared, teller, board).is_err() {
@@ -67,16 +65,17 @@ impl Below {
         }
         let best = best.lent(self.untied);
         self.untied = false;
-        let Ok(batch) = self.collect(alloc, timing, conflicts, loads, seen, best, most) else {
+        let Ok(batch) = self.collect(alloc, tables, seen, best, most) else {
             return Turn::Ends;
         };
         let summary = Summary::of(&batch, seen);
         let mut accepted = 0;
         gate.pass(number);
         let turn = settle_batch(rt, shared, teller, &mut self.from, batch, &mut accepted);
-        summary.tell(timing, gate, board, number, accepted);
+        summary.tell(&tables.timing, gate, board, number, accepted);
         match turn {
-            Turn::LooksAgain if self.begin_again(alloc, timing, conflicts) => Turn::GoesOn,
+            Turn::LooksAgain if self.begin_again(alloc, &tables.timing, &tables.conflicts) =>
+                Turn::GoesOn,
             Turn::LooksAgain => Turn::Ends,
             turn => turn,
         }

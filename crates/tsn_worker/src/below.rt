@@ -11,10 +11,11 @@ ghost use Rattle.tsn_worker.specs.Below.{StandsAt, IsBelow, IsBatch, IsProved, H
 
 use crate::bag::Bag;
 use crate::search::{beyond, split_of};
+use crate::tables::Tables;
 use std::alloc::Global;
 use tsn_book::Looks;
 use tsn_branch::outcome::Look;
-use tsn_branch::{Descent, Loads, NoMemory, Node, Side, fits};
+use tsn_branch::{Descent, NoMemory, Node, Side, fits};
 use tsn_conflict::sharing::Conflicts;
 use tsn_timing::{Solved, Timing};
 
@@ -144,7 +145,13 @@ impl Below {
 
     /// Gives all that is open to the bag, what is first in preorder last.
     pub fn leave<B: Bag>(self, bag: &mut B) {
-        let Below { from, floor, .. } = self;
+        let Below {
+            descent,
+            from,
+            floor,
+            untied: _,
+        } = self;
+        drop(descent);
         for depth in floor..from.path().len() {
             if let Ok(Some(node)) = from.other_side(depth) {
                 let _ = bag.push(node);
@@ -158,36 +165,25 @@ impl Below {
     pub fn collect(
         &mut self,
         alloc: Global,
-        timing: &Timing,
-        conflicts: &Conflicts,
-        loads: &Loads,
+        tables: &Tables,
         seen: u64,
         best: Option<&Solved>,
         most: usize,
     ) -> Result<Batch, NoMemory>
-        requires conflicts { AreConflictsOf timing.now conflicts.now }
-        requires loads { AreLoadsOf timing.now loads.now }
-        requires best { IfSome (option_copied best) (IsSolved timing.now) }
-        requires below { IsBelow timing.now conflicts.now.triples self.old }
+        requires conflicts { AreConflictsOf tables.now.timing tables.now.conflicts }
+        requires loads { AreLoadsOf tables.now.timing tables.now.loads }
+        requires best { IfSome (option_copied best) (IsSolved tables.now.timing) }
+        requires below { IsBelow tables.now.timing tables.now.conflicts.triples self.old }
         requires most { (1 ≤ most) × (most ≤ BATCH) }
         ensures from { self.new.from ≡ self.old.from }
-        ensures batch { IfOk result (IsBatch timing.now seen self.old.from) }
+        ensures batch { IfOk result (IsBatch tables.now.timing seen self.old.from) }
         ensures goes_on { IfOk result (λ batch. MatchBool batch.more
-            (StandsAt timing.now conflicts.now.triples (path_after self.old.from (map outcome_of batch.looks)) self.new.descent) (Unit {0})) }
+            (StandsAt tables.now.timing tables.now.conflicts.triples (path_after self.old.from (map outcome_of batch.looks)) self.new.descent) (Unit {0})) }
     {
-        let target = beyond(timing, seen);
+        let target = beyond(&tables.timing, seen);
         let mut looks = Looks::with_capacity(alloc, most)?;
         for _ in 0..most {
-            let found = look_on(
-                alloc,
-                timing,
-                conflicts,
-                loads,
-                &mut self.descent,
-                self.floor,
-                target,
-                best,
-            )?;
+            let found = look_on(alloc, tables, &mut self.descent, self.floor, target, best)?;
             let last = found.is_last();
             looks.push(found.look)?;
             if last {
@@ -226,38 +222,53 @@ fn descent_at(
 /// Looks at a node, and walks on.
 fn look_on(
     alloc: Global,
-    timing: &Timing,
-    conflicts: &Conflicts,
-    loads: &Loads,
+    tables: &Tables,
     descent: &mut Descent,
     floor: usize,
     target: u64,
     best: Option<&Solved>,
 ) -> Result<Found, NoMemory>
-    requires conflicts { AreConflictsOf timing.now conflicts.now }
-    requires loads { AreLoadsOf timing.now loads.now }
-    requires best { IfSome (option_copied best) (IsSolved timing.now) }
-    requires stands { StandsAt timing.now conflicts.now.triples descent.old.path descent.old }
-    ensures proof { IfOk result (λ found. IsProved timing.now descent.old.path (outcome_of found.look)) }
+    requires conflicts { AreConflictsOf tables.now.timing tables.now.conflicts }
+    requires loads { AreLoadsOf tables.now.timing tables.now.loads }
+    requires best { IfSome (option_copied best) (IsSolved tables.now.timing) }
+    requires stands { StandsAt tables.now.timing tables.now.conflicts.triples descent.old.path descent.old }
+    ensures proof { IfOk result (λ found. IsProved tables.now.timing descent.old.path (outcome_of found.look)) }
     ensures prunes { IfOk result (λ found. PrunesFrom target (outcome_of found.look)) }
-    ensures solved { IfOk result (λ found. HoldsSchedule timing.now target (outcome_of found.look) found.solved) }
+    ensures solved { IfOk result (λ found. HoldsSchedule tables.now.timing target (outcome_of found.look) found.solved) }
     ensures next { IfOk result (λ found. MatchBool found.more
-        (StandsAt timing.now conflicts.now.triples (next_path descent.old.path (outcome_of found.look)) descent.new) (Unit {0})) }
+        (StandsAt tables.now.timing tables.now.conflicts.triples (next_path descent.old.path (outcome_of found.look)) descent.new) (Unit {0})) }
 {
-    let look = descent.look(alloc, timing, conflicts, loads, target, best)?;
-    let solved = schedule_of(&look)?;
-    match split_of(&look) {
-        Some(triple) => {
-            descent.down(triple)?;
-            Ok(Found {
-                look,
-                solved,
-                more: true,
-            })
+    let look = descent.look(
+        alloc,
+        &tables.timing,
+        &tables.conflicts,
+        &tables.loads,
+        target,
+        best,
+    )?;
+    let solved = match schedule_of(&look) {
+        Ok(solved) => solved,
+        Err(fault) => {
+            drop(look);
+            return Err(fault);
         }
+    };
+    let mut found = Found {
+        look,
+        solved,
+        more: true,
+    };
+    match split_of(&found.look) {
+        Some(triple) => match descent.down(triple) {
+            Ok(()) => Ok(found),
+            Err(fault) => {
+                drop(found);
+                Err(fault)
+            }
+        },
         None => {
-            let more = descent.next_under(floor);
-            Ok(Found { look, solved, more })
+            found.more = descent.next_under(floor);
+            Ok(found)
         }
     }
 }

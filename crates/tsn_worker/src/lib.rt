@@ -15,6 +15,7 @@ pub mod planning;
 mod rest;
 mod search;
 mod start;
+mod tables;
 mod team;
 mod threads;
 mod worker;

@@ -2,6 +2,9 @@
 ghost use Rattle.std.specs.Prelude.{◌≡◌, ◌≤◌, ◌⊎◌, [], length, IfOk};
 ghost use Rattle.tsn_model.specs.Network.{IsWellFormed};
 ghost use Rattle.tsn_model.specs.Search.{open_paths};
+ghost use Rattle.tsn_conflict.specs.Kept.{AreConflictsOf};
+ghost use Rattle.tsn_branch.specs.Loads.{AreLoadsOf};
+ghost use Rattle.tsn_cert.specs.declared.plan.Plan.TheVariants.{Schedule};
 ghost use Rattle.tsn_worker.specs.Answer.{IsAnswer};
 ghost use Rattle.tsn_worker.specs.Search.{IsSearchOf};
 
@@ -10,19 +13,18 @@ use crate::bag::{Bag, DequeBag};
 use crate::gate::Gate;
 use crate::rest::settle_rest;
 use crate::search::settle_open;
+use crate::tables::Tables;
 use crate::threads::search;
 use std::alloc::Global;
 use std::marker::Brand;
 use std::sync::Wait;
 use std::thread::Threads;
 use tsn_book::Book;
-use tsn_branch::Loads;
 use tsn_cert::{Offsets, Plan};
-use tsn_conflict::conflicts;
 use tsn_model::NoMemory;
 use tsn_net::Problem;
 use tsn_share::Parts;
-use tsn_timing::Timing;
+use tsn_timing::{Solved, Timing};
 
 /// The most nodes that a run may settle.
 pub const MAX_LIMIT: usize = 1_000_000_000;
@@ -70,14 +72,41 @@ pub fn plan_over<R: Threads + Wait + Sync, G: Gate + Sync, B: Bag + Send>(
     requires few { limit ≤ MAX_LIMIT }
     ensures { IfOk result (IsAnswer problem.now.network limit) }
 {
+    let tables = Tables::of(alloc, problem)?;
+    let answer = answer_over(rt, alloc, &tables, limit, gate, bags);
+    drop(tables);
+    answer
+}
+
+// The answer by 2 to 16 workers, one a bag.
+fn answer_over<R: Threads + Wait + Sync, G: Gate + Sync, B: Bag + Send>(
+    rt: &R,
+    alloc: Global,
+    tables: &Tables,
+    limit: usize,
+    gate: &G,
+    bags: Vec<B>,
+) -> Result<Answer, NoMemory>
+    requires conflicts { AreConflictsOf tables.now.timing tables.now.conflicts }
+    requires loads { AreLoadsOf tables.now.timing tables.now.loads }
+    requires workers { (2 ≤ length bags.items) × (length bags.items ≤ MAX_WORKERS) }
+    requires some { 1 ≤ limit }
+    requires few { limit ≤ MAX_LIMIT }
+    ensures { IfOk result (IsAnswer tables.now.timing limit) }
+{
     let workers = bags.len();
-    let timing = Timing::of(alloc, problem)?;
-    let conflicts = conflicts(alloc, &timing)?;
-    let loads = Loads::of(alloc, &timing)?;
-    let parts = Parts::new(alloc, &timing, workers + 1, limit)?;
-    let book = search::<Brand, R, G, B>(rt, alloc, &timing, &conflicts, &loads, gate, bags, parts)?;
-    let book = settle_rest(alloc, &timing, &conflicts, gate, workers, limit, book)?;
-    answer(alloc, &timing, limit, book)
+    let parts = Parts::new(alloc, &tables.timing, workers + 1, limit)?;
+    let book = search::<Brand, R, G, B>(rt, alloc, tables, gate, bags, parts)?;
+    let book = settle_rest(
+        alloc,
+        &tables.timing,
+        &tables.conflicts,
+        gate,
+        workers,
+        limit,
+        book,
+    )?;
+    answer(alloc, &tables.timing, limit, book)
 }
 
 // What `plan` answers, by the caller alone.
@@ -91,12 +120,28 @@ fn plan_alone<G: Gate>(
     requires few { limit ≤ MAX_LIMIT }
     ensures { IfOk result (IsAnswer problem.now.network limit) }
 {
-    let timing = Timing::of(alloc, problem)?;
-    let conflicts = conflicts(alloc, &timing)?;
-    let loads = Loads::of(alloc, &timing)?;
-    let book = Book::new(alloc, &timing, 1, limit)?;
-    let book = settle_open(alloc, &timing, &conflicts, &loads, gate, limit, book)?;
-    answer(alloc, &timing, limit, book)
+    let tables = Tables::of(alloc, problem)?;
+    let answer = answer_alone(alloc, &tables, limit, gate);
+    drop(tables);
+    answer
+}
+
+// The answer by the caller alone.
+fn answer_alone<G: Gate>(
+    alloc: Global,
+    tables: &Tables,
+    limit: usize,
+    gate: &G,
+) -> Result<Answer, NoMemory>
+    requires conflicts { AreConflictsOf tables.now.timing tables.now.conflicts }
+    requires loads { AreLoadsOf tables.now.timing tables.now.loads }
+    requires some { 1 ≤ limit }
+    requires few { limit ≤ MAX_LIMIT }
+    ensures { IfOk result (IsAnswer tables.now.timing limit) }
+{
+    let book = Book::new(alloc, &tables.timing, 1, limit)?;
+    let book = settle_open(alloc, tables, gate, limit, book)?;
+    answer(alloc, &tables.timing, limit, book)
 }
 
 // The answer of a search that left nothing open, or met its limit.
@@ -124,10 +169,23 @@ fn decide(alloc: Global, timing: &Timing, limit: usize, book: Book) -> Result<An
         let cert = book.into_cert()?;
         return Ok(Answer::NoSchedule(cert, count));
     };
-    let plan = Plan::Schedule {
-        flowspan: kept.flowspan(),
-        offsets: Offsets::of(Vec::from_slice(alloc, kept.valid().offsets())?),
+    let plan = match plan_of(alloc, kept) {
+        Ok(plan) => plan,
+        Err(fault) => {
+            drop(book);
+            return Err(fault);
+        }
     };
     let cert = book.into_cert()?;
     Ok(Answer::Optimal(plan, cert, count))
+}
+
+// The plan of a schedule.
+fn plan_of(alloc: Global, solved: &Solved) -> Result<Plan, NoMemory>
+    ensures { IfOk result (λ plan. plan ≡ Schedule solved.now.flowspan solved.now.offsets) }
+{
+    Ok(Plan::Schedule {
+        flowspan: solved.flowspan(),
+        offsets: Offsets::of(Vec::from_slice(alloc, solved.valid().offsets())?),
+    })
 }

@@ -37,7 +37,11 @@ pub fn settle_rest<G: Gate>(
         if book.open_count() == 0 {
             return Ok(book);
         }
-        settle_first_open(alloc, timing, conflicts, gate, teller, &mut book)?;
+        let settled = settle_first_open(alloc, timing, conflicts, gate, teller, &mut book);
+        if settled.is_err() {
+            drop(book);
+            return Err(NoMemory);
+        }
     }
     Ok(book)
 }
@@ -93,7 +97,12 @@ fn record(book: &mut Book, teller: usize, event: Event) -> Result<(), NoMemory>
 {
     match book.settle(teller, event) {
         Ok(()) => Ok(()),
-        Err((BookFault::Memory, _)) => Err(NoMemory),
-        Err((_, _)) => unreachable!(),
+        Err((fault, refused)) => {
+            drop(refused);
+            match fault {
+                BookFault::Memory => Err(NoMemory),
+                _ => unreachable!(),
+            }
+        }
     }
 }

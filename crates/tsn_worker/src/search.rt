@@ -16,11 +16,11 @@ ghost use Rattle.tsn_worker.specs.Search.{IsSearchOf, IsSearching, HasChildren, 
 
 use crate::gate::Gate;
 use crate::news::{is_split, news_of_one};
+use crate::tables::Tables;
 use std::alloc::Global;
 use tsn_book::{Book, BookFault};
 use tsn_branch::outcome::Look;
-use tsn_branch::{Decision, Descent, Loads};
-use tsn_conflict::sharing::Conflicts;
+use tsn_branch::{Decision, Descent};
 use tsn_model::{NoMemory, Triple};
 use tsn_timing::Timing;
 
@@ -37,65 +37,108 @@ struct Search {
 /// Settles the first open node again and again, until none is open or the limit is met.
 pub fn settle_open<G: Gate>(
     alloc: Global,
-    timing: &Timing,
-    conflicts: &Conflicts,
-    loads: &Loads,
+    tables: &Tables,
     gate: &G,
     limit: usize,
     book: Book,
 ) -> Result<Book, NoMemory>
-    requires conflicts { AreConflictsOf timing.now conflicts.now }
-    requires loads { AreLoadsOf timing.now loads.now }
-    requires search { IsSearchOf timing.now limit book }
+    requires conflicts { AreConflictsOf tables.now.timing tables.now.conflicts }
+    requires loads { AreLoadsOf tables.now.timing tables.now.loads }
+    requires search { IsSearchOf tables.now.timing limit book }
     requires one_teller { book.tellers ≡ 1 }
     requires fresh { book.history ≡ [] }
-    ensures search { IfOk result (IsSearchOf timing.now limit) }
+    ensures search { IfOk result (IsSearchOf tables.now.timing limit) }
     ensures done { IfOk result (λ searched. (open_paths searched.history ≡ []) ⊎ (length searched.history ≡ limit)) }
 {
-    let descent = Descent::root(alloc, timing)?;
+    let descent = match Descent::root(alloc, &tables.timing) {
+        Ok(descent) => descent,
+        Err(fault) => {
+            drop(book);
+            return Err(fault);
+        }
+    };
     let mut search = Search {
         book,
         descent,
         place: 0,
         waiting: Vec::new(alloc),
     };
-    'settlements: while search.book.count() < limit {
-        if !search.settle(alloc, timing, conflicts, loads, gate, limit)? {
-            return Ok(search.book);
+    match search.settle_all(alloc, tables, gate, limit) {
+        Ok(()) => Ok(search.into_book()),
+        Err(fault) => {
+            drop(search);
+            Err(fault)
         }
     }
-    Ok(search.book)
 }
 
 impl Search {
+    // Settles nodes until none is open or the limit is met.
+    fn settle_all<G: Gate>(
+        &mut self,
+        alloc: Global,
+        tables: &Tables,
+        gate: &G,
+        limit: usize,
+    ) -> Result<(), NoMemory>
+        requires conflicts { AreConflictsOf tables.now.timing tables.now.conflicts }
+        requires loads { AreLoadsOf tables.now.timing tables.now.loads }
+        requires searching { IsSearching tables.now.timing limit self.old.book self.old.descent self.old.place self.old.waiting.items }
+        ensures search { OnOk result (IsSearchOf tables.now.timing limit self.new.book) }
+        ensures done { OnOk result ((open_paths self.new.book.history ≡ []) ⊎ (length self.new.book.history ≡ limit)) }
+    {
+        'settlements: while self.book.count() < limit {
+            if !self.settle(alloc, tables, gate, limit)? {
+                return Ok(());
+            }
+        }
+        Ok(())
+    }
+
+    fn into_book(self) -> Book
+        ensures { result ≡ self.book }
+    {
+        let Search {
+            book,
+            descent,
+            place: _,
+            waiting: _,
+        } = self;
+        drop(descent);
+        book
+    }
+
     // Looks at the node and settles it. False where nothing is open then.
     fn settle<G: Gate>(
         &mut self,
         alloc: Global,
-        timing: &Timing,
-        conflicts: &Conflicts,
-        loads: &Loads,
+        tables: &Tables,
         gate: &G,
         limit: usize,
     ) -> Result<bool, NoMemory>
-        requires conflicts { AreConflictsOf timing.now conflicts.now }
-        requires loads { AreLoadsOf timing.now loads.now }
-        requires searching { IsSearching timing.now limit self.old.book self.old.descent self.old.place self.old.waiting.items }
+        requires conflicts { AreConflictsOf tables.now.timing tables.now.conflicts }
+        requires loads { AreLoadsOf tables.now.timing tables.now.loads }
+        requires searching { IsSearching tables.now.timing limit self.old.book self.old.descent self.old.place self.old.waiting.items }
         requires some_left { length self.old.book.history < limit }
         ensures searching { IfOk result (λ more. MatchBool more
-            (IsSearching timing.now limit self.new.book self.new.descent self.new.place self.new.waiting.items)
-            (IsSearchOf timing.now limit self.new.book × (open_paths self.new.book.history ≡ []))) }
+            (IsSearching tables.now.timing limit self.new.book self.new.descent self.new.place self.new.waiting.items)
+            (IsSearchOf tables.now.timing limit self.new.book × (open_paths self.new.book.history ≡ []))) }
         ensures one { OnOk result (length self.new.book.history ≡ length self.old.book.history + 1) }
     {
-        let target = beyond(timing, self.book.best());
-        let look = self
-            .descent
-            .look(alloc, timing, conflicts, loads, target, self.book.kept())?;
+        let target = beyond(&tables.timing, self.book.best());
+        let look = self.descent.look(
+            alloc,
+            &tables.timing,
+            &tables.conflicts,
+            &tables.loads,
+            target,
+            self.book.kept(),
+        )?;
         let split = split_of(&look);
         let was_split = is_split(&look);
         gate.pass(0);
         record(&mut self.book, self.place, self.descent.node().path(), look)?;
-        self.tell(timing, gate, was_split);
+        self.tell(&tables.timing, gate, was_split);
         match split {
             Some(triple) => {
                 self.go_down(triple)?;
@@ -187,7 +230,12 @@ fn record(book: &mut Book, place: usize, path: &[Decision], look: Look) -> Resul
 {
     match book.settle_at(0, place, path, look) {
         Ok(()) => Ok(()),
-        Err((BookFault::Memory, _)) => Err(NoMemory),
-        Err((_, _)) => unreachable!(),
+        Err((fault, refused)) => {
+            drop(refused);
+            match fault {
+                BookFault::Memory => Err(NoMemory),
+                _ => unreachable!(),
+            }
+        }
     }
 }

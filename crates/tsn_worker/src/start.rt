@@ -10,12 +10,11 @@ use crate::below::Below;
 use crate::best::Best;
 use crate::board::Board;
 use crate::gate::Gate;
+use crate::tables::Tables;
 use std::alloc::Global;
 use std::sync::Wait;
-use tsn_branch::{Loads, NoMemory, Node};
-use tsn_conflict::sharing::Conflicts;
+use tsn_branch::{NoMemory, Node};
 use tsn_share::{Named, Shared, Teller};
-use tsn_timing::Timing;
 
 /// The nodes that are open, the first in preorder last.
 #[derive(Drop)]
@@ -66,23 +65,21 @@ impl Bag for OpenNodes {
 pub fn settle_first<K: Named, G: Gate>(
     rt: &impl Wait,
     alloc: Global,
-    timing: &Timing,
-    conflicts: &Conflicts,
-    loads: &Loads,
+    tables: &Tables,
     shared: &Shared<K>,
     gate: &G,
     board: &Board,
     enough: usize,
     teller: &mut Teller<K>,
 ) -> Result<OpenNodes, NoMemory>
-    requires network { timing.now ≡ K.names.race.network }
-    requires conflicts { AreConflictsOf timing.now conflicts.now }
-    requires loads { AreLoadsOf timing.now loads.now }
+    requires network { tables.now.timing ≡ K.names.race.network }
+    requires conflicts { AreConflictsOf tables.now.timing tables.now.conflicts }
+    requires loads { AreLoadsOf tables.now.timing tables.now.loads }
     requires even { IsEven teller.old }
     ensures even { IsEven teller.new }
     ensures number { teller.new.standing.number ≡ teller.old.standing.number }
 {
-    let mut below = Below::root(alloc, timing)?;
+    let mut below = Below::root(alloc, &tables.timing)?;
     let mut open_nodes = OpenNodes::none(alloc);
     let mut best = Best::none();
     for _ in 0..u64::MAX {
@@ -90,13 +87,18 @@ pub fn settle_first<K: Named, G: Gate>(
             break;
         }
         match below.settle_next(
-            rt, alloc, timing, conflicts, loads, shared, gate, board, enough, teller, &mut best, 1,
+            rt, alloc, tables, shared, gate, board, enough, teller, &mut best, 1,
         ) {
             Turn::GoesOn => {}
             Turn::Ends => break,
-            Turn::Finished | Turn::LooksAgain => return Ok(open_nodes),
+            Turn::Finished | Turn::LooksAgain => {
+                drop(best);
+                drop(below);
+                return Ok(open_nodes);
+            }
         }
     }
+    drop(best);
     below.leave(&mut open_nodes);
     Ok(open_nodes)
 }

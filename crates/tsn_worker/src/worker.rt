@@ -10,13 +10,12 @@ use crate::below::{BATCH, Below};
 use crate::best::Best;
 use crate::board::Board;
 use crate::gate::Gate;
+use crate::tables::Tables;
 use std::alloc::Global;
 use std::sync::Wait;
 use std::thread;
-use tsn_branch::{Loads, Node};
-use tsn_conflict::sharing::Conflicts;
+use tsn_branch::Node;
 use tsn_share::{Named, Shared, Teller};
-use tsn_timing::Timing;
 
 /// A worker ends after so many rounds in turn in which it found no node.
 const ROUNDS: usize = 1000;
@@ -37,18 +36,16 @@ pub struct Member<K: Named, B: Bag> {
 pub fn work<K: Named, B: Bag, G: Gate>(
     rt: &impl Wait,
     alloc: Global,
-    timing: &Timing,
-    conflicts: &Conflicts,
-    loads: &Loads,
+    tables: &Tables,
     shared: &Shared<K>,
     gate: &G,
     board: &Board,
     number: usize,
     member: &mut Member<K, B>,
 )
-    requires network { timing.now ≡ K.names.race.network }
-    requires conflicts { AreConflictsOf timing.now conflicts.now }
-    requires loads { AreLoadsOf timing.now loads.now }
+    requires network { tables.now.timing ≡ K.names.race.network }
+    requires conflicts { AreConflictsOf tables.now.timing tables.now.conflicts }
+    requires loads { AreLoadsOf tables.now.timing tables.now.loads }
     requires even { IsEven member.old.teller }
     ensures even { IsEven member.new.teller }
     ensures number { member.new.teller.standing.number ≡ member.old.teller.standing.number }
@@ -60,12 +57,12 @@ pub fn work<K: Named, B: Bag, G: Gate>(
                 break;
             };
             if !work_below(
-                rt, alloc, timing, conflicts, loads, shared, gate, board, number, member,
-                &mut best, node,
+                rt, alloc, tables, shared, gate, board, number, member, &mut best, node,
             ) {
                 break;
             }
         }
+        drop(best);
     }
     board.end();
 }
@@ -114,9 +111,7 @@ fn next_node<B: Bag>(bag: &mut B) -> Option<Node> {
 fn work_below<K: Named, B: Bag, G: Gate>(
     rt: &impl Wait,
     alloc: Global,
-    timing: &Timing,
-    conflicts: &Conflicts,
-    loads: &Loads,
+    tables: &Tables,
     shared: &Shared<K>,
     gate: &G,
     board: &Board,
@@ -125,14 +120,14 @@ fn work_below<K: Named, B: Bag, G: Gate>(
     best: &mut Best<K>,
     node: Node,
 ) -> bool
-    requires network { timing.now ≡ K.names.race.network }
-    requires conflicts { AreConflictsOf timing.now conflicts.now }
-    requires loads { AreLoadsOf timing.now loads.now }
+    requires network { tables.now.timing ≡ K.names.race.network }
+    requires conflicts { AreConflictsOf tables.now.timing tables.now.conflicts }
+    requires loads { AreLoadsOf tables.now.timing tables.now.loads }
     requires even { IsEven member.old.teller }
     ensures even { IsEven member.new.teller }
     ensures number { member.new.teller.standing.number ≡ member.old.teller.standing.number }
 {
-    let mut below = match Below::at(alloc, timing, conflicts, node) {
+    let mut below = match Below::at(alloc, &tables.timing, &tables.conflicts, node) {
         Ok(Some(below)) => below,
         Ok(None) => return true,
         Err(node) => {
@@ -144,9 +139,7 @@ fn work_below<K: Named, B: Bag, G: Gate>(
         match below.settle_next(
             rt,
             alloc,
-            timing,
-            conflicts,
-            loads,
+            tables,
             shared,
             gate,
             board,
@@ -157,7 +150,10 @@ fn work_below<K: Named, B: Bag, G: Gate>(
         ) {
             Turn::GoesOn => {}
             Turn::Ends => break,
-            Turn::Finished | Turn::LooksAgain => return gate.may_go_on(number),
+            Turn::Finished | Turn::LooksAgain => {
+                drop(below);
+                return gate.may_go_on(number);
+            }
         }
         if !gate.may_go_on(number) {
             break;

@@ -8,13 +8,13 @@ use Rattle.tsn_branch.specs.Descent.{IsAfter}
 use Rattle.tsn_worker.proofs.Batching.{walked_over, walked_down}
 use Rattle.tsn_worker.proofs.below.look_on.Goals as goal
 
-pub returns-in_ok-down-in-Some-clause-next : goal.returns-in_ok-down-in-Some-clause-next
-returns-in_ok-down-in-Some-clause-next c =
-    let network = c.args.timing.now in
-    let triples = c.args.conflicts.now.triples in
+pub returns-in-Ok-down-clause-next : goal.returns-in-Ok-down-clause-next
+returns-in-Ok-down-clause-next c =
+    let network = c.args.tables.now.timing in
+    let triples = c.args.tables.now.conflicts.triples in
     let before = c.look.new.self in
     let is = c.in-Some.ensures in
-    let down = c.in_ok-down-in-Some.ensures in
+    let down = c.in-Ok-down.ensures in
     let same = c.look.ensures.path in
     let splits = subst (λ o. IsAfter network o before) is c.in_ok-look.ensures.after in
     let among = subst (SplitsAmong triples) is c.in_ok-look.ensures.among in
@@ -24,6 +24,6 @@ returns-in_ok-down-in-Some-clause-next c =
 
 pub returns-in-None-clause-next : goal.returns-in-None-clause-next
 returns-in-None-clause-next c =
-    let over = c.next_under-more.ensures in
-    walked_over c.args.timing.now c.args.conflicts.now.triples c.args.descent.now.path (outcome_of c.in_ok-look.look) c.look.new.self c.next_under-more.new.self c.next_under-more.result
+    let over = c.next_under.ensures in
+    walked_over c.args.tables.now.timing c.args.tables.now.conflicts.triples c.args.descent.now.path (outcome_of c.in_ok-look.look) c.look.new.self c.next_under.new.self c.next_under.result
     c.in-None.ensures c.look.ensures.path c.in_ok-look.ensures.after c.requires.stands.fits over.stands over.fits over.next

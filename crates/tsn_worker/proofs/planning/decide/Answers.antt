@@ -1,4 +1,4 @@
-use Rattle.std.proofs.Common.{◌≡◌, ◌∙◌}
+use Rattle.std.proofs.Common.{◌≡◌}
 use Rattle.tsn_worker.proofs.Deciding.{shows_none, shows_kept}
 use Rattle.tsn_worker.proofs.planning.decide.Goals as goal
 
@@ -19,7 +19,6 @@ returns c =
     let lawful = c.count-count.ensures.lawful in
     let cert = c.in_ok-cert-2.ensures in
     let kept = c.in-Some.kept.now in
-    let offsets : c.of.result ≡ kept.offsets = c.of.ensures ∙ c.in_ok-from_slice.ensures.items ∙ c.offsets.ensures ∙ c.valid.ensures in
-    rw (offsets, c.flowspan.ensures) (shows_kept c.args.timing.now c.requires.formed c.args.limit c.args.book.history (rw same at lawful.legal) (rw search.same_limit at lawful.within_limit) c.requires.none_open c.in_ok-cert-2.cert
+    rw c.in-Ok.ensures (shows_kept c.args.timing.now c.requires.formed c.args.limit c.args.book.history (rw same at lawful.legal) (rw search.same_limit at lawful.within_limit) c.requires.none_open c.in_ok-cert-2.cert
     (record { of_format_two = cert.format; same_target = rw same at cert.target; tree = rw same at cert.accepted; counted = cert.counted })
     c.count-count.result c.count-count.ensures.count kept (rw same at c.in-Some.ensures.kept) (rw same at c.in-Some.ensures.best).0)

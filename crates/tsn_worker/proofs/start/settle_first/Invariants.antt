@@ -7,5 +7,5 @@ abbrev pub invariant-loop : goal.invariant-loop
 invariant-loop g l = record {
   even : IsEven l.teller;
   number : l.teller.standing.number ≡ l.initial.teller.standing.number;
-  below : IsBelow l.timing l.conflicts.triples l.below;
+  below : IsBelow l.tables.timing l.tables.conflicts.triples l.below;
 }

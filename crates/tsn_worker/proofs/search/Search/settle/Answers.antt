@@ -15,7 +15,7 @@ look-requires-clause-fits g c =
     let searching = c.requires.searching in
     let history = c.args.self.now.book.history in
     let path = c.args.self.now.descent.path in
-    open_fits c.args.timing.now c.args.conflicts.now c.requires.conflicts history (rw searching.search.same_network at c.best.ensures.lawful.legal) path
+    open_fits c.args.tables.now.timing c.args.tables.now.conflicts c.requires.conflicts history (rw searching.search.same_network at c.best.ensures.lawful.legal) path
     (walk_open history path c.args.self.now.place (reverse c.args.self.now.waiting.items) searching.walk)
 
 pub record-requires-clause-node_open : goal.record-requires-clause-node_open
@@ -27,7 +27,7 @@ record-requires-clause-node_open g c =
 pub record-requires-clause-met : goal.record-requires-clause-met
 record-requires-clause-met g c =
     let same = c.requires.searching.search.same_network in
-    let network = c.args.timing.now in
+    let network = c.args.tables.now.timing in
     let history = c.args.self.now.book.history in
     let path = c.args.self.now.descent.path in
     let outcome = outcome_of c.in_ok-look.look in
