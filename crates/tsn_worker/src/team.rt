@@ -21,7 +21,7 @@ pub fn team_of<K: Named, B: Bag>(
         let Some(bag) = bags.next() else {
             unreachable!();
         };
-        members.push(Member { teller, bag })?;
+        members.push_reserved(Member { teller, bag });
     }
     Ok(members)
 }
@@ -34,11 +34,17 @@ pub fn tellers_of<K: Named, B: Bag>(
 ) -> Result<Vec<Teller<K>>, AllocError>
     ensures { IfOk result (λ tellers. tellers.items ≡ map (λ member. member.teller) members.items ++ caller ∷ []) }
 {
-    let mut tellers = Vec::with_capacity(alloc, members.len() + 1)?;
+    let mut tellers = match Vec::with_capacity(alloc, members.len() + 1) {
+        Ok(tellers) => tellers,
+        Err(fault) => {
+            drop(caller);
+            return Err(fault);
+        }
+    };
     for member in members {
         let Member { teller, bag: _ } = member;
-        tellers.push(teller)?;
+        tellers.push_reserved(teller);
     }
-    tellers.push(caller)?;
+    tellers.push_reserved(caller);
     Ok(tellers)
 }

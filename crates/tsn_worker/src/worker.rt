@@ -158,10 +158,17 @@ fn work_below<K: Named, B: Bag, G: Gate>(
         if !gate.may_go_on(number) {
             break;
         }
-        if board.is_awaited() {
-            below.share(&mut member.bag);
-        }
+        share_if_awaited(board, &mut below, &mut member.bag);
     }
     below.leave(&mut member.bag);
     false
+}
+
+// Shares what is open, where a worker looks for a node.
+fn share_if_awaited<B: Bag>(board: &Board, below: &mut Below, bag: &mut B)
+    ensures { (below.new.descent ≡ below.old.descent) × (below.new.from ≡ below.old.from) }
+{
+    if board.is_awaited() {
+        below.share(bag);
+    }
 }

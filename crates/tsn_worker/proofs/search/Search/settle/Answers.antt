@@ -1,10 +1,13 @@
 use Rattle.std.proofs.Common.{Contains, reverse, sym, ap, ◌∙◌, subst}
 use Rattle.tsn_model.specs.declared.Side.TheVariants.{Left}
 use Rattle.tsn_model.specs.Certificate.{decided, beyond}
-use Rattle.tsn_model.specs.Search.{Settlement, open_paths}
+use Rattle.tsn_model.specs.Search.{Outcome, Settlement, open_paths}
 use Rattle.tsn_search_laws.specs.Walk.{path_made}
 use Rattle.tsn_search_laws.proofs.Walking.{walk_open}
 use Rattle.tsn_branch.specs.Outcome.{outcome_of}
+use Rattle.tsn_branch.specs.Look.{HasProof, SplitsUndecided}
+use Rattle.tsn_branch.specs.Path.{IsUndecided}
+use Rattle.tsn_branch.specs.Descent.{IsAfter}
 use Rattle.tsn_book.specs.Book.{Progress, IsMet}
 use Rattle.tsn_worker.specs.Search.{HasChildren, IsAfterLeaf}
 use Rattle.tsn_worker.proofs.Settling.{open_fits, lent_met, has_children, after_leaf}
@@ -58,3 +61,30 @@ go_on-requires g c =
     let after = after_leaf c.record.new.book.network history c.record.new.book.history settlement path place waiting
     (ap (λ (book : Progress). book.history) c.in_ok-record.ensures.settled) c.in_ok-record.ensures.lawful.legal walk walk.at.is c.in-None.ensures in
     record { after = subst (λ p. IsAfterLeaf c.record.new.book.history p waiting) (sym c.look.ensures.path) after }
+
+pub record-requires-clause-proof : goal.record-requires-clause-proof
+record-requires-clause-proof g c =
+    let searching = c.requires.searching in
+    let path = path_made c.args.self.now.book.history c.args.self.now.place in
+    let outcome = outcome_of c.in_ok-look.look in
+    subst (λ n. HasProof n path outcome) (sym searching.search.same_network)
+    (subst (λ p. HasProof c.args.tables.now.timing p outcome) (sym searching.walk.at.is) c.in_ok-look.ensures.proof)
+
+pub record-requires-clause-undecided : goal.record-requires-clause-undecided
+record-requires-clause-undecided g c =
+    let searching = c.requires.searching in
+    let path = path_made c.args.self.now.book.history c.args.self.now.place in
+    let outcome = outcome_of c.in_ok-look.look in
+    subst (λ n. SplitsUndecided n path outcome) (sym searching.search.same_network)
+    (subst (λ p. SplitsUndecided c.args.tables.now.timing p outcome) (sym searching.walk.at.is) c.in_ok-look.ensures.undecided)
+
+pub go_down-requires-clause-splits : goal.go_down-requires-clause-splits
+go_down-requires-clause-splits g c =
+    let network = c.args.tables.now.timing in
+    (network, subst (λ (o : Outcome). IsAfter network o c.look.new.self) c.in-Some.ensures c.in_ok-look.ensures.after)
+
+pub go_down-requires-clause-undecided : goal.go_down-requires-clause-undecided
+go_down-requires-clause-undecided g c =
+    let network = c.args.tables.now.timing in
+    let split = subst (λ (o : Outcome). SplitsUndecided network c.args.self.now.descent.path o) c.in-Some.ensures c.in_ok-look.ensures.undecided in
+    subst (λ p. IsUndecided p c.in-Some.triple) (sym c.look.ensures.path) split.1
