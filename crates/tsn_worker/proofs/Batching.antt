@@ -3,9 +3,9 @@
 --     look_schedule, prunes_above            what a look gives
 --     IsCollecting, collected_more, collected     the looks of a batch, one after another
 --     unsolved_all, solved_last, few_unsolved     what a batch does to its teller
-use Rattle.std.proofs.Common.{◌≡◌, ℕ, ◌+◌, ◌<◌, ◌≤◌, min, List, [], ◌∷◌, ◌++◌, map, length, take, refl, sym, ap, ◌∙◌, subst, arith, length-append}
+use Rattle.std.proofs.Common.{◌≡◌, ℕ, ◌<◌, ◌≤◌, List, [], ◌∷◌, ◌++◌, map, length, take, refl, sym, ap, ◌∙◌, subst, arith, length-append}
 use Rattle.std.specs.Prelude.{All, Option, Some, None, MatchOption, MatchBool, Bool, true, false, slice_index_or, Result, Ok, Err, IfOk, IfSome}
-use Rattle.std.proofs.lemmas.List.{take-append-le, map-append, length-map}
+use Rattle.std.proofs.lemmas.List.{take-append-le, map-append}
 use Rattle.std.proofs.lemmas.List.Elements.{All-nil, All-cons, All-head, All-tail, All-take, All-push}
 use Rattle.tsn_model.specs.declared.Triple.{Triple}
 use Rattle.tsn_model.specs.declared.Decision.{Decision}

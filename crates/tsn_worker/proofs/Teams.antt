@@ -1,8 +1,8 @@
 -- Tellers with their bags.
-use Rattle.std.proofs.Common.{◌≡◌, ℕ, zero, suc, ◌+◌, ◌-◌, ◌<◌, ◌≤◌, List, [], ◌∷◌, ◌++◌, map, take, drop, length, get_or, refl, sym, ap, ◌∙◌, subst, arith, length-append}
+use Rattle.std.proofs.Common.{◌≡◌, ℕ, zero, suc, ◌+◌, ◌<◌, List, [], ◌∷◌, ◌++◌, map, take, drop, length, append_assoc, refl, sym, ap, ◌∙◌, subst, arith}
 use Rattle.std.specs.Prelude.{slice_index_or, All}
-use Rattle.std.proofs.lemmas.List.{take-append-le, take_all, length-map, map-append, get_or_append_left}
-use Rattle.std.proofs.lemmas.List.Elements.{All-nil, All-cons, All-head, All-tail, All-append, All-map, All-push, All-take}
+use Rattle.std.proofs.lemmas.List.{take-append-le, take_all, length-map, map-append}
+use Rattle.std.proofs.lemmas.List.Elements.{All-nil, All-cons, All-head, All-tail, All-map, All-push}
 use Rattle.tsn_share.specs.Names.{Names}
 use Rattle.tsn_share.specs.Teller.{Known, IsEven, fresh_teller, tellers_from}
 use Rattle.tsn_share.specs.Gathered.{IsInOrder}
@@ -47,6 +47,13 @@ module _ {X : Type 0} where
   pub all_under : {Y : Type 0} (P : Y → Type 0) (f : X → Y) (xs : List X) → All P (map f xs) → All (λ x. P (f x)) xs
   all_under P f [] all = All-nil (λ x. P (f x))
   all_under P f (x ∷ xs) all = All-cons (λ x. P (f x)) x xs (All-head P (f x) (map f xs) all) (all_under P f xs (All-tail P (f x) (map f xs) all))
+
+  -- one more is taken from the front of a list, and put behind another
+  pub taken_more : {Y : Type 0} (f : X → Y) (xs more : List X) (x : X) (rest after all : List Y) → more ≡ xs ++ x ∷ [] → rest ≡ f x ∷ after → map f xs ++ rest ≡ all → map f more ++ after ≡ all
+  taken_more f xs more x rest after all is first together = rw (is, map-append f xs (x ∷ []), append_assoc) (rw first at together)
+
+  pub given_more : {Y : Type 0} (f : X → Y) (ys more : List Y) (x : X) (rest after : List X) (all : List Y) → more ≡ ys ++ f x ∷ [] → rest ≡ x ∷ after → ys ++ map f rest ≡ all → more ++ map f after ≡ all
+  given_more f ys more x rest after all is first together = rw (is, append_assoc) (rw first at together)
 
   -- what a slice of all of a `Vec` wrote back
   pub written : (old new : List X) (len : ℕ) → length new ≡ len → take len (new ++ drop (length new) old) ≡ new

@@ -1,4 +1,4 @@
-use Rattle.std.proofs.Common.{◌≡◌, ◌<◌, ◌≤◌, map, length, take, sym, ap, ◌∙◌, subst, arith}
+use Rattle.std.proofs.Common.{map, take, sym, ap, ◌∙◌, arith}
 use Rattle.std.proofs.lemmas.List.{length-map}
 use Rattle.tsn_branch.specs.Outcome.{outcome_of}
 use Rattle.tsn_share.specs.Teller.{Known}

@@ -1,4 +1,4 @@
-use Rattle.std.proofs.Common.{◌≡◌, sym, subst}
+use Rattle.std.proofs.Common.{sym, subst}
 use Rattle.tsn_branch.specs.Path.{Fits}
 use Rattle.tsn_worker.proofs.Batching.{begun_at}
 use Rattle.tsn_worker.proofs.below.descent_at.Goals as goal

@@ -1,4 +1,3 @@
-use Rattle.std.proofs.Common.{◌≡◌}
 use Rattle.tsn_worker.proofs.Deciding.{shows_none, shows_kept}
 use Rattle.tsn_worker.proofs.planning.decide.Goals as goal
 

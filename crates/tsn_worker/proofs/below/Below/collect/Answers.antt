@@ -1,4 +1,4 @@
-use Rattle.std.proofs.Common.{◌≡◌, ◌<◌, ◌+◌, ◌∷◌, [], List, MatchBool, map, length, refl, sym, ap, ◌∙◌, subst, arith, length-append}
+use Rattle.std.proofs.Common.{◌<◌, ◌+◌, ◌∷◌, [], List, MatchBool, map, length, refl, sym, ap, ◌∙◌, subst, arith, length-append}
 use Rattle.tsn_branch.specs.Outcome.{outcome_of}
 use Rattle.tsn_branch.specs.declared.outcome.Look.{Look}
 use Rattle.tsn_book.specs.Below.{path_after}
