@@ -253,22 +253,22 @@ fn look_on(
             return Err(fault);
         }
     };
-    let mut found = Found {
-        look,
-        solved,
-        more: true,
-    };
-    match split_of(&found.look) {
+    match split_of(&look) {
         Some(triple) => match descent.down(triple) {
-            Ok(()) => Ok(found),
+            Ok(()) => Ok(Found {
+                look,
+                solved,
+                more: true,
+            }),
             Err(fault) => {
-                drop(found);
+                drop(look);
+                drop(solved);
                 Err(fault)
             }
         },
         None => {
-            found.more = descent.next_under(floor);
-            Ok(found)
+            let more = descent.next_under(floor);
+            Ok(Found { look, solved, more })
         }
     }
 }

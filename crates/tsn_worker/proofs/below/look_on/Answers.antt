@@ -24,6 +24,6 @@ returns-in-Ok-down-clause-next c =
 
 pub returns-in-None-clause-next : goal.returns-in-None-clause-next
 returns-in-None-clause-next c =
-    let over = c.next_under.ensures in
-    walked_over c.args.tables.now.timing c.args.tables.now.conflicts.triples c.args.descent.now.path (outcome_of c.in_ok-look.look) c.look.new.self c.next_under.new.self c.next_under.result
+    let over = c.next_under-more.ensures in
+    walked_over c.args.tables.now.timing c.args.tables.now.conflicts.triples c.args.descent.now.path (outcome_of c.in_ok-look.look) c.look.new.self c.next_under-more.new.self c.next_under-more.result
     c.in-None.ensures c.look.ensures.path c.in_ok-look.ensures.after c.requires.stands.fits over.stands over.fits over.next
