@@ -1,13 +1,23 @@
 //! Calls of the libraries that no command makes, over two networks. A call that meets want of memory is made once more: what it
 //! was lent is as before, so nothing else that is printed changes. `bench/refused.py` refuses each call for memory in turn.
+//! A function makes one call and hands on little of what its contract says: all of it would stand in the way of each further
+//! proof.
 #![tactic(auto)]
 
+ghost use Rattle.tsn_conflict.specs.Kept.{AreConflictsOf};
+
+mod looks;
 mod networks;
 mod offsets;
 mod search;
+mod settlements;
+mod steps;
+mod told;
 
+use std::alloc::Global;
 use std::process::ExitCode;
 use tsn_conflict::conflicts;
+use tsn_conflict::sharing::Conflicts;
 use tsn_model::NoMemory;
 use tsn_net::read_problem;
 use tsn_timing::Timing;
@@ -29,13 +39,30 @@ fn run<R: Print + AllocGlobal>(rt: &R) -> Result<(), NoMemory> {
 
 /// Makes the calls over a network.
 fn call_all<R: Print + AllocGlobal>(rt: &R, name: &str, text: &str) -> Result<(), NoMemory> {
-    let alloc = rt.alloc();
-    let Ok(problem) = read_problem(alloc, text.as_bytes()) else {
-        return Err(NoMemory);
-    };
-    let timing = Timing::of(alloc, &problem)?;
-    let shared = conflicts(alloc, &timing)?;
-    let _ = println!(rt; "{name}");
-    offsets::call(rt, &shared, timing.streams())?;
-    search::call(rt, &timing, &shared)
+    let timing = timing_of(rt.alloc(), text)?;
+    call_over(rt, name, &timing)
+}
+
+fn timing_of(alloc: Global, text: &str) -> Result<Timing, NoMemory> {
+    match read_problem(alloc, text.as_bytes()) {
+        Ok(problem) => Timing::of(alloc, &problem),
+        Err(_) => Err(NoMemory),
+    }
+}
+
+fn call_over<R: Print + AllocGlobal>(rt: &R, name: &str, timing: &Timing) -> Result<(), NoMemory> {
+    let shared = conflicts(rt.alloc(), timing)?;
+    told::tell_network(rt, name);
+    call_each(rt, timing, &shared)
+}
+
+fn call_each<R: Print + AllocGlobal>(
+    rt: &R,
+    timing: &Timing,
+    shared: &Conflicts,
+) -> Result<(), NoMemory>
+    requires { AreConflictsOf timing.now shared.now }
+{
+    offsets::call(rt, shared, timing.streams())?;
+    search::call(rt, timing, shared)
 }

@@ -1,4 +1,8 @@
 //! Least offsets, where the left stream of each conflict goes first.
+ghost use Rattle.std.specs.Prelude.{All, length};
+ghost use Rattle.tsn_diff.specs.Limits.{IsArcAmong};
+
+use crate::told::{NO_MEMORY, tell, tell_offsets};
 use std::alloc::Global;
 use tsn_conflict::sharing::Conflicts;
 use tsn_diff::{Least, MAX_STREAMS, Net, Outcome};
@@ -11,33 +15,7 @@ pub fn call<R: Print + AllocGlobal>(
     streams: usize,
 ) -> Result<(), NoMemory> {
     let arcs = left_arcs(rt.alloc(), shared)?;
-    let net = Net::new(streams.min(MAX_STREAMS));
-    let Some((last, others)) = arcs.split_last() else {
-        return Ok(());
-    };
-    if !net.takes(&arcs) || !net.takes(others) || !net.takes(&[*last]) {
-        return Ok(());
-    }
-    let outcome = match net.least(rt.alloc(), &arcs) {
-        Ok(outcome) => outcome,
-        Err(NoMemory) => {
-            let _ = println!(rt; "least: no memory");
-            net.least(rt.alloc(), &arcs)?
-        }
-    };
-    tell(rt, "least", outcome);
-    let Outcome::Least(least) = net.least(rt.alloc(), others)? else {
-        return Ok(());
-    };
-    let outcome = match least.with_arc(rt.alloc(), *last) {
-        Ok(outcome) => outcome,
-        Err(NoMemory) => {
-            let _ = println!(rt; "with_arc: no memory");
-            least.with_arc(rt.alloc(), *last)?
-        }
-    };
-    tell(rt, "with_arc", outcome);
-    Ok(())
+    solve(rt, &Net::new(streams.min(MAX_STREAMS)), &arcs)
 }
 
 fn left_arcs(alloc: Global, shared: &Conflicts) -> Result<Vec<Arc>, NoMemory> {
@@ -52,19 +30,86 @@ fn left_arcs(alloc: Global, shared: &Conflicts) -> Result<Vec<Arc>, NoMemory> {
     Ok(arcs)
 }
 
-fn tell<R: Print>(rt: &R, name: &str, outcome: Outcome) {
-    match outcome {
-        Outcome::Least(least) => tell_offsets(rt, name, &least),
-        Outcome::Positive(_) => {
-            let _ = println!(rt; "{name}: none");
+fn solve<R: Print + AllocGlobal>(rt: &R, net: &Net, arcs: &[Arc]) -> Result<(), NoMemory> {
+    solve_all(rt, net, arcs)?;
+    match arcs.split_last() {
+        Some((last, others)) => solve_with(rt, net, others, *last),
+        None => Ok(()),
+    }
+}
+
+fn solve_all<R: Print + AllocGlobal>(rt: &R, net: &Net, arcs: &[Arc]) -> Result<(), NoMemory> {
+    if !net.takes(arcs) {
+        return Ok(());
+    }
+    match solve_once(rt, net, arcs) {
+        Ok(()) => Ok(()),
+        Err(NoMemory) => {
+            tell(rt, "least", NO_MEMORY);
+            solve_once(rt, net, arcs)
         }
     }
 }
 
-fn tell_offsets<R: Print>(rt: &R, name: &str, least: &Least) {
-    let _ = print!(rt; "{name}:");
-    for offset in least.offsets() {
-        let _ = print!(rt; " {offset}");
+fn solve_once<R: Print + AllocGlobal>(rt: &R, net: &Net, arcs: &[Arc]) -> Result<(), NoMemory>
+    requires { All (IsArcAmong (length net.now)) arcs.now }
+{
+    let outcome = net.least(rt.alloc(), arcs)?;
+    tell_outcome(rt, "least", &outcome);
+    Ok(())
+}
+
+/// Solves the others, and adds the last arc to that.
+fn solve_with<R: Print + AllocGlobal>(
+    rt: &R,
+    net: &Net,
+    others: &[Arc],
+    last: Arc,
+) -> Result<(), NoMemory> {
+    if !net.takes(others) || !net.takes(&[last]) {
+        return Ok(());
     }
-    let _ = println!(rt; "");
+    add_last(rt, net, others, last)
+}
+
+fn add_last<R: Print + AllocGlobal>(
+    rt: &R,
+    net: &Net,
+    others: &[Arc],
+    last: Arc,
+) -> Result<(), NoMemory>
+    requires others { All (IsArcAmong (length net.now)) others.now }
+    requires last { IsArcAmong (length net.now) last }
+{
+    match net.least(rt.alloc(), others)? {
+        Outcome::Least(least) => add(rt, &least, last),
+        Outcome::Positive(_) => Ok(()),
+    }
+}
+
+fn add<R: Print + AllocGlobal>(rt: &R, least: &Least, last: Arc) -> Result<(), NoMemory>
+    requires { IsArcAmong (length least.now.releases) last }
+{
+    match add_once(rt, least, last) {
+        Ok(()) => Ok(()),
+        Err(NoMemory) => {
+            tell(rt, "with_arc", NO_MEMORY);
+            add_once(rt, least, last)
+        }
+    }
+}
+
+fn add_once<R: Print + AllocGlobal>(rt: &R, least: &Least, last: Arc) -> Result<(), NoMemory>
+    requires { IsArcAmong (length least.now.releases) last }
+{
+    let outcome = least.with_arc(rt.alloc(), last)?;
+    tell_outcome(rt, "with_arc", &outcome);
+    Ok(())
+}
+
+fn tell_outcome<R: Print>(rt: &R, name: &str, outcome: &Outcome) {
+    match outcome {
+        Outcome::Least(least) => tell_offsets(rt, name, least.offsets()),
+        Outcome::Positive(_) => tell(rt, name, "none"),
+    }
 }
