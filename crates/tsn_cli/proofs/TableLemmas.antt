@@ -8,7 +8,7 @@ use Rattle.tsn_gate.specs.GateLists.{AreWantedLists}
 use Rattle.tsn_replay.specs.Faults.{NamesLinks, KeepsLimits, IsListed, IsWithin, HasReplayFault}
 use Rattle.tsn_replay.specs.declared.fault.ReplayFault.{ReplayFault}
 use Rattle.tsn_replay.specs.declared.fault.ReplayFault.TheVariants.{UnknownLink, Limit, Memory}
-use Rattle.tsn_cli.specs.Tables.{background_for}
+use Rattle.tsn_replay.specs.Feeding.{background_for}
 
 module _ (network : Network) (formed : IsWellFormed network) (offsets : List ℕ) (lists : List LinkGates) (wanted : AreWantedLists network offsets lists) (exist : All (λ list. list.link < length network.links) lists) where
   names : (is_greedy : Bool) → NamesLinks network lists (background_for is_greedy)

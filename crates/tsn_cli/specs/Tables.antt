@@ -7,8 +7,7 @@ use Rattle.std.specs.Prelude.{◌≡◌, ◌⊎◌, ℕ, ◌≤◌, List, [], �
 use Rattle.std.specs.List.{flat_map}
 use Rattle.tsn_model.specs.Network.{Network}
 use Rattle.tsn_model.specs.Schedule.{IsValid, flowspan}
-use Rattle.tsn_model.specs.Bridge.{LinkGates, BridgeRun, Background, IsBridgeRun, IsFed}
-use Rattle.tsn_model.specs.Bridge.Background.{nothing, greedy}
+use Rattle.tsn_model.specs.Bridge.{LinkGates, BridgeRun, IsBridgeRun, IsFed}
 use Rattle.tsn_net.specs.File.{States}
 use Rattle.tsn_net.specs.Problem.{NamedNetwork}
 use Rattle.tsn_cert.specs.declared.plan.Plan.{Plan}
@@ -21,6 +20,7 @@ use Rattle.tsn_gate.specs.Table as gate
 use Rattle.tsn_gate.specs.Taprio.{script_text}
 use Rattle.tsn_gate.specs.Json.{json_text}
 use Rattle.tsn_replay.specs.declared.trace.Row.{Row}
+use Rattle.tsn_replay.specs.Feeding.{background_for}
 use Rattle.tsn_replay.specs.Rows as replay
 use Rattle.tsn_replay.specs.Rows.{AreRows}
 use Rattle.tsn_replay.specs.Csv.{csv_text}
@@ -48,11 +48,6 @@ rows_text replays.Csv problem rows = csv_text problem rows
 -- the output is the text of the gate lists that the schedule asks for
 abbrev pub ShowsLists : GatesFormat → NamedNetwork → List ℕ → Output → Type 0
 ShowsLists format problem offsets output = (all : List LinkGates) × AreWantedLists problem.network offsets all × IsLine 0 (lists_text format problem all) output
-
--- the background of a replay: nothing, or on each link always the greatest frame
-abbrev pub background_for : Bool → Background
-background_for true = greedy
-background_for false = nothing
 
 -- the output is the text of a bridge run of so many cycles by these lists, fed by that background
 abbrev pub ShowsReplay : ReplayFormat → NamedNetwork → List ℕ → ℕ → Bool → Output → Type 0

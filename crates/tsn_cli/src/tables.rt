@@ -8,9 +8,8 @@ ghost use Rattle.tsn_cli.specs.Run.{BreaksOff, Ends, EndsEarly, IsLine, reading_
 ghost use Rattle.tsn_cli.specs.Outcome.{ComesTo, output_of};
 ghost use Rattle.tsn_gate.specs.Json.{json_text};
 ghost use Rattle.tsn_gate.specs.Table.{table_text};
-ghost use Rattle.tsn_replay.specs.Feeding.{background_of};
 ghost use Rattle.tsn_replay.specs.declared.trace.Row.{Row};
-ghost use Rattle.tsn_cli.specs.Tables.{CanShow, ChartAnswers, GatesAnswers, JudgesPlan, RejectsPlan, ReplayAnswers, ShowsLists, ShowsPicture, ShowsPlan, ShowsReplay, ShowsTable, TableAnswers, background_for, lists_text, rejected_plan, rows_text};
+ghost use Rattle.tsn_cli.specs.Tables.{CanShow, ChartAnswers, GatesAnswers, JudgesPlan, RejectsPlan, ReplayAnswers, ShowsLists, ShowsPicture, ShowsPlan, ShowsReplay, ShowsTable, TableAnswers, lists_text, rejected_plan, rows_text};
 
 use crate::answer::Answer;
 use crate::check::{Cause, file_refusal};
@@ -281,7 +280,7 @@ fn replay_table(
     ensures { IfOk result (λ a. ShowsReplay format problem.now valid.now cycles greedy (output_of (Ok a))) }
 {
     let lists = gate_lists(alloc, problem, valid)?;
-    let background = background_for(greedy);
+    let background = Background::of(greedy);
     // The network is within its limits.
     let _limits = problem.cycle();
     let trace = match replay(alloc, problem, valid, &lists, cycles, &background) {
@@ -305,17 +304,6 @@ fn rows_text(
     match format {
         ReplayFormat::Table => trace.to_text(alloc, problem),
         ReplayFormat::Csv => trace.to_csv(alloc, problem),
-    }
-}
-
-/// The background of a replay.
-fn background_for(greedy: bool) -> Background
-    ensures { background_of result ≡ background_for greedy }
-{
-    if greedy {
-        Background::Greedy
-    } else {
-        Background::Nothing
     }
 }
 

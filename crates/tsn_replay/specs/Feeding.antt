@@ -1,10 +1,10 @@
 -- The background frames that a replay has yet to start.
---     background_of                     the background that is handed in
+--     background_of, background_for     the background that is handed in, or asked for by a word
 --     waiting_at, IsOrder, IsFeedOf     how a feed holds its frames
 --     waiting_on                        the frame that waits on a link before any other
 --     IsLine, IsFirstOn                 the frames of a list wait in line
 --     IsFollowing, IsSent               the first of a line has started
-use Rattle.std.specs.Prelude.{◌≡◌, ℕ, ◌≤◌, ◌<◌, ◌⊎◌, List, [], length, slice_get, slice_index, slice_index_or, All, Any, Option, Some, None}
+use Rattle.std.specs.Prelude.{◌≡◌, ℕ, ◌≤◌, ◌<◌, ◌⊎◌, List, [], length, slice_get, slice_index, slice_index_or, All, Any, Option, Some, None, Bool, true, false}
 use Rattle.tsn_model.specs.Bridge.{BackgroundStart, BridgeRun, frame_at, IsBefore}
 use Rattle.tsn_model.specs.Bridge as model
 use Rattle.tsn_model.specs.Bridge.Background.{nothing, greedy, frames}
@@ -20,6 +20,11 @@ abbrev pub background_of : Background → model.Background
 background_of given.Nothing = nothing
 background_of given.Greedy = greedy
 background_of (given.Listed list) = frames list.items
+
+-- the background of a replay that is asked to be greedy, on each link always the greatest frame, or isn't: nothing
+abbrev pub background_for : Bool → model.Background
+background_for true = greedy
+background_for false = nothing
 
 -- nothing has started
 abbrev pub no_start : BridgeRun

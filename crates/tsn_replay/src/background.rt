@@ -34,8 +34,19 @@ pub enum Background {
 
 impl Background {
     ghost use Rattle.std.specs.Prelude.{◌≡◌};
-    ghost use Rattle.tsn_replay.specs.Feeding.{background_of};
+    ghost use Rattle.tsn_replay.specs.Feeding.{background_for, background_of};
     ghost use Rattle.tsn_replay.specs.Faults.{frames_of};
+
+    /// The background that is asked for: `Greedy`, or nothing.
+    pub fn of(greedy: bool) -> Background
+        ensures { background_of result ≡ background_for greedy }
+    {
+        if greedy {
+            Background::Greedy
+        } else {
+            Background::Nothing
+        }
+    }
 
     /// The frames of a list; else none.
     pub(crate) fn frames(&self) -> &[BackgroundFrame]
