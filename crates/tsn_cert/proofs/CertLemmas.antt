@@ -1,12 +1,14 @@
 -- A printed certificate is read again.
-use Rattle.std.proofs.Common.{◌≡◌, ◌≤◌, ◌<◌, ◌+◌, ℕ, List, [], ◌∷◌, ◌++◌, length, take, get_or, map, true, false, Option, Some, None, Ok, refl, sym, ap, ap₂, ◌∙◌, arith, lit≤, append-nil}
+use Rattle.std.proofs.Common.{Result, Err, IfOk, IsOkAnd, OnOk, ◌≡◌, ◌≤◌, ◌<◌, ◌+◌, ℕ, List, [], ◌∷◌, ◌++◌, length, take, get_or, map, true, false, Option, Some, None, Ok, refl, sym, ap, ap₂, ◌∙◌, arith, lit≤, Vec}
 use Rattle.std.proofs.lemmas.Bool.Decides.{nat_tests}
 use Rattle.std.specs.Prelude.{option_and_then, option_map, nat_le, ◌&&◌}
 use Rattle.std.proofs.lemmas.List.{take_more, map-append}
-use Rattle.std.proofs.Math.ListN.{take-append-drop, drop_of_length-le}
 use Rattle.serde_json.specs.Data.{Data, depth}
 use Rattle.serde_json.specs.Read.{max_depth}
 use Rattle.serde_json.specs.Written.{has_float}
+use Rattle.std.specs.declared.alloc.Global.{Global}
+use Rattle.serde_json.specs.View.{view}
+use Rattle.serde_json.specs.declared.value.Value.{Value, Array}
 use Rattle.tsn_model.specs.Certificate.{Node, split_node, leaf_node, tie_node, Leaf, late, overrun, positive_cycle, load, overload, Entry}
 use Rattle.tsn_cert.specs.Json.{when, value_of, each, elements, number_value, array_value}
 use Rattle.tsn_cert.specs.Fault.{shaped, answer}
@@ -14,7 +16,7 @@ use Rattle.tsn_cert.specs.Cert.{chain_list, chains_of, chains_value, tie_value, 
 use Rattle.tsn_cert.specs.declared.cert.Cert.{Cert}
 use Rattle.tsn_cert.specs.declared.cert.Format.{Format}
 use Rattle.tsn_cert.specs.declared.cert.Format.TheVariants.{One, Two}
-use Rattle.tsn_cert.proofs.JsonLemmas.{listed-items_of_list, numbers-array_value, no_float-items, items_depth-le}
+use Rattle.tsn_cert.proofs.JsonLemmas.{listed-items_of_list, view-printed, taken_all, numbers-array_value, no_float-items, items_depth-le}
 
 -- ---- lists that are read again
 
@@ -52,12 +54,18 @@ printed_more view seen g old new v xs i x within is pushed e h =
     ap (map view) pushed ∙ map-append view old (v ∷ []) ∙ ap₂ (λ a b. a ++ b ∷ []) h e
     ∙ sym (map-append g (map seen (take i xs)) (seen x ∷ [])) ∙ ap (map g) (sym (seen_more seen xs i x within is))
 
+-- the array of all elements that were printed
+pub printed_all : {X A : Type 0} (seen : X → A) (g : A → Data) (v : Vec Value Global) (xs : List X) (i : ℕ)
+    → length xs ≤ i → map view v.items ≡ map g (map seen (take i xs)) → view (Array v) ≡ array_value (map g (map seen xs))
+printed_all seen g v xs i done e =
+    view-printed v (map g (map seen xs)) (e ∙ ap (λ l. map g (map seen l)) (taken_all xs i done))
+
 -- all elements were printed
 pub printed_done : {X A : Type 0} (seen : X → A) (f : Data → Option A) (g : A → Data) (xs : List X) (i : ℕ)
     → length xs ≤ i → each f (map g (map seen (take i xs))) ≡ Some (map seen (take i xs))
     → option_and_then (λ ds. each f ds) (elements (array_value (map g (map seen xs)))) ≡ Some (map seen xs)
 printed_done seen f g xs i h e =
-    let whole : take i xs ≡ xs = sym (append-nil (take i xs)) ∙ ap (λ l. take i xs ++ l) (sym (drop_of_length-le xs h)) ∙ take-append-drop i xs in
+    let whole : take i xs ≡ xs = taken_all xs i h in
     ap (λ ds. each f ds) (listed-items_of_list (map g (map seen xs))) ∙ (rw whole at e)
 
 -- ---- parts
@@ -104,6 +112,10 @@ itself chain = chain
 map_itself : (cs : List (List ℕ)) → map itself cs ≡ cs
 map_itself [] = refl
 map_itself (c ∷ cs) = ap (λ xs. c ∷ xs) (map_itself cs)
+
+-- the array of all chains that were printed
+pub chains_printed : (v : Vec Value Global) (cs : List (List ℕ)) (i : ℕ) → length cs ≤ i → map view v.items ≡ map chain_value (map itself (take i cs)) → view (Array v) ≡ chains_value cs
+chains_printed v cs i done e = printed_all itself chain_value v cs i done e ∙ ap (λ l. chains_value l) (map_itself cs)
 
 -- all chains were printed
 pub printed_chains : (cs : List (List ℕ)) (i : ℕ) → length cs ≤ i → each chain_of (map chain_value (map itself (take i cs))) ≡ Some (map itself (take i cs)) → chain_list (chains_value cs) ≡ Some cs
@@ -201,3 +213,37 @@ cert_back c e of =
 pub cert_in-printed : (s : List ℕ) (c : Cert) → value_of s ≡ Some (cert_value c) → nodes_of (nodes_value c.nodes) ≡ Some c.nodes → are_of c.format c.nodes ≡ true → cert_fits c ≡ true → cert_in s ≡ Ok c
 cert_in-printed s c e back of fits =
     ap (answer cert_of cert_fits) e ∙ ap (shaped cert_fits) (cert_back c back of) ∙ rw fits refl
+
+-- ---- what is made of parts that could be made
+
+pub made_of : {A B E : Type 0} (r : Result A E) (part : Result B E) (seen : A → Data) (shown : B → Data) (f : Data → Data) (d : Data)
+    → IfOk part (λ p. shown p ≡ d) → IfOk r (λ v. IsOkAnd part (λ p. seen v ≡ f (shown p))) → IfOk r (λ v. seen v ≡ f d)
+made_of (Err e) part seen shown f d is made = tt
+made_of (Ok v) (Err e) seen shown f d is made = absurd made
+made_of (Ok v) (Ok p) seen shown f d is made = made ∙ ap f is
+
+pub made_of_two : {A B C E : Type 0} (r : Result A E) (first : Result B E) (second : Result C E) (seen : A → Data) (shown : B → Data) (shown₂ : C → Data) (f : Data → Data → Data) (d e : Data)
+    → IfOk first (λ p. shown p ≡ d) → IfOk second (λ p. shown₂ p ≡ e)
+    → IfOk r (λ v. IsOkAnd first (λ p. IsOkAnd second (λ q. seen v ≡ f (shown p) (shown₂ q)))) → IfOk r (λ v. seen v ≡ f d e)
+made_of_two (Err x) first second seen shown shown₂ f d e is is₂ made = tt
+made_of_two (Ok v) (Err x) second seen shown shown₂ f d e is is₂ made = absurd made
+made_of_two (Ok v) (Ok p) (Err x) seen shown shown₂ f d e is is₂ made = absurd made
+made_of_two (Ok v) (Ok p) (Ok q) seen shown shown₂ f d e is is₂ made = made ∙ ap₂ f is is₂
+
+-- what holds where a part could be made
+pub back_of : {A B E P R : Type 0} (r : Result A E) (part : Result B E) (Q : A → B → Type 0)
+    → (P → R) → OnOk part P → IfOk r (λ v. IsOkAnd part (Q v)) → OnOk r R
+back_of (Err e) part Q h back made = tt
+back_of (Ok v) (Err e) Q h back made = absurd made
+back_of (Ok v) (Ok p) Q h back made = h back
+
+pub back_of_two : {A B C E P₂ R : Type 0} (r : Result A E) (first : Result B E) (second : Result C E) (P : B → Type 0) (Q : A → B → C → Type 0)
+    → ((p : B) → P p → P₂ → R) → IfOk first P → OnOk second P₂ → IfOk r (λ v. IsOkAnd first (λ p. IsOkAnd second (Q v p))) → OnOk r R
+back_of_two (Err e) first second P Q h back back₂ made = tt
+back_of_two (Ok v) (Err e) second P Q h back back₂ made = absurd made
+back_of_two (Ok v) (Ok p) (Err e) P Q h back back₂ made = absurd made
+back_of_two (Ok v) (Ok p) (Ok q) P Q h back back₂ made = h p back back₂
+
+pub back : {A E R : Type 0} (r : Result A E) → R → OnOk r R
+back (Err e) x = tt
+back (Ok v) x = x

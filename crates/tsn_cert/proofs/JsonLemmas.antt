@@ -1,18 +1,19 @@
 -- What a file's value is, and a loop over the elements of an array.
-use Rattle.std.proofs.Common.{◌≡◌, ◌<◌, ◌≤◌, ◌+◌, ℕ, List, [], ◌∷◌, ◌++◌, length, drop, get_or, map, Bool, true, false, Option, Some, None, Ok, refl, sym, ap, ◌∙◌, append_assoc, append-nil, arith}
+use Rattle.std.proofs.Common.{◌≡◌, ◌<◌, ◌≤◌, ◌+◌, ℕ, List, [], ◌∷◌, ◌++◌, length, take, drop, get_or, map, Bool, true, false, Option, Some, None, Ok, refl, sym, ap, ap₂, ◌∙◌, append_assoc, append-nil, arith, Vec}
 use Rattle.std.specs.Prelude.{suc, nat_eq, option_map, option_and_then, unwrap_or, String}
 use Rattle.std.specs.declared.alloc.Global.{Global}
 use Rattle.std.specs.Str.{IsUtf8, is_utf8}
-use Rattle.std.proofs.Math.ListN.{drop_of_length-le}
+use Rattle.std.proofs.Math.ListN.{take-append-drop, drop_of_length-le}
 use Rattle.std.proofs.lemmas.Str.{is_utf8-from_IsUtf8, IsUtf8-from_is_utf8}
-use Rattle.std.proofs.lemmas.List.{drop_more, length-map}
-use Rattle.serde_json.specs.Data.{Data, depth, items_depth}
+use Rattle.std.proofs.lemmas.List.{take_more, drop_more, length-map, map-append}
+use Rattle.serde_json.specs.Data.{Data, array, item, depth, items_depth}
 use Rattle.serde_json.specs.Written.{has_float, items_have_float}
 use Rattle.tsn_cert.proofs.LineFeed.{read-line_feed}
 use Rattle.serde_json.specs.Read.{read}
 use Rattle.serde_json.specs.Find.{as_array, as_object}
 use Rattle.serde_json.specs.View.{view, items_of, members_of, members_view}
-use Rattle.serde_json.specs.declared.value.Value.{Value}
+use Rattle.serde_json.specs.declared.value.Value.{Value, Array}
+use Rattle.serde_json.proofs.Views.{view-Array}
 use Rattle.tsn_cert.specs.Json.{when, value_of, listed, elements, each, member_count, is_object_of, items_of_list, array_value, number_value, numbers, whole_number}
 use Rattle.tsn_cert.specs.Fault.{named, FaultGiven}
 use Rattle.tsn_cert.specs.declared.fault.FileFault.{FileFault}
@@ -155,3 +156,28 @@ items_depth-le n g h (x ∷ xs) = omega (arith, h x, items_depth-le n g h xs)
 -- with its line feed
 pub value_of-line_feed : (bytes : List ℕ) (d : Data) → IsUtf8 (bytes ++ 10 ∷ []) → read bytes ≡ Some d → value_of (bytes ++ 10 ∷ []) ≡ Some d
 value_of-line_feed bytes d utf8 e = value_of-read (bytes ++ 10 ∷ []) d utf8 (read-line_feed bytes ∙ e)
+
+-- ---- a loop that prints each number
+
+pub items_of-items_of_list : (ds : List Data) → items_of ds ≡ items_of_list ds
+items_of-items_of_list [] = refl
+items_of-items_of_list (d ∷ ds) = ap (item d) (items_of-items_of_list ds)
+
+-- all elements were printed
+pub view-printed : (v : Vec Value Global) (ds : List Data) → map view v.items ≡ ds → view (Array v) ≡ array_value ds
+view-printed v ds e = view-Array v ∙ ap array (ap items_of e ∙ items_of-items_of_list ds)
+
+-- the number at i was printed
+pub number_printed : (old new : List Value) (v : Value) (ns : List ℕ) (i : ℕ) → i < length ns → new ≡ old ++ v ∷ [] → view v ≡ number_value (get_or ns i 0)
+    → map view old ≡ map number_value (take i ns) → map view new ≡ map number_value (take (i + 1) ns)
+number_printed old new v ns i within pushed h e =
+    ap (map view) pushed ∙ map-append view old (v ∷ []) ∙ ap₂ (λ a b. a ++ b ∷ []) e h
+    ∙ sym (map-append number_value (take i ns) (get_or ns i 0 ∷ [])) ∙ ap (map number_value) (sym (take_more ns i 0 within))
+
+pub taken_all : {A : Type 0} (xs : List A) (i : ℕ) → length xs ≤ i → take i xs ≡ xs
+taken_all xs i h =
+    sym (append-nil (take i xs)) ∙ ap (λ l. take i xs ++ l) (sym (drop_of_length-le xs h)) ∙ take-append-drop i xs
+
+pub numbers_printed : (v : Vec Value Global) (ns : List ℕ) (i : ℕ) → length ns ≤ i → map view v.items ≡ map number_value (take i ns)
+    → view (Array v) ≡ array_value (map number_value ns)
+numbers_printed v ns i done e = view-printed v (map number_value ns) (e ∙ ap (map number_value) (taken_all ns i done))

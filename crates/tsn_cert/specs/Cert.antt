@@ -105,6 +105,15 @@ tie_load_parts (link ∷ entries ∷ chains ∷ []) = do
   Some (l, es, cs)
 tie_load_parts _ = None
 
+-- what stands behind the word of a node on a link's load, or of a tie
+abbrev pub other_node_parts : List ℕ → List Data → Option Node
+other_node_parts word ds =
+    if bytes_eq word (codes "load") then option_map (λ l. leaf_node (load l.0 l.1)) (load_parts ds)
+    else (if bytes_eq word (codes "overload") then option_map (λ l. leaf_node (overload l.0 l.1)) (load_parts ds)
+    else (if bytes_eq word (codes "tie") then option_map (λ t. tie_node (late t.0 t.1) t.2) (tie_parts ds)
+    else (if bytes_eq word (codes "tieload") then option_map (λ t. tie_node (load t.0 t.1) t.2) (tie_load_parts ds)
+    else None)))
+
 -- what stands behind the word of a node
 abbrev pub node_parts : List ℕ → List Data → Option Node
 node_parts word ds =
@@ -112,11 +121,7 @@ node_parts word ds =
     else (if bytes_eq word (codes "late") then option_map (λ r. leaf_node (late r.0 r.1)) (reason_parts ds)
     else (if bytes_eq word (codes "overrun") then option_map (λ r. leaf_node (overrun r.0 r.1)) (reason_parts ds)
     else (if bytes_eq word (codes "cycle") then option_map (λ chain. leaf_node (positive_cycle chain)) (cycle_parts ds)
-    else (if bytes_eq word (codes "load") then option_map (λ l. leaf_node (load l.0 l.1)) (load_parts ds)
-    else (if bytes_eq word (codes "overload") then option_map (λ l. leaf_node (overload l.0 l.1)) (load_parts ds)
-    else (if bytes_eq word (codes "tie") then option_map (λ t. tie_node (late t.0 t.1) t.2) (tie_parts ds)
-    else (if bytes_eq word (codes "tieload") then option_map (λ t. tie_node (load t.0 t.1) t.2) (tie_load_parts ds)
-    else None)))))))
+    else other_node_parts word ds)))
 
 -- a word, and what stands behind it
 abbrev pub node_list : List Data → Option Node

@@ -1,21 +1,21 @@
-ghost use Rattle.std.specs.Prelude.{◌≡◌, ◌≤◌, length, IfOk};
-ghost use Rattle.std.specs.Prelude.{map, codes, [], ◌∷◌, string_bytes, OnOk, Some, Ok, IsTrue, not};
+ghost use Rattle.std.specs.Prelude.{◌≡◌, ◌≤◌, ◌++◌, length, IfOk, IsOkAnd};
+ghost use Rattle.std.specs.Prelude.{map, codes, [], ◌∷◌, string_bytes, OnOk, Some, Ok, IsTrue, not, option_map};
 ghost use Rattle.std.specs.List.{list_all};
 ghost use Rattle.serde_json.specs.Data.{object, member, no_members, string};
 ghost use Rattle.serde_json.specs.View.{view};
-ghost use Rattle.tsn_model.specs.Certificate.{split_node, load};
+ghost use Rattle.tsn_model.specs.Certificate.{split_node, leaf_node, tie_node, late, overrun, positive_cycle, load, overload};
 ghost use Rattle.tsn_cert.specs.Fault.{Gives, Reads};
 ghost use Rattle.tsn_cert.specs.Json.{number_value, array_value, all_within};
 ghost use Rattle.tsn_cert.specs.Entry.{tree_entry};
 ghost use Rattle.tsn_cert.specs.Node.{tree_node};
-ghost use Rattle.tsn_cert.specs.Cert.{chain_list, chains_of, tie_parts, tie_load_parts, chains_value, is_tie, are_of, format_of, format_number, chain_of, reason_parts, triple_parts, cycle_parts, entry_of, entry_list, entries_of, load_parts, entry_fits, leaf_fits, entry_value, entries_value, node_parts, node_of, nodes_of, cert_of_values, cert_of, cert_in, node_fits, max_number, cert_fits, chain_value, node_value, nodes_value, cert_text};
+ghost use Rattle.tsn_cert.specs.Cert.{chain_list, chains_of, tie_parts, tie_load_parts, chains_value, is_tie, are_of, format_of, format_number, chain_of, reason_parts, triple_parts, cycle_parts, entry_of, entry_list, entries_of, load_parts, entry_fits, leaf_fits, entry_value, entries_value, node_parts, other_node_parts, node_of, nodes_of, cert_of_values, cert_of, cert_in, node_fits, max_number, cert_fits, chain_value, node_value, nodes_value, cert_text};
 
 use crate::chain::{Chain, MAX_CHAIN};
 use crate::chains::{Chains, MAX_CHAINS};
 use crate::entries::{Entries, MAX_ENTRIES};
 use crate::plan::MAX_TIME;
 use crate::{FileFault, document};
-use serde_json::{Value, json};
+use serde_json::{ToValue, Value, json};
 use std::alloc::{AllocError, Global};
 use std::marker::Model;
 use tsn_model::{NoMemory, Triple};
@@ -288,30 +288,94 @@ fn node_from_parts(alloc: Global, word: &str, parts: &[Value]) -> Result<Node, F
     ensures { Reads tree_node result (node_parts word.now (map view parts.now)) }
 {
     if word == "branch" {
-        Ok(Node::Branch(triple_from_parts(parts)?))
+        branch_from_parts(parts)
     } else if word == "late" {
-        let (stream, chain) = reason_from_parts(alloc, parts)?;
-        Ok(Node::Late(stream, chain))
+        late_from_parts(alloc, parts)
     } else if word == "overrun" {
-        let (stream, chain) = reason_from_parts(alloc, parts)?;
-        Ok(Node::Overrun(stream, chain))
+        overrun_from_parts(alloc, parts)
     } else if word == "cycle" {
-        Ok(Node::Cycle(cycle_from_parts(alloc, parts)?))
-    } else if word == "load" {
-        let (link, entries) = load_from_parts(alloc, parts)?;
-        Ok(Node::Load(link, entries))
+        closed_from_parts(alloc, parts)
+    } else {
+        other_node_from_parts(alloc, word, parts)
+    }
+}
+
+/// The node of this word, which is on a link's load or is a tie.
+fn other_node_from_parts(alloc: Global, word: &str, parts: &[Value]) -> Result<Node, FileFault>
+    ensures { Reads tree_node result (other_node_parts word.now (map view parts.now)) }
+{
+    if word == "load" {
+        busy_from_parts(alloc, parts)
     } else if word == "overload" {
-        let (link, entries) = load_from_parts(alloc, parts)?;
-        Ok(Node::Overload(link, entries))
+        overload_from_parts(alloc, parts)
     } else if word == "tie" {
-        let (stream, chain, chains) = tie_from_parts(alloc, parts)?;
-        Ok(Node::Tie(stream, chain, chains))
+        late_tie_from_parts(alloc, parts)
     } else if word == "tieload" {
-        let (link, entries, chains) = tie_load_from_parts(alloc, parts)?;
-        Ok(Node::TieLoad(link, entries, chains))
+        load_tie_from_parts(alloc, parts)
     } else {
         Err(FileFault::WrongShape)
     }
+}
+
+fn branch_from_parts(parts: &[Value]) -> Result<Node, FileFault>
+    ensures { Reads tree_node result (option_map split_node (triple_parts (map view parts.now))) }
+{
+    Ok(Node::Branch(triple_from_parts(parts)?))
+}
+
+fn closed_from_parts(alloc: Global, parts: &[Value]) -> Result<Node, FileFault>
+    ensures { Reads tree_node result
+        (option_map (λ chain. leaf_node (positive_cycle chain)) (cycle_parts (map view parts.now))) }
+{
+    Ok(Node::Cycle(cycle_from_parts(alloc, parts)?))
+}
+
+fn late_from_parts(alloc: Global, parts: &[Value]) -> Result<Node, FileFault>
+    ensures { Reads tree_node result
+        (option_map (λ r. leaf_node (late r.0 r.1)) (reason_parts (map view parts.now))) }
+{
+    let (stream, chain) = reason_from_parts(alloc, parts)?;
+    Ok(Node::Late(stream, chain))
+}
+
+fn overrun_from_parts(alloc: Global, parts: &[Value]) -> Result<Node, FileFault>
+    ensures { Reads tree_node result
+        (option_map (λ r. leaf_node (overrun r.0 r.1)) (reason_parts (map view parts.now))) }
+{
+    let (stream, chain) = reason_from_parts(alloc, parts)?;
+    Ok(Node::Overrun(stream, chain))
+}
+
+fn busy_from_parts(alloc: Global, parts: &[Value]) -> Result<Node, FileFault>
+    ensures { Reads tree_node result
+        (option_map (λ l. leaf_node (load l.0 l.1)) (load_parts (map view parts.now))) }
+{
+    let (link, entries) = load_from_parts(alloc, parts)?;
+    Ok(Node::Load(link, entries))
+}
+
+fn overload_from_parts(alloc: Global, parts: &[Value]) -> Result<Node, FileFault>
+    ensures { Reads tree_node result
+        (option_map (λ l. leaf_node (overload l.0 l.1)) (load_parts (map view parts.now))) }
+{
+    let (link, entries) = load_from_parts(alloc, parts)?;
+    Ok(Node::Overload(link, entries))
+}
+
+fn late_tie_from_parts(alloc: Global, parts: &[Value]) -> Result<Node, FileFault>
+    ensures { Reads tree_node result
+        (option_map (λ t. tie_node (late t.0 t.1) t.2) (tie_parts (map view parts.now))) }
+{
+    let (stream, chain, chains) = tie_from_parts(alloc, parts)?;
+    Ok(Node::Tie(stream, chain, chains))
+}
+
+fn load_tie_from_parts(alloc: Global, parts: &[Value]) -> Result<Node, FileFault>
+    ensures { Reads tree_node result
+        (option_map (λ t. tie_node (load t.0 t.1) t.2) (tie_load_parts (map view parts.now))) }
+{
+    let (link, entries, chains) = tie_load_from_parts(alloc, parts)?;
+    Ok(Node::TieLoad(link, entries, chains))
 }
 
 /// The node that the value is.
@@ -501,7 +565,6 @@ fn nodes_value(alloc: Global, nodes: &[Node]) -> Result<Value, AllocError>
     Ok(Value::Array(items))
 }
 
-#[tactic(auto, using(crate::proofs::CertLemmas::late_back, crate::proofs::CertLemmas::overrun_back, crate::proofs::CertLemmas::cycle_back, crate::proofs::CertLemmas::load_back, crate::proofs::CertLemmas::overload_back, crate::proofs::CertLemmas::tie_back, crate::proofs::CertLemmas::tie_load_back))]
 fn node_value(alloc: Global, node: &Node) -> Result<Value, AllocError>
     ensures value { IfOk result (λ v. view v ≡ node_value (tree_node node.now)) }
     ensures reads_back { OnOk result
@@ -509,47 +572,94 @@ fn node_value(alloc: Global, node: &Node) -> Result<Value, AllocError>
 {
     match node {
         Node::Branch(triple) => branch_value(alloc, triple),
-        Node::Late(stream, chain) => {
-            reason_value(alloc, "late", *stream, chain_value(alloc, chain)?)
-        }
+        Node::Late(stream, chain) => leaf_value(alloc, "late", *stream, chain_value(alloc, chain)),
         Node::Overrun(stream, chain) => {
-            reason_value(alloc, "overrun", *stream, chain_value(alloc, chain)?)
+            leaf_value(alloc, "overrun", *stream, chain_value(alloc, chain))
         }
-        Node::Cycle(chain) => cycle_value(alloc, chain_value(alloc, chain)?),
+        Node::Cycle(chain) => pair_value(alloc, "cycle".to_value(alloc), chain_value(alloc, chain)),
         Node::Load(link, entries) => {
-            load_value(alloc, "load", *link, entries_value(alloc, entries)?)
+            leaf_value(alloc, "load", *link, entries_value(alloc, entries))
         }
         Node::Overload(link, entries) => {
-            load_value(alloc, "overload", *link, entries_value(alloc, entries)?)
+            leaf_value(alloc, "overload", *link, entries_value(alloc, entries))
         }
         Node::Tie(stream, chain, chains) => {
-            let chain = chain_value(alloc, chain)?;
-            tie_value(alloc, *stream, chain, chains_value(alloc, chains)?)
+            let chain = chain_value(alloc, chain);
+            tie_value(alloc, "tie", *stream, chain, chains_value(alloc, chains))
         }
         Node::TieLoad(link, entries, chains) => {
-            let entries = entries_value(alloc, entries)?;
-            tie_load_value(alloc, *link, entries, chains_value(alloc, chains)?)
+            let entries = entries_value(alloc, entries);
+            tie_value(
+                alloc,
+                "tieload",
+                *link,
+                entries,
+                chains_value(alloc, chains),
+            )
         }
     }
 }
 
-fn tie_value(alloc: Global, stream: usize, chain: Value, chains: Value) -> Result<Value, AllocError>
-    ensures { IfOk result (λ v. view v
-        ≡ array_value (string (codes "tie") ∷ number_value stream ∷ view chain ∷ view chains ∷ [])) }
+/// A tie of a number, its leaf's part and chains.
+fn tie_value(
+    alloc: Global,
+    word: &str,
+    number: usize,
+    part: Result<Value, AllocError>,
+    chains: Result<Value, AllocError>,
+) -> Result<Value, AllocError>
+    ensures { IfOk result (λ v. IsOkAnd part (λ p. IsOkAnd chains (λ c. view v
+        ≡ array_value (string word.now ∷ number_value number ∷ view p ∷ view c ∷ [])))) }
 {
-    json!(in alloc; ["tie", stream, chain, chains])
+    let items = with_item(leaf_items(alloc, word, number), part);
+    Ok(Value::Array(with_item(items, chains)?))
 }
 
-fn tie_load_value(
+/// A leaf of a number and a part.
+fn leaf_value(
     alloc: Global,
-    link: usize,
-    entries: Value,
-    chains: Value,
+    word: &str,
+    number: usize,
+    part: Result<Value, AllocError>,
 ) -> Result<Value, AllocError>
-    ensures { IfOk result (λ v. view v
-        ≡ array_value (string (codes "tieload") ∷ number_value link ∷ view entries ∷ view chains ∷ [])) }
+    ensures { IfOk result (λ v. IsOkAnd part (λ p. view v
+        ≡ array_value (string word.now ∷ number_value number ∷ view p ∷ []))) }
 {
-    json!(in alloc; ["tieload", link, entries, chains])
+    Ok(Value::Array(with_item(leaf_items(alloc, word, number), part)?))
+}
+
+fn leaf_items(alloc: Global, word: &str, number: usize) -> Result<Vec<Value>, AllocError>
+    ensures { IfOk result (λ v. map view v.items
+        ≡ string word.now ∷ number_value number ∷ []) }
+{
+    let items = with_item(Ok(Vec::new(alloc)), word.to_value(alloc));
+    with_item(items, Ok(Value::from(number)))
+}
+
+/// An array of two elements.
+fn pair_value(
+    alloc: Global,
+    first: Result<Value, AllocError>,
+    second: Result<Value, AllocError>,
+) -> Result<Value, AllocError>
+    ensures { IfOk result (λ v. IsOkAnd first (λ a. IsOkAnd second (λ b. view v
+        ≡ array_value (view a ∷ view b ∷ [])))) }
+{
+    let items = with_item(Ok(Vec::new(alloc)), first);
+    Ok(Value::Array(with_item(items, second)?))
+}
+
+/// A list with one more element, where both could be made.
+fn with_item(
+    items: Result<Vec<Value>, AllocError>,
+    item: Result<Value, AllocError>,
+) -> Result<Vec<Value>, AllocError>
+    ensures { IfOk result (λ v. IsOkAnd items (λ xs. IsOkAnd item (λ x. map view v.items
+        ≡ map view xs.items ++ view x ∷ []))) }
+{
+    let mut items = items?;
+    items.push(item?)?;
+    Ok(items)
 }
 
 #[tactic(auto, using(crate::proofs::CertLemmas::chains_back))]
@@ -569,14 +679,6 @@ fn chain_values(alloc: Global, chains: &[Chain]) -> Result<Value, AllocError>
         items.push(chain_value(alloc, chain)?)?;
     }
     Ok(Value::Array(items))
-}
-
-/// A leaf of a link and entries.
-fn load_value(alloc: Global, word: &str, link: usize, entries: Value) -> Result<Value, AllocError>
-    ensures { IfOk result (λ v. view v
-        ≡ array_value (string word.now ∷ number_value link ∷ view entries ∷ [])) }
-{
-    json!(in alloc; [word, link, entries])
 }
 
 #[tactic(auto, using(crate::proofs::CertLemmas::entries_back))]
@@ -604,34 +706,21 @@ fn entry_value(alloc: Global, entry: &(usize, Chain)) -> Result<Value, AllocErro
     ensures reads_back { OnOk result
         (entry_of (entry_value (tree_entry entry.now)) ≡ Some (tree_entry entry.now)) }
 {
-    pair_value(alloc, entry.0, chain_value(alloc, &entry.1)?)
-}
-
-fn pair_value(alloc: Global, stream: usize, chain: Value) -> Result<Value, AllocError>
-    ensures { IfOk result (λ v. view v ≡ array_value (number_value stream ∷ view chain ∷ [])) }
-{
-    json!(in alloc; [stream, chain])
-}
-
-/// A leaf of a stream and a chain.
-fn reason_value(alloc: Global, word: &str, stream: usize, chain: Value) -> Result<Value, AllocError>
-    ensures { IfOk result (λ v. view v
-        ≡ array_value (string word.now ∷ number_value stream ∷ view chain ∷ [])) }
-{
-    json!(in alloc; [word, stream, chain])
-}
-
-fn cycle_value(alloc: Global, chain: Value) -> Result<Value, AllocError>
-    ensures { IfOk result (λ v. view v
-        ≡ array_value (string (codes "cycle") ∷ view chain ∷ [])) }
-{
-    json!(in alloc; ["cycle", chain])
+    let stream = Ok(Value::from(entry.0));
+    pair_value(alloc, stream, chain_value(alloc, &entry.1))
 }
 
 fn branch_value(alloc: Global, triple: &Triple) -> Result<Value, AllocError>
     ensures { IfOk result (λ v. view v ≡ node_value (split_node triple.now)) }
 {
-    json!(in alloc; ["branch", triple.left, triple.right, triple.link])
+    let right = Ok(Value::from(triple.right));
+    tie_value(
+        alloc,
+        "branch",
+        triple.left,
+        right,
+        Ok(Value::from(triple.link)),
+    )
 }
 
 fn chain_value(alloc: Global, chain: &Chain) -> Result<Value, AllocError>

@@ -1,6 +1,6 @@
 use Rattle.serde_json.specs.View.{view}
 use Rattle.tsn_cert.specs.Cert.{chain_of, chain_value}
-use Rattle.tsn_cert.proofs.CertLemmas.{itself, chain_back, each_printed_more, printed_more, printed_chains}
+use Rattle.tsn_cert.proofs.CertLemmas.{itself, chain_back, each_printed_more, printed_more, chains_printed, printed_chains}
 use Rattle.tsn_cert.proofs.cert.chain_values.Goals as goal
 
 pub loop-chain-preserved : goal.loop-chain-preserved
@@ -11,3 +11,6 @@ loop-chain-preserved c = record {
 
 pub returns-clause-reads_back : goal.returns-clause-reads_back
 returns-clause-reads_back c = printed_chains _ c.loop-chain.chain-index c.loop-chain-test.false c.loop-chain.invariant.read
+
+pub returns-clause-value : goal.returns-clause-value
+returns-clause-value c = chains_printed c.loop-chain.items _ c.loop-chain.chain-index c.loop-chain-test.false c.loop-chain.invariant.printed

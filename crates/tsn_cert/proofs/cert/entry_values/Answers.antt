@@ -1,7 +1,7 @@
 use Rattle.serde_json.specs.View.{view}
 use Rattle.tsn_cert.specs.Entry.{tree_entry}
 use Rattle.tsn_cert.specs.Cert.{entry_of, entry_value}
-use Rattle.tsn_cert.proofs.CertLemmas.{each_printed_more, printed_more, printed_done}
+use Rattle.tsn_cert.proofs.CertLemmas.{each_printed_more, printed_more, printed_all, printed_done}
 use Rattle.tsn_cert.proofs.cert.entry_values.Goals as goal
 
 pub loop-entry-preserved : goal.loop-entry-preserved
@@ -12,3 +12,6 @@ loop-entry-preserved c = record {
 
 pub returns-clause-reads_back : goal.returns-clause-reads_back
 returns-clause-reads_back c = printed_done tree_entry entry_of entry_value _ c.loop-entry.entry-index c.loop-entry-test.false c.loop-entry.invariant.read
+
+pub returns-clause-value : goal.returns-clause-value
+returns-clause-value c = printed_all tree_entry entry_value c.loop-entry.items _ c.loop-entry.entry-index c.loop-entry-test.false c.loop-entry.invariant.printed
