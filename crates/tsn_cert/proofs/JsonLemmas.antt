@@ -1,5 +1,5 @@
 -- What a file's value is, and a loop over the elements of an array.
-use Rattle.std.proofs.Common.{◌≡◌, ◌<◌, ◌≤◌, ◌+◌, ℕ, List, [], ◌∷◌, ◌++◌, length, take, drop, get_or, map, Bool, true, false, Option, Some, None, Ok, refl, sym, ap, ap₂, ◌∙◌, append_assoc, append-nil, arith, Vec}
+use Rattle.std.proofs.Common.{◌≡◌, ◌<◌, ◌≤◌, ◌+◌, ℕ, List, [], ◌∷◌, ◌++◌, length, take, drop, get_or, map, Bool, true, false, Option, Some, None, Ok, Err, refl, sym, ap, ap₂, ◌∙◌, append_assoc, append-nil, arith, Vec}
 use Rattle.std.specs.Prelude.{suc, nat_eq, option_map, option_and_then, unwrap_or, String}
 use Rattle.std.specs.declared.alloc.Global.{Global}
 use Rattle.std.specs.Str.{IsUtf8, is_utf8}
@@ -15,7 +15,7 @@ use Rattle.serde_json.specs.View.{view, items_of, members_of, members_view}
 use Rattle.serde_json.specs.declared.value.Value.{Value, Array}
 use Rattle.serde_json.proofs.Views.{view-Array}
 use Rattle.tsn_cert.specs.Json.{when, value_of, listed, elements, each, member_count, is_object_of, items_of_list, array_value, number_value, numbers, whole_number}
-use Rattle.tsn_cert.specs.Fault.{named, FaultGiven}
+use Rattle.tsn_cert.specs.Fault.{named, shaped, answer, FaultGiven}
 use Rattle.tsn_cert.specs.declared.fault.FileFault.{FileFault}
 use Rattle.tsn_cert.specs.declared.fault.FileFault.TheVariants.{NotJson, WrongShape, NumberTooLarge, Memory}
 
@@ -52,6 +52,40 @@ fault_up NotJson None whole h f = cc
 fault_up NotJson (Some y) whole h f = cc
 fault_up NumberTooLarge None whole h f = cc
 fault_up NumberTooLarge (Some y) whole h f = cc
+
+-- ---- a whole file's answer
+
+answer_read : {D A : Type 0} (grammar : D → Option A) (fits : A → Bool) (o : Option D) (d : D) (x : A)
+    → named NotJson o ≡ Ok d → named WrongShape (grammar d) ≡ Ok x → answer grammar fits o ≡ shaped fits (Some x)
+answer_read grammar fits o d x e h =
+    ap (answer grammar fits) (named_ok NotJson o d e) ∙ ap (shaped fits) (named_ok WrongShape (grammar d) x h)
+
+pub answer_ok : {D A : Type 0} (grammar : D → Option A) (fits : A → Bool) (o : Option D) (d : D) (x : A)
+    → named NotJson o ≡ Ok d → named WrongShape (grammar d) ≡ Ok x → true ≡ fits x → answer grammar fits o ≡ Ok x
+answer_ok grammar fits o d x e h within =
+    let holds = sym within in
+    answer_read grammar fits o d x e h ∙ rw holds refl
+
+pub answer_large : {D A : Type 0} (grammar : D → Option A) (fits : A → Bool) (o : Option D) (d : D) (x : A)
+    → named NotJson o ≡ Ok d → named WrongShape (grammar d) ≡ Ok x → false ≡ fits x → answer grammar fits o ≡ Err NumberTooLarge
+answer_large grammar fits o d x e h within =
+    let fails = sym within in
+    answer_read grammar fits o d x e h ∙ rw fails refl
+
+shaped_fault : {A : Type 0} (fits : A → Bool) (e : FileFault) (o : Option A) → FaultGiven e (named WrongShape o) → FaultGiven e (shaped fits o)
+shaped_fault fits Memory o f = tt
+shaped_fault fits WrongShape None f = refl
+shaped_fault fits WrongShape (Some y) f = cc
+shaped_fault fits NotJson None f = cc
+shaped_fault fits NotJson (Some y) f = cc
+shaped_fault fits NumberTooLarge None f = cc
+shaped_fault fits NumberTooLarge (Some y) f = cc
+
+pub answer_fault : {D A : Type 0} (grammar : D → Option A) (fits : A → Bool) (o : Option D) (d : D) (e : FileFault)
+    → named NotJson o ≡ Ok d → FaultGiven e (named WrongShape (grammar d)) → FaultGiven e (answer grammar fits o)
+answer_fault grammar fits o d e is f =
+    let some = named_ok NotJson o d is in
+    rw some (shaped_fault fits e (grammar d) f)
 
 -- ---- a loop that reads each element
 
