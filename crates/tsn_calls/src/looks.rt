@@ -47,6 +47,7 @@ fn look_from_once<R: Print + AllocGlobal>(
 {
     let found = look_from(rt.alloc(), timing, shared, node, None, worst(timing), None)?;
     tell_found(rt, &found);
+    drop(found);
     Ok(())
 }
 
@@ -92,7 +93,9 @@ fn split_at(
     requires fits { Fits shared.now.triples node.now }
 {
     let found = look(alloc, timing, shared, node, worst(timing), None)?;
-    Ok(split_of(&found))
+    let split = split_of(&found);
+    drop(found);
+    Ok(split)
 }
 
 fn split_of(found: &Look) -> Option<Triple> {
@@ -146,6 +149,7 @@ fn look_once<R: Print + AllocGlobal>(
 {
     let found = look(rt.alloc(), timing, shared, node, worst(timing), None)?;
     tell(rt, "look", word_for(&found));
+    drop(found);
     Ok(())
 }
 

@@ -1,7 +1,7 @@
 //! Calls of the libraries that no command makes, over two networks. A call that meets want of memory is made once more: what it
 //! was lent is as before, so nothing else that is printed changes. `bench/refused.py` refuses each call for memory in turn.
 //! A function makes one call and hands on little of what its contract says: all of it would stand in the way of each further
-//! proof.
+//! proof. What has many fields goes to `drop`, so that how it is let go is no part of the function's own proof.
 #![tactic(auto)]
 
 ghost use Rattle.tsn_conflict.specs.Kept.{AreConflictsOf};

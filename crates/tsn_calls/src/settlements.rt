@@ -23,9 +23,9 @@ pub fn call<R: Print + AllocGlobal>(
     requires { AreConflictsOf timing.now shared.now }
 {
     let mut book = book_of(rt.alloc(), timing)?;
-    settle_all(rt, timing, shared, &mut book, triple)?;
-    tell_settled(rt, book.count(), book.open_count());
-    Ok(())
+    let answer = settle_and_tell(rt, timing, shared, &mut book, triple);
+    drop(book);
+    answer
 }
 
 fn book_of(alloc: Global, timing: &Timing) -> Result<Book, NoMemory>
@@ -33,6 +33,22 @@ fn book_of(alloc: Global, timing: &Timing) -> Result<Book, NoMemory>
     ensures tellers { IfOk result (λ book. 0 < book.tellers) }
 {
     Book::new(alloc, timing, TELLERS, LIMIT)
+}
+
+fn settle_and_tell<R: Print + AllocGlobal>(
+    rt: &R,
+    timing: &Timing,
+    shared: &Conflicts,
+    book: &mut Book,
+    triple: Triple,
+) -> Result<(), NoMemory>
+    requires conflicts { AreConflictsOf timing.now shared.now }
+    requires network { book.old.network ≡ timing.now }
+    requires tellers { 0 < book.old.tellers }
+{
+    settle_all(rt, timing, shared, book, triple)?;
+    tell_settled(rt, book.count(), book.open_count());
+    Ok(())
 }
 
 fn settle_all<R: Print + AllocGlobal>(
@@ -106,7 +122,10 @@ fn settle_again(book: &mut Book, event: Event) -> Result<(), NoMemory>
 {
     match settle_once(book, event) {
         None => Ok(()),
-        Some(_) => Err(NoMemory),
+        Some(event) => {
+            drop(event);
+            Err(NoMemory)
+        }
     }
 }
 
@@ -119,7 +138,11 @@ fn settle_once(book: &mut Book, event: Event) -> Option<Event>
     ensures tellers { book.new.tellers ≡ book.old.tellers }
 {
     match book.settle(0, event) {
+        Ok(()) => None,
         Err((BookFault::Memory, event)) => Some(event),
-        _ => None,
+        Err((_, event)) => {
+            drop(event);
+            None
+        }
     }
 }

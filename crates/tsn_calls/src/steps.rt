@@ -23,15 +23,30 @@ pub fn call<R: Print + AllocGlobal>(
     requires { AreConflictsOf timing.now shared.now }
 {
     let mut core = core_of(rt.alloc(), timing)?;
-    take_steps(rt, timing, shared, &mut core, triple)?;
-    tell_quiet(rt, core.quiet());
-    Ok(())
+    let answer = take_and_tell(rt, timing, shared, &mut core, triple);
+    drop(core);
+    answer
 }
 
 fn core_of(alloc: Global, timing: &Timing) -> Result<Core, NoMemory>
     ensures { IfOk result (λ core. core.network ≡ timing.now) }
 {
     Core::new(alloc, timing, TELLERS, LIMIT)
+}
+
+fn take_and_tell<R: Print + AllocGlobal>(
+    rt: &R,
+    timing: &Timing,
+    shared: &Conflicts,
+    core: &mut Core,
+    triple: Triple,
+) -> Result<(), NoMemory>
+    requires conflicts { AreConflictsOf timing.now shared.now }
+    requires network { core.old.network ≡ timing.now }
+{
+    take_steps(rt, timing, shared, core, triple)?;
+    tell_quiet(rt, core.quiet());
+    Ok(())
 }
 
 fn take_steps<R: Print + AllocGlobal>(
@@ -147,6 +162,9 @@ fn add(steps: &mut Vec<Step>, step: Step) -> Result<(), NoMemory>
 {
     match steps.push(step) {
         Ok(()) => Ok(()),
-        Err(_) => Err(NoMemory),
+        Err(refused) => {
+            drop(refused);
+            Err(NoMemory)
+        }
     }
 }
