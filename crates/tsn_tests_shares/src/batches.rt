@@ -80,6 +80,7 @@ fn a_batch_ends_at_its_first_refusal(rt: HostRuntime) {
     split_twice::<Brand, _>(&rt, parts);
     let parts = parts_of(&rt, &timing, 1, 1);
     past_limit::<Brand, _>(&rt, &timing, parts);
+    drop(timing);
 }
 
 fn split_twice<K: Named, R: Wait + Abort + AllocGlobal>(rt: &R, parts: Parts)
@@ -88,6 +89,8 @@ fn split_twice<K: Named, R: Wait + Abort + AllocGlobal>(rt: &R, parts: Parts)
 {
     let (shared, mut teller) = one_of::<K, _>(rt, parts);
     expect_split_left(rt, split_both(rt, &shared, &mut teller));
+    drop(teller);
+    drop(shared);
 }
 
 /// Settles the root's split twice at once.
@@ -105,6 +108,7 @@ fn expect_split_left<R: Abort + AllocGlobal>(rt: &R, answer: Result<(), Refusal>
         Err(refusal) => {
             expect_one_left(rt, &refusal, "NotOpen(Some(0))");
             assert!(rt; refusal.2.iter().all(|event| splits_root(event)));
+            drop(refusal);
         }
     }
 }
@@ -116,6 +120,8 @@ fn past_limit<K: Named, R: Wait + Abort + AllocGlobal>(rt: &R, timing: &Timing, 
 {
     let (shared, mut teller) = one_of::<K, _>(rt, parts);
     expect_solved_left(rt, split_and_solved(rt, timing, &shared, &mut teller));
+    drop(teller);
+    drop(shared);
 }
 
 /// Settles the root's split and the Left node as solved at once.
@@ -130,7 +136,8 @@ fn split_and_solved<K: Named, R: Wait + Abort + AllocGlobal>(
     requires fresh { teller.old.tally.2 ≡ K.names.race.network.cycle + 1 }
 {
     let target = first_target(rt, timing, shared, teller);
-    let (event, _) = solved_at(rt, timing, Side::Left, target);
+    let (event, schedule) = solved_at(rt, timing, Side::Left, target);
+    drop(schedule);
     split_and(rt, shared, teller, event)
 }
 
@@ -145,6 +152,7 @@ fn expect_solved_left<R: Abort + AllocGlobal>(rt: &R, answer: Result<(), Refusal
                     .iter()
                     .all(|event| matches!(event.look, Look::Solved { .. }))
             );
+            drop(refusal);
         }
     }
 }
@@ -187,8 +195,12 @@ fn split_and_solve<K: Named, R: Wait + Abort + AllocGlobal>(
     let (event, schedule) = solved_at(rt, timing, Side::Left, target);
     match split_and(rt, shared, teller, event) {
         Ok(()) => expect_word(rt, post_as(shared, teller, &schedule), 1_000_001),
-        Err(_) => panic!(rt; "not settled"),
+        Err(refusal) => {
+            drop(refusal);
+            panic!(rt; "not settled")
+        }
     }
+    drop(schedule);
 }
 
 /// Settles the Right node as tied, as the only one of its section.
@@ -209,7 +221,10 @@ fn tie_alone<K: Named, R: Wait + Abort + AllocGlobal>(
     let events = one(rt, Event { node, look });
     match settle_all_as(rt, shared, teller, events) {
         Ok(()) => (),
-        Err(_) => panic!(rt; "not settled"),
+        Err(refusal) => {
+            drop(refusal);
+            panic!(rt; "not settled")
+        }
     }
 }
 
@@ -235,6 +250,7 @@ pub fn settle_by_walks<K: Named, R: Wait + Abort + AllocGlobal>(
     expect_right(rt, &from);
     walk_right(rt, timing, shared, teller, &mut from);
     expect_root(rt, &from);
+    drop(from);
 }
 
 fn expect_right<R: Abort + AllocGlobal>(rt: &R, node: &Node) {
@@ -250,8 +266,17 @@ fn expect_root(rt: &impl Abort, node: &Node) {
 fn split_of<R: Abort + AllocGlobal>(rt: &R, timing: &Timing, node: &Node, target: u64) -> Triple
     ensures { SplitsUndecided timing.now node.now (split result) }
 {
-    match look_at(rt, timing, node, target, None) {
-        Look::Split(triple) => triple,
+    let look = look_at(rt, timing, node, target, None);
+    let triple = triple_of(rt, &look);
+    drop(look);
+    triple
+}
+
+fn triple_of(rt: &impl Abort, look: &Look) -> Triple
+    ensures { outcome_of look.now ≡ split result }
+{
+    match look {
+        Look::Split(triple) => *triple,
         _ => panic!(rt; "not split"),
     }
 }
@@ -328,8 +353,12 @@ fn walk_left<K: Named, R: Wait + Abort + AllocGlobal>(
     let (looks, schedule) = first_looks(rt, timing, from, target);
     match settle_below_as(rt, shared, teller, from, looks) {
         Ok(()) => expect_word(rt, post_as(shared, teller, &schedule), 1_000_001),
-        Err(_) => panic!(rt; "not settled"),
+        Err(refusal) => {
+            drop(refusal);
+            panic!(rt; "not settled")
+        }
     }
+    drop(schedule);
 }
 
 /// Settles the node where the walk stands as tied.
@@ -350,6 +379,9 @@ fn walk_right<K: Named, R: Wait + Abort + AllocGlobal>(
     let looks = one_look(rt, look);
     match settle_below_as(rt, shared, teller, from, looks) {
         Ok(()) => (),
-        Err(_) => panic!(rt; "not settled"),
+        Err(refusal) => {
+            drop(refusal);
+            panic!(rt; "not settled")
+        }
     }
 }

@@ -30,5 +30,7 @@ pub fn expect_finished<R: Abort + AllocGlobal>(rt: &R, end: (u64, Book)) {
     let (word, book) = end;
     assert_eq!(rt; (word, book.count()), (2_924, 3));
     expect_kept(rt, &book);
-    expect_certificate(rt, &certificate(rt, book));
+    let cert = certificate(rt, book);
+    expect_certificate(rt, &cert);
+    drop(cert);
 }

@@ -24,10 +24,16 @@ stream = [
 fn problem<R: Abort + AllocGlobal>(rt: &R) -> Problem {
     match read_problem(rt.alloc(), TWO.as_bytes()) {
         Ok(problem) => problem,
-        Err(_) => panic!(rt; "the network is refused"),
+        Err(fault) => {
+            drop(fault);
+            panic!(rt; "the network is refused")
+        }
     }
 }
 
 pub fn two_streams<R: Abort + AllocGlobal>(rt: &R) -> Timing {
-    Timing::of(rt.alloc(), &problem(rt)).expect(rt, "memory")
+    let problem = problem(rt);
+    let timing = Timing::of(rt.alloc(), &problem).expect(rt, "memory");
+    drop(problem);
+    timing
 }

@@ -45,7 +45,10 @@ fn split_first<K: Named, R: Wait + Abort + AllocGlobal>(
 {
     match split_root(rt, shared, teller) {
         Ok(()) => (),
-        Err(_) => panic!(rt; "not settled"),
+        Err(refusal) => {
+            drop(refusal);
+            panic!(rt; "not settled")
+        }
     }
 }
 
@@ -68,7 +71,10 @@ fn settle_solved<K: Named, R: Wait + Abort + AllocGlobal>(
     let (event, schedule) = solved_at(rt, timing, side, target);
     match settle_as(rt, shared, teller, event) {
         Ok(()) => schedule,
-        Err(_) => panic!(rt; "not settled"),
+        Err(refusal) => {
+            drop(refusal);
+            panic!(rt; "not settled")
+        }
     }
 }
 
@@ -88,8 +94,12 @@ fn solve_left<K: Named, R: Wait + Abort + AllocGlobal>(
     let (event, best) = solved_at(rt, timing, Side::Left, target);
     match settle_and_post(rt, shared, teller, event, &best) {
         Ok(word) => expect_word(rt, word, 1_000_001),
-        Err(_) => panic!(rt; "not settled"),
+        Err(refusal) => {
+            drop(refusal);
+            panic!(rt; "not settled")
+        }
     }
+    drop(best);
 }
 
 /// Settles the Right node as tied with what the book keeps.
@@ -109,7 +119,10 @@ fn tie_right<K: Named, R: Wait + Abort + AllocGlobal>(
     let look = tied_look(rt, timing, shared, teller, &node);
     match settle_as(rt, shared, teller, Event { node, look }) {
         Ok(()) => (),
-        Err(_) => panic!(rt; "not settled"),
+        Err(refusal) => {
+            drop(refusal);
+            panic!(rt; "not settled")
+        }
     }
 }
 
@@ -248,6 +261,8 @@ fn settle_by_two<K: Named, R: Wait + Abort + AllocGlobal>(
     let right = settle_solved(rt, timing, shared, one, Side::Right, other);
     post(rt, shared, zero, &left, 1_000_001);
     post(rt, shared, one, &right, 2_924);
+    drop(left);
+    drop(right);
 }
 
 #[test]
@@ -255,6 +270,7 @@ fn two_tellers_settle_in_turn(rt: HostRuntime) {
     let timing = two_streams(&rt);
     let parts = parts_of(&rt, &timing, 2, 10);
     in_turn::<Brand, _>(&rt, &timing, parts);
+    drop(timing);
 }
 
 fn in_turn<K: Named, R: Wait + Abort + AllocGlobal>(rt: &R, timing: &Timing, parts: Parts)
@@ -273,6 +289,7 @@ fn a_node_is_settled_once(rt: HostRuntime) {
     let timing = two_streams(&rt);
     let parts = parts_of(&rt, &timing, 1, 10);
     twice::<Brand, _>(&rt, parts);
+    drop(timing);
 }
 
 fn twice<K: Named, R: Wait + Abort + AllocGlobal>(rt: &R, parts: Parts)
@@ -282,12 +299,17 @@ fn twice<K: Named, R: Wait + Abort + AllocGlobal>(rt: &R, parts: Parts)
     let (shared, mut teller) = one_of::<K, _>(rt, parts);
     split_first(rt, &shared, &mut teller);
     expect_refusal(rt, split_root(rt, &shared, &mut teller));
+    drop(teller);
+    drop(shared);
 }
 
 fn expect_refusal<R: Abort + AllocGlobal>(rt: &R, answer: Result<(), (BookFault, Event)>) {
     match answer {
         Ok(()) => panic!(rt; "settled twice"),
-        Err(refusal) => expect_split_refused(rt, &refusal),
+        Err(refusal) => {
+            expect_split_refused(rt, &refusal);
+            drop(refusal);
+        }
     }
 }
 

@@ -155,7 +155,9 @@ pub fn look_at<R: Abort + AllocGlobal>(
 {
     let shared = conflicts(rt.alloc(), timing).expect(rt, "memory");
     assert!(rt; fits(&shared, node));
-    look(rt.alloc(), timing, &shared, node, target, best).expect(rt, "memory")
+    let found = look(rt.alloc(), timing, &shared, node, target, best).expect(rt, "memory");
+    drop(shared);
+    found
 }
 
 /// The schedule by which a look solved its node.
@@ -255,5 +257,6 @@ pub fn tied_look<K: Named, R: Wait + Abort + AllocGlobal>(
     let best = best_of(rt, timing, shared, teller);
     let look = look_at(rt, timing, node, beyond(timing, seen), best.as_ref());
     expect_tied(rt, &look);
+    drop(best);
     look
 }

@@ -57,4 +57,5 @@ pub fn finish_by<R: Wait + Abort + AllocGlobal>(rt: &R, way: Way) {
     let timing = two_streams(rt);
     let parts = parts_of(rt, &timing, 1, 10);
     finish::<Brand, _>(rt, &timing, parts, way);
+    drop(timing);
 }
