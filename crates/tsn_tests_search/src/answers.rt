@@ -22,7 +22,9 @@ fn answer_in<R: Abort + AllocGlobal>(rt: &R, network: Network, asked: &str) -> S
     let (cycle, asked) = cut(rt, asked, ", ");
     let (what, asked) = cut(rt, asked, " ");
     let timing = timing_of(rt, network, cycle);
-    answer(rt, &timing, what, asked)
+    let found = answer(rt, &timing, what, asked);
+    drop(timing);
+    found
 }
 
 fn expect_row<R: Abort + AllocGlobal>(rt: &R, network: Network, row: &str) {

@@ -37,7 +37,9 @@ fn settled(book: &mut Book, event: Event) -> Result<(), BookFault>
     ensures network { book.new.network ≡ book.old.network }
 {
     let answer = book.settle(0, event);
-    fault_of(&answer)
+    let fault = fault_of(&answer);
+    drop(answer);
+    fault
 }
 
 fn answer_text<R: Abort + AllocGlobal>(rt: &R, answer: Result<(), BookFault>) -> String {
@@ -74,6 +76,7 @@ fn searched<R: Abort + AllocGlobal>(rt: &R, limit: usize, rows: &str) -> Book
     let timing = timing_of(rt, TWO, "1000000");
     let mut book = book_of(rt, &timing, limit);
     expect_all_settled(rt, &mut book, &timing, rows);
+    drop(timing);
     book
 }
 
@@ -90,7 +93,9 @@ Left 4: split 4 = Err(AlreadyDecided)";
 
 #[test]
 fn refusals_are_told(rt: HostRuntime) {
-    expect_counts(&rt, &searched(&rt, 10, REFUSALS), 1, 2);
+    let book = searched(&rt, 10, REFUSALS);
+    expect_counts(&rt, &book, 1, 2);
+    drop(book);
 }
 
 const PAST_THE_LIMIT: &str = "\
@@ -99,7 +104,7 @@ Left 4: split 4 = Err(Limit(1))";
 
 #[test]
 fn the_limit_is_kept(rt: HostRuntime) {
-    searched(&rt, 1, PAST_THE_LIMIT);
+    drop(searched(&rt, 1, PAST_THE_LIMIT));
 }
 
 /// The certificate of a finished search.
@@ -138,7 +143,9 @@ fn expect_certified<R: Abort + AllocGlobal>(rt: &R, book: Book)
     expect_counts(rt, &book, 3, 0);
     expect_tally(rt, &book);
     expect_kept(rt, &book);
-    let text = cert_text(rt, &cert_of(rt, book));
+    let cert = cert_of(rt, book);
+    let text = cert_text(rt, &cert);
+    drop(cert);
     expect_text(rt, text.as_str(), CERTIFICATE, "the certificate");
 }
 
@@ -184,4 +191,5 @@ fn the_first_open_node_is_on_the_left(rt: HostRuntime) {
     let book = searched(&rt, 10, "root: split 4 = Ok(())");
     expect_left(&rt, first_open(&rt, &book));
     expect_nothing_kept(&rt, &book);
+    drop(book);
 }

@@ -61,11 +61,17 @@ fn refuted_text<R: Abort + AllocGlobal>(rt: &R, leaf: &Leaf) -> String {
 pub fn told_look<R: Abort + AllocGlobal>(rt: &R, timing: &Timing, asked: &str) -> String {
     let (path, asked) = cut(rt, asked, ": ");
     let node = node_at(rt, path);
-    look_text(rt, &looked(rt, timing, &node, asked))
+    let look = looked(rt, timing, &node, asked);
+    let text = look_text(rt, &look);
+    drop(look);
+    text
 }
 
 fn fits_in<R: Abort + AllocGlobal>(rt: &R, timing: &Timing, node: &Node) -> bool {
-    fits(&conflicts(rt.alloc(), timing).expect(rt, "memory"), node)
+    let shared = conflicts(rt.alloc(), timing).expect(rt, "memory");
+    let fitting = fits(&shared, node);
+    drop(shared);
+    fitting
 }
 
 /// Whether a node fits the search.

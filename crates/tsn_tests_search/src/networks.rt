@@ -12,7 +12,10 @@ pub fn problem_of<R: Abort + AllocGlobal>(rt: &R, network: Network, cycle: &str)
     let text = file_of(rt, network, cycle);
     match read_problem(rt.alloc(), text.as_bytes()) {
         Ok(problem) => problem,
-        Err(_) => panic!(rt; "the network is refused"),
+        Err(fault) => {
+            drop(fault);
+            panic!(rt; "the network is refused")
+        }
     }
 }
 
@@ -23,7 +26,9 @@ fn file_of<R: Abort + AllocGlobal>(rt: &R, network: Network, cycle: &str) -> Str
 
 pub fn timing_of<R: Abort + AllocGlobal>(rt: &R, network: Network, cycle: &str) -> Timing {
     let problem = problem_of(rt, network, cycle);
-    Timing::of(rt.alloc(), &problem).expect(rt, "memory")
+    let timing = Timing::of(rt.alloc(), &problem).expect(rt, "memory");
+    drop(problem);
+    timing
 }
 
 /// Stations A, B and C, and a bridge with a cable to each.

@@ -1,5 +1,6 @@
 //! The nodes of these tests, and what looks find there. What calls a look does nothing else: all that its contract says
-//! would stand in the way of each further proof.
+//! would stand in the way of each further proof. What has many fields goes to `drop`, here and in the other modules, so that
+//! how it is let go is no part of a test's own proof.
 ghost use Rattle.std.specs.Prelude.{IfSome, option_copied};
 ghost use Rattle.tsn_timing.specs.Solution.{IsSolved};
 ghost use Rattle.tsn_branch.specs.Outcome.{outcome_of};
@@ -77,7 +78,9 @@ fn look_at<R: Abort + AllocGlobal>(
 {
     let shared = conflicts(rt.alloc(), timing).expect(rt, "memory");
     assert!(rt; fits(&shared, node));
-    look(rt.alloc(), timing, &shared, node, target, best).expect(rt, "memory")
+    let found = look(rt.alloc(), timing, &shared, node, target, best).expect(rt, "memory");
+    drop(shared);
+    found
 }
 
 /// What a look at a node finds beside the schedule of these offsets.
@@ -91,7 +94,9 @@ fn look_beside<R: Abort + AllocGlobal>(
     ensures { HasProof timing.now node.now (outcome_of result) }
 {
     let best = schedule(rt, timing, numbers(rt, offsets));
-    look_at(rt, timing, node, target, Some(&best))
+    let found = look_at(rt, timing, node, target, Some(&best));
+    drop(best);
+    found
 }
 
 /// What a look at a node finds, as below the target `2925`, or below `2925 beside 0 672`.

@@ -31,7 +31,9 @@ fn triples_text<R: Abort + AllocGlobal>(rt: &R, triples: &[Triple]) -> String {
 /// All streams that share a link.
 pub fn told_triples<R: Abort + AllocGlobal>(rt: &R, timing: &Timing) -> String {
     let found = conflicts_of(rt, timing);
-    triples_text(rt, found.triples())
+    let text = triples_text(rt, found.triples());
+    drop(found);
+    text
 }
 
 fn arc_of(rt: &impl Abort, found: &Conflicts, link: usize, side: Side) -> Arc {
@@ -49,7 +51,9 @@ fn arc_text<R: Abort + AllocGlobal>(rt: &R, arc: Arc) -> String {
 pub fn told_arc<R: Abort + AllocGlobal>(rt: &R, timing: &Timing, asked: &str) -> String {
     let (side, link) = cut(rt, asked, " ");
     let found = conflicts_of(rt, timing);
-    arc_text(rt, arc_of(rt, &found, place(rt, link), side_of(rt, side)))
+    let arc = arc_of(rt, &found, place(rt, link), side_of(rt, side));
+    drop(found);
+    arc_text(rt, arc)
 }
 
 fn first_overlap<R: Abort + AllocGlobal>(
@@ -60,7 +64,9 @@ fn first_overlap<R: Abort + AllocGlobal>(
     let found = conflicts(rt.alloc(), timing).expect(rt, "memory");
     assert!(rt; offsets.len() == timing.streams());
     assert!(rt; offsets.iter().all(|&offset| offset <= 1_000_000_000));
-    found.first_violated(offsets)
+    let overlap = found.first_violated(offsets);
+    drop(found);
+    overlap
 }
 
 /// The first overlap of these offsets.

@@ -91,6 +91,8 @@ fn expect_replies<R: Abort + AllocGlobal>(rt: &R, tellers: usize, rows: &str) {
     let mut core = core_of(rt, &timing, tellers);
     assert!(rt; !is_quiet(&core));
     one_by_one(rt, &mut core, &timing, rows);
+    drop(core);
+    drop(timing);
 }
 
 #[test]
@@ -140,6 +142,8 @@ fn steps_are_answered_as_one_list(rt: HostRuntime) {
     let found = replies_text(&rt, replies.as_slice());
     expect_text(&rt, found.as_str(), REPLIES, "as one list");
     assert!(rt; is_quiet(&core));
+    drop(core);
+    drop(timing);
 }
 
 /// What isn't the teller's to take, and then what is refused.
