@@ -17,8 +17,8 @@ use Rattle.tsn_conflict.proofs.Listed.{conflict_kept}
 -- ---- by the uses of a network
 
 module _ (network : Network) (kept : Kept) (is : AreConflictsOf network kept) where
-  pub conflict_at : (place : ℕ) → place < length kept.triples → IsConflict network (triple_at kept.triples place)
-  conflict_at place below = conflict_kept network kept _ is (Contains-get_or kept.triples place _ below)
+  pub conflict_at : (number : ℕ) → number < length kept.triples → IsConflict network (triple_at kept.triples number)
+  conflict_at number below = conflict_kept network kept _ is (Contains-get_or kept.triples number _ below)
 
   -- what is kept of a triple's two uses is what the network has
   record IsRead (triple : Triple) : Type 0 where

@@ -78,7 +78,7 @@ module _ (network : Network) where
       ap (λ (row : List Use). get_or row link (record { start = 0; occupancy = 0 })) (row_at i below)
       ∙ get_or-map-range_with_len (use_at network i) 0 (length network.links) link link (record { start = 0; occupancy = 0 }) inside (omega arith)
 
--- the uses of a network have a place for each stream and link
+-- the uses of a network have a number for each stream and link
 pub row_kept : (network : Network) (uses : List (List Use)) (i : ℕ) → uses ≡ uses_of network → i < stream_count network → i < length uses
 row_kept network uses i same below = let long = ap length same ∙ length-uses_of network in omega arith
 

@@ -7,7 +7,7 @@ use Rattle.tsn_model.specs.Network.{Network}
 use Rattle.tsn_model.specs.Schedule.{offset_of}
 use Rattle.tsn_conflict.specs.declared.uses.Use.{Use}
 use Rattle.tsn_conflict.specs.declared.pairs.Pair.{Pair}
-use Rattle.tsn_conflict.specs.declared.places.Places.{Places}
+use Rattle.tsn_conflict.specs.declared.numbers.Numbers.{Numbers}
 use Rattle.tsn_conflict.specs.Kept.{Kept, use_in, AreConflictsOf}
 use Rattle.tsn_conflict.specs.Raised.{triple_at}
 
@@ -43,32 +43,32 @@ pair_in uses triple = record {
 abbrev pub has_stream : ℕ → Triple → Bool
 has_stream stream triple = (triple.left == stream) || (triple.right == stream)
 
--- the places of the triples that have a stream, ascending
-unfoldable pub places_with : List Triple → ℕ → List ℕ
-places_with triples stream = filter (λ place. has_stream stream (triple_at triples place)) (range_with_len 0 (length triples))
+-- the numbers of the triples that have a stream, ascending
+unfoldable pub numbers_with : List Triple → ℕ → List ℕ
+numbers_with triples stream = filter (λ number. has_stream stream (triple_at triples number)) (range_with_len 0 (length triples))
 
--- the places that each list holds
-abbrev pub places_in : List Places → List (List ℕ)
-places_in lists = map (λ (list : Places). list.places.items) lists
+-- the numbers that each list holds
+abbrev pub numbers_in : List Numbers → List (List ℕ)
+numbers_in lists = map (λ (list : Numbers). list.numbers.items) lists
 
--- the triples from one place up to another don't meet
+-- the triples of the numbers from one up to another don't meet
 abbrev pub AreApartBetween : Kept → List ℕ → ℕ → ℕ → Type 0
-AreApartBetween kept offsets from end = (place : ℕ) → from ≤ place → place < end → Meets kept.uses offsets (triple_at kept.triples place) → ⊥
+AreApartBetween kept offsets from end = (number : ℕ) → from ≤ number → number < end → Meets kept.uses offsets (triple_at kept.triples number) → ⊥
 
--- the triples before a place that have the stream don't meet
+-- the triples of the lesser numbers that have the stream don't meet
 abbrev pub IsApartBefore : Kept → List ℕ → ℕ → ℕ → Type 0
-IsApartBefore kept offsets end stream = (place : ℕ) → place < end → has_stream stream (triple_at kept.triples place) ≡ true → Meets kept.uses offsets (triple_at kept.triples place) → ⊥
+IsApartBefore kept offsets end stream = (number : ℕ) → number < end → has_stream stream (triple_at kept.triples number) ≡ true → Meets kept.uses offsets (triple_at kept.triples number) → ⊥
 
--- the triple at the place meets, and none from `from` up to it does
-pub record IsNextMeeting (kept : Kept) (offsets : List ℕ) (from place : ℕ) : Type 0 where
-  pub not_earlier : from ≤ place
-  pub listed : place < length kept.triples
-  pub meets : Meets kept.uses offsets (triple_at kept.triples place)
-  pub apart : AreApartBetween kept offsets from place
+-- the triple of the number meets, and none from `from` up to it does
+pub record IsNextMeeting (kept : Kept) (offsets : List ℕ) (from number : ℕ) : Type 0 where
+  pub not_earlier : from ≤ number
+  pub listed : number < length kept.triples
+  pub meets : Meets kept.uses offsets (triple_at kept.triples number)
+  pub apart : AreApartBetween kept offsets from number
 
 -- it is kept of some network, and the tables are those of what is kept
-pub record IsTabled (kept : Kept) (pairs : List Pair) (places : List (List ℕ)) : Type 0 where
+pub record IsTabled (kept : Kept) (pairs : List Pair) (numbers : List (List ℕ)) : Type 0 where
   pub network : Network
   pub of_network : AreConflictsOf network kept
   pub pairs_made : pairs ≡ map (pair_in kept.uses) kept.triples
-  pub places_made : places ≡ map (places_with kept.triples) (range_with_len 0 (length kept.uses))
+  pub numbers_made : numbers ≡ map (numbers_with kept.triples) (range_with_len 0 (length kept.uses))

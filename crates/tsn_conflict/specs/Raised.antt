@@ -1,22 +1,22 @@
 -- What a search that raised some offsets knows of the triples.
---     triple_at            the triple at a place
---     OnlyRaisedOverlap    before a place, only triples with a raised stream may overlap
+--     triple_at            the triple of a number
+--     OnlyRaisedOverlap    before a number, only triples with a raised stream may overlap
 use Rattle.std.specs.Prelude.{ℕ, ◌<◌, List, Contains, slice_index_or}
 use Rattle.tsn_model.specs.declared.Triple.{Triple}
 use Rattle.tsn_model.specs.Network.{Network}
 use Rattle.tsn_model.specs.Schedule.{Overlaps}
 use Rattle.tsn_conflict.specs.Kept.{Kept, AreConflictsOf}
 
--- the triple at a place of the list
+-- the triple of a number
 abbrev pub triple_at : List Triple → ℕ → Triple
-triple_at triples place = slice_index_or triples place (record { left = 0; right = 0; link = 0 })
+triple_at triples number = slice_index_or triples number (record { left = 0; right = 0; link = 0 })
 
 -- neither stream of the triple is among the raised ones
 pub record HasNoneRaised (raised : List ℕ) (triple : Triple) : Type 0 where
   pub left : Contains raised triple.left → ⊥
   pub right : Contains raised triple.right → ⊥
 
--- a triple before the place overlaps only where one of its streams is raised
+-- a triple of a lesser number overlaps only where one of its streams is raised
 abbrev pub OnlyRaisedOverlap : Kept → List ℕ → List ℕ → ℕ → Type 0
-OnlyRaisedOverlap kept offsets raised end = (network : Network) → AreConflictsOf network kept → (place : ℕ) → place < end
-    → HasNoneRaised raised (triple_at kept.triples place) → Overlaps network offsets (triple_at kept.triples place) → ⊥
+OnlyRaisedOverlap kept offsets raised end = (network : Network) → AreConflictsOf network kept → (number : ℕ) → number < end
+    → HasNoneRaised raised (triple_at kept.triples number) → Overlaps network offsets (triple_at kept.triples number) → ⊥

@@ -6,14 +6,14 @@ ghost use Rattle.tsn_conflict.specs.Kept.{AreConflictsOf};
 
 pub mod laws;
 mod listing;
+mod numbers;
 mod pairs;
-mod places;
 pub mod sharing;
 mod uses;
 
 use crate::listing::triples_of;
+use crate::numbers::numbers_of;
 use crate::pairs::pairs_of;
-use crate::places::places_of;
 use crate::sharing::Conflicts;
 use crate::uses::rows_of;
 use std::alloc::Global;
@@ -29,11 +29,11 @@ pub fn conflicts(alloc: Global, timing: &Timing) -> Result<Conflicts, NoMemory>
     let rows = rows_of(alloc, timing)?;
     let triples = triples_of(alloc, timing, &rows)?;
     let pairs = pairs_of(alloc, &rows, &triples)?;
-    let places = places_of(alloc, &triples, timing.streams())?;
+    let numbers = numbers_of(alloc, &triples, timing.streams())?;
     Ok(Conflicts {
         rows,
         triples,
         pairs,
-        places,
+        numbers,
     })
 }

@@ -7,10 +7,10 @@ ghost use Rattle.tsn_model.specs.Schedule.{IsFirstOverlap, Overlaps, AreApart};
 ghost use Rattle.tsn_model.specs.Arcs.{arc_between, arc_on};
 ghost use Rattle.tsn_conflict.specs.Kept.{AreConflictsOf};
 ghost use Rattle.tsn_conflict.specs.Raised.{triple_at, OnlyRaisedOverlap};
-ghost use Rattle.tsn_conflict.specs.Pairs.{AreApartBetween, IsApartBefore, IsInUses, IsNextMeeting, Meets, pair_in, places_with};
+ghost use Rattle.tsn_conflict.specs.Pairs.{AreApartBetween, IsApartBefore, IsInUses, IsNextMeeting, Meets, pair_in, numbers_with};
 
+use crate::numbers::Numbers;
 use crate::pairs::{GREATEST_OFFSET, Pair};
-use crate::places::Places;
 use crate::uses::{Row, Use, has_link, look_up};
 use std::marker::Model;
 use tsn_model::bounds::{MAX_OCCUPANCY, MAX_START};
@@ -22,13 +22,13 @@ pub struct Conflicts {
     pub(crate) rows: Vec<Row>,
     pub(crate) triples: Vec<Triple>,
     pub(crate) pairs: Vec<Pair>,
-    pub(crate) places: Vec<Places>,
+    pub(crate) numbers: Vec<Numbers>,
 }
 
 impl Model for Conflicts {
     ghost use Rattle.tsn_conflict.specs.Kept.{Kept};
     ghost use Rattle.tsn_conflict.specs.Rows.{uses_in};
-    ghost use Rattle.tsn_conflict.specs.Pairs.{IsTabled, places_in};
+    ghost use Rattle.tsn_conflict.specs.Pairs.{IsTabled, numbers_in};
 
     ghost Value = { Kept };
 
@@ -36,7 +36,7 @@ impl Model for Conflicts {
 
     ghost invariant = { λ conflicts. IsTabled
         (record { uses = uses_in conflicts.rows.items; triples = conflicts.triples.items })
-        conflicts.pairs.items (places_in conflicts.places.items) };
+        conflicts.pairs.items (numbers_in conflicts.numbers.items) };
 }
 
 impl Conflicts {
@@ -80,13 +80,13 @@ impl Conflicts {
         ensures { (network : Network) → AreConflictsOf network self.now →
             MatchOption result (AreApart network offsets.now) (IsFirstOverlap network offsets.now) }
     {
-        let place = self.meeting_from(offsets, 0)?;
-        Some(self.triples[place])
+        let number = self.meeting_from(offsets, 0)?;
+        Some(self.triples[number])
     }
 
-    /// The place of the least triple whose two streams overlap on its link, for an offset of each stream, at most
-    /// 1,000,000,000 ns, where it's known that of the triples before place `start` only those with a raised stream may
-    /// overlap. This reads the raised streams' triples alone before that place, and each triple from it on.
+    /// The number of the least triple whose two streams overlap on its link, for an offset of each stream, at most
+    /// 1,000,000,000 ns, where it's known that of the triples before number `start` only those with a raised stream may
+    /// overlap. This reads the raised streams' triples alone before that number, and each triple from it on.
     pub fn first_violated_from(
         &self,
         offsets: &[u64],
@@ -99,7 +99,7 @@ impl Conflicts {
         requires start { start ≤ length self.now.triples }
         requires apart_before { OnlyRaisedOverlap self.now offsets.now raised.now start }
         ensures { (network : Network) → AreConflictsOf network self.now → MatchOption result (AreApart network offsets.now)
-            (λ place. (place < length self.now.triples) × IsFirstOverlap network offsets.now (triple_at self.now.triples place)) }
+            (λ number. (number < length self.now.triples) × IsFirstOverlap network offsets.now (triple_at self.now.triples number)) }
     {
         let least = self.raised_meeting(offsets, raised, start);
         if least < start {
@@ -127,7 +127,7 @@ impl Conflicts {
         }
     }
 
-    /// The least place below `end` whose triple has a raised stream and overlaps; `end` where there is none.
+    /// The least number below `end` whose triple has a raised stream and overlaps; `end` where there is none.
     fn raised_meeting(&self, offsets: &[u64], raised: &[usize], end: usize) -> usize
         requires count { length offsets.now ≡ length self.now.uses }
         requires small { All (λ offset. offset ≤ 1_000_000_000) offsets.now }
@@ -144,7 +144,7 @@ impl Conflicts {
         least
     }
 
-    /// The least place below `end` whose triple has the stream and overlaps; `end` where there is none.
+    /// The least number below `end` whose triple has the stream and overlaps; `end` where there is none.
     fn meeting_with(&self, offsets: &[u64], stream: usize, end: usize) -> usize
         requires count { length offsets.now ≡ length self.now.uses }
         requires small { All (λ offset. offset ≤ 1_000_000_000) offsets.now }
@@ -154,59 +154,59 @@ impl Conflicts {
         ensures meets { result < end → Meets self.now.uses offsets.now (triple_at self.now.triples result) }
         ensures apart { IsApartBefore self.now offsets.now result stream }
     {
-        for &place in self.places_with(stream) {
-            if place >= end {
+        for &number in self.numbers_with(stream) {
+            if number >= end {
                 break;
             }
-            if self.meets(offsets, place) {
-                return place;
+            if self.meets(offsets, number) {
+                return number;
             }
         }
         end
     }
 
-    /// The least place from `start` on whose triple overlaps.
+    /// The least number from `start` on whose triple overlaps.
     fn meeting_from(&self, offsets: &[u64], start: usize) -> Option<usize>
         requires count { length offsets.now ≡ length self.now.uses }
         requires small { All (λ offset. offset ≤ 1_000_000_000) offsets.now }
         ensures { MatchOption result (AreApartBetween self.now offsets.now start (length self.now.triples))
             (IsNextMeeting self.now offsets.now start) }
     {
-        for place in start..self.triples.len() {
-            if self.meets(offsets, place) {
-                return Some(place);
+        for number in start..self.triples.len() {
+            if self.meets(offsets, number) {
+                return Some(number);
             }
         }
         None
     }
 
-    /// Whether the two streams of the triple at a place overlap on its link.
-    fn meets(&self, offsets: &[u64], place: usize) -> bool
+    /// Whether the two streams of the triple of a number overlap on its link.
+    fn meets(&self, offsets: &[u64], number: usize) -> bool
         requires count { length offsets.now ≡ length self.now.uses }
         requires small { All (λ offset. offset ≤ 1_000_000_000) offsets.now }
-        requires place { place < length self.now.triples }
-        ensures { IsTrue result ↔ Meets self.now.uses offsets.now (triple_at self.now.triples place) }
+        requires number { number < length self.now.triples }
+        ensures { IsTrue result ↔ Meets self.now.uses offsets.now (triple_at self.now.triples number) }
     {
-        let pair = self.pair_at(place);
+        let pair = self.pair_at(number);
         let gap = offsets[pair.left as usize] + GREATEST_OFFSET - offsets[pair.right as usize];
         u64::from(pair.above) < gap && gap < u64::from(pair.below)
     }
 
-    /// What the overlap of the triple at a place needs.
-    fn pair_at(&self, place: usize) -> Pair
-        requires { place < length self.now.triples }
-        ensures value { result ≡ pair_in self.now.uses (triple_at self.now.triples place) }
-        ensures within { IsInUses self.now.uses (triple_at self.now.triples place) }
+    /// What the overlap of the triple of a number needs.
+    fn pair_at(&self, number: usize) -> Pair
+        requires { number < length self.now.triples }
+        ensures value { result ≡ pair_in self.now.uses (triple_at self.now.triples number) }
+        ensures within { IsInUses self.now.uses (triple_at self.now.triples number) }
     {
-        self.pairs[place]
+        self.pairs[number]
     }
 
-    /// The places of the triples that have a stream.
-    fn places_with(&self, stream: usize) -> &[usize]
+    /// The numbers of the triples that have a stream.
+    fn numbers_with(&self, stream: usize) -> &[usize]
         requires { stream < length self.now.uses }
-        ensures { result.now ≡ places_with self.now.triples stream }
+        ensures { result.now ≡ numbers_with self.now.triples stream }
     {
-        &self.places[stream].places
+        &self.numbers[stream].numbers
     }
 
     /// When a stream is on a link that it uses.

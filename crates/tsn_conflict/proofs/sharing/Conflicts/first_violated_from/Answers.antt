@@ -11,17 +11,17 @@ use Rattle.tsn_conflict.proofs.sharing.Conflicts.first_violated_from.Goals as go
 
 -- none before the start meets: so the next meeting from it on is the first overlap
 next_is_first : (network : Network) (kept : Kept) (offsets : List ℕ) (start : ℕ) → AreConflictsOf network kept
-    → ((place : ℕ) → place < start → Meets kept.uses offsets (triple_at kept.triples place) → ⊥) → (found : Option ℕ)
+    → ((number : ℕ) → number < start → Meets kept.uses offsets (triple_at kept.triples number) → ⊥) → (found : Option ℕ)
     → MatchOption found (AreApartBetween kept offsets start (length kept.triples)) (IsNextMeeting kept offsets start)
-    → MatchOption found (AreApart network offsets) (λ place. (place < length kept.triples) × IsFirstOverlap network offsets (triple_at kept.triples place))
+    → MatchOption found (AreApart network offsets) (λ number. (number < length kept.triples) × IsFirstOverlap network offsets (triple_at kept.triples number))
 next_is_first network kept offsets start is before None apart =
-    none_overlaps network kept is offsets (λ place below meets. elim (cases_lt place start) [
-      | inl earlier ↦ before place earlier meets
-      | inr later ↦ apart place later below meets
+    none_overlaps network kept is offsets (λ number below meets. elim (cases_lt number start) [
+      | inl earlier ↦ before number earlier meets
+      | inr later ↦ apart number later below meets
     ])
-next_is_first network kept offsets start is before (Some place) next = (
+next_is_first network kept offsets start is before (Some number) next = (
   next.listed,
-  first_at network kept is offsets place next.listed next.meets (λ earlier below meets. elim (cases_lt earlier start) [
+  first_at network kept is offsets number next.listed next.meets (λ earlier below meets. elim (cases_lt earlier start) [
     | inl less ↦ before earlier less meets
     | inr past ↦ next.apart earlier past below meets
   ]),
@@ -42,4 +42,4 @@ returns c =
     let raised = c.raised_meeting-least in
     let past = c.if-least-start.false in
     let apart = apart_unraised network c.args.self.now is c.args.offsets.now c.args.raised.now c.args.start raised.result c.requires.start c.requires.apart_before raised.ensures.at_most raised.ensures.apart in
-    next_is_first network c.args.self.now c.args.offsets.now c.args.start is (λ place before. apart place (omega arith)) c.meeting_from.result c.meeting_from.ensures
+    next_is_first network c.args.self.now c.args.offsets.now c.args.start is (λ number before. apart number (omega arith)) c.meeting_from.result c.meeting_from.ensures

@@ -3,5 +3,5 @@ use Rattle.tsn_conflict.specs.Raised.{triple_at}
 use Rattle.tsn_conflict.specs.Pairs.{Meets}
 use Rattle.tsn_conflict.proofs.sharing.Conflicts.meeting_with.Given as goal
 
-abbrev pub invariant-loop-place : goal.invariant-loop-place
-invariant-loop-place l = (k : ℕ) → k < l.place-index → Meets l.self.uses l.offsets (triple_at l.self.triples (get_or l.place-items k 0)) → ⊥
+abbrev pub invariant-loop-number : goal.invariant-loop-number
+invariant-loop-number l = (k : ℕ) → k < l.number-index → Meets l.self.uses l.offsets (triple_at l.self.triples (get_or l.number-items k 0)) → ⊥

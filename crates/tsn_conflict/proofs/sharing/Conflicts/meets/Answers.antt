@@ -6,13 +6,13 @@ use Rattle.tsn_conflict.proofs.sharing.Conflicts.meets.Goals as goal
 
 pub bounds-offsets-pair : goal.bounds-offsets-pair
 bounds-offsets-pair c =
-    let left = ap (λ (p : Pair). p.left) c.pair_at-pair.ensures.value ∙ pair_in-left c.args.self.now.uses (triple_at c.args.self.now.triples c.args.place) in
+    let left = ap (λ (p : Pair). p.left) c.pair_at-pair.ensures.value ∙ pair_in-left c.args.self.now.uses (triple_at c.args.self.now.triples c.args.number) in
     let row = c.pair_at-pair.ensures.within.left_row in
     omega arith
 
 pub bounds-offsets-pair-2 : goal.bounds-offsets-pair-2
 bounds-offsets-pair-2 c =
-    let right = ap (λ (p : Pair). p.right) c.pair_at-pair.ensures.value ∙ pair_in-right c.args.self.now.uses (triple_at c.args.self.now.triples c.args.place) in
+    let right = ap (λ (p : Pair). p.right) c.pair_at-pair.ensures.value ∙ pair_in-right c.args.self.now.uses (triple_at c.args.self.now.triples c.args.number) in
     let row = c.pair_at-pair.ensures.within.right_row in
     omega arith
 
@@ -20,7 +20,7 @@ pub returns-then-from-gap : goal.returns-then-from-gap
 returns-then-from-gap c =
     let uses = c.args.self.now.uses in
     let offsets = c.args.offsets.now in
-    let triple = triple_at c.args.self.now.triples c.args.place in
+    let triple = triple_at c.args.self.now.triples c.args.number in
     let pair = c.pair_at-pair.result in
     let gap : ℕ = get_or offsets pair.left 0 + 1000000000 - get_or offsets pair.right 0 in
     let is = IsGap-from uses offsets triple pair c.pair_at-pair.ensures.value c.pair_at-pair.ensures.within c.requires.count c.requires.small in
@@ -39,7 +39,7 @@ pub returns-else-from-gap : goal.returns-else-from-gap
 returns-else-from-gap c =
     let uses = c.args.self.now.uses in
     let offsets = c.args.offsets.now in
-    let triple = triple_at c.args.self.now.triples c.args.place in
+    let triple = triple_at c.args.self.now.triples c.args.number in
     let pair = c.pair_at-pair.result in
     let gap : ℕ = get_or offsets pair.left 0 + 1000000000 - get_or offsets pair.right 0 in
     let is = IsGap-from uses offsets triple pair c.pair_at-pair.ensures.value c.pair_at-pair.ensures.within c.requires.count c.requires.small in

@@ -23,7 +23,7 @@ loop-stream-preserved c =
       ];
       apart =
           All-more (IsApartBefore kept offsets found) c.args.raised.now c.loop-stream.stream-index 0 c.loop-stream-test.true
-          (All-weaker (IsApartBefore kept offsets least) (IsApartBefore kept offsets found) (λ stream apart place earlier. apart place (omega arith)) _ c.loop-stream.invariant.apart)
+          (All-weaker (IsApartBefore kept offsets least) (IsApartBefore kept offsets found) (λ stream apart number earlier. apart number (omega arith)) _ c.loop-stream.invariant.apart)
           c.meeting_with-least.ensures.apart;
     }
 
