@@ -20,8 +20,8 @@ pub fn walk_back(path: &[Turn], depths: &[usize], end: usize) -> Option<Walk>
 {
     let mut start = end;
     let mut sum: i64 = 0;
-    for place in (0..depths.len()).rev() {
-        let depth = depths[place];
+    for number in (0..depths.len()).rev() {
+        let depth = depths[number];
         if depth >= path.len() {
             return None;
         }

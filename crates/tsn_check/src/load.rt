@@ -75,8 +75,8 @@ fn link_load(
 {
     let list = entries.list();
     let mut all = entry_load(timing, path, link, &list[..0], &list[0])?;
-    for place in 1..list.len() {
-        let next = entry_load(timing, path, link, &list[..place], &list[place])?;
+    for number in 1..list.len() {
+        let next = entry_load(timing, path, link, &list[..number], &list[number])?;
         all = LinkLoad {
             head: all.head.min(next.head),
             work: all.work + next.work,

@@ -23,50 +23,50 @@ returns-in_err-next c =
     let network = c.args.timing.now in
     let path = decisions c.args.path.now in
     let fault = c.in_err-next.field-0.0 in
-    let below = c.loop-place-test.true in
-    let wrong = wrong_there network path c.args.link c.list-list.result.now c.loop-place.place c.index-list-place.result fault (omega arith) c.index-list-place.is
-    c.loop-place.invariant.right c.in_err-next.ensures in
+    let below = c.loop-number-test.true in
+    let wrong = wrong_there network path c.args.link c.list-list.result.now c.loop-number.number c.index-list-number.result fault (omega arith) c.index-list-number.is
+    c.loop-number.invariant.right c.in_err-next.ensures in
     rw (p.1, p.2) (subst (λ es. IsFirstWrong network path c.args.link es (IsWrongEntry network path c.args.link fault)) c.list-list.ensures.entries wrong)
 
 pub overflow_add-all : goal.overflow_add-all
 overflow_add-all c =
-    let all = c.loop-place.invariant.loaded.short_work in
+    let all = c.loop-number.invariant.loaded.short_work in
     let next = c.in_ok-next.ensures.1.short_work in
     let few = c.list-list.ensures.few_entries in
-    omega (arith, length-take c.loop-place.place (map tree_entry c.list-list.result.now), length-map c.list-list.result.now tree_entry)
+    omega (arith, length-take c.loop-number.number (map tree_entry c.list-list.result.now), length-map c.list-list.result.now tree_entry)
 
-pub loop-place-init : goal.loop-place-init
-loop-place-init c =
+pub loop-number-init : goal.loop-number-init
+loop-number-init c =
     let found = start_load c.args.timing.now (decisions c.args.path.now) c.args.link c.list-list.result.now c.index-list-0.result c.in_ok-all.all c.list-list.ensures.some_entry c.index-list-0.is
     c.in_ok-all.ensures.0 c.in_ok-all.ensures.1 in
     record { right = found.0; loaded = found.1 }
 
-pub loop-place-preserved : goal.loop-place-preserved
-loop-place-preserved c =
-    let below = c.loop-place-test.true in
-    let all = c.loop-place.invariant.loaded in
+pub loop-number-preserved : goal.loop-number-preserved
+loop-number-preserved c =
+    let below = c.loop-number-test.true in
+    let all = c.loop-number.invariant.loaded in
     let next = c.in_ok-next.ensures.1 in
-    let head : c.min.result ≡ int_min c.loop-place.all.head c.in_ok-next.next.head =
-    c.min.ensures.value ∙ (λ i. int_min (kept c.loop-place.all.head all.low_head all.high_head i) (kept c.in_ok-next.next.head next.low_head next.high_head i)) in
-    let tail : c.min-in-loop-place.result ≡ int_min c.loop-place.all.tail c.in_ok-next.next.tail =
-    c.min-in-loop-place.ensures.value ∙ (λ i. int_min (kept_tail c.loop-place.all.tail all.low_tail all.high_tail i) (kept_tail c.in_ok-next.next.tail next.low_tail next.high_tail i)) in
-    let found = more_load c.args.timing.now (decisions c.args.path.now) c.args.link c.list-list.result.now c.loop-place.place c.index-list-place.result c.loop-place.all c.in_ok-next.next _
-    (omega arith) (omega arith) c.index-list-place.is c.loop-place.invariant.right c.loop-place.invariant.loaded c.in_ok-next.ensures.0 c.in_ok-next.ensures.1
-    (to_z-of_z w64 c.min.result (omega (arith, ints)) ∙ head) refl (to_z-of_z w64 c.min-in-loop-place.result (omega (arith, ints)) ∙ tail) in
+    let head : c.min.result ≡ int_min c.loop-number.all.head c.in_ok-next.next.head =
+    c.min.ensures.value ∙ (λ i. int_min (kept c.loop-number.all.head all.low_head all.high_head i) (kept c.in_ok-next.next.head next.low_head next.high_head i)) in
+    let tail : c.min-in-loop-number.result ≡ int_min c.loop-number.all.tail c.in_ok-next.next.tail =
+    c.min-in-loop-number.ensures.value ∙ (λ i. int_min (kept_tail c.loop-number.all.tail all.low_tail all.high_tail i) (kept_tail c.in_ok-next.next.tail next.low_tail next.high_tail i)) in
+    let found = more_load c.args.timing.now (decisions c.args.path.now) c.args.link c.list-list.result.now c.loop-number.number c.index-list-number.result c.loop-number.all c.in_ok-next.next _
+    (omega arith) (omega arith) c.index-list-number.is c.loop-number.invariant.right c.loop-number.invariant.loaded c.in_ok-next.ensures.0 c.in_ok-next.ensures.1
+    (to_z-of_z w64 c.min.result (omega (arith, ints)) ∙ head) refl (to_z-of_z w64 c.min-in-loop-number.result (omega (arith, ints)) ∙ tail) in
     record { right = found.0; loaded = found.1 }
 
 pub returns : goal.returns
 returns c =
     let network = c.args.timing.now in
     let path = decisions c.args.path.now in
-    let past = c.loop-place-test.false in
+    let past = c.loop-number-test.false in
     let few = c.list-list.ensures.few_entries in
-    let whole : take c.loop-place.place (map tree_entry c.list-list.result.now) ≡ c.args.entries.now =
-    take_all c.loop-place.place (map tree_entry c.list-list.result.now) (omega (arith, length-map c.list-list.result.now tree_entry)) ∙ c.list-list.ensures.entries in
-    let all = c.loop-place.invariant.loaded.short_work in (
-      subst (AreEntries network path c.args.link) whole c.loop-place.invariant.right,
-      subst (λ es. IsLoad network path c.args.link es c.loop-place.all) whole c.loop-place.invariant.loaded,
-      omega (arith, length-take c.loop-place.place (map tree_entry c.list-list.result.now), length-map c.list-list.result.now tree_entry),
+    let whole : take c.loop-number.number (map tree_entry c.list-list.result.now) ≡ c.args.entries.now =
+    take_all c.loop-number.number (map tree_entry c.list-list.result.now) (omega (arith, length-map c.list-list.result.now tree_entry)) ∙ c.list-list.ensures.entries in
+    let all = c.loop-number.invariant.loaded.short_work in (
+      subst (AreEntries network path c.args.link) whole c.loop-number.invariant.right,
+      subst (λ es. IsLoad network path c.args.link es c.loop-number.all) whole c.loop-number.invariant.loaded,
+      omega (arith, length-take c.loop-number.number (map tree_entry c.list-list.result.now), length-map c.list-list.result.now tree_entry),
     )
 
 pub returns-in_err-all : goal.returns-in_err-all

@@ -5,8 +5,8 @@ use Rattle.tsn_check.specs.Turns.{decisions}
 use Rattle.tsn_check.specs.Steps.{IsLoad}
 use Rattle.tsn_check.proofs.load.link_load.Given as goal
 
-abbrev pub invariant-loop-place : goal.invariant-loop-place
-invariant-loop-place l = record {
-  right : AreEntries l.timing (decisions l.path) l.link (take l.place (map tree_entry l.list));
-  loaded : IsLoad l.timing (decisions l.path) l.link (take l.place (map tree_entry l.list)) l.all;
+abbrev pub invariant-loop-number : goal.invariant-loop-number
+invariant-loop-number l = record {
+  right : AreEntries l.timing (decisions l.path) l.link (take l.number (map tree_entry l.list));
+  loaded : IsLoad l.timing (decisions l.path) l.link (take l.number (map tree_entry l.list)) l.all;
 }
