@@ -18,17 +18,17 @@ ghost use Rattle.tsn_branch.specs.Descent.{Stands, Splits, IsAfter, Leads, IsFin
 
 use crate::arcs::net_of;
 use crate::judge::{judge_least, judge_raised};
-use crate::loads::Loads;
 use crate::node::Node;
 use crate::outcome::{Leaf, Look};
 use crate::seen::{Finding, Seen};
+use crate::tables::{Aim, Tables};
 use std::alloc::Global;
 use std::marker::Model;
 use tsn_cert::Chain;
 use tsn_conflict::sharing::Conflicts;
 use tsn_diff::ArcStack;
 use tsn_model::{NoMemory, Side, Triple};
-use tsn_timing::{Solved, Timing};
+use tsn_timing::Timing;
 
 /// A node with what is known of the nodes above it: the arcs of their decisions with the least offsets, when the streams are
 /// done by these, and where each was split.
@@ -105,34 +105,31 @@ impl Descent {
     pub fn look(
         &mut self,
         alloc: Global,
-        timing: &Timing,
-        conflicts: &Conflicts,
-        loads: &Loads,
-        target: u64,
-        best: Option<&Solved>,
+        tables: Tables<'_>,
+        aim: Aim<'_>,
     ) -> Result<Look, NoMemory>
-        requires conflicts { AreConflictsOf timing.now conflicts.now }
-        requires loads { AreLoadsOf timing.now loads.now }
-        requires best { IfSome (option_copied best) (IsSolved timing.now) }
-        requires fits { Fits conflicts.now.triples self.old.path }
-        requires stands { Stands timing.now self.old }
+        requires conflicts { AreConflictsOf tables.timing.now tables.conflicts.now }
+        requires loads { AreLoadsOf tables.timing.now tables.loads.now }
+        requires best { IfSome (option_copied aim.best) (IsSolved tables.timing.now) }
+        requires fits { Fits tables.conflicts.now.triples self.old.path }
+        requires stands { Stands tables.timing.now self.old }
         ensures path { self.new.path ≡ self.old.path }
-        ensures first_case { IfOk result (λ look. IsLook timing.now self.old.path target (option_copied best.entry) (outcome_of look)) }
-        ensures proof { IfOk result (λ look. HasProof timing.now self.old.path (outcome_of look)) }
-        ensures undecided { IfOk result (λ look. SplitsUndecided timing.now self.old.path (outcome_of look)) }
-        ensures among { IfOk result (λ look. SplitsAmong conflicts.now.triples (outcome_of look)) }
-        ensures met { IfOk result (λ look. PrunesFrom target (outcome_of look)) }
-        ensures ties { IfOk result (λ look. TiesWith timing.now self.old.path (option_copied best.entry) (outcome_of look)) }
-        ensures after { IfOk result (λ look. IsAfter timing.now (outcome_of look) self.new) }
-        ensures err { OnErr result (Stands timing.now self.new) }
+        ensures first_case { IfOk result (λ look. IsLook tables.entry.timing.now self.old.path aim.entry.target (option_copied aim.entry.best) (outcome_of look)) }
+        ensures proof { IfOk result (λ look. HasProof tables.entry.timing.now self.old.path (outcome_of look)) }
+        ensures undecided { IfOk result (λ look. SplitsUndecided tables.entry.timing.now self.old.path (outcome_of look)) }
+        ensures among { IfOk result (λ look. SplitsAmong tables.entry.conflicts.now.triples (outcome_of look)) }
+        ensures met { IfOk result (λ look. PrunesFrom aim.entry.target (outcome_of look)) }
+        ensures ties { IfOk result (λ look. TiesWith tables.entry.timing.now self.old.path (option_copied aim.entry.best) (outcome_of look)) }
+        ensures after { IfOk result (λ look. IsAfter tables.entry.timing.now (outcome_of look) self.new) }
+        ensures err { OnErr result (Stands tables.entry.timing.now self.new) }
     {
-        if let Some(cycle) = self.lead(timing, conflicts)? {
+        if let Some(cycle) = self.lead(tables.timing, tables.conflicts)? {
             return Ok(Look::Refuted(Leaf::Cycle(Chain::of(alloc, &cycle)?)));
         }
-        match self.find(alloc, timing, conflicts, loads, target, best) {
+        match self.find(alloc, tables, aim) {
             Ok(Finding::Split(seen)) => {
                 self.found = Some(seen);
-                Ok(Look::Split(conflicts.triples()[seen.place]))
+                Ok(Look::Split(tables.conflicts.triples()[seen.place]))
             }
             Ok(Finding::Closed(look)) => {
                 self.draw_back();
@@ -252,42 +249,16 @@ impl Descent {
     }
 
     // What is found at the node by its least offsets.
-    fn find(
-        &self,
-        alloc: Global,
-        timing: &Timing,
-        conflicts: &Conflicts,
-        loads: &Loads,
-        target: u64,
-        best: Option<&Solved>,
-    ) -> Result<Finding, NoMemory>
-        requires conflicts { AreConflictsOf timing.now conflicts.now }
-        requires loads { AreLoadsOf timing.now loads.now }
-        requires best { IfSome (option_copied best) (IsSolved timing.now) }
-        requires leads { Leads timing.now self.now }
-        ensures { IfOk result (IsFinding timing.now self.now.path target (option_copied best.entry)) }
+    fn find(&self, alloc: Global, tables: Tables<'_>, aim: Aim<'_>) -> Result<Finding, NoMemory>
+        requires conflicts { AreConflictsOf tables.timing.now tables.conflicts.now }
+        requires loads { AreLoadsOf tables.timing.now tables.loads.now }
+        requires best { IfSome (option_copied aim.best) (IsSolved tables.timing.now) }
+        requires leads { Leads tables.timing.now self.now }
+        ensures { IfOk result (IsFinding tables.entry.timing.now self.now.path aim.entry.target (option_copied aim.entry.best)) }
     {
         match self.seen.last() {
-            Some(parent) => judge_raised(
-                alloc,
-                timing,
-                conflicts,
-                loads,
-                self.stack.least(),
-                self.stack.raised(),
-                *parent,
-                target,
-                best,
-            ),
-            None => judge_least(
-                alloc,
-                timing,
-                conflicts,
-                loads,
-                self.stack.least(),
-                target,
-                best,
-            ),
+            Some(parent) => judge_raised(alloc, tables, &self.stack, *parent, aim),
+            None => judge_least(alloc, tables, self.stack.least(), aim),
         }
     }
 }

@@ -21,42 +21,63 @@ ghost use Rattle.tsn_branch.specs.Least.{ComesWithSplit};
 
 use crate::chains::{chain_to, chains_to, tie_chains};
 use crate::instants::{Ends, ends_after, ends_of};
-use crate::loads::{FirstLoad, Loading, Loads, User, find_loads};
+use crate::loads::{FirstLoad, Loading, User, find_loads};
 use crate::outcome::{Leaf, Look};
 use crate::seen::{Finding, Seen};
+use crate::tables::{Aim, Tables};
 use std::alloc::Global;
 use tsn_cert::{Chain, Entries};
 use tsn_conflict::laws::parents_overlap_starts;
-use tsn_conflict::sharing::Conflicts;
-use tsn_diff::{Least, Outcome};
+use tsn_diff::{ArcStack, Least, Outcome};
 use tsn_model::NoMemory;
 use tsn_timing::{Solved, Timing};
+
+/// What is known of the least offsets of a node from those of the node above.
+#[derive(Clone, Copy)]
+struct Known<'a> {
+    /// When the streams are done by them.
+    ends: Ends,
+    /// Among the triples before `start` only those with one of these streams can overlap.
+    raised: &'a [usize],
+    start: usize,
+}
+
+/// How far the least offsets of a node reach.
+#[derive(Clone, Copy)]
+struct Reach {
+    /// The first stream that arrives last.
+    last: usize,
+    /// When it does, in nanoseconds.
+    end: u64,
+    /// The first link that is loaded for the flowspan of the best schedule, if one is.
+    tightest: Option<FirstLoad>,
+}
 
 /// What the arcs of a path come to, as a look at the node. A split comes with the least offsets.
 pub fn judge(
     alloc: Global,
-    timing: &Timing,
-    conflicts: &Conflicts,
-    loads: &Loads,
+    tables: Tables<'_>,
     outcome: Outcome,
-    target: u64,
-    best: Option<&Solved>,
+    aim: Aim<'_>,
 ) -> Result<(Look, Option<Least>), NoMemory>
-    requires conflicts { AreConflictsOf timing.now conflicts.now }
-    requires loads { AreLoadsOf timing.now loads.now }
-    requires best { IfSome (option_copied best) (IsSolved timing.now) }
-    requires some_path { (path : List Decision) × Answers (releases_of timing.now) (arcs_of timing.now path) outcome }
-    ensures look { IfOk result (λ found. (path : List Decision) → Answers (releases_of timing.now) (arcs_of timing.now path) outcome
-        → IsLook timing.now path target (option_copied best.entry) (outcome_of found.0)) }
-    ensures least { IfOk result (λ found. (path : List Decision) → Answers (releases_of timing.now) (arcs_of timing.now path) outcome
-        → ComesWithSplit timing.now path (outcome_of found.0) found.1) }
+    requires conflicts { AreConflictsOf tables.timing.now tables.conflicts.now }
+    requires loads { AreLoadsOf tables.timing.now tables.loads.now }
+    requires best { IfSome (option_copied aim.best) (IsSolved tables.timing.now) }
+    requires some_path { (path : List Decision) × Answers (releases_of tables.timing.now) (arcs_of tables.timing.now path) outcome }
+    ensures look { IfOk result (λ found. (path : List Decision) → Answers (releases_of tables.entry.timing.now) (arcs_of tables.entry.timing.now path) outcome
+        → IsLook tables.entry.timing.now path aim.entry.target (option_copied aim.entry.best) (outcome_of found.0)) }
+    ensures least { IfOk result (λ found. (path : List Decision) → Answers (releases_of tables.entry.timing.now) (arcs_of tables.entry.timing.now path) outcome
+        → ComesWithSplit tables.entry.timing.now path (outcome_of found.0) found.1) }
 {
     match outcome {
         Outcome::Least(least) => {
-            let finding = judge_least(alloc, timing, conflicts, loads, &least, target, best)?;
+            let finding = judge_least(alloc, tables, &least, aim)?;
             match finding {
                 Finding::Split(seen) => {
-                    Ok((Look::Split(conflicts.triples()[seen.place]), Some(least)))
+                    Ok((
+                        Look::Split(tables.conflicts.triples()[seen.place]),
+                        Some(least),
+                    ))
                 }
                 Finding::Closed(look) => Ok((look, None)),
             }
@@ -71,124 +92,119 @@ pub fn judge(
 /// What the least offsets of a path come to.
 pub fn judge_least(
     alloc: Global,
-    timing: &Timing,
-    conflicts: &Conflicts,
-    loads: &Loads,
+    tables: Tables<'_>,
     least: &Least,
-    target: u64,
-    best: Option<&Solved>,
+    aim: Aim<'_>,
 ) -> Result<Finding, NoMemory>
-    requires conflicts { AreConflictsOf timing.now conflicts.now }
-    requires loads { AreLoadsOf timing.now loads.now }
-    requires best { IfSome (option_copied best) (IsSolved timing.now) }
-    requires some_path { (path : List Decision) × Solves (releases_of timing.now) (arcs_of timing.now path) least.now }
-    ensures { IfOk result (λ finding. (path : List Decision) → Solves (releases_of timing.now) (arcs_of timing.now path) least.now
-        → IsFinding timing.now path target (option_copied best.entry) finding) }
+    requires conflicts { AreConflictsOf tables.timing.now tables.conflicts.now }
+    requires loads { AreLoadsOf tables.timing.now tables.loads.now }
+    requires best { IfSome (option_copied aim.best) (IsSolved tables.timing.now) }
+    requires some_path { (path : List Decision) × Solves (releases_of tables.timing.now) (arcs_of tables.timing.now path) least.now }
+    ensures { IfOk result (λ finding. (path : List Decision) → Solves (releases_of tables.entry.timing.now) (arcs_of tables.entry.timing.now path) least.now
+        → IsFinding tables.entry.timing.now path aim.entry.target (option_copied aim.entry.best) finding) }
 {
-    let ends = ends_of(timing, least.offsets());
-    judge_ends(
-        alloc,
-        timing,
-        conflicts,
-        loads,
-        least,
-        ends,
-        &[],
-        0,
-        target,
-        best,
-    )
+    let known = Known {
+        ends: ends_of(tables.timing, least.offsets()),
+        raised: &[],
+        start: 0,
+    };
+    judge_known(alloc, tables, least, known, aim)
 }
 
-/// What the least offsets of a path come to, which are those of its parent but for the raised streams.
+/// What the least offsets of a path come to, which are those of its parent but for the streams that the last arc raised.
 pub fn judge_raised(
     alloc: Global,
-    timing: &Timing,
-    conflicts: &Conflicts,
-    loads: &Loads,
-    least: &Least,
-    raised: &[usize],
+    tables: Tables<'_>,
+    stack: &ArcStack,
     parent: Seen,
-    target: u64,
-    best: Option<&Solved>,
+    aim: Aim<'_>,
 ) -> Result<Finding, NoMemory>
-    requires conflicts { AreConflictsOf timing.now conflicts.now }
-    requires loads { AreLoadsOf timing.now loads.now }
-    requires best { IfSome (option_copied best) (IsSolved timing.now) }
-    requires some_path { (path : List Decision) × Solves (releases_of timing.now) (arcs_of timing.now path) least.now }
-    requires raised { All (λ stream. stream < stream_count timing.now) raised.now }
-    requires parent { WasSeen timing.now raised.now least.now.offsets parent }
-    ensures { IfOk result (λ finding. (path : List Decision) → Solves (releases_of timing.now) (arcs_of timing.now path) least.now
-        → IsFinding timing.now path target (option_copied best.entry) finding) }
+    requires conflicts { AreConflictsOf tables.timing.now tables.conflicts.now }
+    requires loads { AreLoadsOf tables.timing.now tables.loads.now }
+    requires best { IfSome (option_copied aim.best) (IsSolved tables.timing.now) }
+    requires releases { stack.now.least.releases ≡ releases_of tables.timing.now }
+    requires some_path { (path : List Decision) × (stack.now.least.arcs ≡ arcs_of tables.timing.now path) }
+    requires parent { WasSeen tables.timing.now stack.now.raised stack.now.least.offsets parent }
+    ensures { IfOk result (λ finding. (path : List Decision) → stack.now.least.arcs ≡ arcs_of tables.entry.timing.now path
+        → IsFinding tables.entry.timing.now path aim.entry.target (option_copied aim.entry.best) finding) }
 {
-    let ends = ends_after(timing, least.offsets(), raised, parent.last, parent.end);
-    parents_overlap_starts();
-    judge_ends(
-        alloc,
-        timing,
-        conflicts,
-        loads,
-        least,
-        ends,
+    let least = stack.least();
+    let raised = stack.raised();
+    let known = Known {
+        ends: ends_after(
+            tables.timing,
+            least.offsets(),
+            raised,
+            parent.last,
+            parent.end,
+        ),
         raised,
-        parent.place,
-        target,
-        best,
-    )
+        start: parent.place,
+    };
+    parents_overlap_starts();
+    judge_known(alloc, tables, least, known, aim)
 }
 
-/// What the least offsets of a path come to, when the streams are done by these, and where among the triples before `start`
-/// only those with a raised stream can overlap.
-fn judge_ends(
+/// What the least offsets of a path come to, of which this is known.
+fn judge_known(
     alloc: Global,
-    timing: &Timing,
-    conflicts: &Conflicts,
-    loads: &Loads,
+    tables: Tables<'_>,
     least: &Least,
-    ends: Ends,
-    raised: &[usize],
-    start: usize,
-    target: u64,
-    best: Option<&Solved>,
+    known: Known<'_>,
+    aim: Aim<'_>,
 ) -> Result<Finding, NoMemory>
-    requires conflicts { AreConflictsOf timing.now conflicts.now }
-    requires loads { AreLoadsOf timing.now loads.now }
-    requires best { IfSome (option_copied best) (IsSolved timing.now) }
-    requires some_path { (path : List Decision) × Solves (releases_of timing.now) (arcs_of timing.now path) least.now }
-    requires ends { AreEnds timing.now least.now.offsets ends }
-    requires raised { All (λ stream. stream < stream_count timing.now) raised.now }
-    requires start { start ≤ length conflicts.now.triples }
-    requires apart { OnlyRaisedOverlap conflicts.now least.now.offsets raised.now start }
-    ensures { IfOk result (λ finding. (path : List Decision) → Solves (releases_of timing.now) (arcs_of timing.now path) least.now
-        → IsFinding timing.now path target (option_copied best.entry) finding) }
+    requires conflicts { AreConflictsOf tables.timing.now tables.conflicts.now }
+    requires loads { AreLoadsOf tables.timing.now tables.loads.now }
+    requires best { IfSome (option_copied aim.best) (IsSolved tables.timing.now) }
+    requires some_path { (path : List Decision) × Solves (releases_of tables.timing.now) (arcs_of tables.timing.now path) least.now }
+    requires ends { AreEnds tables.timing.now least.now.offsets known.ends }
+    requires raised { All (λ stream. stream < stream_count tables.timing.now) known.raised.now }
+    requires start { known.start ≤ length tables.conflicts.now.triples }
+    requires apart { OnlyRaisedOverlap tables.conflicts.now least.now.offsets known.raised.now known.start }
+    ensures { IfOk result (λ finding. (path : List Decision) → Solves (releases_of tables.entry.timing.now) (arcs_of tables.entry.timing.now path) least.now
+        → IsFinding tables.entry.timing.now path aim.entry.target (option_copied aim.entry.best) finding) }
 {
-    let (last, end) = match ends {
+    let (last, end) = match known.ends {
         Ends::Overrun(stream) => {
             let leaf = Leaf::Overrun(stream, chain_to(alloc, least, stream)?);
             return Ok(Finding::Closed(Look::Refuted(leaf)));
         }
         Ends::Within { last, end } => (last, end),
     };
-    if end >= target {
+    if end >= aim.target {
         let leaf = Leaf::Late(last, chain_to(alloc, least, last)?);
         return Ok(Finding::Closed(Look::Pruned { bound: end, leaf }));
     }
-    let limit = tie_limit(target, best);
-    let tightest = match find_loads(loads, timing, least.offsets(), target, limit) {
+    let limit = tie_limit(aim);
+    let tightest = match find_loads(
+        tables.loads,
+        tables.timing,
+        least.offsets(),
+        aim.target,
+        limit,
+    ) {
         Loading::Closed(found) => {
-            let look = judge_load(alloc, timing, loads, least, found)?;
+            let look = judge_load(alloc, tables, least, found)?;
             return Ok(Finding::Closed(look));
         }
         Loading::Open(tightest) => tightest,
     };
-    let tie = find_tie(alloc, timing, loads, least, last, end, tightest, best)?;
+    let reach = Reach {
+        last,
+        end,
+        tightest,
+    };
+    let tie = find_tie(alloc, tables, least, reach, aim.best)?;
     if let Some(look) = tie {
         return Ok(Finding::Closed(look));
     }
-    if let Some(place) = conflicts.first_violated_from(least.offsets(), raised, start) {
+    if let Some(place) = tables
+        .conflicts
+        .first_violated_from(least.offsets(), known.raised, known.start)
+    {
         return Ok(Finding::Split(Seen { place, last, end }));
     }
-    let look = solved(alloc, timing, least, last)?;
+    let look = solved(alloc, tables.timing, least, last)?;
     Ok(Finding::Closed(look))
 }
 
@@ -216,12 +232,12 @@ fn solved(alloc: Global, timing: &Timing, least: &Least, last: usize) -> Result<
 }
 
 /// The flowspan from which on a node may be tied with the best schedule; where there is none, the target.
-fn tie_limit(target: u64, best: Option<&Solved>) -> u64
-    ensures { MatchOption (option_copied best.entry) (result ≡ target) (λ solution. result ≡ solution.flowspan) }
+fn tie_limit(aim: Aim<'_>) -> u64
+    ensures { MatchOption (option_copied aim.entry.best) (result ≡ aim.entry.target) (λ solution. result ≡ solution.flowspan) }
 {
-    match best {
+    match aim.best {
         Some(best) => best.flowspan(),
-        None => target,
+        None => aim.target,
     }
 }
 
@@ -229,26 +245,23 @@ fn tie_limit(target: u64, best: Option<&Solved>) -> u64
 /// link is at least its flowspan.
 fn find_tie(
     alloc: Global,
-    timing: &Timing,
-    loads: &Loads,
+    tables: Tables<'_>,
     least: &Least,
-    last: usize,
-    end: u64,
-    tightest: Option<FirstLoad>,
+    reach: Reach,
     best: Option<&Solved>,
 ) -> Result<Option<Look>, NoMemory>
-    requires formed { IsWellFormed timing.now }
-    requires loads { AreLoadsOf timing.now loads.now }
-    requires best { IfSome (option_copied best) (IsSolved timing.now) }
-    requires some_path { (path : List Decision) × Solves (releases_of timing.now) (arcs_of timing.now path) least.now }
-    requires ends { AreEnds timing.now least.now.offsets (ends.Within last end) }
-    requires within { (target : ℕ) × All (IsUnloaded timing.now least.now.offsets target) (shared_links timing.now) }
-    requires tightest { IfSome (option_copied best) (λ solution. IsTightest timing.now least.now.offsets solution.flowspan tightest) }
-    ensures none { IfOk result (λ found. IfNone found (IsUntied timing.now least.now.offsets (option_copied best.entry))) }
-    ensures some { IfOk result (λ found. IfSome found (IsTieBy timing.now least.now (option_copied best.entry))) }
+    requires formed { IsWellFormed tables.timing.now }
+    requires loads { AreLoadsOf tables.timing.now tables.loads.now }
+    requires best { IfSome (option_copied best) (IsSolved tables.timing.now) }
+    requires some_path { (path : List Decision) × Solves (releases_of tables.timing.now) (arcs_of tables.timing.now path) least.now }
+    requires ends { AreEnds tables.timing.now least.now.offsets (ends.Within reach.last reach.end) }
+    requires within { (target : ℕ) × All (IsUnloaded tables.timing.now least.now.offsets target) (shared_links tables.timing.now) }
+    requires tightest { IfSome (option_copied best) (λ solution. IsTightest tables.timing.now least.now.offsets solution.flowspan reach.tightest) }
+    ensures none { IfOk result (λ found. IfNone found (IsUntied tables.entry.timing.now least.now.offsets (option_copied best.entry))) }
+    ensures some { IfOk result (λ found. IfSome found (IsTieBy tables.entry.timing.now least.now (option_copied best.entry))) }
 {
     match best {
-        Some(best) => judge_tie(alloc, timing, loads, least, last, end, tightest, best),
+        Some(best) => judge_tie(alloc, tables, least, reach, best),
         None => Ok(None),
     }
 }
@@ -256,46 +269,43 @@ fn find_tie(
 /// The node as a tie with this schedule, where the first link that is loaded for its flowspan is found.
 fn judge_tie(
     alloc: Global,
-    timing: &Timing,
-    loads: &Loads,
+    tables: Tables<'_>,
     least: &Least,
-    last: usize,
-    end: u64,
-    tightest: Option<FirstLoad>,
+    reach: Reach,
     best: &Solved,
 ) -> Result<Option<Look>, NoMemory>
-    requires formed { IsWellFormed timing.now }
-    requires loads { AreLoadsOf timing.now loads.now }
-    requires best { IsSolved timing.now best.now }
-    requires some_path { (path : List Decision) × Solves (releases_of timing.now) (arcs_of timing.now path) least.now }
-    requires ends { AreEnds timing.now least.now.offsets (ends.Within last end) }
-    requires within { (target : ℕ) × All (IsUnloaded timing.now least.now.offsets target) (shared_links timing.now) }
-    requires tightest { IsTightest timing.now least.now.offsets best.now.flowspan tightest }
-    ensures none { IfOk result (λ found. IfNone found (IsUntied timing.now least.now.offsets (Some best.now))) }
-    ensures some { IfOk result (λ found. IfSome found (IsTieBy timing.now least.now (Some best.now))) }
+    requires formed { IsWellFormed tables.timing.now }
+    requires loads { AreLoadsOf tables.timing.now tables.loads.now }
+    requires best { IsSolved tables.timing.now best.now }
+    requires some_path { (path : List Decision) × Solves (releases_of tables.timing.now) (arcs_of tables.timing.now path) least.now }
+    requires ends { AreEnds tables.timing.now least.now.offsets (ends.Within reach.last reach.end) }
+    requires within { (target : ℕ) × All (IsUnloaded tables.timing.now least.now.offsets target) (shared_links tables.timing.now) }
+    requires tightest { IsTightest tables.timing.now least.now.offsets best.now.flowspan reach.tightest }
+    ensures none { IfOk result (λ found. IfNone found (IsUntied tables.entry.timing.now least.now.offsets (Some best.now))) }
+    ensures some { IfOk result (λ found. IfSome found (IsTieBy tables.entry.timing.now least.now (Some best.now))) }
 {
     let limit = best.flowspan();
-    if end >= limit {
-        let Some(chains) = tie_chains(alloc, timing, least, best.valid())? else {
+    if reach.end >= limit {
+        let Some(chains) = tie_chains(alloc, tables.timing, least, best.valid())? else {
             return Ok(None);
         };
-        let leaf = Leaf::Late(last, chain_to(alloc, least, last)?);
+        let leaf = Leaf::Late(reach.last, chain_to(alloc, least, reach.last)?);
         return Ok(Some(Look::Tied {
-            bound: end,
+            bound: reach.end,
             leaf,
             chains,
         }));
     }
-    let Some(found) = tightest else {
+    let Some(found) = reach.tightest else {
         return Ok(None);
     };
     let FirstLoad::Load(place, bound) = found else {
         unreachable!();
     };
-    let Some(chains) = tie_chains(alloc, timing, least, best.valid())? else {
+    let Some(chains) = tie_chains(alloc, tables.timing, least, best.valid())? else {
         return Ok(None);
     };
-    let (link, entries) = entries_at(alloc, timing, loads, least, place)?;
+    let (link, entries) = entries_at(alloc, tables, least, place)?;
     Ok(Some(Look::Tied {
         bound,
         leaf: Leaf::Load(link, entries),
@@ -306,27 +316,26 @@ fn judge_tie(
 /// The look at a node where a link is loaded.
 fn judge_load(
     alloc: Global,
-    timing: &Timing,
-    loads: &Loads,
+    tables: Tables<'_>,
     least: &Least,
     found: FirstLoad,
 ) -> Result<Look, NoMemory>
-    requires formed { IsWellFormed timing.now }
-    requires loads { AreLoadsOf timing.now loads.now }
-    requires some_path { (path : List Decision) × Solves (releases_of timing.now) (arcs_of timing.now path) least.now }
-    requires found { (target : ℕ) × IsFirstLoad timing.now least.now.offsets target found }
-    ensures look { IfOk result (λ look. (path : List Decision) (target : ℕ) → Solves (releases_of timing.now) (arcs_of timing.now path) least.now
-        → AllFit timing.now least.now.offsets → flowspan timing.now least.now.offsets < target
-        → IsFirstLoad timing.now least.now.offsets target found → (best : Option Solution) → IsLook timing.now path target best (outcome_of look)) }
+    requires formed { IsWellFormed tables.timing.now }
+    requires loads { AreLoadsOf tables.timing.now tables.loads.now }
+    requires some_path { (path : List Decision) × Solves (releases_of tables.timing.now) (arcs_of tables.timing.now path) least.now }
+    requires found { (target : ℕ) × IsFirstLoad tables.timing.now least.now.offsets target found }
+    ensures look { IfOk result (λ look. (path : List Decision) (target : ℕ) → Solves (releases_of tables.entry.timing.now) (arcs_of tables.entry.timing.now path) least.now
+        → AllFit tables.entry.timing.now least.now.offsets → flowspan tables.entry.timing.now least.now.offsets < target
+        → IsFirstLoad tables.entry.timing.now least.now.offsets target found → (best : Option Solution) → IsLook tables.entry.timing.now path target best (outcome_of look)) }
     ensures closes { IfOk result (λ look. Closes (outcome_of look)) }
 {
     match found {
         FirstLoad::Overload(place) => {
-            let (link, entries) = entries_at(alloc, timing, loads, least, place)?;
+            let (link, entries) = entries_at(alloc, tables, least, place)?;
             Ok(Look::Refuted(Leaf::Overload(link, entries)))
         }
         FirstLoad::Load(place, bound) => {
-            let (link, entries) = entries_at(alloc, timing, loads, least, place)?;
+            let (link, entries) = entries_at(alloc, tables, least, place)?;
             let leaf = Leaf::Load(link, entries);
             Ok(Look::Pruned { bound, leaf })
         }
@@ -336,22 +345,19 @@ fn judge_load(
 /// The shared link at this place, and its streams with the chains that show their least offsets.
 fn entries_at(
     alloc: Global,
-    timing: &Timing,
-    loads: &Loads,
+    tables: Tables<'_>,
     least: &Least,
     place: usize,
 ) -> Result<(usize, Entries), NoMemory>
-    requires formed { IsWellFormed timing.now }
-    requires loads { AreLoadsOf timing.now loads.now }
-    requires some_path { (path : List Decision) × Solves (releases_of timing.now) (arcs_of timing.now path) least.now }
-    requires place { place < length (shared_links timing.now) }
-    ensures link { IfOk result (λ leaf. slice_get (shared_links timing.now) place ≡ Some leaf.0) }
-    ensures shown { IfOk result (λ leaf. (path : List Decision) → Solves (releases_of timing.now) (arcs_of timing.now path) least.now
-        → ShowsLink timing.now path least.now.offsets leaf.0 leaf.1) }
+    requires formed { IsWellFormed tables.timing.now }
+    requires loads { AreLoadsOf tables.timing.now tables.loads.now }
+    requires some_path { (path : List Decision) × Solves (releases_of tables.timing.now) (arcs_of tables.timing.now path) least.now }
+    requires place { place < length (shared_links tables.timing.now) }
+    ensures link { IfOk result (λ leaf. slice_get (shared_links tables.entry.timing.now) place ≡ Some leaf.0) }
+    ensures shown { IfOk result (λ leaf. (path : List Decision) → Solves (releases_of tables.entry.timing.now) (arcs_of tables.entry.timing.now path) least.now
+        → ShowsLink tables.entry.timing.now path least.now.offsets leaf.0 leaf.1) }
 {
-    // The network stands in the contract alone.
-    let _ = timing;
-    let table = &loads.tables()[place];
+    let table = &tables.loads.tables()[place];
     Ok((table.link, entries_of(alloc, least, &table.users)?))
 }
 

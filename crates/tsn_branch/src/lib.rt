@@ -18,6 +18,7 @@ mod loads;
 pub mod node;
 pub mod outcome;
 mod seen;
+mod tables;
 
 use crate::arcs::least_at;
 use crate::judge::judge;
@@ -28,6 +29,7 @@ pub use loads::Loads;
 pub use node::Node;
 pub use outcome::Leaf;
 use std::alloc::Global;
+pub use tables::{Aim, Tables};
 use tsn_conflict::sharing::Conflicts;
 pub use tsn_diff::Least;
 pub use tsn_model::{Decision, NoMemory, Side, Triple};
@@ -100,5 +102,10 @@ pub fn look_from(
 {
     let loads = Loads::of(alloc, timing)?;
     let outcome = least_at(alloc, timing, conflicts, node, parent)?;
-    judge(alloc, timing, conflicts, &loads, outcome, target, best)
+    let tables = Tables {
+        timing,
+        conflicts,
+        loads: &loads,
+    };
+    judge(alloc, tables, outcome, Aim { target, best })
 }

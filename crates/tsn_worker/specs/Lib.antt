@@ -3,3 +3,4 @@ pub mod Search
 pub mod Below
 pub mod Laws
 pub mod Team
+pub mod Context

@@ -1,19 +1,17 @@
 //! Batches that are settled and posted.
 ghost use Rattle.std.specs.Prelude.{◌≡◌, ◌≤◌, true, MatchOption};
 ghost use Rattle.tsn_timing.specs.Solution.{IsSolved};
-ghost use Rattle.tsn_conflict.specs.Kept.{AreConflictsOf};
-ghost use Rattle.tsn_branch.specs.Loads.{AreLoadsOf};
 ghost use Rattle.tsn_book.specs.Below.{path_after};
 ghost use Rattle.tsn_share.specs.Teller.{IsEven};
 ghost use Rattle.tsn_worker.specs.Below.{IsBelow, IsBatch, IsGoingOn, outcomes_of};
+ghost use Rattle.tsn_worker.specs.Context.{AreTablesOf};
 
 use crate::below::{BATCH, Batch, Below};
-use crate::best::Best;
-use crate::board::Board;
+use crate::best::Incumbent;
+use crate::context::Context;
 use crate::gate::{Gate, News};
 use crate::news::{known, splits_among};
-use crate::tables::Tables;
-use std::alloc::Global;
+use crate::settler::Settler;
 use std::sync::Wait;
 use tsn_book::BookFault;
 use tsn_branch::Node;
@@ -39,42 +37,39 @@ impl Below {
     pub fn settle_next<K: Named, G: Gate>(
         &mut self,
         rt: &impl Wait,
-        alloc: Global,
-        tables: &Tables,
-        shared: &Shared<K>,
-        gate: &G,
-        board: &Board,
-        number: usize,
-        teller: &mut Teller<K>,
-        best: &mut Best<K>,
+        context: &Context<'_, K, G>,
+        settler: &mut Settler<K>,
         most: usize,
     ) -> Turn
-        requires network { tables.now.timing ≡ K.names.race.network }
-        requires conflicts { AreConflictsOf tables.now.timing tables.now.conflicts }
-        requires loads { AreLoadsOf tables.now.timing tables.now.loads }
-        requires below { IsBelow tables.now.timing tables.now.conflicts.triples self.old }
+        requires tables { AreTablesOf K.names.race.network context.now.tables }
+        requires below { IsBelow context.now.tables.timing.now context.now.tables.conflicts.now.triples self.old }
         requires most { (1 ≤ most) × (most ≤ BATCH) }
-        requires even { IsEven teller.old }
-        ensures even { IsEven teller.new }
-        ensures number { teller.new.standing.number ≡ teller.old.standing.number }
-        ensures below { IsGoingOn result → IsBelow tables.now.timing tables.now.conflicts.triples self.new }
+        requires even { IsEven settler.old.teller }
+        ensures even { IsEven settler.new.teller }
+        ensures number { settler.new.teller.standing.number ≡ settler.old.teller.standing.number }
+        ensures below { IsGoingOn result → IsBelow context.now.tables.timing.now context.now.tables.conflicts.now.triples self.new }
     {
-        let seen = observe_as(shared, teller);
-        if best.refresh(rt, shared, teller, board).is_err() {
+        let shared = context.shared;
+        let tables = context.tables;
+        let seen = observe_as(shared, &mut settler.teller);
+        let refreshed = settler
+            .best
+            .refresh(rt, shared, &mut settler.teller, context.board);
+        if refreshed.is_err() {
             return Turn::Ends;
         }
-        let best = best.lent(self.untied);
+        let best = settler.best.lent(self.untied);
         self.untied = false;
-        let Ok(batch) = self.collect(alloc, tables, seen, best, most) else {
+        let incumbent = Incumbent { seen, best };
+        let Ok(batch) = self.collect(context.alloc, tables, incumbent, most) else {
             return Turn::Ends;
         };
         let summary = Summary::of(&batch, seen);
-        let mut accepted = 0;
-        gate.pass(number);
-        let turn = settle_batch(rt, shared, teller, &mut self.from, batch, &mut accepted);
-        summary.tell(&tables.timing, gate, board, number, accepted);
+        context.gate.pass(settler.number);
+        let (turn, accepted) = settle_batch(rt, shared, &mut settler.teller, &mut self.from, batch);
+        summary.tell(context, settler.number, accepted);
         match turn {
-            Turn::LooksAgain if self.begin_again(alloc, &tables.timing, &tables.conflicts) =>
+            Turn::LooksAgain if self.begin_again(context.alloc, tables.timing, tables.conflicts) =>
                 Turn::GoesOn,
             Turn::LooksAgain => Turn::Ends,
             turn => turn,
@@ -109,18 +104,12 @@ impl Summary {
     }
 
     // Tells the gate and the board, where so many nodes, from the first on, were settled.
-    fn tell<G: Gate>(
-        &self,
-        timing: &Timing,
-        gate: &G,
-        board: &Board,
-        number: usize,
-        accepted: usize,
-    ) {
+    fn tell<K: Named, G: Gate>(&self, context: &Context<'_, K, G>, number: usize, accepted: usize) {
         if self.is_solved && accepted == self.nodes {
-            board.find();
+            context.board.find();
         }
-        gate.hear(number, self.news(timing, accepted));
+        let news = self.news(context.tables.timing, accepted);
+        context.gate.hear(number, news);
     }
 
     // What is told where so many nodes, from the first on, were settled.
@@ -144,37 +133,33 @@ fn splits_without(splits: u64, left: usize) -> usize {
     splits.count_ones() as usize
 }
 
-// Settles a batch, says how many of its nodes were settled, and posts what it solved then.
+// Settles a batch, and posts what it solved then. The answer also says how many of its nodes were settled.
 fn settle_batch<K: Named>(
     rt: &impl Wait,
     shared: &Shared<K>,
     teller: &mut Teller<K>,
     from: &mut Node,
     batch: Batch,
-    accepted: &mut usize,
-) -> Turn
+) -> (Turn, usize)
     requires batch { IsBatch K.names.race.network teller.old.standing.seen from.old batch }
     requires even { IsEven teller.old }
     requires seen { teller.old.standing.seen ≤ teller.old.standing.posted }
     ensures even { IsEven teller.new }
     ensures number { teller.new.standing.number ≡ teller.old.standing.number }
-    ensures goes_on { IsGoingOn result → (batch.more ≡ true) × (from.new ≡ path_after from.old (outcomes_of batch)) }
+    ensures goes_on { IsGoingOn result.0 → (batch.more ≡ true) × (from.new ≡ path_after from.old (outcomes_of batch)) }
 {
     let Batch {
         looks,
         solved,
         more,
     } = batch;
-    *accepted = looks.len();
+    let nodes = looks.len();
     match settle_below_as(rt, shared, teller, from, looks) {
         Ok(()) => {
             post_solved(shared, teller, &solved);
-            turn_on(more)
+            (turn_on(more), nodes)
         }
-        Err((count, fault)) => {
-            *accepted = count;
-            turn_after(fault)
-        }
+        Err((count, fault)) => (turn_after(fault), count),
     }
 }
 

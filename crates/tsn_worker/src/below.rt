@@ -10,12 +10,12 @@ ghost use Rattle.tsn_share.specs.Teller.{IsUnsolved};
 ghost use Rattle.tsn_worker.specs.Below.{StandsAt, IsBelow, IsBatch, IsProved, HoldsSchedule, IsScheduleOf};
 
 use crate::bag::Bag;
+use crate::best::Incumbent;
 use crate::search::{beyond, split_of};
-use crate::tables::Tables;
 use std::alloc::Global;
 use tsn_book::Looks;
 use tsn_branch::outcome::Look;
-use tsn_branch::{Descent, NoMemory, Node, Side, fits};
+use tsn_branch::{Aim, Descent, NoMemory, Node, Side, Tables, fits};
 use tsn_conflict::sharing::Conflicts;
 use tsn_timing::{Solved, Timing};
 
@@ -165,25 +165,28 @@ impl Below {
     pub fn collect(
         &mut self,
         alloc: Global,
-        tables: &Tables,
-        seen: u64,
-        best: Option<&Solved>,
+        tables: Tables<'_>,
+        incumbent: Incumbent<'_>,
         most: usize,
     ) -> Result<Batch, NoMemory>
-        requires conflicts { AreConflictsOf tables.now.timing tables.now.conflicts }
-        requires loads { AreLoadsOf tables.now.timing tables.now.loads }
-        requires best { IfSome (option_copied best) (IsSolved tables.now.timing) }
-        requires below { IsBelow tables.now.timing tables.now.conflicts.triples self.old }
+        requires conflicts { AreConflictsOf tables.timing.now tables.conflicts.now }
+        requires loads { AreLoadsOf tables.timing.now tables.loads.now }
+        requires best { IfSome (option_copied incumbent.best) (IsSolved tables.timing.now) }
+        requires below { IsBelow tables.timing.now tables.conflicts.now.triples self.old }
         requires most { (1 ≤ most) × (most ≤ BATCH) }
         ensures from { self.new.from ≡ self.old.from }
-        ensures batch { IfOk result (IsBatch tables.now.timing seen self.old.from) }
+        ensures batch { IfOk result (IsBatch tables.entry.timing.now incumbent.entry.seen self.old.from) }
         ensures goes_on { IfOk result (λ batch. MatchBool batch.more
-            (StandsAt tables.now.timing tables.now.conflicts.triples (path_after self.old.from (map outcome_of batch.looks)) self.new.descent) (Unit {0})) }
+            (StandsAt tables.entry.timing.now tables.entry.conflicts.now.triples (path_after self.old.from (map outcome_of batch.looks)) self.new.descent) (Unit {0})) }
     {
-        let target = beyond(&tables.timing, seen);
+        let target = beyond(tables.timing, incumbent.seen);
+        let aim = Aim {
+            target,
+            best: incumbent.best,
+        };
         let mut looks = Looks::with_capacity(alloc, most)?;
         for _ in 0..most {
-            let found = look_on(alloc, tables, &mut self.descent, self.floor, target, best)?;
+            let found = look_on(alloc, tables, &mut self.descent, self.floor, aim)?;
             let last = found.is_last();
             looks.push(found.look)?;
             if last {
@@ -222,30 +225,22 @@ fn descent_at(
 /// Looks at a node, and walks on.
 fn look_on(
     alloc: Global,
-    tables: &Tables,
+    tables: Tables<'_>,
     descent: &mut Descent,
     floor: usize,
-    target: u64,
-    best: Option<&Solved>,
+    aim: Aim<'_>,
 ) -> Result<Found, NoMemory>
-    requires conflicts { AreConflictsOf tables.now.timing tables.now.conflicts }
-    requires loads { AreLoadsOf tables.now.timing tables.now.loads }
-    requires best { IfSome (option_copied best) (IsSolved tables.now.timing) }
-    requires stands { StandsAt tables.now.timing tables.now.conflicts.triples descent.old.path descent.old }
-    ensures proof { IfOk result (λ found. IsProved tables.now.timing descent.old.path (outcome_of found.look)) }
-    ensures prunes { IfOk result (λ found. PrunesFrom target (outcome_of found.look)) }
-    ensures solved { IfOk result (λ found. HoldsSchedule tables.now.timing target (outcome_of found.look) found.solved) }
+    requires conflicts { AreConflictsOf tables.timing.now tables.conflicts.now }
+    requires loads { AreLoadsOf tables.timing.now tables.loads.now }
+    requires best { IfSome (option_copied aim.best) (IsSolved tables.timing.now) }
+    requires stands { StandsAt tables.timing.now tables.conflicts.now.triples descent.old.path descent.old }
+    ensures proof { IfOk result (λ found. IsProved tables.entry.timing.now descent.old.path (outcome_of found.look)) }
+    ensures prunes { IfOk result (λ found. PrunesFrom aim.entry.target (outcome_of found.look)) }
+    ensures solved { IfOk result (λ found. HoldsSchedule tables.entry.timing.now aim.entry.target (outcome_of found.look) found.solved) }
     ensures next { IfOk result (λ found. MatchBool found.more
-        (StandsAt tables.now.timing tables.now.conflicts.triples (next_path descent.old.path (outcome_of found.look)) descent.new) (Unit {0})) }
+        (StandsAt tables.entry.timing.now tables.entry.conflicts.now.triples (next_path descent.old.path (outcome_of found.look)) descent.new) (Unit {0})) }
 {
-    let look = descent.look(
-        alloc,
-        &tables.timing,
-        &tables.conflicts,
-        &tables.loads,
-        target,
-        best,
-    )?;
+    let look = descent.look(alloc, tables, aim)?;
     let solved = match schedule_of(&look) {
         Ok(solved) => solved,
         Err(fault) => {

@@ -10,10 +10,11 @@ ghost use Rattle.tsn_worker.specs.Search.{IsSearchOf};
 
 use crate::answer::Answer;
 use crate::bag::{Bag, DequeBag};
+use crate::context::Setting;
 use crate::gate::Gate;
+use crate::prepared::Prepared;
 use crate::rest::settle_rest;
 use crate::search::settle_open;
-use crate::tables::Tables;
 use crate::threads::search;
 use std::alloc::Global;
 use std::marker::Brand;
@@ -72,41 +73,34 @@ pub fn plan_over<R: Threads + Wait + Sync, G: Gate + Sync, B: Bag + Send>(
     requires few { limit ≤ MAX_LIMIT }
     ensures { IfOk result (IsAnswer problem.now.network limit) }
 {
-    let tables = Tables::of(alloc, problem)?;
-    let answer = answer_over(rt, alloc, &tables, limit, gate, bags);
-    drop(tables);
+    let prepared = Prepared::of(alloc, problem)?;
+    let setting = prepared.setting(alloc, gate);
+    let answer = answer_over(rt, &setting, limit, bags);
+    drop(setting);
+    drop(prepared);
     answer
 }
 
 // The answer by 2 to 16 workers, one a bag.
 fn answer_over<R: Threads + Wait + Sync, G: Gate + Sync, B: Bag + Send>(
     rt: &R,
-    alloc: Global,
-    tables: &Tables,
+    setting: &Setting<'_, G>,
     limit: usize,
-    gate: &G,
     bags: Vec<B>,
 ) -> Result<Answer, NoMemory>
-    requires conflicts { AreConflictsOf tables.now.timing tables.now.conflicts }
-    requires loads { AreLoadsOf tables.now.timing tables.now.loads }
+    requires conflicts { AreConflictsOf setting.now.tables.timing.now setting.now.tables.conflicts.now }
+    requires loads { AreLoadsOf setting.now.tables.timing.now setting.now.tables.loads.now }
     requires workers { (2 ≤ length bags.items) × (length bags.items ≤ MAX_WORKERS) }
     requires some { 1 ≤ limit }
     requires few { limit ≤ MAX_LIMIT }
-    ensures { IfOk result (IsAnswer tables.now.timing limit) }
+    ensures { IfOk result (IsAnswer setting.now.tables.timing.now limit) }
 {
     let workers = bags.len();
-    let parts = Parts::new(alloc, &tables.timing, workers + 1, limit)?;
-    let book = search::<Brand, R, G, B>(rt, alloc, tables, gate, bags, parts)?;
-    let book = settle_rest(
-        alloc,
-        &tables.timing,
-        &tables.conflicts,
-        gate,
-        workers,
-        limit,
-        book,
-    )?;
-    answer(alloc, &tables.timing, limit, book)
+    let timing = setting.tables.timing;
+    let parts = Parts::new(setting.alloc, timing, workers + 1, limit)?;
+    let book = search::<Brand, R, G, B>(rt, setting, bags, parts)?;
+    let book = settle_rest(setting, workers, limit, book)?;
+    answer(setting.alloc, timing, limit, book)
 }
 
 // What `plan` answers, by the caller alone.
@@ -120,28 +114,26 @@ fn plan_alone<G: Gate>(
     requires few { limit ≤ MAX_LIMIT }
     ensures { IfOk result (IsAnswer problem.now.network limit) }
 {
-    let tables = Tables::of(alloc, problem)?;
-    let answer = answer_alone(alloc, &tables, limit, gate);
-    drop(tables);
+    let prepared = Prepared::of(alloc, problem)?;
+    let setting = prepared.setting(alloc, gate);
+    let answer = answer_alone(&setting, limit);
+    drop(setting);
+    drop(prepared);
     answer
 }
 
 // The answer by the caller alone.
-fn answer_alone<G: Gate>(
-    alloc: Global,
-    tables: &Tables,
-    limit: usize,
-    gate: &G,
-) -> Result<Answer, NoMemory>
-    requires conflicts { AreConflictsOf tables.now.timing tables.now.conflicts }
-    requires loads { AreLoadsOf tables.now.timing tables.now.loads }
+fn answer_alone<G: Gate>(setting: &Setting<'_, G>, limit: usize) -> Result<Answer, NoMemory>
+    requires conflicts { AreConflictsOf setting.now.tables.timing.now setting.now.tables.conflicts.now }
+    requires loads { AreLoadsOf setting.now.tables.timing.now setting.now.tables.loads.now }
     requires some { 1 ≤ limit }
     requires few { limit ≤ MAX_LIMIT }
-    ensures { IfOk result (IsAnswer tables.now.timing limit) }
+    ensures { IfOk result (IsAnswer setting.now.tables.timing.now limit) }
 {
-    let book = Book::new(alloc, &tables.timing, 1, limit)?;
-    let book = settle_open(alloc, tables, gate, limit, book)?;
-    answer(alloc, &tables.timing, limit, book)
+    let timing = setting.tables.timing;
+    let book = Book::new(setting.alloc, timing, 1, limit)?;
+    let book = settle_open(setting, limit, book)?;
+    answer(setting.alloc, timing, limit, book)
 }
 
 // The answer of a search that left nothing open, or met its limit.

@@ -7,29 +7,25 @@ ghost use Rattle.tsn_branch.specs.Look.{HasProof, SplitsUndecided};
 ghost use Rattle.tsn_book.specs.Book.{IsMet};
 ghost use Rattle.tsn_worker.specs.Search.{IsSearchOf};
 
+use crate::context::Setting;
 use crate::gate::Gate;
 use crate::news::{is_split, news_of_one};
 use crate::search::beyond;
-use std::alloc::Global;
 use tsn_book::{Book, BookFault, Event};
 use tsn_branch::{NoMemory, look};
-use tsn_conflict::sharing::Conflicts;
 use tsn_timing::Timing;
 
 /// Settles the first open node again and again, until none is open or the limit is met. The error says that there was no memory.
 pub fn settle_rest<G: Gate>(
-    alloc: Global,
-    timing: &Timing,
-    conflicts: &Conflicts,
-    gate: &G,
+    setting: &Setting<'_, G>,
     teller: usize,
     limit: usize,
     book: Book,
 ) -> Result<Book, NoMemory>
-    requires conflicts { AreConflictsOf timing.now conflicts.now }
-    requires search { IsSearchOf timing.now limit book }
+    requires conflicts { AreConflictsOf setting.now.tables.timing.now setting.now.tables.conflicts.now }
+    requires search { IsSearchOf setting.now.tables.timing.now limit book }
     requires teller { teller < book.tellers }
-    ensures search { IfOk result (IsSearchOf timing.now limit) }
+    ensures search { IfOk result (IsSearchOf setting.now.tables.timing.now limit) }
     ensures done { IfOk result (λ searched. (open_paths searched.history ≡ []) ⊎ (length searched.history ≡ limit)) }
 {
     let mut book = book;
@@ -37,7 +33,7 @@ pub fn settle_rest<G: Gate>(
         if book.open_count() == 0 {
             return Ok(book);
         }
-        let settled = settle_first_open(alloc, timing, conflicts, gate, teller, &mut book);
+        let settled = settle_first_open(setting, teller, &mut book);
         if settled.is_err() {
             drop(book);
             return Err(NoMemory);
@@ -48,15 +44,12 @@ pub fn settle_rest<G: Gate>(
 
 // Settles the open node that is first in preorder.
 fn settle_first_open<G: Gate>(
-    alloc: Global,
-    timing: &Timing,
-    conflicts: &Conflicts,
-    gate: &G,
+    setting: &Setting<'_, G>,
     teller: usize,
     book: &mut Book,
 ) -> Result<(), NoMemory>
-    requires conflicts { AreConflictsOf timing.now conflicts.now }
-    requires network { book.old.network ≡ timing.now }
+    requires conflicts { AreConflictsOf setting.now.tables.timing.now setting.now.tables.conflicts.now }
+    requires network { book.old.network ≡ setting.now.tables.timing.now }
     requires teller { teller < book.old.tellers }
     requires some_open { 0 < length (open_paths book.old.history) }
     requires some_left { length book.old.history < book.old.limit }
@@ -65,15 +58,23 @@ fn settle_first_open<G: Gate>(
     ensures limit { book.new.limit ≡ book.old.limit }
     ensures more { OnOk result (length book.new.history ≡ length book.old.history + 1) }
 {
-    let Some(node) = book.first_open(alloc)? else {
+    let tables = setting.tables;
+    let Some(node) = book.first_open(setting.alloc)? else {
         unreachable!();
     };
-    let target = beyond(timing, book.best());
-    let look = look(alloc, timing, conflicts, &node, target, book.kept())?;
+    let target = beyond(tables.timing, book.best());
+    let look = look(
+        setting.alloc,
+        tables.timing,
+        tables.conflicts,
+        &node,
+        target,
+        book.kept(),
+    )?;
     let was_split = is_split(&look);
-    gate.pass(teller);
+    setting.gate.pass(teller);
     record(book, teller, Event { node, look })?;
-    tell(timing, gate, teller, book, was_split);
+    tell(tables.timing, setting.gate, teller, book, was_split);
     Ok(())
 }
 

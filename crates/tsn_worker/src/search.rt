@@ -14,13 +14,12 @@ ghost use Rattle.tsn_branch.specs.Descent.{Stands, Splits, Closes};
 ghost use Rattle.tsn_book.specs.Book.{IsLawful, IsMet};
 ghost use Rattle.tsn_worker.specs.Search.{IsSearchOf, IsSearching, HasChildren, IsAfterLeaf};
 
+use crate::context::Setting;
 use crate::gate::Gate;
 use crate::news::{is_split, news_of_one};
-use crate::tables::Tables;
-use std::alloc::Global;
 use tsn_book::{Book, BookFault};
 use tsn_branch::outcome::Look;
-use tsn_branch::{Decision, Descent};
+use tsn_branch::{Aim, Decision, Descent};
 use tsn_model::{NoMemory, Triple};
 use tsn_timing::Timing;
 
@@ -36,21 +35,19 @@ struct Search {
 
 /// Settles the first open node again and again, until none is open or the limit is met.
 pub fn settle_open<G: Gate>(
-    alloc: Global,
-    tables: &Tables,
-    gate: &G,
+    setting: &Setting<'_, G>,
     limit: usize,
     book: Book,
 ) -> Result<Book, NoMemory>
-    requires conflicts { AreConflictsOf tables.now.timing tables.now.conflicts }
-    requires loads { AreLoadsOf tables.now.timing tables.now.loads }
-    requires search { IsSearchOf tables.now.timing limit book }
+    requires conflicts { AreConflictsOf setting.now.tables.timing.now setting.now.tables.conflicts.now }
+    requires loads { AreLoadsOf setting.now.tables.timing.now setting.now.tables.loads.now }
+    requires search { IsSearchOf setting.now.tables.timing.now limit book }
     requires one_teller { book.tellers ≡ 1 }
     requires fresh { book.history ≡ [] }
-    ensures search { IfOk result (IsSearchOf tables.now.timing limit) }
+    ensures search { IfOk result (IsSearchOf setting.now.tables.timing.now limit) }
     ensures done { IfOk result (λ searched. (open_paths searched.history ≡ []) ⊎ (length searched.history ≡ limit)) }
 {
-    let descent = match Descent::root(alloc, &tables.timing) {
+    let descent = match Descent::root(setting.alloc, setting.tables.timing) {
         Ok(descent) => descent,
         Err(fault) => {
             drop(book);
@@ -61,9 +58,9 @@ pub fn settle_open<G: Gate>(
         book,
         descent,
         place: 0,
-        waiting: Vec::new(alloc),
+        waiting: Vec::new(setting.alloc),
     };
-    match search.settle_all(alloc, tables, gate, limit) {
+    match search.settle_all(setting, limit) {
         Ok(()) => Ok(search.into_book()),
         Err(fault) => {
             drop(search);
@@ -76,19 +73,17 @@ impl Search {
     // Settles nodes until none is open or the limit is met.
     fn settle_all<G: Gate>(
         &mut self,
-        alloc: Global,
-        tables: &Tables,
-        gate: &G,
+        setting: &Setting<'_, G>,
         limit: usize,
     ) -> Result<(), NoMemory>
-        requires conflicts { AreConflictsOf tables.now.timing tables.now.conflicts }
-        requires loads { AreLoadsOf tables.now.timing tables.now.loads }
-        requires searching { IsSearching tables.now.timing limit self.old.book self.old.descent self.old.place self.old.waiting.items }
-        ensures search { OnOk result (IsSearchOf tables.now.timing limit self.new.book) }
+        requires conflicts { AreConflictsOf setting.now.tables.timing.now setting.now.tables.conflicts.now }
+        requires loads { AreLoadsOf setting.now.tables.timing.now setting.now.tables.loads.now }
+        requires searching { IsSearching setting.now.tables.timing.now limit self.old.book self.old.descent self.old.place self.old.waiting.items }
+        ensures search { OnOk result (IsSearchOf setting.now.tables.timing.now limit self.new.book) }
         ensures done { OnOk result ((open_paths self.new.book.history ≡ []) ⊎ (length self.new.book.history ≡ limit)) }
     {
         'settlements: while self.book.count() < limit {
-            if !self.settle(alloc, tables, gate, limit)? {
+            if !self.settle(setting, limit)? {
                 return Ok(());
             }
         }
@@ -109,36 +104,28 @@ impl Search {
     }
 
     // Looks at the node and settles it. False where nothing is open then.
-    fn settle<G: Gate>(
-        &mut self,
-        alloc: Global,
-        tables: &Tables,
-        gate: &G,
-        limit: usize,
-    ) -> Result<bool, NoMemory>
-        requires conflicts { AreConflictsOf tables.now.timing tables.now.conflicts }
-        requires loads { AreLoadsOf tables.now.timing tables.now.loads }
-        requires searching { IsSearching tables.now.timing limit self.old.book self.old.descent self.old.place self.old.waiting.items }
+    fn settle<G: Gate>(&mut self, setting: &Setting<'_, G>, limit: usize) -> Result<bool, NoMemory>
+        requires conflicts { AreConflictsOf setting.now.tables.timing.now setting.now.tables.conflicts.now }
+        requires loads { AreLoadsOf setting.now.tables.timing.now setting.now.tables.loads.now }
+        requires searching { IsSearching setting.now.tables.timing.now limit self.old.book self.old.descent self.old.place self.old.waiting.items }
         requires some_left { length self.old.book.history < limit }
         ensures searching { IfOk result (λ more. MatchBool more
-            (IsSearching tables.now.timing limit self.new.book self.new.descent self.new.place self.new.waiting.items)
-            (IsSearchOf tables.now.timing limit self.new.book × (open_paths self.new.book.history ≡ []))) }
+            (IsSearching setting.now.tables.timing.now limit self.new.book self.new.descent self.new.place self.new.waiting.items)
+            (IsSearchOf setting.now.tables.timing.now limit self.new.book × (open_paths self.new.book.history ≡ []))) }
         ensures one { OnOk result (length self.new.book.history ≡ length self.old.book.history + 1) }
     {
-        let target = beyond(&tables.timing, self.book.best());
-        let look = self.descent.look(
-            alloc,
-            &tables.timing,
-            &tables.conflicts,
-            &tables.loads,
+        let tables = setting.tables;
+        let target = beyond(tables.timing, self.book.best());
+        let aim = Aim {
             target,
-            self.book.kept(),
-        )?;
+            best: self.book.kept(),
+        };
+        let look = self.descent.look(setting.alloc, tables, aim)?;
         let split = split_of(&look);
         let was_split = is_split(&look);
-        gate.pass(0);
+        setting.gate.pass(0);
         record(&mut self.book, self.place, self.descent.node().path(), look)?;
-        self.tell(&tables.timing, gate, was_split);
+        self.tell(tables.timing, setting.gate, was_split);
         match split {
             Some(triple) => {
                 self.go_down(triple)?;

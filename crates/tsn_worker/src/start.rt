@@ -1,20 +1,18 @@
 //! What the caller settles before the workers start.
 ghost use Rattle.std.specs.Prelude.{◌≡◌, ◌<◌, ◌≤◌, length};
-ghost use Rattle.tsn_conflict.specs.Kept.{AreConflictsOf};
-ghost use Rattle.tsn_branch.specs.Loads.{AreLoadsOf};
 ghost use Rattle.tsn_share.specs.Teller.{IsEven};
+ghost use Rattle.tsn_worker.specs.Context.{AreTablesOf};
 
 use crate::bag::Bag;
 use crate::batch::Turn;
 use crate::below::Below;
-use crate::best::Best;
-use crate::board::Board;
+use crate::context::Context;
 use crate::gate::Gate;
-use crate::tables::Tables;
+use crate::settler::Settler;
 use std::alloc::Global;
 use std::sync::Wait;
 use tsn_branch::{NoMemory, Node};
-use tsn_share::{Named, Shared, Teller};
+use tsn_share::Named;
 
 /// The nodes that are open, the first in preorder last.
 #[derive(Drop)]
@@ -64,41 +62,30 @@ impl Bag for OpenNodes {
 /// open. The error says that there was no memory to begin.
 pub fn settle_first<K: Named, G: Gate>(
     rt: &impl Wait,
-    alloc: Global,
-    tables: &Tables,
-    shared: &Shared<K>,
-    gate: &G,
-    board: &Board,
+    context: &Context<'_, K, G>,
     enough: usize,
-    teller: &mut Teller<K>,
+    caller: &mut Settler<K>,
 ) -> Result<OpenNodes, NoMemory>
-    requires network { tables.now.timing ≡ K.names.race.network }
-    requires conflicts { AreConflictsOf tables.now.timing tables.now.conflicts }
-    requires loads { AreLoadsOf tables.now.timing tables.now.loads }
-    requires even { IsEven teller.old }
-    ensures even { IsEven teller.new }
-    ensures number { teller.new.standing.number ≡ teller.old.standing.number }
+    requires tables { AreTablesOf K.names.race.network context.now.tables }
+    requires even { IsEven caller.old.teller }
+    ensures even { IsEven caller.new.teller }
+    ensures number { caller.new.teller.standing.number ≡ caller.old.teller.standing.number }
 {
-    let mut below = Below::root(alloc, &tables.timing)?;
-    let mut open_nodes = OpenNodes::none(alloc);
-    let mut best = Best::none();
+    let mut below = Below::root(context.alloc, context.tables.timing)?;
+    let mut open_nodes = OpenNodes::none(context.alloc);
     for _ in 0..u64::MAX {
         if below.has_open(enough) {
             break;
         }
-        match below.settle_next(
-            rt, alloc, tables, shared, gate, board, enough, teller, &mut best, 1,
-        ) {
+        match below.settle_next(rt, context, caller, 1) {
             Turn::GoesOn => {}
             Turn::Ends => break,
             Turn::Finished | Turn::LooksAgain => {
-                drop(best);
                 drop(below);
                 return Ok(open_nodes);
             }
         }
     }
-    drop(best);
     below.leave(&mut open_nodes);
     Ok(open_nodes)
 }

@@ -1,19 +1,20 @@
-//! Tellers with their bags.
+//! Workers, each a teller with a bag.
 ghost use Rattle.std.specs.Prelude.{◌≡◌, ◌++◌, ◌∷◌, [], length, map, IfOk};
 
 use crate::bag::Bag;
+use crate::settler::Settler;
 use crate::worker::Member;
 use std::alloc::{AllocError, Global};
 use tsn_share::{Named, Teller};
 
-/// Gives each teller a bag.
+/// Gives each teller a bag. Its number is its place among them.
 pub fn team_of<K: Named, B: Bag>(
     alloc: Global,
     tellers: Vec<Teller<K>>,
     bags: Vec<B>,
 ) -> Result<Vec<Member<K, B>>, AllocError>
     requires { length tellers.items ≡ length bags.items }
-    ensures { IfOk result (λ members. map (λ member. member.teller) members.items ≡ tellers.items) }
+    ensures { IfOk result (λ members. map (λ member. member.settler.teller) members.items ≡ tellers.items) }
 {
     let mut members = Vec::with_capacity(alloc, tellers.len())?;
     let mut bags = bags.into_iter();
@@ -21,7 +22,8 @@ pub fn team_of<K: Named, B: Bag>(
         let Some(bag) = bags.next() else {
             unreachable!();
         };
-        members.push_reserved(Member { teller, bag });
+        let settler = Settler::new(members.len(), teller);
+        members.push_reserved(Member { settler, bag });
     }
     Ok(members)
 }
@@ -32,7 +34,7 @@ pub fn tellers_of<K: Named, B: Bag>(
     members: Vec<Member<K, B>>,
     caller: Teller<K>,
 ) -> Result<Vec<Teller<K>>, AllocError>
-    ensures { IfOk result (λ tellers. tellers.items ≡ map (λ member. member.teller) members.items ++ caller ∷ []) }
+    ensures { IfOk result (λ tellers. tellers.items ≡ map (λ member. member.settler.teller) members.items ++ caller ∷ []) }
 {
     let mut tellers = match Vec::with_capacity(alloc, members.len() + 1) {
         Ok(tellers) => tellers,
@@ -42,8 +44,9 @@ pub fn tellers_of<K: Named, B: Bag>(
         }
     };
     for member in members {
-        let Member { teller, bag: _ } = member;
-        tellers.push_reserved(teller);
+        let Member { settler, bag } = member;
+        drop(bag);
+        tellers.push_reserved(settler.into_teller());
     }
     tellers.push_reserved(caller);
     Ok(tellers)

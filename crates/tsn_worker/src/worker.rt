@@ -1,21 +1,19 @@
 //! One worker.
 ghost use Rattle.std.specs.Prelude.{◌≡◌};
-ghost use Rattle.tsn_conflict.specs.Kept.{AreConflictsOf};
-ghost use Rattle.tsn_branch.specs.Loads.{AreLoadsOf};
 ghost use Rattle.tsn_share.specs.Teller.{IsEven};
+ghost use Rattle.tsn_worker.specs.Context.{AreTablesOf};
 
 use crate::bag::Bag;
 use crate::batch::Turn;
 use crate::below::{BATCH, Below};
-use crate::best::Best;
 use crate::board::Board;
+use crate::context::Context;
 use crate::gate::Gate;
-use crate::tables::Tables;
-use std::alloc::Global;
+use crate::settler::Settler;
 use std::sync::Wait;
 use std::thread;
 use tsn_branch::Node;
-use tsn_share::{Named, Shared, Teller};
+use tsn_share::Named;
 
 /// A worker ends after so many rounds in turn in which it found no node.
 const ROUNDS: usize = 1000;
@@ -23,10 +21,10 @@ const ROUNDS: usize = 1000;
 /// How often a round in which no node was found lets other threads run, while some worker is at work.
 const PAUSES: usize = 50;
 
-/// A teller with its bag.
+/// A worker: one who settles nodes, with its bag.
 #[derive(Drop)]
 pub struct Member<K: Named, B: Bag> {
-    pub(crate) teller: Teller<K>,
+    pub(crate) settler: Settler<K>,
     pub(crate) bag: B,
 }
 
@@ -35,36 +33,25 @@ pub struct Member<K: Named, B: Bag> {
 /// The board tells how long it is worth to wait for a node, and when the best schedule has to be copied anew.
 pub fn work<K: Named, B: Bag, G: Gate>(
     rt: &impl Wait,
-    alloc: Global,
-    tables: &Tables,
-    shared: &Shared<K>,
-    gate: &G,
-    board: &Board,
-    number: usize,
+    context: &Context<'_, K, G>,
     member: &mut Member<K, B>,
 )
-    requires network { tables.now.timing ≡ K.names.race.network }
-    requires conflicts { AreConflictsOf tables.now.timing tables.now.conflicts }
-    requires loads { AreLoadsOf tables.now.timing tables.now.loads }
-    requires even { IsEven member.old.teller }
-    ensures even { IsEven member.new.teller }
-    ensures number { member.new.teller.standing.number ≡ member.old.teller.standing.number }
+    requires tables { AreTablesOf K.names.race.network context.now.tables }
+    requires even { IsEven member.old.settler.teller }
+    ensures even { IsEven member.new.settler.teller }
+    ensures number { member.new.settler.teller.standing.number ≡ member.old.settler.teller.standing.number }
 {
-    if gate.may_start(number) {
-        let mut best = Best::none();
+    if context.gate.may_start(member.settler.number) {
         for _ in 0..u64::MAX {
-            let Some(node) = find(&mut member.bag, board) else {
+            let Some(node) = find(&mut member.bag, context.board) else {
                 break;
             };
-            if !work_below(
-                rt, alloc, tables, shared, gate, board, number, member, &mut best, node,
-            ) {
+            if !work_below(rt, context, member, node) {
                 break;
             }
         }
-        drop(best);
     }
-    board.end();
+    context.board.end();
 }
 
 // A node of its own bag, or else of another's. None after so many rounds that found none.
@@ -110,24 +97,17 @@ fn next_node<B: Bag>(bag: &mut B) -> Option<Node> {
 // Settles what is open below a node, and shares it. What is left open is in the bag then. False where the worker ends.
 fn work_below<K: Named, B: Bag, G: Gate>(
     rt: &impl Wait,
-    alloc: Global,
-    tables: &Tables,
-    shared: &Shared<K>,
-    gate: &G,
-    board: &Board,
-    number: usize,
+    context: &Context<'_, K, G>,
     member: &mut Member<K, B>,
-    best: &mut Best<K>,
     node: Node,
 ) -> bool
-    requires network { tables.now.timing ≡ K.names.race.network }
-    requires conflicts { AreConflictsOf tables.now.timing tables.now.conflicts }
-    requires loads { AreLoadsOf tables.now.timing tables.now.loads }
-    requires even { IsEven member.old.teller }
-    ensures even { IsEven member.new.teller }
-    ensures number { member.new.teller.standing.number ≡ member.old.teller.standing.number }
+    requires tables { AreTablesOf K.names.race.network context.now.tables }
+    requires even { IsEven member.old.settler.teller }
+    ensures even { IsEven member.new.settler.teller }
+    ensures number { member.new.settler.teller.standing.number ≡ member.old.settler.teller.standing.number }
 {
-    let mut below = match Below::at(alloc, &tables.timing, &tables.conflicts, node) {
+    let tables = context.tables;
+    let mut below = match Below::at(context.alloc, tables.timing, tables.conflicts, node) {
         Ok(Some(below)) => below,
         Ok(None) => return true,
         Err(node) => {
@@ -136,29 +116,18 @@ fn work_below<K: Named, B: Bag, G: Gate>(
         }
     };
     for _ in 0..u64::MAX {
-        match below.settle_next(
-            rt,
-            alloc,
-            tables,
-            shared,
-            gate,
-            board,
-            number,
-            &mut member.teller,
-            best,
-            BATCH,
-        ) {
+        match below.settle_next(rt, context, &mut member.settler, BATCH) {
             Turn::GoesOn => {}
             Turn::Ends => break,
             Turn::Finished | Turn::LooksAgain => {
                 drop(below);
-                return gate.may_go_on(number);
+                return context.gate.may_go_on(member.settler.number);
             }
         }
-        if !gate.may_go_on(number) {
+        if !context.gate.may_go_on(member.settler.number) {
             break;
         }
-        share_if_awaited(board, &mut below, &mut member.bag);
+        share_if_awaited(context.board, &mut below, &mut member.bag);
     }
     below.leave(&mut member.bag);
     false

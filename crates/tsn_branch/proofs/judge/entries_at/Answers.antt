@@ -22,17 +22,17 @@ module _ (network : Network) (tables : List LinkTable) (same : map link_in table
 
 pub entries_of-requires-clause-some_user : goal.entries_of-requires-clause-some_user
 entries_of-requires-clause-some_user c =
-    let found = measured c.args.timing.now c.tables.result.now (c.tables.ensures ∙ c.requires.loads) c.args.place c.requires.place c.index-tables-place.result c.index-tables-place.is c.requires.formed in
+    let found = measured c.args.tables.timing.now c.tables.result.now (c.tables.ensures ∙ c.requires.loads) c.args.place c.requires.place c.index-tables-place.result c.index-tables-place.is c.requires.formed in
     omega (arith, found.several, ap length c.deref.ensures.value)
 
 pub entries_of-requires-clause-few_users : goal.entries_of-requires-clause-few_users
 entries_of-requires-clause-few_users c =
-    let found = measured c.args.timing.now c.tables.result.now (c.tables.ensures ∙ c.requires.loads) c.args.place c.requires.place c.index-tables-place.result c.index-tables-place.is c.requires.formed in
+    let found = measured c.args.tables.timing.now c.tables.result.now (c.tables.ensures ∙ c.requires.loads) c.args.place c.requires.place c.index-tables-place.result c.index-tables-place.is c.requires.formed in
     omega (arith, found.few, ap length c.deref.ensures.value)
 
 pub entries_of-requires-clause-streams : goal.entries_of-requires-clause-streams
 entries_of-requires-clause-streams c k d below =
-    let network = c.args.timing.now in
+    let network = c.args.tables.timing.now in
     let found = measured network c.tables.result.now (c.tables.ensures ∙ c.requires.loads) c.args.place c.requires.place c.index-tables-place.result c.index-tables-place.is c.requires.formed in
     let early = subst (All (IsEarly (stream_count network))) (sym c.deref.ensures.value) found.early in
     let path = c.requires.some_path in
@@ -40,7 +40,7 @@ entries_of-requires-clause-streams c k d below =
 
 pub entries_of-requires-clause-short : goal.entries_of-requires-clause-short
 entries_of-requires-clause-short c k d below =
-    let network = c.args.timing.now in
+    let network = c.args.tables.timing.now in
     let found = measured network c.tables.result.now (c.tables.ensures ∙ c.requires.loads) c.args.place c.requires.place c.index-tables-place.result c.index-tables-place.is c.requires.formed in
     let early = subst (All (IsEarly (stream_count network))) (sym c.deref.ensures.value) found.early in
     let path = c.requires.some_path in
@@ -48,14 +48,14 @@ entries_of-requires-clause-short c k d below =
 
 pub returns-clause-link : goal.returns-clause-link
 returns-clause-link c =
-    let network = c.args.timing.now in
+    let network = c.args.tables.timing.now in
     let is = there network c.tables.result.now (c.tables.ensures ∙ c.requires.loads) c.args.place c.requires.place c.index-tables-place.result c.index-tables-place.is in
     let link = get_or (shared_links network) c.args.place 0 in
     slice_get-get_or (shared_links network) c.args.place 0 c.requires.place ∙ ap Some (sym (link_is network link (link_in c.index-tables-place.result) is))
 
 pub returns-clause-shown : goal.returns-clause-shown
 returns-clause-shown c path solves =
-    let network = c.args.timing.now in
+    let network = c.args.tables.timing.now in
     let is = there network c.tables.result.now (c.tables.ensures ∙ c.requires.loads) c.args.place c.requires.place c.index-tables-place.result c.index-tables-place.is in
     let link = get_or (shared_links network) c.args.place 0 in
     shown_by network path c.args.least.now solves link c.index-tables-place.result.link c.deref.result.now c.in_ok-entries_of.field-0

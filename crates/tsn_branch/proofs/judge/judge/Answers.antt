@@ -26,18 +26,18 @@ comes_alone network path (refuted leaf) closes = refl
 
 pub bounds-triples-seen : goal.bounds-triples-seen
 bounds-triples-seen c =
-    let network = c.args.timing.now in
+    let network = c.args.tables.timing.now in
     let (path, answers) = c.requires.some_path in
     let solves = subst (Answers (releases_of network) (arcs_of network path)) c.in-Least.is answers in
-    let found = subst (IsFinding network path c.args.target (option_copied c.args.best)) c.in-Split.is (c.in_ok-finding-in-Least.ensures path solves) in
+    let found = subst (IsFinding network path c.args.aim.target (option_copied c.args.aim.best)) c.in-Split.is (c.in_ok-finding-in-Least.ensures path solves) in
     subst (λ (ts : List Triple). c.in-Split.seen.place < length ts) (sym (c.triples.ensures ∙ c.requires.conflicts.triples)) found.0.within
 
 pub offset_bounds-triples-seen : goal.offset_bounds-triples-seen
 offset_bounds-triples-seen c =
-    let network = c.args.timing.now in
+    let network = c.args.tables.timing.now in
     let (path, answers) = c.requires.some_path in
     let solves = subst (Answers (releases_of network) (arcs_of network path)) c.in-Least.is answers in
-    let found = subst (IsFinding network path c.args.target (option_copied c.args.best)) c.in-Split.is (c.in_ok-finding-in-Least.ensures path solves) in
+    let found = subst (IsFinding network path c.args.aim.target (option_copied c.args.aim.best)) c.in-Split.is (c.in_ok-finding-in-Least.ensures path solves) in
     let below : c.in-Split.seen.place < length c.triples.result.now =
     subst (λ (ts : List Triple). c.in-Split.seen.place < length ts) (sym (c.triples.ensures ∙ c.requires.conflicts.triples)) found.0.within in
     let long = c.triples.type_inv in
@@ -46,31 +46,31 @@ offset_bounds-triples-seen c =
 pub returns-in-Split-clause-look : goal.returns-in-Split-clause-look
 returns-in-Split-clause-look c =
     λ path answers.
-    let network = c.args.timing.now in
+    let network = c.args.tables.timing.now in
     let solves = subst (Answers (releases_of network) (arcs_of network path)) c.in-Least.is answers in
-    let found = subst (IsFinding network path c.args.target (option_copied c.args.best)) c.in-Split.is (c.in_ok-finding-in-Least.ensures path solves) in
-    subst (λ (ts : List Triple). IsLook network path c.args.target (option_copied c.args.best) (split (triple_at ts c.in-Split.seen.place))) (sym (c.triples.ensures ∙ c.requires.conflicts.triples)) found.1
+    let found = subst (IsFinding network path c.args.aim.target (option_copied c.args.aim.best)) c.in-Split.is (c.in_ok-finding-in-Least.ensures path solves) in
+    subst (λ (ts : List Triple). IsLook network path c.args.aim.target (option_copied c.args.aim.best) (split (triple_at ts c.in-Split.seen.place))) (sym (c.triples.ensures ∙ c.requires.conflicts.triples)) found.1
 
 pub returns-in-Closed-clause-look : goal.returns-in-Closed-clause-look
 returns-in-Closed-clause-look c =
     λ path answers.
-    let network = c.args.timing.now in
+    let network = c.args.tables.timing.now in
     let solves = subst (Answers (releases_of network) (arcs_of network path)) c.in-Least.is answers in
-    let found = subst (IsFinding network path c.args.target (option_copied c.args.best)) c.in-Closed.is (c.in_ok-finding-in-Least.ensures path solves) in
+    let found = subst (IsFinding network path c.args.aim.target (option_copied c.args.aim.best)) c.in-Closed.is (c.in_ok-finding-in-Least.ensures path solves) in
     found.1
 
 pub returns-in-Closed-clause-least : goal.returns-in-Closed-clause-least
 returns-in-Closed-clause-least c =
     λ path answers.
-    let network = c.args.timing.now in
+    let network = c.args.tables.timing.now in
     let solves = subst (Answers (releases_of network) (arcs_of network path)) c.in-Least.is answers in
-    let found = subst (IsFinding network path c.args.target (option_copied c.args.best)) c.in-Closed.is (c.in_ok-finding-in-Least.ensures path solves) in
+    let found = subst (IsFinding network path c.args.aim.target (option_copied c.args.aim.best)) c.in-Closed.is (c.in_ok-finding-in-Least.ensures path solves) in
     comes_alone network path (outcome_of c.in-Closed.look) found.0
 
 pub returns-in_ok-of-in-Positive-clause-look : goal.returns-in_ok-of-in-Positive-clause-look
 returns-in_ok-of-in-Positive-clause-look c =
     λ path answers.
-    let network = c.args.timing.now in
+    let network = c.args.tables.timing.now in
     let refutes = subst (Answers (releases_of network) (arcs_of network path)) c.in-Positive.is answers in
-    subst (λ (chain : List ℕ). IsRefutation network path c.args.target (positive_cycle chain)) (sym (c.in_ok-of-in-Positive.ensures ∙ c.deref.ensures.value))
-    (IsRefutation-from network path c.in-Positive.cycle.items refutes c.args.target)
+    subst (λ (chain : List ℕ). IsRefutation network path c.args.aim.target (positive_cycle chain)) (sym (c.in_ok-of-in-Positive.ensures ∙ c.deref.ensures.value))
+    (IsRefutation-from network path c.in-Positive.cycle.items refutes c.args.aim.target)

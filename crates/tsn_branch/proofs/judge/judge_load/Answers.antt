@@ -6,7 +6,7 @@ use Rattle.tsn_branch.proofs.judge.judge_load.Goals as goal
 
 pub returns-in_ok-link-in-Overload-clause-look : goal.returns-in_ok-link-in-Overload-clause-look
 returns-in_ok-link-in-Overload-clause-look c path target solves fit below found best =
-    let network = c.args.timing.now in
+    let network = c.args.tables.timing.now in
     let offsets = c.args.least.now.offsets in
     let place = c.in-Overload.place in
     let is = subst (IsFirstLoad network offsets target) c.in-Overload.is found in
@@ -23,7 +23,7 @@ returns-in_ok-link-in-Overload-clause-look c path target solves fit below found 
 
 pub returns-in_ok-link-in-Load-clause-look : goal.returns-in_ok-link-in-Load-clause-look
 returns-in_ok-link-in-Load-clause-look c path target solves fit below found best =
-    let network = c.args.timing.now in
+    let network = c.args.tables.timing.now in
     let offsets = c.args.least.now.offsets in
     let place = c.in-Load.place in
     let is = subst (IsFirstLoad network offsets target) c.in-Load.is found in

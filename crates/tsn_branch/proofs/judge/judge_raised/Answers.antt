@@ -1,15 +1,48 @@
-use Rattle.std.proofs.Common.{◌<◌, List, length, sym, subst}
+use Rattle.std.proofs.Common.{◌≡◌, ◌<◌, List, All, length, sym, ap, ◌∙◌, subst}
+use Rattle.std.proofs.lemmas.Result.{IfOk-weaker}
+use Rattle.tsn_model.specs.declared.Decision.{Decision}
+use Rattle.tsn_model.specs.Network.{Network, stream_count}
+use Rattle.tsn_model.specs.Arcs.{arcs_of}
+use Rattle.tsn_diff.specs.Stack.{Stack}
+use Rattle.tsn_diff.specs.Offsets.{LeastOffsets}
+use Rattle.tsn_diff.specs.Answers.{Solves}
+use Rattle.tsn_branch.specs.Releases.{releases_of}
+use Rattle.tsn_branch.proofs.Leasts.{length-releases}
 use Rattle.tsn_model.specs.Schedule.{IsFirstOverlap}
-use Rattle.tsn_conflict.specs.Raised.{triple_at}
+use Rattle.tsn_conflict.specs.Raised.{OnlyRaisedOverlap, triple_at}
 use Rattle.tsn_model.specs.declared.Triple.{Triple}
 use Rattle.tsn_branch.proofs.judge.judge_raised.Goals as goal
 
-pub judge_ends-requires-clause-apart : goal.judge_ends-requires-clause-apart
-judge_ends-requires-clause-apart c =
-    let network = c.args.timing.now in
+pub judge_known-requires-clause-apart : goal.judge_known-requires-clause-apart
+judge_known-requires-clause-apart c =
+    let network = c.args.tables.timing.now in
     let parent = c.requires.parent in
     let is = c.requires.conflicts in
-    c.parents_overlap_starts.ensures network c.args.conflicts.now parent.before c.args.least.now.offsets c.args.raised.now c.args.parent.place is
+    subst (λ (lowest : LeastOffsets). OnlyRaisedOverlap c.args.tables.conflicts.now lowest.offsets c.raised-raised.result.now c.args.parent.place) (sym c.least-least.ensures.value)
+    (subst (λ raised. OnlyRaisedOverlap c.args.tables.conflicts.now c.args.stack.now.least.offsets raised c.args.parent.place) (sym c.raised-raised.ensures.value)
+    (c.parents_overlap_starts.ensures network c.args.tables.conflicts.now parent.before c.args.stack.now.least.offsets c.args.stack.now.raised c.args.parent.place is
     (subst (λ (ts : List Triple). c.args.parent.place < length ts) (sym is.triples) parent.within)
     (subst (λ (ts : List Triple). IsFirstOverlap network parent.before (triple_at ts c.args.parent.place)) (sym is.triples) parent.was_seen.overlap)
-    parent.rose.others
+    parent.rose.others))
+
+-- the labels of the arcs that were put in, said of a path that these are of
+solves_on : (network : Network) (path : List Decision) (stack : Stack) (lowest : LeastOffsets) → lowest ≡ stack.least → Solves stack.least.releases stack.least.arcs stack.least
+    → stack.least.releases ≡ releases_of network → stack.least.arcs ≡ arcs_of network path → Solves (releases_of network) (arcs_of network path) lowest
+solves_on network path stack lowest same solves none arcs =
+    subst (λ rs. Solves rs (arcs_of network path) lowest) none (subst (λ as'. Solves stack.least.releases as' lowest) arcs (subst (Solves stack.least.releases stack.least.arcs) (sym same) solves))
+
+pub judge_known-requires-clause-some_path : goal.judge_known-requires-clause-some_path
+judge_known-requires-clause-some_path c =
+    let (path, arcs) = c.requires.some_path in
+    (path, solves_on c.args.tables.timing.now path c.args.stack.now c.least-least.result.now c.least-least.ensures.value c.least-least.ensures.solves c.requires.releases arcs)
+
+pub judge_known-requires-clause-raised : goal.judge_known-requires-clause-raised
+judge_known-requires-clause-raised c =
+    let network = c.args.tables.timing.now in
+    subst (All (λ stream. stream < stream_count network)) (sym c.raised-raised.ensures.value)
+    (subst (λ n. All (λ stream. stream < n) c.args.stack.now.raised) (ap length c.requires.releases ∙ length-releases network) c.raised-raised.ensures.below)
+
+pub returns : goal.returns
+returns c =
+    IfOk-weaker c.judge_known.result _ _
+    (λ finding is path arcs. is path (solves_on c.args.tables.timing.now path c.args.stack.now c.least-least.result.now c.least-least.ensures.value c.least-least.ensures.solves c.requires.releases arcs)) c.judge_known.ensures

@@ -9,9 +9,9 @@ use Rattle.tsn_branch.proofs.Ways.{of_some}
 use Rattle.tsn_branch.proofs.Tied.{late_tie, load_tie, not_overloaded}
 use Rattle.tsn_branch.proofs.judge.judge_tie.Goals as goal
 
-pub returns-then-end-limit-clause-some : goal.returns-then-end-limit-clause-some
-returns-then-end-limit-clause-some c =
-    let network = c.args.timing.now in
+pub returns-then-reach-limit-clause-some : goal.returns-then-reach-limit-clause-some
+returns-then-reach-limit-clause-some c =
+    let network = c.args.tables.timing.now in
     let lowest = c.args.least.now in
     let best = c.args.best.now in
     let chains = c.in-Some.chains in
@@ -27,12 +27,12 @@ returns-then-end-limit-clause-some c =
             not_before = subst (λ (others : List ℕ). IsNotAfter others lowest.offsets) c.valid.ensures found.0;
             shown = subst (λ (others : List ℕ). ShowsUpto network path lowest.offsets others chains) c.valid.ensures (found.1 path solves);
           })
-          c.args.last c.args.end c.in_ok-chain_to.field-0 last end (omega (arith, c.if-end-limit.true, c.flowspan-limit.ensures)) c.in_ok-chain_to.ensures,
+          c.args.reach.last c.args.reach.end c.in_ok-chain_to.field-0 last end (omega (arith, c.if-reach-limit.true, c.flowspan-limit.ensures)) c.in_ok-chain_to.ensures,
     )
 
 pub unreachable-requires : goal.unreachable-requires
 unreachable-requires c =
-    let network = c.args.timing.now in
+    let network = c.args.tables.timing.now in
     let offsets = c.args.least.now.offsets in
     let limit = c.args.best.now.flowspan in
     let found = subst (IsTightest network offsets limit) c.in-Some-tightest.is c.requires.tightest in
@@ -40,7 +40,7 @@ unreachable-requires c =
 
 pub entries_at-requires-clause-place : goal.entries_at-requires-clause-place
 entries_at-requires-clause-place c =
-    let network = c.args.timing.now in
+    let network = c.args.tables.timing.now in
     let offsets = c.args.least.now.offsets in
     let limit = c.args.best.now.flowspan in
     let found = subst (IsTightest network offsets limit) c.in-Some-tightest.is c.requires.tightest in
@@ -49,7 +49,7 @@ entries_at-requires-clause-place c =
 
 pub returns-clause-some : goal.returns-clause-some
 returns-clause-some c =
-    let network = c.args.timing.now in
+    let network = c.args.tables.timing.now in
     let lowest = c.args.least.now in
     let best = c.args.best.now in
     let chains = c.in-Some-2.chains in
@@ -70,6 +70,6 @@ returns-clause-some c =
             not_before = subst (λ (others : List ℕ). IsNotAfter others lowest.offsets) c.valid-2.ensures found.0;
             shown = subst (λ (others : List ℕ). ShowsUpto network path lowest.offsets others chains) c.valid-2.ensures (found.1 path solves);
           })
-          place bound c.in_ok-link.link c.in_ok-link.entries (omega (arith, end, c.if-end-limit.false, c.flowspan-limit.ensures)) is c.in_ok-link.ensures.link
+          place bound c.in_ok-link.link c.in_ok-link.entries (omega (arith, end, c.if-reach-limit.false, c.flowspan-limit.ensures)) is c.in_ok-link.ensures.link
           (c.in_ok-link.ensures.shown path solves)),
     )

@@ -1,5 +1,5 @@
-use Rattle.std.proofs.Common.{sym}
+use Rattle.std.proofs.Common.{sym, ◌∙◌}
 use Rattle.tsn_worker.proofs.planning.plan_over.Goals as goal
 
 pub returns : goal.returns
-returns g c = rw (sym c.in_ok-tables.ensures.timing) c.answer_over-answer.ensures
+returns g c = rw (sym (c.setting-setting.ensures.timing ∙ c.in_ok-prepared.ensures.timing)) c.answer_over-answer.ensures

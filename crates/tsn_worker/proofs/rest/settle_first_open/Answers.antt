@@ -10,12 +10,12 @@ pub look-requires-clause-fits : goal.look-requires-clause-fits
 look-requires-clause-fits g c =
     let history = c.args.book.now.history in
     let first = subst (λ o. MatchOption o (open_paths history ≡ []) (IsFirstOpen history)) c.in-Some.is c.in_ok-node.ensures.first in
-    open_fits c.args.timing.now c.args.conflicts.now c.requires.conflicts history (rw c.requires.network at c.best.ensures.lawful.legal) c.in-Some.node first.is_open
+    open_fits c.args.setting.now.tables.timing.now c.args.setting.now.tables.conflicts.now c.requires.conflicts history (rw c.requires.network at c.best.ensures.lawful.legal) c.in-Some.node first.is_open
 
 pub record-requires-clause-met : goal.record-requires-clause-met
 record-requires-clause-met g c =
     let same = c.requires.network in
-    let network = c.args.timing.now in
+    let network = c.args.setting.now.tables.timing.now in
     let history = c.args.book.now.history in
     let outcome = outcome_of c.in_ok-look.look in
     let target = c.beyond-target.ensures ∙ ap (λ best. beyond network best) (rw same at c.best.ensures.best) in

@@ -4,7 +4,7 @@ use Rattle.tsn_worker.proofs.rest.settle_rest.Given as goal
 
 abbrev pub invariant-settlements : goal.invariant-settlements
 invariant-settlements g l = record {
-  search : IsSearchOf l.timing l.limit l.book;
+  search : IsSearchOf l.setting.tables.timing.now l.limit l.book;
   within : l.teller < l.book.tellers;
 }
 

@@ -5,7 +5,7 @@ use Rattle.tsn_worker.proofs.start.settle_first.Given as goal
 
 abbrev pub invariant-loop : goal.invariant-loop
 invariant-loop g l = record {
-  even : IsEven l.teller;
-  number : l.teller.standing.number ≡ l.initial.teller.standing.number;
-  below : IsBelow l.tables.timing l.tables.conflicts.triples l.below;
+  even : IsEven l.caller.teller;
+  number : l.caller.teller.standing.number ≡ l.initial.caller.teller.standing.number;
+  below : IsBelow l.context.tables.timing.now l.context.tables.conflicts.now.triples l.below;
 }

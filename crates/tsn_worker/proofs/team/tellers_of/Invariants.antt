@@ -4,6 +4,6 @@ use Rattle.tsn_worker.proofs.team.tellers_of.Given as goal
 
 abbrev pub invariant-loop-member : goal.invariant-loop-member
 invariant-loop-member g l = record {
-  together : l.tellers.items ++ map (λ member. member.teller) l.member-iterator.rest.items ≡ map (λ m. m.teller) l.fn.members.items;
+  together : l.tellers.items ++ map (λ member. member.settler.teller) l.member-iterator.rest.items ≡ map (λ m. m.settler.teller) l.fn.members.items;
   room : vec_len l.tellers + length l.member-iterator.rest.items < vec_capacity l.tellers;
 }

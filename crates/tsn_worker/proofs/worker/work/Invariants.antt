@@ -4,6 +4,6 @@ use Rattle.tsn_worker.proofs.worker.work.Given as goal
 
 abbrev pub invariant-loop : goal.invariant-loop
 invariant-loop g l = record {
-  even : IsEven l.member.teller;
-  number : l.member.teller.standing.number ≡ l.initial.member.teller.standing.number;
+  even : IsEven l.member.settler.teller;
+  number : l.member.settler.teller.standing.number ≡ l.initial.member.settler.teller.standing.number;
 }

@@ -5,7 +5,7 @@ use Rattle.tsn_worker.proofs.worker.work_below.Given as goal
 
 abbrev pub invariant-loop : goal.invariant-loop
 invariant-loop g l = record {
-  even : IsEven l.member.teller;
-  number : l.member.teller.standing.number ≡ l.initial.member.teller.standing.number;
-  below : IsBelow l.tables.timing l.tables.conflicts.triples l.below;
+  even : IsEven l.member.settler.teller;
+  number : l.member.settler.teller.standing.number ≡ l.initial.member.settler.teller.standing.number;
+  below : IsBelow l.context.tables.timing.now l.context.tables.conflicts.now.triples l.below;
 }

@@ -15,41 +15,41 @@ use Rattle.tsn_branch.proofs.descent.Descent.look.Goals as goal
 
 pub returns-in-Some-clause-first_case : goal.returns-in-Some-clause-first_case
 returns-in-Some-clause-first_case c =
-    let network = c.args.timing.now in
+    let network = c.args.tables.timing.now in
     let path = c.args.self.now.path in
     let led = of_some _ _ c.in_ok-cycle.field-0 c.in-Some.cycle c.in-Some.is c.in_ok-cycle.ensures.led in
-    subst (λ (chain : List ℕ). IsRefutation network path c.args.target (positive_cycle chain)) (sym (c.in_ok-of.ensures ∙ c.deref.ensures.value)) (IsRefutation-from network path c.in-Some.cycle.items led.1 c.args.target)
+    subst (λ (chain : List ℕ). IsRefutation network path c.args.aim.target (positive_cycle chain)) (sym (c.in_ok-of.ensures ∙ c.deref.ensures.value)) (IsRefutation-from network path c.in-Some.cycle.items led.1 c.args.aim.target)
 
 pub returns-in-Some-clause-proof : goal.returns-in-Some-clause-proof
 returns-in-Some-clause-proof c = (returns-in-Some-clause-first_case c).1
 
 pub returns-in-Ok-Split-clause-undecided : goal.returns-in-Ok-Split-clause-undecided
 returns-in-Ok-Split-clause-undecided c =
-    let network = c.args.timing.now in
-    let target = c.args.target in
-    let found = subst (IsFinding network c.lead.new.self.path target (option_copied c.args.best)) c.in-Ok-Split.field-0-is c.in-Ok-Split.ensures in
+    let network = c.args.tables.timing.now in
+    let target = c.args.aim.target in
+    let found = subst (IsFinding network c.lead.new.self.path target (option_copied c.args.aim.best)) c.in-Ok-Split.field-0-is c.in-Ok-Split.ensures in
     let path : c.lead.new.self.path ≡ c.args.self.now.path = c.lead.ensures.path in
     let triples = c.triples.ensures ∙ c.requires.conflicts.triples in
-    let right = SplitsUndecided-from network c.lead.new.self.path target (option_copied c.args.best) (split (triple_at (conflicts_of network) c.in-Ok-Split.seen.place)) found.1 in
+    let right = SplitsUndecided-from network c.lead.new.self.path target (option_copied c.args.aim.best) (split (triple_at (conflicts_of network) c.in-Ok-Split.seen.place)) found.1 in
     subst (λ p. SplitsUndecided network p (split (triple_at c.triples.result.now c.in-Ok-Split.seen.place))) path
     (subst (λ (ts : List Triple). SplitsUndecided network c.lead.new.self.path (split (triple_at ts c.in-Ok-Split.seen.place))) (sym triples) right)
 
 pub returns-in-Ok-Closed-clause-proof : goal.returns-in-Ok-Closed-clause-proof
 returns-in-Ok-Closed-clause-proof c =
-    let network = c.args.timing.now in
-    let found = subst (IsFinding network c.lead.new.self.path c.args.target (option_copied c.args.best)) c.in-Ok-Closed.field-0-is c.in-Ok-Closed.ensures in
-    subst (λ p. HasProof network p (outcome_of c.in-Ok-Closed.look)) c.lead.ensures.path (HasProof-from network c.lead.new.self.path c.args.target (option_copied c.args.best) (outcome_of c.in-Ok-Closed.look) found.1)
+    let network = c.args.tables.timing.now in
+    let found = subst (IsFinding network c.lead.new.self.path c.args.aim.target (option_copied c.args.aim.best)) c.in-Ok-Closed.field-0-is c.in-Ok-Closed.ensures in
+    subst (λ p. HasProof network p (outcome_of c.in-Ok-Closed.look)) c.lead.ensures.path (HasProof-from network c.lead.new.self.path c.args.aim.target (option_copied c.args.aim.best) (outcome_of c.in-Ok-Closed.look) found.1)
 
 pub returns-in-Ok-Closed-clause-ties : goal.returns-in-Ok-Closed-clause-ties
 returns-in-Ok-Closed-clause-ties c =
-    let network = c.args.timing.now in
-    let found = subst (IsFinding network c.lead.new.self.path c.args.target (option_copied c.args.best)) c.in-Ok-Closed.field-0-is c.in-Ok-Closed.ensures in
-    subst (λ p. TiesWith network p (option_copied c.args.best) (outcome_of c.in-Ok-Closed.look)) c.lead.ensures.path
-    (TiesWith-from network c.lead.new.self.path c.args.target (option_copied c.args.best) c.requires.best (outcome_of c.in-Ok-Closed.look) found.1)
+    let network = c.args.tables.timing.now in
+    let found = subst (IsFinding network c.lead.new.self.path c.args.aim.target (option_copied c.args.aim.best)) c.in-Ok-Closed.field-0-is c.in-Ok-Closed.ensures in
+    subst (λ p. TiesWith network p (option_copied c.args.aim.best) (outcome_of c.in-Ok-Closed.look)) c.lead.ensures.path
+    (TiesWith-from network c.lead.new.self.path c.args.aim.target (option_copied c.args.aim.best) c.requires.best (outcome_of c.in-Ok-Closed.look) found.1)
 
 pub returns-in-Ok-Split-clause-among : goal.returns-in-Ok-Split-clause-among
 returns-in-Ok-Split-clause-among c =
-    let network = c.args.timing.now in
+    let network = c.args.tables.timing.now in
     let conflicts = c.requires.conflicts in
     subst (λ ts. SplitsAmong ts (split (triple_at c.triples.result.now c.in-Ok-Split.seen.place))) c.triples.ensures
     (SplitsAmong-from network c.args.self.now.path c.triples.result.now conflicts.formed (c.triples.ensures ∙ conflicts.triples) (split (triple_at c.triples.result.now c.in-Ok-Split.seen.place))

@@ -5,6 +5,6 @@ use Rattle.tsn_worker.proofs.below.Below.collect.Given as goal
 abbrev pub invariant-loop : goal.invariant-loop
 invariant-loop l = record {
   from : l.self.from ≡ l.initial.self.from;
-  collecting : IsCollecting l.tables.timing l.tables.conflicts.triples l.seen l.initial.self.from l.looks l.self.descent;
+  collecting : IsCollecting l.tables.timing.now l.tables.conflicts.now.triples l.incumbent.seen l.initial.self.from l.looks l.self.descent;
   long : length l.looks ≡ l.counter;
 }

@@ -18,7 +18,7 @@ look-requires-clause-fits g c =
     let searching = c.requires.searching in
     let history = c.args.self.now.book.history in
     let path = c.args.self.now.descent.path in
-    open_fits c.args.tables.now.timing c.args.tables.now.conflicts c.requires.conflicts history (rw searching.search.same_network at c.best.ensures.lawful.legal) path
+    open_fits c.args.setting.now.tables.timing.now c.args.setting.now.tables.conflicts.now c.requires.conflicts history (rw searching.search.same_network at c.best.ensures.lawful.legal) path
     (walk_open history path c.args.self.now.place (reverse c.args.self.now.waiting.items) searching.walk)
 
 pub record-requires-clause-node_open : goal.record-requires-clause-node_open
@@ -30,7 +30,7 @@ record-requires-clause-node_open g c =
 pub record-requires-clause-met : goal.record-requires-clause-met
 record-requires-clause-met g c =
     let same = c.requires.searching.search.same_network in
-    let network = c.args.tables.now.timing in
+    let network = c.args.setting.now.tables.timing.now in
     let history = c.args.self.now.book.history in
     let path = c.args.self.now.descent.path in
     let outcome = outcome_of c.in_ok-look.look in
@@ -68,7 +68,7 @@ record-requires-clause-proof g c =
     let path = path_made c.args.self.now.book.history c.args.self.now.place in
     let outcome = outcome_of c.in_ok-look.look in
     subst (λ n. HasProof n path outcome) (sym searching.search.same_network)
-    (subst (λ p. HasProof c.args.tables.now.timing p outcome) (sym searching.walk.at.is) c.in_ok-look.ensures.proof)
+    (subst (λ p. HasProof c.args.setting.now.tables.timing.now p outcome) (sym searching.walk.at.is) c.in_ok-look.ensures.proof)
 
 pub record-requires-clause-undecided : goal.record-requires-clause-undecided
 record-requires-clause-undecided g c =
@@ -76,15 +76,15 @@ record-requires-clause-undecided g c =
     let path = path_made c.args.self.now.book.history c.args.self.now.place in
     let outcome = outcome_of c.in_ok-look.look in
     subst (λ n. SplitsUndecided n path outcome) (sym searching.search.same_network)
-    (subst (λ p. SplitsUndecided c.args.tables.now.timing p outcome) (sym searching.walk.at.is) c.in_ok-look.ensures.undecided)
+    (subst (λ p. SplitsUndecided c.args.setting.now.tables.timing.now p outcome) (sym searching.walk.at.is) c.in_ok-look.ensures.undecided)
 
 pub go_down-requires-clause-splits : goal.go_down-requires-clause-splits
 go_down-requires-clause-splits g c =
-    let network = c.args.tables.now.timing in
+    let network = c.args.setting.now.tables.timing.now in
     (network, subst (λ (o : Outcome). IsAfter network o c.look.new.self) c.in-Some.ensures c.in_ok-look.ensures.after)
 
 pub go_down-requires-clause-undecided : goal.go_down-requires-clause-undecided
 go_down-requires-clause-undecided g c =
-    let network = c.args.tables.now.timing in
+    let network = c.args.setting.now.tables.timing.now in
     let split = subst (λ (o : Outcome). SplitsUndecided network c.args.self.now.descent.path o) c.in-Some.ensures c.in_ok-look.ensures.undecided in
     subst (λ p. IsUndecided p c.in-Some.triple) (sym c.look.ensures.path) split.1

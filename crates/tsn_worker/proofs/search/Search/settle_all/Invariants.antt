@@ -4,7 +4,7 @@ use Rattle.tsn_worker.proofs.search.Search.settle_all.Given as goal
 
 abbrev pub invariant-settlements : goal.invariant-settlements
 invariant-settlements g l = record {
-  searching : IsSearching l.tables.timing l.limit l.self.book l.self.descent l.self.place l.self.waiting.items;
+  searching : IsSearching l.setting.tables.timing.now l.limit l.self.book l.self.descent l.self.place l.self.waiting.items;
 }
 
 abbrev pub decreases-settlements : goal.decreases-settlements

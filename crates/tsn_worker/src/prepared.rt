@@ -3,8 +3,9 @@ ghost use Rattle.std.specs.Prelude.{◌≡◌, IfOk};
 ghost use Rattle.tsn_conflict.specs.Kept.{AreConflictsOf};
 ghost use Rattle.tsn_branch.specs.Loads.{AreLoadsOf};
 
+use crate::context::Setting;
 use std::alloc::Global;
-use tsn_branch::{Loads, NoMemory};
+use tsn_branch::{Loads, NoMemory, Tables};
 use tsn_conflict::conflicts;
 use tsn_conflict::sharing::Conflicts;
 use tsn_net::Problem;
@@ -12,21 +13,21 @@ use tsn_timing::Timing;
 
 /// The times of a problem, its conflicts and the loads of its links.
 #[derive(Drop)]
-pub struct Tables {
+pub struct Prepared {
     pub(crate) timing: Timing,
     pub(crate) conflicts: Conflicts,
     pub(crate) loads: Loads,
 }
 
-impl Tables {
+impl Prepared {
     /// Those of a problem. The error says that there was no memory.
     //
     // Here and below a large value is dropped by a call, since the parts of one that goes out of scope are dropped in place, and
     // each proved at each such place.
-    pub fn of(alloc: Global, problem: &Problem) -> Result<Tables, NoMemory>
-        ensures timing { IfOk result (λ tables. tables.timing ≡ problem.now.network) }
-        ensures conflicts { IfOk result (λ tables. AreConflictsOf tables.timing tables.conflicts) }
-        ensures loads { IfOk result (λ tables. AreLoadsOf tables.timing tables.loads) }
+    pub fn of(alloc: Global, problem: &Problem) -> Result<Prepared, NoMemory>
+        ensures timing { IfOk result (λ prepared. prepared.timing ≡ problem.now.network) }
+        ensures conflicts { IfOk result (λ prepared. AreConflictsOf prepared.timing prepared.conflicts) }
+        ensures loads { IfOk result (λ prepared. AreLoadsOf prepared.timing prepared.loads) }
     {
         let timing = Timing::of(alloc, problem)?;
         let conflicts = match conflicts(alloc, &timing) {
@@ -37,7 +38,7 @@ impl Tables {
             }
         };
         match Loads::of(alloc, &timing) {
-            Ok(loads) => Ok(Tables {
+            Ok(loads) => Ok(Prepared {
                 timing,
                 conflicts,
                 loads,
@@ -47,6 +48,24 @@ impl Tables {
                 drop(conflicts);
                 Err(fault)
             }
+        }
+    }
+
+    /// What a search is given that reads it.
+    pub fn setting<'a, G>(&'a self, alloc: Global, gate: &'a G) -> Setting<'a, G>
+        ensures timing { result.tables.timing.now ≡ self.now.timing }
+        ensures conflicts { result.tables.conflicts.now ≡ self.now.conflicts }
+        ensures loads { result.tables.loads.now ≡ self.now.loads }
+    {
+        let tables = Tables {
+            timing: &self.timing,
+            conflicts: &self.conflicts,
+            loads: &self.loads,
+        };
+        Setting {
+            alloc,
+            tables,
+            gate,
         }
     }
 }

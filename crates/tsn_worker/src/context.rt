@@ -1,0 +1,23 @@
+//! What a search is given, and what its workers share.
+use crate::board::Board;
+use std::alloc::Global;
+use tsn_branch::Tables;
+use tsn_share::{Named, Shared};
+
+/// What a search is given: where it takes memory, what it reads, and the gate that it passes.
+#[derive(Drop)]
+pub struct Setting<'a, G> {
+    pub alloc: Global,
+    pub tables: Tables<'a>,
+    pub gate: &'a G,
+}
+
+/// What the workers of a search share, each of them and the caller.
+#[derive(Drop)]
+pub struct Context<'a, K: Named, G> {
+    pub alloc: Global,
+    pub tables: Tables<'a>,
+    pub gate: &'a G,
+    pub shared: &'a Shared<K>,
+    pub board: &'a Board,
+}
