@@ -14,9 +14,9 @@ use Rattle.tsn_model.specs.Network.{Network}
 use Rattle.tsn_model.specs.Arcs.{arcs_of}
 use Rattle.tsn_model.specs.Certificate.{decided}
 use Rattle.tsn_model.proofs.Decisions.{length-decided}
-use Rattle.tsn_branch.specs.declared.seen.Seen.{Seen}
+use Rattle.tsn_branch.specs.declared.verdict.SplitPoint.{SplitPoint}
 use Rattle.tsn_branch.specs.Path.{DecidesOnce, Fits}
-use Rattle.tsn_branch.specs.Descent.{IsSeen, AllSeen}
+use Rattle.tsn_branch.specs.Descent.{IsSplitPoint, AreSplitPoints}
 
 -- ---- paths
 
@@ -30,35 +30,35 @@ pub arcs-nil : (network : Network) → arcs_of network [] ≡ []
 unfolding arcs_of
 arcs-nil network = refl
 
--- ---- what was seen
+-- ---- split points
 
--- where nothing was seen
-pub seen_none : (network : Network) (path : List Decision) → AllSeen network path []
-seen_none network path = record { base = length path; count = omega arith; each = λ k d below. absurd (omega arith) }
+-- where no node was split
+pub points_none : (network : Network) (path : List Decision) → AreSplitPoints network path []
+points_none network path = record { base = length path; count = omega arith; each = λ k d below. absurd (omega arith) }
 
-pub seen_more : (network : Network) (path : List Decision) (seen : List Seen) (here : Seen) (triple : Triple) (side : Side) → AllSeen network path seen → IsSeen network path here
-    → AllSeen network (decided path triple side) (seen ++ here ∷ [])
+pub points_more : (network : Network) (path : List Decision) (points : List SplitPoint) (here : SplitPoint) (triple : Triple) (side : Side) → AreSplitPoints network path points → IsSplitPoint network path here
+    → AreSplitPoints network (decided path triple side) (points ++ here ∷ [])
 unfolding decided
-seen_more network path seen here triple side all is =
+points_more network path points here triple side all is =
     let base : ℕ = all.base in
     let count = all.count in
-    let more = length-append seen (here ∷ []) in
+    let more = length-append points (here ∷ []) in
     let longer = length-append path (record { triple = triple; side = side } ∷ []) in
     record {
       base = base;
       count = omega arith;
       each = λ k d below.
-          elim (cases_lt k (length seen)) [
+          elim (cases_lt k (length points)) [
             | inl earlier ↦
                 let front : take (base + k) (path ++ record { triple = triple; side = side } ∷ []) ≡ take (base + k) path = take-append-le (base + k) path (record { triple = triple; side = side } ∷ []) (omega arith) in
-                let at : slice_index_or (seen ++ here ∷ []) k d ≡ slice_index_or seen k d = get_or_append_left seen (here ∷ []) d k earlier in
-                subst (λ p. IsSeen network p (slice_index_or (seen ++ here ∷ []) k d)) (sym front) (subst (IsSeen network (take (base + k) path)) (sym at) (all.each k d earlier))
+                let at : slice_index_or (points ++ here ∷ []) k d ≡ slice_index_or points k d = get_or_append_left points (here ∷ []) d k earlier in
+                subst (λ p. IsSplitPoint network p (slice_index_or (points ++ here ∷ []) k d)) (sym front) (subst (IsSplitPoint network (take (base + k) path)) (sym at) (all.each k d earlier))
             | inr past ↦
-                let last : k ≡ length seen + 0 = omega arith in
-                let at : slice_index_or (seen ++ here ∷ []) k d ≡ here = ap (λ n. slice_index_or (seen ++ here ∷ []) n d) last ∙ get_or-append-add seen (here ∷ []) 0 d in
+                let last : k ≡ length points + 0 = omega arith in
+                let at : slice_index_or (points ++ here ∷ []) k d ≡ here = ap (λ n. slice_index_or (points ++ here ∷ []) n d) last ∙ get_or-append-add points (here ∷ []) 0 d in
                 let whole : take (base + k) (path ++ record { triple = triple; side = side } ∷ []) ≡ path =
                 take-append-le (base + k) path (record { triple = triple; side = side } ∷ []) (omega arith) ∙ take_all (base + k) path (omega arith) in
-                subst (λ p. IsSeen network p (slice_index_or (seen ++ here ∷ []) k d)) (sym whole) (subst (IsSeen network path) (sym at) is)
+                subst (λ p. IsSplitPoint network p (slice_index_or (points ++ here ∷ []) k d)) (sym whole) (subst (IsSplitPoint network path) (sym at) is)
           ];
     }
 
@@ -68,27 +68,27 @@ take-inner (suc k) zero xs order = absurd (omega arith)
 take-inner (suc k) (suc n) [] order = refl
 take-inner (suc k) (suc n) (x ∷ xs) order = ap (λ ys. x ∷ ys) (take-inner k n xs (omega arith))
 
-pub seen_above : (network : Network) (path : List Decision) (seen : List Seen) → AllSeen network path seen → AllSeen network (take (length path - 1) path) (take (length seen - 1) seen)
-seen_above network path seen all =
+pub points_above : (network : Network) (path : List Decision) (points : List SplitPoint) → AreSplitPoints network path points → AreSplitPoints network (take (length path - 1) path) (take (length points - 1) points)
+points_above network path points all =
     let base : ℕ = all.base in
     let count = all.count in
-    let of_seen = length-take (length seen - 1) seen in
+    let of_points = length-take (length points - 1) points in
     let of_path = length-take (length path - 1) path in
     record {
-      base = (length path - 1) - (length seen - 1);
+      base = (length path - 1) - (length points - 1);
       count = omega arith;
       each = λ k d below.
-          let same : ((length path - 1) - (length seen - 1)) + k ≡ base + k = omega arith in
-          let front : take (((length path - 1) - (length seen - 1)) + k) (take (length path - 1) path) ≡ take (base + k) path =
+          let same : ((length path - 1) - (length points - 1)) + k ≡ base + k = omega arith in
+          let front : take (((length path - 1) - (length points - 1)) + k) (take (length path - 1) path) ≡ take (base + k) path =
           ap (λ n. take n (take (length path - 1) path)) same ∙ take-inner (base + k) (length path - 1) path (omega arith) in
-          let at : slice_index_or (take (length seen - 1) seen) k d ≡ slice_index_or seen k d = get_or-take (length seen - 1) seen k d (omega arith) in
-          subst (λ p. IsSeen network p (slice_index_or (take (length seen - 1) seen) k d)) (sym front) (subst (IsSeen network (take (base + k) path)) (sym at) (all.each k d (omega arith)));
+          let at : slice_index_or (take (length points - 1) points) k d ≡ slice_index_or points k d = get_or-take (length points - 1) points k d (omega arith) in
+          subst (λ p. IsSplitPoint network p (slice_index_or (take (length points - 1) points) k d)) (sym front) (subst (IsSplitPoint network (take (base + k) path)) (sym at) (all.each k d (omega arith)));
     }
 
--- what was seen above the last decision doesn't depend on its side
-pub seen_turned : (network : Network) (front : List Decision) (triple : Triple) (a b : Side) (seen : List Seen) → AllSeen network (decided front triple a) seen → AllSeen network (decided front triple b) seen
+-- the split points above the last decision don't depend on its side
+pub points_turned : (network : Network) (front : List Decision) (triple : Triple) (a b : Side) (points : List SplitPoint) → AreSplitPoints network (decided front triple a) points → AreSplitPoints network (decided front triple b) points
 unfolding decided
-seen_turned network front triple a b seen all =
+points_turned network front triple a b points all =
     let base : ℕ = all.base in
     let count = all.count in
     let first = length-append front (record { triple = triple; side = a } ∷ []) in
@@ -99,20 +99,20 @@ seen_turned network front triple a b seen all =
       each = λ k d below.
           let was : take (base + k) (front ++ record { triple = triple; side = a } ∷ []) ≡ take (base + k) front = take-append-le (base + k) front (record { triple = triple; side = a } ∷ []) (omega arith) in
           let now : take (base + k) (front ++ record { triple = triple; side = b } ∷ []) ≡ take (base + k) front = take-append-le (base + k) front (record { triple = triple; side = b } ∷ []) (omega arith) in
-          subst (λ p. IsSeen network p (slice_index_or seen k d)) (was ∙ sym now) (all.each k d below);
+          subst (λ p. IsSplitPoint network p (slice_index_or points k d)) (was ∙ sym now) (all.each k d below);
     }
 
-pub seen_last : (network : Network) (front : List Decision) (triple : Triple) (side : Side) (seen : List Seen) (last : Seen) → AllSeen network (decided front triple side) seen → 0 < length seen → last ≡ get_or seen (length seen - 1) last
-    → IsSeen network front last
+pub points_last : (network : Network) (front : List Decision) (triple : Triple) (side : Side) (points : List SplitPoint) (last : SplitPoint) → AreSplitPoints network (decided front triple side) points → 0 < length points → last ≡ get_or points (length points - 1) last
+    → IsSplitPoint network front last
 unfolding decided
-seen_last network front triple side seen last all some is =
+points_last network front triple side points last all some is =
     let long = length-append front (record { triple = triple; side = side } ∷ []) in
     let base : ℕ = all.base in
     let count = all.count in
-    let k : ℕ = length seen - 1 in
+    let k : ℕ = length points - 1 in
     let front_is : take (base + k) (front ++ record { triple = triple; side = side } ∷ []) ≡ front =
     take-append-le (base + k) front (record { triple = triple; side = side } ∷ []) (omega arith) ∙ take_all (base + k) front (omega arith) in
-    subst (λ p. IsSeen network p last) front_is (subst (IsSeen network (take (base + k) (front ++ record { triple = triple; side = side } ∷ []))) (sym is) (all.each k last (omega arith)))
+    subst (λ p. IsSplitPoint network p last) front_is (subst (IsSplitPoint network (take (base + k) (front ++ record { triple = triple; side = side } ∷ []))) (sym is) (all.each k last (omega arith)))
 
 -- the triples of a path that goes on otherwise are the same, or fewer
 pub fits_turned : (triples : List Triple) (front : List Decision) (triple : Triple) (a b : Side) → Fits triples (decided front triple a) → Fits triples (decided front triple b)

@@ -2,9 +2,9 @@ pub mod Leasts
 pub mod Arrivals
 pub mod Rights
 pub mod Descents
-pub mod Ways
+pub mod Positions
 pub mod Raised
-pub mod Findings
+pub mod Verdicts
 pub mod Loading
 pub mod Shown
 pub mod Calm

@@ -64,7 +64,7 @@ module _ (network : Network) (path : List Decision) (lowest : LeastOffsets) (sol
         AreLeast-from network path lowest solves,
         remains.fit,
         below,
-        record { place = place; there = there; unloaded_before = is.1.unloaded_before },
+        record { link_index = place; there = there; unloaded_before = is.1.unloaded_before },
         subst (λ found. busy_by network lowest.offsets found ≤ℤ pos network.cycle) same is.2,
         subst (λ found. pos bound ≡ load_by network lowest.offsets found) same is.3,
         is.4,

@@ -45,6 +45,6 @@ pub record IsUnloaded (network : Network) (offsets : List ℕ) (target link : �
 
 -- it is one of the shared links, and those before it are not loaded
 pub record IsFirstLoaded (network : Network) (offsets : List ℕ) (target link : ℕ) : Type 0 where
-  pub place : ℕ
-  pub there : slice_get (shared_links network) place ≡ Some link
-  pub unloaded_before : All (IsUnloaded network offsets target) (take place (shared_links network))
+  pub link_index : ℕ
+  pub there : slice_get (shared_links network) link_index ≡ Some link
+  pub unloaded_before : All (IsUnloaded network offsets target) (take link_index (shared_links network))

@@ -79,17 +79,17 @@ pub record IsCalm (offsets : List ℕ) (cycle target : ℕ) (link : SharedLink) 
   pub done : offset_of offsets user.stream + user.start + link.work ≤ cycle
   pub sooner : (pos (offset_of offsets user.stream + user.start + link.work) +ℤ link.tail) <ℤ pos target
 
--- the shared link at this place is loaded, and none before it is
-pub record IsLoadedAt (network : Network) (offsets : List ℕ) (target place link : ℕ) : Type 0 where
-  pub there : slice_get (shared_links network) place ≡ Some link
-  pub unloaded_before : All (IsUnloaded network offsets target) (take place (shared_links network))
+-- the shared link of this index is loaded, and none before it is
+pub record IsLoadedAt (network : Network) (offsets : List ℕ) (target link_index link : ℕ) : Type 0 where
+  pub there : slice_get (shared_links network) link_index ≡ Some link
+  pub unloaded_before : All (IsUnloaded network offsets target) (take link_index (shared_links network))
 
 -- the first shared link that isn't done within the cycle, or else asks for a flowspan of at least the target
 abbrev pub IsFirstLoad : Network → List ℕ → ℕ → FirstLoad → Type 0
-IsFirstLoad network offsets target (Overload place) =
-    (link : ℕ) × IsLoadedAt network offsets target place link × (pos network.cycle <ℤ busy_by network offsets link)
-IsFirstLoad network offsets target (Load place bound) =
-    (link : ℕ) × IsLoadedAt network offsets target place link × (busy_by network offsets link ≤ℤ pos network.cycle)
+IsFirstLoad network offsets target (Overload link_index) =
+    (link : ℕ) × IsLoadedAt network offsets target link_index link × (pos network.cycle <ℤ busy_by network offsets link)
+IsFirstLoad network offsets target (Load link_index bound) =
+    (link : ℕ) × IsLoadedAt network offsets target link_index link × (busy_by network offsets link ≤ℤ pos network.cycle)
     × (pos bound ≡ load_by network offsets link) × (target ≤ bound)
 
 -- the first shared link that is loaded, where one is
@@ -98,8 +98,8 @@ IsTightest network offsets target found = MatchOption found (All (IsUnloaded net
 
 -- a link that is loaded for a lesser target is so for this one
 abbrev pub Reaches : ℕ → FirstLoad → Type 0
-Reaches target (Overload place) = Unit {0}
-Reaches target (Load place bound) = target ≤ bound
+Reaches target (Overload link_index) = Unit {0}
+Reaches target (Load link_index bound) = target ≤ bound
 
 -- the first shared link that is loaded for the target; or where none is, the first that is for the limit
 abbrev pub IsLoading : Network → List ℕ → ℕ → ℕ → Loading → Type 0

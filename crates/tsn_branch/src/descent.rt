@@ -14,14 +14,14 @@ ghost use Rattle.tsn_branch.specs.Path.{Fits, IsUndecided};
 ghost use Rattle.tsn_branch.specs.Loads.{AreLoadsOf};
 ghost use Rattle.tsn_branch.specs.Look.{HasNoOffsets, IsLook, HasProof, SplitsUndecided, SplitsAmong, PrunesFrom, TiesWith};
 ghost use Rattle.tsn_branch.specs.Releases.{releases_of};
-ghost use Rattle.tsn_branch.specs.Descent.{Stands, Splits, IsAfter, Leads, IsFinding};
+ghost use Rattle.tsn_branch.specs.Descent.{Stands, Splits, IsAfter, Leads, IsVerdict};
 
 use crate::arcs::net_of;
 use crate::judge::{judge_least, judge_raised};
 use crate::node::Node;
 use crate::outcome::{Leaf, Look};
-use crate::seen::{Finding, Seen};
 use crate::tables::{Aim, Tables};
+use crate::verdict::{SplitPoint, Verdict};
 use std::alloc::Global;
 use std::marker::Model;
 use tsn_cert::Chain;
@@ -36,29 +36,29 @@ use tsn_timing::Timing;
 pub struct Descent {
     node: Node,
     stack: ArcStack,
-    seen: Vec<Seen>,
-    found: Option<Seen>,
+    splits: Vec<SplitPoint>,
+    found: Option<SplitPoint>,
 }
 
 impl Model for Descent {
-    ghost use Rattle.tsn_branch.specs.Descent.{Way};
+    ghost use Rattle.tsn_branch.specs.Descent.{Position};
 
-    ghost Value = { Way };
+    ghost Value = { Position };
 
-    ghost view = { λ d. record { path = d.node; stack = d.stack; seen = d.seen.items; found = d.found } };
+    ghost view = { λ d. record { path = d.node; stack = d.stack; splits = d.splits.items; found = d.found } };
 }
 
 impl Descent {
     /// At the root. The error says that there was no memory.
     pub fn root(alloc: Global, timing: &Timing) -> Result<Descent, NoMemory>
-        ensures path { IfOk result (λ way. way.path ≡ []) }
+        ensures path { IfOk result (λ position. position.path ≡ []) }
         ensures stands { IfOk result (Stands timing.now) }
     {
         let stack = ArcStack::new(alloc, net_of(alloc, timing)?)?;
         Ok(Descent {
             node: Node::root(alloc),
             stack,
-            seen: Vec::new(alloc),
+            splits: Vec::new(alloc),
             found: None,
         })
     }
@@ -73,7 +73,7 @@ impl Descent {
         requires conflicts { AreConflictsOf timing.now conflicts.now }
         requires fits { Fits conflicts.now.triples node }
         ensures none { IfOk result (λ found. IfNone found (HasNoOffsets timing.now (take (length node - 1) node))) }
-        ensures path { IfOk result (λ found. MatchOption found (Unit {0}) (λ way. way.path ≡ node)) }
+        ensures path { IfOk result (λ found. MatchOption found (Unit {0}) (λ position. position.path ≡ node)) }
         ensures stands { IfOk result (λ found. MatchOption found (Unit {0}) (Stands timing.now)) }
     {
         let mut stack = ArcStack::new(alloc, net_of(alloc, timing)?)?;
@@ -89,7 +89,7 @@ impl Descent {
         Ok(Some(Descent {
             node,
             stack,
-            seen: Vec::new(alloc),
+            splits: Vec::new(alloc),
             found: None,
         }))
     }
@@ -127,11 +127,11 @@ impl Descent {
             return Ok(Look::Refuted(Leaf::Cycle(Chain::of(alloc, &cycle)?)));
         }
         match self.find(alloc, tables, aim) {
-            Ok(Finding::Split(seen)) => {
-                self.found = Some(seen);
-                Ok(Look::Split(tables.conflicts.triples()[seen.place]))
+            Ok(Verdict::Split(point)) => {
+                self.found = Some(point);
+                Ok(Look::Split(tables.conflicts.triples()[point.triple]))
             }
-            Ok(Finding::Closed(look)) => {
+            Ok(Verdict::Closed(look)) => {
                 self.draw_back();
                 Ok(look)
             }
@@ -152,14 +152,14 @@ impl Descent {
         ensures fits { OnOk result ((triples : List Triple) → Contains triples triple → Fits triples self.old.path → Fits triples self.new.path) }
         ensures err { OnErr result (self.new ≡ self.old) }
     {
-        let Some(seen) = self.found else {
+        let Some(point) = self.found else {
             unreachable!();
         };
-        if self.seen.reserve(1).is_err() {
+        if self.splits.reserve(1).is_err() {
             return Err(NoMemory);
         }
         self.node.push(triple, Side::Left)?;
-        self.seen.push_reserved(seen);
+        self.splits.push_reserved(point);
         Ok(())
     }
 
@@ -204,7 +204,7 @@ impl Descent {
         ensures stands { (network : Network) → Stands network self.old → Stands network self.new }
     {
         self.node.pop();
-        self.seen.pop();
+        self.splits.pop();
         let arcs = self.stack.arcs().len();
         if arcs > 0 {
             self.stack.pop();
@@ -249,14 +249,14 @@ impl Descent {
     }
 
     // What is found at the node by its least offsets.
-    fn find(&self, alloc: Global, tables: Tables<'_>, aim: Aim<'_>) -> Result<Finding, NoMemory>
+    fn find(&self, alloc: Global, tables: Tables<'_>, aim: Aim<'_>) -> Result<Verdict, NoMemory>
         requires conflicts { AreConflictsOf tables.timing.now tables.conflicts.now }
         requires loads { AreLoadsOf tables.timing.now tables.loads.now }
         requires best { IfSome (option_copied aim.best) (IsSolved tables.timing.now) }
         requires leads { Leads tables.timing.now self.now }
-        ensures { IfOk result (IsFinding tables.entry.timing.now self.now.path aim.entry.target (option_copied aim.entry.best)) }
+        ensures { IfOk result (IsVerdict tables.entry.timing.now self.now.path aim.entry.target (option_copied aim.entry.best)) }
     {
-        match self.seen.last() {
+        match self.splits.last() {
             Some(parent) => judge_raised(alloc, tables, &self.stack, *parent, aim),
             None => judge_least(alloc, tables, self.stack.least(), aim),
         }

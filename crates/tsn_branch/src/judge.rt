@@ -14,7 +14,7 @@ ghost use Rattle.tsn_branch.specs.Look.{IsLook, AllFit, IsFirstLast, IsUntied, S
 ghost use Rattle.tsn_branch.specs.Links.{shared_links, IsUnloaded};
 ghost use Rattle.tsn_branch.specs.Loads.{AreLoadsOf, IsFirstLoad, IsTightest, entry_by};
 ghost use Rattle.tsn_branch.specs.Ends.{AreEnds};
-ghost use Rattle.tsn_branch.specs.Descent.{Closes, IsFinding, IsTieBy, WasSeen, IsSolution};
+ghost use Rattle.tsn_branch.specs.Descent.{Closes, IsVerdict, IsTieBy, WasSplitPoint, IsSolution};
 ghost use Rattle.tsn_branch.specs.declared.instants.Ends.TheVariants as ends;
 ghost use Rattle.tsn_branch.specs.Releases.{releases_of};
 ghost use Rattle.tsn_branch.specs.Least.{ComesWithSplit};
@@ -23,8 +23,8 @@ use crate::chains::{chain_to, chains_to, tie_chains};
 use crate::instants::{Ends, ends_after, ends_of};
 use crate::loads::{FirstLoad, Loading, User, find_loads};
 use crate::outcome::{Leaf, Look};
-use crate::seen::{Finding, Seen};
 use crate::tables::{Aim, Tables};
+use crate::verdict::{SplitPoint, Verdict};
 use std::alloc::Global;
 use tsn_cert::{Chain, Entries};
 use tsn_conflict::laws::parents_overlap_starts;
@@ -71,15 +71,15 @@ pub fn judge(
 {
     match outcome {
         Outcome::Least(least) => {
-            let finding = judge_least(alloc, tables, &least, aim)?;
-            match finding {
-                Finding::Split(seen) => {
+            let verdict = judge_least(alloc, tables, &least, aim)?;
+            match verdict {
+                Verdict::Split(point) => {
                     Ok((
-                        Look::Split(tables.conflicts.triples()[seen.place]),
+                        Look::Split(tables.conflicts.triples()[point.triple]),
                         Some(least),
                     ))
                 }
-                Finding::Closed(look) => Ok((look, None)),
+                Verdict::Closed(look) => Ok((look, None)),
             }
         }
         Outcome::Positive(cycle) => {
@@ -95,13 +95,13 @@ pub fn judge_least(
     tables: Tables<'_>,
     least: &Least,
     aim: Aim<'_>,
-) -> Result<Finding, NoMemory>
+) -> Result<Verdict, NoMemory>
     requires conflicts { AreConflictsOf tables.timing.now tables.conflicts.now }
     requires loads { AreLoadsOf tables.timing.now tables.loads.now }
     requires best { IfSome (option_copied aim.best) (IsSolved tables.timing.now) }
     requires some_path { (path : List Decision) × Solves (releases_of tables.timing.now) (arcs_of tables.timing.now path) least.now }
-    ensures { IfOk result (λ finding. (path : List Decision) → Solves (releases_of tables.entry.timing.now) (arcs_of tables.entry.timing.now path) least.now
-        → IsFinding tables.entry.timing.now path aim.entry.target (option_copied aim.entry.best) finding) }
+    ensures { IfOk result (λ verdict. (path : List Decision) → Solves (releases_of tables.entry.timing.now) (arcs_of tables.entry.timing.now path) least.now
+        → IsVerdict tables.entry.timing.now path aim.entry.target (option_copied aim.entry.best) verdict) }
 {
     let known = Known {
         ends: ends_of(tables.timing, least.offsets()),
@@ -116,17 +116,17 @@ pub fn judge_raised(
     alloc: Global,
     tables: Tables<'_>,
     stack: &ArcStack,
-    parent: Seen,
+    parent: SplitPoint,
     aim: Aim<'_>,
-) -> Result<Finding, NoMemory>
+) -> Result<Verdict, NoMemory>
     requires conflicts { AreConflictsOf tables.timing.now tables.conflicts.now }
     requires loads { AreLoadsOf tables.timing.now tables.loads.now }
     requires best { IfSome (option_copied aim.best) (IsSolved tables.timing.now) }
     requires releases { stack.now.least.releases ≡ releases_of tables.timing.now }
     requires some_path { (path : List Decision) × (stack.now.least.arcs ≡ arcs_of tables.timing.now path) }
-    requires parent { WasSeen tables.timing.now stack.now.raised stack.now.least.offsets parent }
-    ensures { IfOk result (λ finding. (path : List Decision) → stack.now.least.arcs ≡ arcs_of tables.entry.timing.now path
-        → IsFinding tables.entry.timing.now path aim.entry.target (option_copied aim.entry.best) finding) }
+    requires parent { WasSplitPoint tables.timing.now stack.now.raised stack.now.least.offsets parent }
+    ensures { IfOk result (λ verdict. (path : List Decision) → stack.now.least.arcs ≡ arcs_of tables.entry.timing.now path
+        → IsVerdict tables.entry.timing.now path aim.entry.target (option_copied aim.entry.best) verdict) }
 {
     let least = stack.least();
     let raised = stack.raised();
@@ -139,7 +139,7 @@ pub fn judge_raised(
             parent.end,
         ),
         raised,
-        start: parent.place,
+        start: parent.triple,
     };
     parents_overlap_starts();
     judge_known(alloc, tables, least, known, aim)
@@ -152,7 +152,7 @@ fn judge_known(
     least: &Least,
     known: Known<'_>,
     aim: Aim<'_>,
-) -> Result<Finding, NoMemory>
+) -> Result<Verdict, NoMemory>
     requires conflicts { AreConflictsOf tables.timing.now tables.conflicts.now }
     requires loads { AreLoadsOf tables.timing.now tables.loads.now }
     requires best { IfSome (option_copied aim.best) (IsSolved tables.timing.now) }
@@ -161,19 +161,19 @@ fn judge_known(
     requires raised { All (λ stream. stream < stream_count tables.timing.now) known.raised.now }
     requires start { known.start ≤ length tables.conflicts.now.triples }
     requires apart { OnlyRaisedOverlap tables.conflicts.now least.now.offsets known.raised.now known.start }
-    ensures { IfOk result (λ finding. (path : List Decision) → Solves (releases_of tables.entry.timing.now) (arcs_of tables.entry.timing.now path) least.now
-        → IsFinding tables.entry.timing.now path aim.entry.target (option_copied aim.entry.best) finding) }
+    ensures { IfOk result (λ verdict. (path : List Decision) → Solves (releases_of tables.entry.timing.now) (arcs_of tables.entry.timing.now path) least.now
+        → IsVerdict tables.entry.timing.now path aim.entry.target (option_copied aim.entry.best) verdict) }
 {
     let (last, end) = match known.ends {
         Ends::Overrun(stream) => {
             let leaf = Leaf::Overrun(stream, chain_to(alloc, least, stream)?);
-            return Ok(Finding::Closed(Look::Refuted(leaf)));
+            return Ok(Verdict::Closed(Look::Refuted(leaf)));
         }
         Ends::Within { last, end } => (last, end),
     };
     if end >= aim.target {
         let leaf = Leaf::Late(last, chain_to(alloc, least, last)?);
-        return Ok(Finding::Closed(Look::Pruned { bound: end, leaf }));
+        return Ok(Verdict::Closed(Look::Pruned { bound: end, leaf }));
     }
     let limit = tie_limit(aim);
     let tightest = match find_loads(
@@ -185,7 +185,7 @@ fn judge_known(
     ) {
         Loading::Closed(found) => {
             let look = judge_load(alloc, tables, least, found)?;
-            return Ok(Finding::Closed(look));
+            return Ok(Verdict::Closed(look));
         }
         Loading::Open(tightest) => tightest,
     };
@@ -196,16 +196,16 @@ fn judge_known(
     };
     let tie = find_tie(alloc, tables, least, reach, aim.best)?;
     if let Some(look) = tie {
-        return Ok(Finding::Closed(look));
+        return Ok(Verdict::Closed(look));
     }
-    if let Some(place) = tables
+    if let Some(triple) = tables
         .conflicts
         .first_violated_from(least.offsets(), known.raised, known.start)
     {
-        return Ok(Finding::Split(Seen { place, last, end }));
+        return Ok(Verdict::Split(SplitPoint { triple, last, end }));
     }
     let look = solved(alloc, tables.timing, least, last)?;
-    Ok(Finding::Closed(look))
+    Ok(Verdict::Closed(look))
 }
 
 /// The least offsets of a path as its schedule, where no streams overlap.
@@ -299,13 +299,13 @@ fn judge_tie(
     let Some(found) = reach.tightest else {
         return Ok(None);
     };
-    let FirstLoad::Load(place, bound) = found else {
+    let FirstLoad::Load(link_index, bound) = found else {
         unreachable!();
     };
     let Some(chains) = tie_chains(alloc, tables.timing, least, best.valid())? else {
         return Ok(None);
     };
-    let (link, entries) = entries_at(alloc, tables, least, place)?;
+    let (link, entries) = entries_at(alloc, tables, least, link_index)?;
     Ok(Some(Look::Tied {
         bound,
         leaf: Leaf::Load(link, entries),
@@ -330,34 +330,34 @@ fn judge_load(
     ensures closes { IfOk result (λ look. Closes (outcome_of look)) }
 {
     match found {
-        FirstLoad::Overload(place) => {
-            let (link, entries) = entries_at(alloc, tables, least, place)?;
+        FirstLoad::Overload(link_index) => {
+            let (link, entries) = entries_at(alloc, tables, least, link_index)?;
             Ok(Look::Refuted(Leaf::Overload(link, entries)))
         }
-        FirstLoad::Load(place, bound) => {
-            let (link, entries) = entries_at(alloc, tables, least, place)?;
+        FirstLoad::Load(link_index, bound) => {
+            let (link, entries) = entries_at(alloc, tables, least, link_index)?;
             let leaf = Leaf::Load(link, entries);
             Ok(Look::Pruned { bound, leaf })
         }
     }
 }
 
-/// The shared link at this place, and its streams with the chains that show their least offsets.
+/// The shared link of this index, and its streams with the chains that show their least offsets.
 fn entries_at(
     alloc: Global,
     tables: Tables<'_>,
     least: &Least,
-    place: usize,
+    link_index: usize,
 ) -> Result<(usize, Entries), NoMemory>
     requires formed { IsWellFormed tables.timing.now }
     requires loads { AreLoadsOf tables.timing.now tables.loads.now }
     requires some_path { (path : List Decision) × Solves (releases_of tables.timing.now) (arcs_of tables.timing.now path) least.now }
-    requires place { place < length (shared_links tables.timing.now) }
-    ensures link { IfOk result (λ leaf. slice_get (shared_links tables.entry.timing.now) place ≡ Some leaf.0) }
+    requires link_index { link_index < length (shared_links tables.timing.now) }
+    ensures link { IfOk result (λ leaf. slice_get (shared_links tables.entry.timing.now) link_index ≡ Some leaf.0) }
     ensures shown { IfOk result (λ leaf. (path : List Decision) → Solves (releases_of tables.entry.timing.now) (arcs_of tables.entry.timing.now path) least.now
         → ShowsLink tables.entry.timing.now path least.now.offsets leaf.0 leaf.1) }
 {
-    let table = &tables.loads.tables()[place];
+    let table = &tables.loads.tables()[link_index];
     Ok((table.link, entries_of(alloc, least, &table.users)?))
 }
 

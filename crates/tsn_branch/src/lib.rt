@@ -17,8 +17,8 @@ mod judge;
 mod loads;
 pub mod node;
 pub mod outcome;
-mod seen;
 mod tables;
+mod verdict;
 
 use crate::arcs::least_at;
 use crate::judge::judge;

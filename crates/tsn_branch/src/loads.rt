@@ -45,7 +45,7 @@ impl Model for Loads {
     ghost view = { λ loads. map link_in loads.tables.items };
 }
 
-/// The first link that is loaded, by its place among those that are shared.
+/// The first link that is loaded, by its index among those that are shared.
 #[derive(Clone, Copy, Debug)]
 pub enum FirstLoad {
     /// Its streams are busy on it behind the cycle.
@@ -200,17 +200,17 @@ pub fn first_load(loads: &Loads, timing: &Timing, offsets: &[u64], target: u64) 
         (IsFirstLoad timing.now offsets.now target) }
 {
     let cycle = timing.cycle();
-    for (place, table) in loads.tables().iter().enumerate() {
+    for (link_index, table) in loads.tables().iter().enumerate() {
         if is_calm(table, offsets, cycle, target) {
             continue;
         }
         let busy = head(&table.users, offsets) + table.work;
         if busy > cycle {
-            return Some(FirstLoad::Overload(place));
+            return Some(FirstLoad::Overload(link_index));
         }
         let bound = busy as i64 + table.tail;
         if bound >= 0 && bound as u64 >= target {
-            return Some(FirstLoad::Load(place, bound as u64));
+            return Some(FirstLoad::Load(link_index, bound as u64));
         }
     }
     None

@@ -22,7 +22,7 @@ use Rattle.tsn_incumbent.specs.Halves.{Tally}
 use Rattle.tsn_branch.specs.Outcome.{outcome_of}
 use Rattle.tsn_branch.specs.Look.{HasProof, IsLook, PrunesFrom}
 use Rattle.tsn_branch.specs.Path.{Fits}
-use Rattle.tsn_branch.specs.Descent.{Way, Stands, IsAfter, Closes}
+use Rattle.tsn_branch.specs.Descent.{Position, Stands, IsAfter, Closes}
 use Rattle.tsn_branch.specs.declared.outcome.Look.{Look}
 use Rattle.tsn_book.specs.Below.{next_path, after_leaf, path_after, events_below}
 use Rattle.tsn_book.proofs.Below.{events_below-more, path_after-more}
@@ -46,15 +46,15 @@ unfolding after_leaf
 next_turned path next others outcome closes turned = closed_next path outcome closes ∙ ap (λ (paths : List (List Decision)). slice_index_or paths 0 []) turned
 
 -- after a leaf the way stands as before
-closed_stands : (network : Network) (outcome : Outcome) (way : Way) → Closes outcome → IsAfter network outcome way → Stands network way
-closed_stands network (split triple) way never after = absurd never
-closed_stands network (solved offsets bound leaf chains) way closes after = after
-closed_stands network (pruned bound leaf) way closes after = after
-closed_stands network (tied bound leaf chains) way closes after = after
-closed_stands network (refuted leaf) way closes after = after
+closed_stands : (network : Network) (outcome : Outcome) (position : Position) → Closes outcome → IsAfter network outcome position → Stands network position
+closed_stands network (split triple) position never after = absurd never
+closed_stands network (solved offsets bound leaf chains) position closes after = after
+closed_stands network (pruned bound leaf) position closes after = after
+closed_stands network (tied bound leaf chains) position closes after = after
+closed_stands network (refuted leaf) position closes after = after
 
 -- what goes on at a right side
-pub walked_over : (network : Network) (triples : List Triple) (path : List Decision) (outcome : Outcome) (before after : Way) (more : Bool)
+pub walked_over : (network : Network) (triples : List Triple) (path : List Decision) (outcome : Outcome) (before after : Position) (more : Bool)
     → Closes outcome → before.path ≡ path → IsAfter network outcome before → Fits triples path
     → ((n : Network) → Stands n before → Stands n after) → ((ts : List Triple) → Fits ts before.path → Fits ts after.path)
     → MatchBool more (pending before.path ≡ after.path ∷ pending after.path) (Unit {0}) → MatchBool more (StandsAt network triples (next_path path outcome) after) (Unit {0})
@@ -66,17 +66,17 @@ walked_over network triples path outcome before after true closes same is fits s
 walked_over network triples path outcome before after false closes same is fits stands fit turned = tt
 
 -- what goes on at a left child
-pub walked_down : (network : Network) (triples : List Triple) (path : List Decision) (outcome : Outcome) (triple : Triple) (after : Way) → outcome ≡ split triple
+pub walked_down : (network : Network) (triples : List Triple) (path : List Decision) (outcome : Outcome) (triple : Triple) (after : Position) → outcome ≡ split triple
     → after.path ≡ decided path triple Left → Stands network after → Fits triples after.path → StandsAt network triples (next_path path outcome) after
 unfolding next_path
 walked_down network triples path outcome triple after is at stands fits = record { at = at ∙ sym (ap (next_path path) is); stands = stands; fits = fits }
 
 -- a way that was begun at a node
-pub begun_at : {E : Type 0} (network : Network) (triples : List Triple) (copy node : List Decision) (result : Result (Option Way) E) → copy ≡ node → Fits triples copy
-    → IfOk result (λ found. MatchOption found (Unit {0}) (λ way. way.path ≡ copy)) → IfOk result (λ found. MatchOption found (Unit {0}) (Stands network))
+pub begun_at : {E : Type 0} (network : Network) (triples : List Triple) (copy node : List Decision) (result : Result (Option Position) E) → copy ≡ node → Fits triples copy
+    → IfOk result (λ found. MatchOption found (Unit {0}) (λ position. position.path ≡ copy)) → IfOk result (λ found. MatchOption found (Unit {0}) (Stands network))
     → IfOk result (λ found. IfSome found (StandsAt network triples node))
 begun_at network triples copy node (Ok None) same fits at stands = tt
-begun_at network triples copy node (Ok (Some way)) same fits at stands = record { at = at ∙ same; stands = stands; fits = rw at fits }
+begun_at network triples copy node (Ok (Some position)) same fits at stands = record { at = at ∙ same; stands = stands; fits = rw at fits }
 begun_at network triples copy node (Err fault) same fits at stands = tt
 
 -- ---- looks
@@ -108,23 +108,23 @@ below_seen network seen target flowspan is below = omega (arith, is, below)
 -- ---- the looks of a batch
 
 -- a walk from that path came to this way by looks of which none is solved
-pub record IsCollecting (network : Network) (triples : List Triple) (seen : ℕ) (from : List Decision) (looks : List Look) (way : Way) : Type 0 where
-  pub here : StandsAt network triples (path_after from (map outcome_of looks)) way
+pub record IsCollecting (network : Network) (triples : List Triple) (seen : ℕ) (from : List Decision) (looks : List Look) (position : Position) : Type 0 where
+  pub here : StandsAt network triples (path_after from (map outcome_of looks)) position
   pub proofs : All (λ (event : Event). IsProved network event.path event.outcome) (events_below from (map outcome_of looks))
   pub above : All (IsAboveSeen network seen) (map outcome_of looks)
   pub unsolved : All IsUnsolved (map outcome_of looks)
 
-pub collected_none : (network : Network) (triples : List Triple) (seen : ℕ) (from : List Decision) (way : Way) → StandsAt network triples from way → IsCollecting network triples seen from [] way
+pub collected_none : (network : Network) (triples : List Triple) (seen : ℕ) (from : List Decision) (position : Position) → StandsAt network triples from position → IsCollecting network triples seen from [] position
 unfolding path_after events_below
-collected_none network triples seen from way stands = record {
+collected_none network triples seen from position stands = record {
   here = stands;
   proofs = All-nil (λ (event : Event). IsProved network event.path event.outcome);
   above = All-nil (IsAboveSeen network seen);
   unsolved = All-nil IsUnsolved;
 }
 
-module _ (network : Network) (triples : List Triple) (seen target : ℕ) (from : List Decision) (looks : List Look) (way after : Way) (look : Look) (before : IsCollecting network triples seen from looks way)
-    (is : target ≡ beyond network seen) (proof : IsProved network way.path (outcome_of look)) (prunes : PrunesFrom target (outcome_of look)) where
+module _ (network : Network) (triples : List Triple) (seen target : ℕ) (from : List Decision) (looks : List Look) (position after : Position) (look : Look) (before : IsCollecting network triples seen from looks position)
+    (is : target ≡ beyond network seen) (proof : IsProved network position.path (outcome_of look)) (prunes : PrunesFrom target (outcome_of look)) where
   outcomes_more : map outcome_of (looks ++ look ∷ []) ≡ map outcome_of looks ++ outcome_of look ∷ []
   outcomes_more = map-append outcome_of looks (look ∷ [])
 
@@ -139,13 +139,13 @@ module _ (network : Network) (triples : List Triple) (seen target : ℕ) (from :
   pub collected_above : All (IsAboveSeen network seen) (map outcome_of (looks ++ look ∷ []))
   collected_above = subst (All (IsAboveSeen network seen)) (sym outcomes_more) (All-push (IsAboveSeen network seen) (map outcome_of looks) (outcome_of look) before.above (prunes_above network seen target (outcome_of look) is prunes))
 
-  pub collected_next : StandsAt network triples (next_path way.path (outcome_of look)) after → StandsAt network triples (path_after from (map outcome_of (looks ++ look ∷ []))) after
+  pub collected_next : StandsAt network triples (next_path position.path (outcome_of look)) after → StandsAt network triples (path_after from (map outcome_of (looks ++ look ∷ []))) after
   collected_next stands =
-      let goes : path_after from (map outcome_of (looks ++ look ∷ [])) ≡ next_path way.path (outcome_of look) =
+      let goes : path_after from (map outcome_of (looks ++ look ∷ [])) ≡ next_path position.path (outcome_of look) =
       ap (path_after from) outcomes_more ∙ path_after-more from (map outcome_of looks) (outcome_of look) ∙ ap (λ p. next_path p (outcome_of look)) (sym before.here.at) in
       record { at = stands.at ∙ sym goes; stands = stands.stands; fits = stands.fits }
 
-  pub collected_on : (more : Bool) → MatchBool more (StandsAt network triples (next_path way.path (outcome_of look)) after) (Unit {0})
+  pub collected_on : (more : Bool) → MatchBool more (StandsAt network triples (next_path position.path (outcome_of look)) after) (Unit {0})
       → MatchBool more (StandsAt network triples (path_after from (map outcome_of (looks ++ look ∷ []))) after) (Unit {0})
   collected_on true stands = collected_next stands
   collected_on false stands = tt
@@ -153,7 +153,7 @@ module _ (network : Network) (triples : List Triple) (seen target : ℕ) (from :
   pub collected_unsolved : IsUnsolved (outcome_of look) → All IsUnsolved (map outcome_of (looks ++ look ∷ []))
   collected_unsolved unsolved = subst (All IsUnsolved) (sym outcomes_more) (All-push IsUnsolved (map outcome_of looks) (outcome_of look) before.unsolved unsolved)
 
-  pub collected_more : IsUnsolved (outcome_of look) → StandsAt network triples (next_path way.path (outcome_of look)) after → IsCollecting network triples seen from (looks ++ look ∷ []) after
+  pub collected_more : IsUnsolved (outcome_of look) → StandsAt network triples (next_path position.path (outcome_of look)) after → IsCollecting network triples seen from (looks ++ look ∷ []) after
   collected_more unsolved stands = record {
     here = collected_next stands;
     proofs = collected_proofs;
@@ -163,7 +163,7 @@ module _ (network : Network) (triples : List Triple) (seen target : ℕ) (from :
 
   -- the looks go on behind one that isn't solved
   pub collected_longer : (schedule : Option Solution) (on : Bool) (longer : List Look) → schedule ≡ None → on ≡ true → HoldsSchedule network target (outcome_of look) schedule
-      → MatchBool on (StandsAt network triples (next_path way.path (outcome_of look)) after) (Unit {0}) → longer ≡ looks ++ look ∷ [] → IsCollecting network triples seen from longer after
+      → MatchBool on (StandsAt network triples (next_path position.path (outcome_of look)) after) (Unit {0}) → longer ≡ looks ++ look ∷ [] → IsCollecting network triples seen from longer after
   collected_longer None true longer none goes unsolved stands items = subst (λ (ls : List Look). IsCollecting network triples seen from ls after) (sym items) (collected_more unsolved stands)
   collected_longer None false longer none goes unsolved stands items = absurd (cc)
   collected_longer (Some solution) on longer none goes unsolved stands items = absurd (cc)

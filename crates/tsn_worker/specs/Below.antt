@@ -12,7 +12,7 @@ use Rattle.tsn_timing.specs.Solution.{Solution, IsSolved}
 use Rattle.tsn_branch.specs.Outcome.{outcome_of}
 use Rattle.tsn_branch.specs.Path.{Fits}
 use Rattle.tsn_branch.specs.Look.{HasProof, SplitsUndecided}
-use Rattle.tsn_branch.specs.Descent.{Way, Stands}
+use Rattle.tsn_branch.specs.Descent.{Position, Stands}
 use Rattle.tsn_book.specs.Below.{events_below}
 use Rattle.tsn_share.specs.Teller.{IsSolvedBy, IsUnsolved}
 use Rattle.tsn_worker.specs.declared.below.Below.{Below}
@@ -21,10 +21,10 @@ use Rattle.tsn_worker.specs.declared.batch.Turn.{Turn}
 use Rattle.tsn_worker.specs.declared.batch.Turn.TheVariants as turn
 
 -- the way leads to that path, which decides conflicts alone
-pub record StandsAt (network : Network) (triples : List Triple) (path : List Decision) (way : Way) : Type 0 where
-  pub at : way.path ≡ path
-  pub stands : Stands network way
-  pub fits : Fits triples way.path
+pub record StandsAt (network : Network) (triples : List Triple) (path : List Decision) (position : Position) : Type 0 where
+  pub at : position.path ≡ path
+  pub stands : Stands network position
+  pub fits : Fits triples position.path
 
 abbrev pub IsBelow : Network → List Triple → Below → Type 0
 IsBelow network triples below = StandsAt network triples below.from below.descent

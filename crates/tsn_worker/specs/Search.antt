@@ -7,7 +7,7 @@ use Rattle.tsn_model.specs.Network.{Network}
 use Rattle.tsn_model.specs.Places.{pending}
 use Rattle.tsn_model.specs.Search.{Settlement, made_paths, open_paths}
 use Rattle.tsn_search_laws.specs.Walk.{IsWalk}
-use Rattle.tsn_branch.specs.Descent.{Way, Stands}
+use Rattle.tsn_branch.specs.Descent.{Position, Stands}
 use Rattle.tsn_book.specs.Book.{Progress}
 
 -- the book is of a search for the network with that limit
@@ -16,11 +16,11 @@ pub record IsSearchOf (network : Network) (limit : ℕ) (book : Progress) : Type
   pub same_limit : book.limit ≡ limit
 
 -- besides, there is one teller, and the way leads to the open node that is first in preorder, which has this place; the other open nodes wait, the next one last
-pub record IsSearching (network : Network) (limit : ℕ) (book : Progress) (way : Way) (place : ℕ) (waiting : List ℕ) : Type 0 where
+pub record IsSearching (network : Network) (limit : ℕ) (book : Progress) (position : Position) (place : ℕ) (waiting : List ℕ) : Type 0 where
   pub search : IsSearchOf network limit book
   pub one_teller : book.tellers ≡ 1
-  pub stands : Stands network way
-  pub walk : IsWalk book.history way.path place (reverse waiting)
+  pub stands : Stands network position
+  pub walk : IsWalk book.history position.path place (reverse waiting)
 
 -- a node was split last: the walk stands at its left child, and its right child, at the place after it, is the next that waits
 pub record HasChildren (history : List Settlement) (path : List Decision) (waiting : List ℕ) : Type 0 where

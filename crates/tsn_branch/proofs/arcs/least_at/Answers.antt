@@ -5,7 +5,7 @@ use Rattle.tsn_model.specs.Arcs.{arcs_of}
 use Rattle.tsn_diff.specs.Answers.{Solves}
 use Rattle.tsn_branch.specs.Releases.{releases_of}
 use Rattle.tsn_branch.specs.Least.{IsLeastAbove}
-use Rattle.tsn_branch.proofs.Ways.{arcs_above}
+use Rattle.tsn_branch.proofs.Positions.{arcs_above}
 use Rattle.tsn_branch.proofs.arcs.least_at.Goals as goal
 
 pub least_below-requires-clause-above : goal.least_below-requires-clause-above

@@ -10,30 +10,30 @@ use Rattle.tsn_branch.proofs.Loading.{IsMeasured, table_there, table_measured, u
 use Rattle.tsn_branch.proofs.Shown.{shown_by}
 use Rattle.tsn_branch.proofs.judge.entries_at.Goals as goal
 
-module _ (network : Network) (tables : List LinkTable) (same : map link_in tables ≡ map (shared_link network) (shared_links network)) (place : ℕ) (below : place < length (shared_links network))
-    (table : LinkTable) (is : table ≡ get_or tables place table) where
-  there : link_in table ≡ shared_link network (get_or (shared_links network) place 0)
+module _ (network : Network) (tables : List LinkTable) (same : map link_in tables ≡ map (shared_link network) (shared_links network)) (link_index : ℕ) (below : link_index < length (shared_links network))
+    (table : LinkTable) (is : table ≡ get_or tables link_index table) where
+  there : link_in table ≡ shared_link network (get_or (shared_links network) link_index 0)
   there =
-      (table_there network tables place table same
+      (table_there network tables link_index table same
       (omega (arith, ap length same, length-map tables link_in, length-map (shared_links network) (shared_link network))) is).1
 
   measured : IsWellFormed network → IsMeasured network table
-  measured formed = table_measured network formed place table below there
+  measured formed = table_measured network formed link_index table below there
 
 pub entries_of-requires-clause-some_user : goal.entries_of-requires-clause-some_user
 entries_of-requires-clause-some_user c =
-    let found = measured c.args.tables.timing.now c.tables.result.now (c.tables.ensures ∙ c.requires.loads) c.args.place c.requires.place c.index-tables-place.result c.index-tables-place.is c.requires.formed in
+    let found = measured c.args.tables.timing.now c.tables.result.now (c.tables.ensures ∙ c.requires.loads) c.args.link_index c.requires.link_index c.index-tables-link_index.result c.index-tables-link_index.is c.requires.formed in
     omega (arith, found.several, ap length c.deref.ensures.value)
 
 pub entries_of-requires-clause-few_users : goal.entries_of-requires-clause-few_users
 entries_of-requires-clause-few_users c =
-    let found = measured c.args.tables.timing.now c.tables.result.now (c.tables.ensures ∙ c.requires.loads) c.args.place c.requires.place c.index-tables-place.result c.index-tables-place.is c.requires.formed in
+    let found = measured c.args.tables.timing.now c.tables.result.now (c.tables.ensures ∙ c.requires.loads) c.args.link_index c.requires.link_index c.index-tables-link_index.result c.index-tables-link_index.is c.requires.formed in
     omega (arith, found.few, ap length c.deref.ensures.value)
 
 pub entries_of-requires-clause-streams : goal.entries_of-requires-clause-streams
 entries_of-requires-clause-streams c k d below =
     let network = c.args.tables.timing.now in
-    let found = measured network c.tables.result.now (c.tables.ensures ∙ c.requires.loads) c.args.place c.requires.place c.index-tables-place.result c.index-tables-place.is c.requires.formed in
+    let found = measured network c.tables.result.now (c.tables.ensures ∙ c.requires.loads) c.args.link_index c.requires.link_index c.index-tables-link_index.result c.index-tables-link_index.is c.requires.formed in
     let early = subst (All (IsEarly (stream_count network))) (sym c.deref.ensures.value) found.early in
     let path = c.requires.some_path in
     subst (λ n. (get_or c.deref.result.now k d).stream < n) (sym (count network path.0 c.args.least.now path.1)) (early k d below).counted
@@ -41,7 +41,7 @@ entries_of-requires-clause-streams c k d below =
 pub entries_of-requires-clause-short : goal.entries_of-requires-clause-short
 entries_of-requires-clause-short c k d below =
     let network = c.args.tables.timing.now in
-    let found = measured network c.tables.result.now (c.tables.ensures ∙ c.requires.loads) c.args.place c.requires.place c.index-tables-place.result c.index-tables-place.is c.requires.formed in
+    let found = measured network c.tables.result.now (c.tables.ensures ∙ c.requires.loads) c.args.link_index c.requires.link_index c.index-tables-link_index.result c.index-tables-link_index.is c.requires.formed in
     let early = subst (All (IsEarly (stream_count network))) (sym c.deref.ensures.value) found.early in
     let path = c.requires.some_path in
     short network path.0 c.args.least.now path.1 c.requires.formed (get_or c.deref.result.now k d).stream (early k d below).counted
@@ -49,14 +49,14 @@ entries_of-requires-clause-short c k d below =
 pub returns-clause-link : goal.returns-clause-link
 returns-clause-link c =
     let network = c.args.tables.timing.now in
-    let is = there network c.tables.result.now (c.tables.ensures ∙ c.requires.loads) c.args.place c.requires.place c.index-tables-place.result c.index-tables-place.is in
-    let link = get_or (shared_links network) c.args.place 0 in
-    slice_get-get_or (shared_links network) c.args.place 0 c.requires.place ∙ ap Some (sym (link_is network link (link_in c.index-tables-place.result) is))
+    let is = there network c.tables.result.now (c.tables.ensures ∙ c.requires.loads) c.args.link_index c.requires.link_index c.index-tables-link_index.result c.index-tables-link_index.is in
+    let link = get_or (shared_links network) c.args.link_index 0 in
+    slice_get-get_or (shared_links network) c.args.link_index 0 c.requires.link_index ∙ ap Some (sym (link_is network link (link_in c.index-tables-link_index.result) is))
 
 pub returns-clause-shown : goal.returns-clause-shown
 returns-clause-shown c path solves =
     let network = c.args.tables.timing.now in
-    let is = there network c.tables.result.now (c.tables.ensures ∙ c.requires.loads) c.args.place c.requires.place c.index-tables-place.result c.index-tables-place.is in
-    let link = get_or (shared_links network) c.args.place 0 in
-    shown_by network path c.args.least.now solves link c.index-tables-place.result.link c.deref.result.now c.in_ok-entries_of.field-0
-    (link_is network link (link_in c.index-tables-place.result) is) (c.deref.ensures.value ∙ users_are network link (link_in c.index-tables-place.result) is) c.in_ok-entries_of.ensures
+    let is = there network c.tables.result.now (c.tables.ensures ∙ c.requires.loads) c.args.link_index c.requires.link_index c.index-tables-link_index.result c.index-tables-link_index.is in
+    let link = get_or (shared_links network) c.args.link_index 0 in
+    shown_by network path c.args.least.now solves link c.index-tables-link_index.result.link c.deref.result.now c.in_ok-entries_of.field-0
+    (link_is network link (link_in c.index-tables-link_index.result) is) (c.deref.ensures.value ∙ users_are network link (link_in c.index-tables-link_index.result) is) c.in_ok-entries_of.ensures

@@ -12,7 +12,7 @@ use Rattle.tsn_branch.specs.Releases.{releases_of}
 use Rattle.tsn_branch.specs.Least.{ComesWithSplit}
 use Rattle.tsn_branch.specs.Outcome.{outcome_of}
 use Rattle.tsn_branch.specs.Look.{IsLook, IsRefutation}
-use Rattle.tsn_branch.specs.Descent.{Closes, IsFinding}
+use Rattle.tsn_branch.specs.Descent.{Closes, IsVerdict}
 use Rattle.tsn_branch.proofs.Leasts.{IsRefutation-from}
 use Rattle.tsn_branch.proofs.judge.judge.Goals as goal
 
@@ -24,22 +24,22 @@ comes_alone network path (pruned bound leaf) closes = refl
 comes_alone network path (tied bound leaf chains) closes = refl
 comes_alone network path (refuted leaf) closes = refl
 
-pub bounds-triples-seen : goal.bounds-triples-seen
-bounds-triples-seen c =
+pub bounds-triples-point : goal.bounds-triples-point
+bounds-triples-point c =
     let network = c.args.tables.timing.now in
     let (path, answers) = c.requires.some_path in
     let solves = subst (Answers (releases_of network) (arcs_of network path)) c.in-Least.is answers in
-    let found = subst (IsFinding network path c.args.aim.target (option_copied c.args.aim.best)) c.in-Split.is (c.in_ok-finding-in-Least.ensures path solves) in
-    subst (λ (ts : List Triple). c.in-Split.seen.place < length ts) (sym (c.triples.ensures ∙ c.requires.conflicts.triples)) found.0.within
+    let found = subst (IsVerdict network path c.args.aim.target (option_copied c.args.aim.best)) c.in-Split.is (c.in_ok-verdict-in-Least.ensures path solves) in
+    subst (λ (ts : List Triple). c.in-Split.point.triple < length ts) (sym (c.triples.ensures ∙ c.requires.conflicts.triples)) found.0.within
 
-pub offset_bounds-triples-seen : goal.offset_bounds-triples-seen
-offset_bounds-triples-seen c =
+pub offset_bounds-triples-point : goal.offset_bounds-triples-point
+offset_bounds-triples-point c =
     let network = c.args.tables.timing.now in
     let (path, answers) = c.requires.some_path in
     let solves = subst (Answers (releases_of network) (arcs_of network path)) c.in-Least.is answers in
-    let found = subst (IsFinding network path c.args.aim.target (option_copied c.args.aim.best)) c.in-Split.is (c.in_ok-finding-in-Least.ensures path solves) in
-    let below : c.in-Split.seen.place < length c.triples.result.now =
-    subst (λ (ts : List Triple). c.in-Split.seen.place < length ts) (sym (c.triples.ensures ∙ c.requires.conflicts.triples)) found.0.within in
+    let found = subst (IsVerdict network path c.args.aim.target (option_copied c.args.aim.best)) c.in-Split.is (c.in_ok-verdict-in-Least.ensures path solves) in
+    let below : c.in-Split.point.triple < length c.triples.result.now =
+    subst (λ (ts : List Triple). c.in-Split.point.triple < length ts) (sym (c.triples.ensures ∙ c.requires.conflicts.triples)) found.0.within in
     let long = c.triples.type_inv in
     omega arith
 
@@ -48,15 +48,15 @@ returns-in-Split-clause-look c =
     λ path answers.
     let network = c.args.tables.timing.now in
     let solves = subst (Answers (releases_of network) (arcs_of network path)) c.in-Least.is answers in
-    let found = subst (IsFinding network path c.args.aim.target (option_copied c.args.aim.best)) c.in-Split.is (c.in_ok-finding-in-Least.ensures path solves) in
-    subst (λ (ts : List Triple). IsLook network path c.args.aim.target (option_copied c.args.aim.best) (split (triple_at ts c.in-Split.seen.place))) (sym (c.triples.ensures ∙ c.requires.conflicts.triples)) found.1
+    let found = subst (IsVerdict network path c.args.aim.target (option_copied c.args.aim.best)) c.in-Split.is (c.in_ok-verdict-in-Least.ensures path solves) in
+    subst (λ (ts : List Triple). IsLook network path c.args.aim.target (option_copied c.args.aim.best) (split (triple_at ts c.in-Split.point.triple))) (sym (c.triples.ensures ∙ c.requires.conflicts.triples)) found.1
 
 pub returns-in-Closed-clause-look : goal.returns-in-Closed-clause-look
 returns-in-Closed-clause-look c =
     λ path answers.
     let network = c.args.tables.timing.now in
     let solves = subst (Answers (releases_of network) (arcs_of network path)) c.in-Least.is answers in
-    let found = subst (IsFinding network path c.args.aim.target (option_copied c.args.aim.best)) c.in-Closed.is (c.in_ok-finding-in-Least.ensures path solves) in
+    let found = subst (IsVerdict network path c.args.aim.target (option_copied c.args.aim.best)) c.in-Closed.is (c.in_ok-verdict-in-Least.ensures path solves) in
     found.1
 
 pub returns-in-Closed-clause-least : goal.returns-in-Closed-clause-least
@@ -64,7 +64,7 @@ returns-in-Closed-clause-least c =
     λ path answers.
     let network = c.args.tables.timing.now in
     let solves = subst (Answers (releases_of network) (arcs_of network path)) c.in-Least.is answers in
-    let found = subst (IsFinding network path c.args.aim.target (option_copied c.args.aim.best)) c.in-Closed.is (c.in_ok-finding-in-Least.ensures path solves) in
+    let found = subst (IsVerdict network path c.args.aim.target (option_copied c.args.aim.best)) c.in-Closed.is (c.in_ok-verdict-in-Least.ensures path solves) in
     comes_alone network path (outcome_of c.in-Closed.look) found.0
 
 pub returns-in_ok-of-in-Positive-clause-look : goal.returns-in_ok-of-in-Positive-clause-look

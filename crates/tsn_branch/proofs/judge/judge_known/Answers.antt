@@ -10,8 +10,8 @@ use Rattle.tsn_branch.specs.Ends.{AreEnds}
 use Rattle.tsn_branch.specs.Look.{IsFirstOverrun, IsShownBy, IsUntied}
 use Rattle.tsn_branch.proofs.Leasts.{count, AreLeast-from, IsShownBy-from, small_offsets, least_same}
 use Rattle.tsn_branch.specs.Outcome.{outcome_of}
-use Rattle.tsn_branch.specs.Descent.{IsSeenBy, IsSolution, IsTieBy}
-use Rattle.tsn_branch.proofs.Findings.{solution_found}
+use Rattle.tsn_branch.specs.Descent.{IsSplitPointBy, IsSolution, IsTieBy}
+use Rattle.tsn_branch.proofs.Verdicts.{solution_found}
 use Rattle.tsn_branch.proofs.Tied.{tightest_for}
 use Rattle.tsn_branch.proofs.judge.judge_known.Goals as goal
 
@@ -97,17 +97,17 @@ returns-in-Some-first_violated_from c =
     let ends = subst (AreEnds network lowest.offsets) c.in-Within.is c.requires.ends in
     let (fit, last, end) = ends in
     let found = c.in-Some-first_violated_from.ensures network conflicts in
-    let place = c.in-Some-first_violated_from.place in
-    let overlap : IsFirstOverlap network lowest.offsets (triple_at (conflicts_of network) place) =
-    subst (λ (ts : List Triple). IsFirstOverlap network lowest.offsets (triple_at ts place)) conflicts.triples
-    (subst (λ (offsets : List ℕ). IsFirstOverlap network offsets (triple_at c.args.tables.conflicts.now.triples place)) c.offsets-2.ensures found.1) in
+    let triple = c.in-Some-first_violated_from.triple in
+    let overlap : IsFirstOverlap network lowest.offsets (triple_at (conflicts_of network) triple) =
+    subst (λ (ts : List Triple). IsFirstOverlap network lowest.offsets (triple_at ts triple)) conflicts.triples
+    (subst (λ (offsets : List ℕ). IsFirstOverlap network offsets (triple_at c.args.tables.conflicts.now.triples triple)) c.offsets-2.ensures found.1) in
     let unloaded = subst (λ (offsets : List ℕ). All (IsUnloaded network offsets c.args.aim.target) (shared_links network)) c.offsets.ensures c.in-Open.ensures.0 in
     let untied = subst (λ o. IfNone o (IsUntied network lowest.offsets (option_copied c.args.aim.best))) c.in_default.is c.in_ok-tie.ensures.none in
     let least = AreLeast-from network path lowest solves in (
       record {
-        within = subst (λ (ts : List Triple). place < length ts) conflicts.triples found.0;
+        within = subst (λ (ts : List Triple). triple < length ts) conflicts.triples found.0;
         by_least = λ offsets other.
-            subst (λ list. IsSeenBy network list (record { place = place; last = c.in-Within.last; end = c.in-Within.end })) (least_same network path lowest.offsets offsets least other)
+            subst (λ list. IsSplitPointBy network list (record { triple = triple; last = c.in-Within.last; end = c.in-Within.end })) (least_same network path lowest.offsets offsets least other)
             (record { ended = record { fit = fit; last_first = last; end_is = end }; overlap = overlap });
       },
       (lowest.offsets, least, fit, omega (arith, end, c.if-end-aim.false), overlap, unloaded, untied),

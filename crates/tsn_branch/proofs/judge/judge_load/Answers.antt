@@ -8,7 +8,7 @@ pub returns-in_ok-link-in-Overload-clause-look : goal.returns-in_ok-link-in-Over
 returns-in_ok-link-in-Overload-clause-look c path target solves fit below found best =
     let network = c.args.tables.timing.now in
     let offsets = c.args.least.now.offsets in
-    let place = c.in-Overload.place in
+    let link_index = c.in-Overload.link_index in
     let is = subst (IsFirstLoad network offsets target) c.in-Overload.is found in
     let same_some : Some is.0 ≡ Some c.in_ok-link-in-Overload.link = sym is.1.there ∙ c.in_ok-link-in-Overload.ensures.link in
     let same : is.0 ≡ c.in_ok-link-in-Overload.link = cc same_some in (
@@ -16,7 +16,7 @@ returns-in_ok-link-in-Overload-clause-look c path target solves fit below found 
       AreLeast-from network path c.args.least.now solves,
       fit,
       below,
-      record { place = place; there = c.in_ok-link-in-Overload.ensures.link; unloaded_before = is.1.unloaded_before },
+      record { link_index = link_index; there = c.in_ok-link-in-Overload.ensures.link; unloaded_before = is.1.unloaded_before },
       subst (λ link. pos network.cycle <ℤ busy_by network offsets link) same is.2,
       c.in_ok-link-in-Overload.ensures.shown path solves,
     )
@@ -25,7 +25,7 @@ pub returns-in_ok-link-in-Load-clause-look : goal.returns-in_ok-link-in-Load-cla
 returns-in_ok-link-in-Load-clause-look c path target solves fit below found best =
     let network = c.args.tables.timing.now in
     let offsets = c.args.least.now.offsets in
-    let place = c.in-Load.place in
+    let link_index = c.in-Load.link_index in
     let is = subst (IsFirstLoad network offsets target) c.in-Load.is found in
     let same_some : Some is.0 ≡ Some c.in_ok-link-in-Load.link = sym is.1.there ∙ c.in_ok-link-in-Load.ensures.link in
     let same : is.0 ≡ c.in_ok-link-in-Load.link = cc same_some in (
@@ -33,7 +33,7 @@ returns-in_ok-link-in-Load-clause-look c path target solves fit below found best
       AreLeast-from network path c.args.least.now solves,
       fit,
       below,
-      record { place = place; there = c.in_ok-link-in-Load.ensures.link; unloaded_before = is.1.unloaded_before },
+      record { link_index = link_index; there = c.in_ok-link-in-Load.ensures.link; unloaded_before = is.1.unloaded_before },
       subst (λ link. busy_by network offsets link ≤ℤ pos network.cycle) same is.2,
       subst (λ link. pos c.in-Load.bound ≡ load_by network offsets link) same is.3,
       is.4,

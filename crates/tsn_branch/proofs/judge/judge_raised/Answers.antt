@@ -18,11 +18,11 @@ judge_known-requires-clause-apart c =
     let network = c.args.tables.timing.now in
     let parent = c.requires.parent in
     let is = c.requires.conflicts in
-    subst (λ (lowest : LeastOffsets). OnlyRaisedOverlap c.args.tables.conflicts.now lowest.offsets c.raised-raised.result.now c.args.parent.place) (sym c.least-least.ensures.value)
-    (subst (λ raised. OnlyRaisedOverlap c.args.tables.conflicts.now c.args.stack.now.least.offsets raised c.args.parent.place) (sym c.raised-raised.ensures.value)
-    (c.parents_overlap_starts.ensures network c.args.tables.conflicts.now parent.before c.args.stack.now.least.offsets c.args.stack.now.raised c.args.parent.place is
-    (subst (λ (ts : List Triple). c.args.parent.place < length ts) (sym is.triples) parent.within)
-    (subst (λ (ts : List Triple). IsFirstOverlap network parent.before (triple_at ts c.args.parent.place)) (sym is.triples) parent.was_seen.overlap)
+    subst (λ (lowest : LeastOffsets). OnlyRaisedOverlap c.args.tables.conflicts.now lowest.offsets c.raised-raised.result.now c.args.parent.triple) (sym c.least-least.ensures.value)
+    (subst (λ raised. OnlyRaisedOverlap c.args.tables.conflicts.now c.args.stack.now.least.offsets raised c.args.parent.triple) (sym c.raised-raised.ensures.value)
+    (c.parents_overlap_starts.ensures network c.args.tables.conflicts.now parent.before c.args.stack.now.least.offsets c.args.stack.now.raised c.args.parent.triple is
+    (subst (λ (ts : List Triple). c.args.parent.triple < length ts) (sym is.triples) parent.within)
+    (subst (λ (ts : List Triple). IsFirstOverlap network parent.before (triple_at ts c.args.parent.triple)) (sym is.triples) parent.was_split_point.overlap)
     parent.rose.others))
 
 -- the labels of the arcs that were put in, said of a path that these are of
@@ -45,4 +45,4 @@ judge_known-requires-clause-raised c =
 pub returns : goal.returns
 returns c =
     IfOk-weaker c.judge_known.result _ _
-    (λ finding is path arcs. is path (solves_on c.args.tables.timing.now path c.args.stack.now c.least-least.result.now c.least-least.ensures.value c.least-least.ensures.solves c.requires.releases arcs)) c.judge_known.ensures
+    (λ verdict is path arcs. is path (solves_on c.args.tables.timing.now path c.args.stack.now c.least-least.result.now c.least-least.ensures.value c.least-least.ensures.solves c.requires.releases arcs)) c.judge_known.ensures

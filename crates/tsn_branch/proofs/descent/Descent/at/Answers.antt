@@ -10,7 +10,7 @@ use Rattle.tsn_branch.specs.Path.{Fits}
 use Rattle.tsn_branch.specs.Look.{HasNoOffsets}
 use Rattle.tsn_branch.specs.Descent.{Stands}
 use Rattle.tsn_branch.proofs.Descents.{arcs-nil}
-use Rattle.tsn_branch.proofs.Ways.{arcs_more, none_hold, stands_at}
+use Rattle.tsn_branch.proofs.Positions.{arcs_more, none_hold, stands_at}
 use Rattle.tsn_branch.proofs.descent.Descent.at.Goals as goal
 
 pub loop-depth-init : goal.loop-depth-init
@@ -55,7 +55,7 @@ returns-clause-stands c =
     let long : c.loop-depth.depth ≡ length path - 1 = omega arith in
     let arcs = c.loop-depth.invariant.arcs ∙ ap (λ n. arcs_of network (take n path)) long ∙ ap (λ (p : List Decision). arcs_of network (take (length p - 1) p)) c.path-path.ensures.value in
     let empty : [] ≡ c.new-2.result.items = search in
-    subst (λ seen. Stands network (record { path = c.args.node; stack = c.loop-depth.stack; seen = seen; found = None })) empty
+    subst (λ points. Stands network (record { path = c.args.node; stack = c.loop-depth.stack; splits = points; found = None })) empty
     (stands_at network c.args.node c.loop-depth.stack None c.loop-depth.invariant.releases arcs)
 
 pub returns-in-Some-clause-none : goal.returns-in-Some-clause-none

@@ -6,11 +6,11 @@ use Rattle.tsn_model.specs.Arcs.{conflicts_of}
 use Rattle.tsn_model.specs.Search.{split}
 use Rattle.tsn_conflict.specs.Raised.{triple_at}
 use Rattle.tsn_branch.specs.Outcome.{outcome_of}
-use Rattle.tsn_branch.specs.Descent.{IsFinding}
+use Rattle.tsn_branch.specs.Descent.{IsVerdict}
 use Rattle.tsn_branch.specs.Look.{IsRefutation, HasProof, SplitsUndecided, SplitsAmong, TiesWith}
 use Rattle.tsn_branch.proofs.Leasts.{IsRefutation-from}
 use Rattle.tsn_branch.proofs.Rights.{HasProof-from, SplitsUndecided-from, SplitsAmong-from, TiesWith-from}
-use Rattle.tsn_branch.proofs.Ways.{of_some}
+use Rattle.tsn_branch.proofs.Positions.{of_some}
 use Rattle.tsn_branch.proofs.descent.Descent.look.Goals as goal
 
 pub returns-in-Some-clause-first_case : goal.returns-in-Some-clause-first_case
@@ -27,23 +27,23 @@ pub returns-in-Ok-Split-clause-undecided : goal.returns-in-Ok-Split-clause-undec
 returns-in-Ok-Split-clause-undecided c =
     let network = c.args.tables.timing.now in
     let target = c.args.aim.target in
-    let found = subst (IsFinding network c.lead.new.self.path target (option_copied c.args.aim.best)) c.in-Ok-Split.field-0-is c.in-Ok-Split.ensures in
+    let found = subst (IsVerdict network c.lead.new.self.path target (option_copied c.args.aim.best)) c.in-Ok-Split.field-0-is c.in-Ok-Split.ensures in
     let path : c.lead.new.self.path ≡ c.args.self.now.path = c.lead.ensures.path in
     let triples = c.triples.ensures ∙ c.requires.conflicts.triples in
-    let right = SplitsUndecided-from network c.lead.new.self.path target (option_copied c.args.aim.best) (split (triple_at (conflicts_of network) c.in-Ok-Split.seen.place)) found.1 in
-    subst (λ p. SplitsUndecided network p (split (triple_at c.triples.result.now c.in-Ok-Split.seen.place))) path
-    (subst (λ (ts : List Triple). SplitsUndecided network c.lead.new.self.path (split (triple_at ts c.in-Ok-Split.seen.place))) (sym triples) right)
+    let right = SplitsUndecided-from network c.lead.new.self.path target (option_copied c.args.aim.best) (split (triple_at (conflicts_of network) c.in-Ok-Split.point.triple)) found.1 in
+    subst (λ p. SplitsUndecided network p (split (triple_at c.triples.result.now c.in-Ok-Split.point.triple))) path
+    (subst (λ (ts : List Triple). SplitsUndecided network c.lead.new.self.path (split (triple_at ts c.in-Ok-Split.point.triple))) (sym triples) right)
 
 pub returns-in-Ok-Closed-clause-proof : goal.returns-in-Ok-Closed-clause-proof
 returns-in-Ok-Closed-clause-proof c =
     let network = c.args.tables.timing.now in
-    let found = subst (IsFinding network c.lead.new.self.path c.args.aim.target (option_copied c.args.aim.best)) c.in-Ok-Closed.field-0-is c.in-Ok-Closed.ensures in
+    let found = subst (IsVerdict network c.lead.new.self.path c.args.aim.target (option_copied c.args.aim.best)) c.in-Ok-Closed.field-0-is c.in-Ok-Closed.ensures in
     subst (λ p. HasProof network p (outcome_of c.in-Ok-Closed.look)) c.lead.ensures.path (HasProof-from network c.lead.new.self.path c.args.aim.target (option_copied c.args.aim.best) (outcome_of c.in-Ok-Closed.look) found.1)
 
 pub returns-in-Ok-Closed-clause-ties : goal.returns-in-Ok-Closed-clause-ties
 returns-in-Ok-Closed-clause-ties c =
     let network = c.args.tables.timing.now in
-    let found = subst (IsFinding network c.lead.new.self.path c.args.aim.target (option_copied c.args.aim.best)) c.in-Ok-Closed.field-0-is c.in-Ok-Closed.ensures in
+    let found = subst (IsVerdict network c.lead.new.self.path c.args.aim.target (option_copied c.args.aim.best)) c.in-Ok-Closed.field-0-is c.in-Ok-Closed.ensures in
     subst (λ p. TiesWith network p (option_copied c.args.aim.best) (outcome_of c.in-Ok-Closed.look)) c.lead.ensures.path
     (TiesWith-from network c.lead.new.self.path c.args.aim.target (option_copied c.args.aim.best) c.requires.best (outcome_of c.in-Ok-Closed.look) found.1)
 
@@ -51,6 +51,6 @@ pub returns-in-Ok-Split-clause-among : goal.returns-in-Ok-Split-clause-among
 returns-in-Ok-Split-clause-among c =
     let network = c.args.tables.timing.now in
     let conflicts = c.requires.conflicts in
-    subst (λ ts. SplitsAmong ts (split (triple_at c.triples.result.now c.in-Ok-Split.seen.place))) c.triples.ensures
-    (SplitsAmong-from network c.args.self.now.path c.triples.result.now conflicts.formed (c.triples.ensures ∙ conflicts.triples) (split (triple_at c.triples.result.now c.in-Ok-Split.seen.place))
+    subst (λ ts. SplitsAmong ts (split (triple_at c.triples.result.now c.in-Ok-Split.point.triple))) c.triples.ensures
+    (SplitsAmong-from network c.args.self.now.path c.triples.result.now conflicts.formed (c.triples.ensures ∙ conflicts.triples) (split (triple_at c.triples.result.now c.in-Ok-Split.point.triple))
     (returns-in-Ok-Split-clause-undecided c))

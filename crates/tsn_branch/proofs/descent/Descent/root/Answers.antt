@@ -1,12 +1,12 @@
 use Rattle.std.proofs.Common.{◌≡◌, [], None, sym, ◌∙◌, subst}
 use Rattle.tsn_branch.specs.Descent.{Stands}
-use Rattle.tsn_branch.proofs.Ways.{stands_root}
+use Rattle.tsn_branch.proofs.Positions.{stands_root}
 use Rattle.tsn_branch.proofs.descent.Descent.root.Goals as goal
 
 pub returns-clause-stands : goal.returns-clause-stands
 returns-clause-stands c =
     let none = c.in_ok-stack.ensures.releases ∙ c.in_ok-net_of.ensures in
     let empty : [] ≡ c.new-2.result.items = search in
-    subst (λ path. Stands c.args.timing.now (record { path = path; stack = c.in_ok-stack.stack; seen = c.new-2.result.items; found = None })) (sym c.root.ensures)
-    (subst (λ seen. Stands c.args.timing.now (record { path = []; stack = c.in_ok-stack.stack; seen = seen; found = None })) empty
+    subst (λ path. Stands c.args.timing.now (record { path = path; stack = c.in_ok-stack.stack; splits = c.new-2.result.items; found = None })) (sym c.root.ensures)
+    (subst (λ points. Stands c.args.timing.now (record { path = []; stack = c.in_ok-stack.stack; splits = points; found = None })) empty
     (stands_root c.args.timing.now c.in_ok-stack.stack None none c.in_ok-stack.ensures.none))

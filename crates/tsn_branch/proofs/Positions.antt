@@ -17,34 +17,34 @@ use Rattle.tsn_diff.specs.Answers.{Solves, Refutes}
 use Rattle.tsn_diff.specs.Stack.{Stack, RisesAt}
 use Rattle.tsn_branch.specs.Releases.{releases_of}
 use Rattle.tsn_branch.specs.Look.{HasNoOffsets}
-use Rattle.tsn_branch.specs.declared.seen.Seen.{Seen}
-use Rattle.tsn_branch.specs.Descent.{Way, IsSeen, WasSeen, AllSeen, Stands, Splits, Leads}
+use Rattle.tsn_branch.specs.declared.verdict.SplitPoint.{SplitPoint}
+use Rattle.tsn_branch.specs.Descent.{Position, IsSplitPoint, WasSplitPoint, AreSplitPoints, Stands, Splits, Leads}
 use Rattle.tsn_model.proofs.Decisions.{length-arcs_of, arcs_of-decided, take-decided}
 use Rattle.tsn_branch.proofs.Leasts.{AreLeast-from}
-use Rattle.tsn_branch.proofs.Descents.{by_last, arcs-nil, seen_none, seen_more, seen_above, seen_turned, seen_last, take-inner}
+use Rattle.tsn_branch.proofs.Descents.{by_last, arcs-nil, points_none, points_more, points_above, points_turned, points_last, take-inner}
 
-pub stands_root : (network : Network) (stack : Stack) (found : Option Seen) → stack.least.releases ≡ releases_of network → stack.least.arcs ≡ [] → Stands network (record { path = []; stack = stack; seen = []; found = found })
-stands_root network stack found none is = record { releases = none; arcs = is ∙ sym (arcs-nil network); split_above = seen_none network [] }
+pub stands_root : (network : Network) (stack : Stack) (found : Option SplitPoint) → stack.least.releases ≡ releases_of network → stack.least.arcs ≡ [] → Stands network (record { path = []; stack = stack; splits = []; found = found })
+stands_root network stack found none is = record { releases = none; arcs = is ∙ sym (arcs-nil network); split_above = points_none network [] }
 
-pub stands_down : (network : Network) (triple : Triple) (way : Way) (here : Seen) (found : Option Seen) → Splits network triple way → way.found ≡ Some here
-    → Stands network (record { path = decided way.path triple Left; stack = way.stack; seen = way.seen ++ here ∷ []; found = found })
-stands_down network triple way here found splits is =
-    let same : splits.seen_here ≡ here = some_same (sym splits.found ∙ is) in
+pub stands_down : (network : Network) (triple : Triple) (position : Position) (here : SplitPoint) (found : Option SplitPoint) → Splits network triple position → position.found ≡ Some here
+    → Stands network (record { path = decided position.path triple Left; stack = position.stack; splits = position.splits ++ here ∷ []; found = found })
+stands_down network triple position here found splits is =
+    let same : splits.point ≡ here = some_same (sym splits.found ∙ is) in
     record {
       releases = splits.releases;
-      arcs = splits.arcs ∙ ap (arcs_of network) (sym (take-decided way.path triple Left));
-      split_above = seen_more network way.path way.seen here triple Left splits.split_above (subst (IsSeen network way.path) same splits.is_seen);
+      arcs = splits.arcs ∙ ap (arcs_of network) (sym (take-decided position.path triple Left));
+      split_above = points_more network position.path position.splits here triple Left splits.split_above (subst (IsSplitPoint network position.path) same splits.is_split_point);
     }
   where
-    some_same : {a b : Seen} → Some a ≡ Some b → a ≡ b
+    some_same : {a b : SplitPoint} → Some a ≡ Some b → a ≡ b
     some_same e = cc e
 
 -- the path's arcs but the last, where there is one
-pub stands_back : (network : Network) (path : List Decision) (old new : Stack) (seen : List Seen) (found : Option Seen) → old.least.releases ≡ releases_of network → old.least.arcs ≡ arcs_of network path → AllSeen network path seen
+pub stands_back : (network : Network) (path : List Decision) (old new : Stack) (points : List SplitPoint) (found : Option SplitPoint) → old.least.releases ≡ releases_of network → old.least.arcs ≡ arcs_of network path → AreSplitPoints network path points
     → (front : List Decision) (triple : Triple) (side : Side) → path ≡ decided front triple side
     → new.least.releases ≡ old.least.releases → ((before : List Arc) (last : Arc) → old.least.arcs ≡ before ++ last ∷ [] → new.least.arcs ≡ before)
-    → Stands network (record { path = path; stack = new; seen = seen; found = found })
-stands_back network path old new seen found none is all front triple side whole same popped = record {
+    → Stands network (record { path = path; stack = new; splits = points; found = found })
+stands_back network path old new points found none is all front triple side whole same popped = record {
   releases = same ∙ none;
   arcs = popped (arcs_of network front) (arc_on network triple side) (is ∙ ap (arcs_of network) whole ∙ arcs_of-decided network front triple side)
       ∙ ap (arcs_of network) (sym (ap (λ p. take (length p - 1) p) whole ∙ take-decided front triple side));
@@ -65,10 +65,10 @@ pub record Puts (arc : Arc) (old new : Stack) : Type 0 where
   pub solved_before : Solves old.least.releases old.least.arcs old.least
   pub solved : Solves new.least.releases new.least.arcs new.least
 
-pub was_seen : (network : Network) (front : List Decision) (triple : Triple) (side : Side) (old new : Stack) (last : Seen)
-    → old.least.releases ≡ releases_of network → new.least.releases ≡ old.least.releases → old.least.arcs ≡ arcs_of network front → Puts (arc_on network triple side) old new → IsSeen network front last
-    → WasSeen network new.raised new.least.offsets last
-was_seen network front triple side old new last none same is puts seen =
+pub was_split_point : (network : Network) (front : List Decision) (triple : Triple) (side : Side) (old new : Stack) (last : SplitPoint)
+    → old.least.releases ≡ releases_of network → new.least.releases ≡ old.least.releases → old.least.arcs ≡ arcs_of network front → Puts (arc_on network triple side) old new → IsSplitPoint network front last
+    → WasSplitPoint network new.raised new.least.offsets last
+was_split_point network front triple side old new last none same is puts point =
     let first : Solves (releases_of network) (arcs_of network front) old.least = subst (λ rs. Solves rs (arcs_of network front) old.least) none (subst (λ as'. Solves old.least.releases as' old.least) is puts.solved_before) in
     let arcs : new.least.arcs ≡ arcs_of network (decided front triple side) = puts.arcs ∙ ap (λ as'. as' ++ arc_on network triple side ∷ []) is ∙ sym (arcs_of-decided network front triple side) in
     let second : Solves (releases_of network) (arcs_of network (decided front triple side)) new.least =
@@ -76,7 +76,7 @@ was_seen network front triple side old new last none same is puts seen =
     let before = AreLeast-from network front old.least first in
     let now = AreLeast-from network (decided front triple side) new.least second in
     record {
-      within = seen.within;
+      within = point.within;
       before = old.least.offsets;
       rose = record {
         count = before.count ∙ sym now.count;
@@ -89,52 +89,52 @@ was_seen network front triple side old new last none same is puts seen =
         ];
         others = λ i never. elim (puts.rises.others i) [ inl same_offset ↦ same_offset | inr has ↦ absurd (never has) ];
       };
-      was_seen = seen.by_least old.least.offsets before;
+      was_split_point = point.by_least old.least.offsets before;
     }
 
-pub leads_down : (network : Network) (front : List Decision) (triple : Triple) (side : Side) (path : List Decision) (old new : Stack) (seen : List Seen) (found : Option Seen)
+pub leads_down : (network : Network) (front : List Decision) (triple : Triple) (side : Side) (path : List Decision) (old new : Stack) (points : List SplitPoint) (found : Option SplitPoint)
     → path ≡ decided front triple side
-    → old.least.releases ≡ releases_of network → new.least.releases ≡ old.least.releases → old.least.arcs ≡ arcs_of network (take (length path - 1) path) → Puts (arc_on network triple side) old new → AllSeen network path seen
-    → Leads network (record { path = path; stack = new; seen = seen; found = found })
-leads_down network front triple side path old new seen found whole none same is puts all =
+    → old.least.releases ≡ releases_of network → new.least.releases ≡ old.least.releases → old.least.arcs ≡ arcs_of network (take (length path - 1) path) → Puts (arc_on network triple side) old new → AreSplitPoints network path points
+    → Leads network (record { path = path; stack = new; splits = points; found = found })
+leads_down network front triple side path old new points found whole none same is puts all =
     let is_front : old.least.arcs ≡ arcs_of network front = is ∙ ap (arcs_of network) (ap (λ p. take (length p - 1) p) whole ∙ take-decided front triple side) in
     record {
       releases = same ∙ none;
       arcs = puts.arcs ∙ ap (λ as'. as' ++ arc_on network triple side ∷ []) is_front ∙ sym (ap (arcs_of network) whole ∙ arcs_of-decided network front triple side);
       split_above = all;
       raised = λ last at.
-          let within = slice_get_within seen (length seen - 1) last at in
-          let here = seen_last network front triple side seen last (subst (λ p. AllSeen network p seen) whole all) (omega arith) (sym (get_or_from_slice_get seen (length seen - 1) last last at)) in
-          was_seen network front triple side old new last none same is_front puts here;
+          let within = slice_get_within points (length points - 1) last at in
+          let here = points_last network front triple side points last (subst (λ p. AreSplitPoints network p points) whole all) (omega arith) (sym (get_or_from_slice_get points (length points - 1) last last at)) in
+          was_split_point network front triple side old new last none same is_front puts here;
     }
 
 -- where no decision is made, the arcs are none
-pub leads_root : (network : Network) (path : List Decision) (stack : Stack) (seen : List Seen) (found : Option Seen) → path ≡ [] → Stands network (record { path = path; stack = stack; seen = seen; found = found })
-    → Leads network (record { path = path; stack = stack; seen = seen; found = found })
-leads_root network path stack seen found is stands = record {
+pub leads_root : (network : Network) (path : List Decision) (stack : Stack) (points : List SplitPoint) (found : Option SplitPoint) → path ≡ [] → Stands network (record { path = path; stack = stack; splits = points; found = found })
+    → Leads network (record { path = path; stack = stack; splits = points; found = found })
+leads_root network path stack points found is stands = record {
   releases = stands.releases;
   arcs = stands.arcs ∙ ap (arcs_of network) (ap (λ p. take (length p - 1) p) is ∙ sym is);
   split_above = stands.split_above;
   raised = λ last at.
-      let within = slice_get_within seen (length seen - 1) last at in
+      let within = slice_get_within points (length points - 1) last at in
       let none = ap length is in
       let count = stands.split_above.count in
       absurd (omega arith);
 }
 
-pub stands_root_again : (network : Network) (way : Way) → way.path ≡ [] → Leads network way → Stands network way
-stands_root_again network way is leads = record {
+pub stands_root_again : (network : Network) (position : Position) → position.path ≡ [] → Leads network position → Stands network position
+stands_root_again network position is leads = record {
   releases = leads.releases;
   arcs = leads.arcs ∙ ap (arcs_of network) (is ∙ sym (ap (λ p. take (length p - 1) p) is));
   split_above = leads.split_above;
 }
 
 -- a decision up: the arc above is taken out too, where there is one
-pub stands_up : (network : Network) (path : List Decision) (old new : Stack) (seen : List Seen) (before after : Option Seen)
-    → Stands network (record { path = path; stack = old; seen = seen; found = before }) → 0 < length old.least.arcs
+pub stands_up : (network : Network) (path : List Decision) (old new : Stack) (points : List SplitPoint) (before after : Option SplitPoint)
+    → Stands network (record { path = path; stack = old; splits = points; found = before }) → 0 < length old.least.arcs
     → new.least.releases ≡ old.least.releases → ((before : List Arc) (last : Arc) → old.least.arcs ≡ before ++ last ∷ [] → new.least.arcs ≡ before)
-    → Stands network (record { path = take (length path - 1) path; stack = new; seen = take (length seen - 1) seen; found = after })
-stands_up network path old new seen before after stands some same popped =
+    → Stands network (record { path = take (length path - 1) path; stack = new; splits = take (length points - 1) points; found = after })
+stands_up network path old new points before after stands some same popped =
     let shorter : List Decision = take (length path - 1) path in
     let none : Decision = record { triple = record { left = 0; right = 0; link = 0 }; side = Left } in
     let last : Decision = get_or shorter (length shorter - 1) none in
@@ -145,30 +145,30 @@ stands_up network path old new seen before after stands some same popped =
       releases = same ∙ stands.releases;
       arcs = popped (arcs_of network (take (length shorter - 1) shorter)) (arc_on network last.triple last.side)
           (stands.arcs ∙ ap (arcs_of network) whole ∙ arcs_of-decided network (take (length shorter - 1) shorter) last.triple last.side);
-      split_above = seen_above network path seen stands.split_above;
+      split_above = points_above network path points stands.split_above;
     }
 
-pub stands_up_empty : (network : Network) (path : List Decision) (old : Stack) (seen : List Seen) (before after : Option Seen)
-    → Stands network (record { path = path; stack = old; seen = seen; found = before }) → length old.least.arcs ≡ 0
-    → Stands network (record { path = take (length path - 1) path; stack = old; seen = take (length seen - 1) seen; found = after })
-stands_up_empty network path old seen before after stands none =
+pub stands_up_empty : (network : Network) (path : List Decision) (old : Stack) (points : List SplitPoint) (before after : Option SplitPoint)
+    → Stands network (record { path = path; stack = old; splits = points; found = before }) → length old.least.arcs ≡ 0
+    → Stands network (record { path = take (length path - 1) path; stack = old; splits = take (length points - 1) points; found = after })
+stands_up_empty network path old points before after stands none =
     let shorter : List Decision = take (length path - 1) path in
     let long = ap length stands.arcs ∙ length-arcs_of network shorter in
     let empty : shorter ≡ [] = nil_from_length shorter (omega arith) in
     record {
       releases = stands.releases;
       arcs = stands.arcs ∙ ap (arcs_of network) (empty ∙ sym (ap (λ p. take (length p - 1) p) empty));
-      split_above = seen_above network path seen stands.split_above;
+      split_above = points_above network path points stands.split_above;
     }
 
-pub stands_turned : (network : Network) (front : List Decision) (triple : Triple) (path turned : List Decision) (stack : Stack) (seen : List Seen) (before after : Option Seen)
+pub stands_turned : (network : Network) (front : List Decision) (triple : Triple) (path turned : List Decision) (stack : Stack) (points : List SplitPoint) (before after : Option SplitPoint)
     → path ≡ decided front triple Left → turned ≡ decided front triple Right
-    → Stands network (record { path = path; stack = stack; seen = seen; found = before })
-    → Stands network (record { path = turned; stack = stack; seen = seen; found = after })
-stands_turned network front triple path turned stack seen before after was now stands = record {
+    → Stands network (record { path = path; stack = stack; splits = points; found = before })
+    → Stands network (record { path = turned; stack = stack; splits = points; found = after })
+stands_turned network front triple path turned stack points before after was now stands = record {
   releases = stands.releases;
   arcs = stands.arcs ∙ ap (arcs_of network) (ap (λ p. take (length p - 1) p) was ∙ take-decided front triple Left ∙ sym (ap (λ p. take (length p - 1) p) now ∙ take-decided front triple Right));
-  split_above = subst (λ p. AllSeen network p seen) (sym now) (seen_turned network front triple Left Right seen (subst (λ p. AllSeen network p seen) was stands.split_above));
+  split_above = subst (λ p. AreSplitPoints network p points) (sym now) (points_turned network front triple Left Right points (subst (λ p. AreSplitPoints network p points) was stands.split_above));
 }
 
 pub refutes_down : (network : Network) (front : List Decision) (triple : Triple) (side : Side) (path : List Decision) (old : Stack) (chain : List ℕ)
@@ -204,7 +204,7 @@ none_hold network path depth above n d chain within order refutes =
     let front : HoldsAll offsets (arcs_of network (take (depth + 1) path)) = subst (HoldsAll offsets) inner (All-take (Holds offsets) (depth + 1) (arcs_of network (take above path)) held) in
     refutes.none (λ i. pos (offset_of offsets i)) (subst (HoldsAll offsets) (arcs_more network path depth d (omega arith)) front)
 
--- a way to a node, of which nothing was seen above
-pub stands_at : (network : Network) (path : List Decision) (stack : Stack) (found : Option Seen) → stack.least.releases ≡ releases_of network → stack.least.arcs ≡ arcs_of network (take (length path - 1) path)
-    → Stands network (record { path = path; stack = stack; seen = []; found = found })
-stands_at network path stack found none is = record { releases = none; arcs = is; split_above = seen_none network path }
+-- a way to a node, above which none was split
+pub stands_at : (network : Network) (path : List Decision) (stack : Stack) (found : Option SplitPoint) → stack.least.releases ≡ releases_of network → stack.least.arcs ≡ arcs_of network (take (length path - 1) path)
+    → Stands network (record { path = path; stack = stack; splits = []; found = found })
+stands_at network path stack found none is = record { releases = none; arcs = is; split_above = points_none network path }

@@ -4,9 +4,9 @@ use crate::outcome::Look;
 
 /// What a node that is to be split has, by the least offsets of its path.
 #[derive(Clone, Copy, Debug)]
-pub struct Seen {
-    /// The place of the first violated triple among the conflicts.
-    pub place: usize,
+pub struct SplitPoint {
+    /// The number of the first violated triple among the conflicts.
+    pub triple: usize,
     /// The first stream that arrives last.
     pub last: usize,
     /// When it does, in nanoseconds.
@@ -15,7 +15,7 @@ pub struct Seen {
 
 /// What is found at a node: where to split it, or what closes it.
 #[derive(Drop)]
-pub enum Finding {
-    Split(Seen),
+pub enum Verdict {
+    Split(SplitPoint),
     Closed(Look),
 }
