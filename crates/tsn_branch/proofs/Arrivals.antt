@@ -1,7 +1,6 @@
 -- The first stream that arrives last, stream by stream.
-use Rattle.std.proofs.Common.{◌≡◌, ℕ, ◌+◌, ◌<◌, ◌≤◌, List, map, sym, subst, arith, inl, inr}
+use Rattle.std.proofs.Common.{◌≡◌, ℕ, ◌+◌, ◌<◌, ◌≤◌, List, map, arith}
 use Rattle.std.specs.List.{range_with_len}
-use Rattle.std.proofs.lemmas.Bool.{cases_lt}
 use Rattle.tsn_model.specs.Network.{Network, stream_count}
 use Rattle.tsn_model.specs.Timing.{arrival}
 use Rattle.tsn_model.specs.Schedule.{flowspan, offset_of}
@@ -17,38 +16,6 @@ pub record IsLastSoFar (network : Network) (offsets : List ℕ) (n last end : �
   pub none_later : (j : ℕ) → j < n → offset_of offsets j + arrival network j ≤ end
 
 module _ (network : Network) (offsets : List ℕ) where
-  pub last-first : (end : ℕ) → end ≡ offset_of offsets 0 + arrival network 0 → IsLastSoFar network offsets 1 0 end
-  last-first end is = record {
-    counted = omega arith;
-    arrives = sym is;
-    sooner_before = λ j below. absurd (omega arith);
-    none_later = λ j below. let first : 0 ≡ j = omega arith in subst (λ i. offset_of offsets i + arrival network i ≤ end) first (omega arith);
-  }
-
-  pub last-kept : (n last end next : ℕ) → next ≡ offset_of offsets n + arrival network n → next ≤ end
-      → IsLastSoFar network offsets n last end → IsLastSoFar network offsets (n + 1) last end
-  last-kept n last end next is not_later so_far = record {
-    counted = let below = so_far.counted in omega arith;
-    arrives = so_far.arrives;
-    sooner_before = so_far.sooner_before;
-    none_later = λ j below. elim (cases_lt j n) [
-      | inl earlier ↦ so_far.none_later j earlier
-      | inr past ↦ let same : n ≡ j = omega arith in subst (λ i. offset_of offsets i + arrival network i ≤ end) same (omega arith)
-    ];
-  }
-
-  pub last-taken : (n last end next : ℕ) → next ≡ offset_of offsets n + arrival network n → end < next
-      → IsLastSoFar network offsets n last end → IsLastSoFar network offsets (n + 1) n next
-  last-taken n last end next is later so_far = record {
-    counted = omega arith;
-    arrives = sym is;
-    sooner_before = λ j below. let before = so_far.none_later j below in omega arith;
-    none_later = λ j below. elim (cases_lt j n) [
-      | inl earlier ↦ let before = so_far.none_later j earlier in omega arith
-      | inr past ↦ let same : n ≡ j = omega arith in subst (λ i. offset_of offsets i + arrival network i ≤ next) same (omega arith)
-    ];
-  }
-
   pub flowspan_is : (last end : ℕ) → IsLastSoFar network offsets (stream_count network) last end → end ≡ flowspan network offsets
   unfolding flowspan
   flowspan_is last end all =

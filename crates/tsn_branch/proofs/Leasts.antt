@@ -12,9 +12,7 @@ use Rattle.tsn_model.specs.Arcs.{arcs_of, HoldsAll, start_of}
 use Rattle.tsn_model.specs.Certificate.{sum_on, positive_cycle}
 use Rattle.tsn_diff.specs.Offsets.{Meets, LeastOffsets, chain_of}
 use Rattle.tsn_diff.specs.Answers as diff
-use Rattle.tsn_diff.specs.Answers.{Answers, Solves}
-use Rattle.tsn_diff.specs.declared.solve.Outcome.{Outcome}
-use Rattle.tsn_model.specs.declared.Arc.{Arc}
+use Rattle.tsn_diff.specs.Answers.{Solves}
 use Rattle.tsn_branch.specs.Releases.{releases_of}
 use Rattle.tsn_branch.specs.Look.{AreReleased, AreLeast, IsShownBy, AllFit, IsRefutation}
 
@@ -25,12 +23,6 @@ released_at network i = get_or-map (λ (stream : Stream). stream.release) networ
 
 pub length-releases : (network : Network) → length (releases_of network) ≡ stream_count network
 length-releases network = length-map network.streams (λ (stream : Stream). stream.release)
-
--- what arcs come to, said of the path that they are of
-pub answers_on : (network : Network) (path : List Decision) (releases : List ℕ) (arcs : List Arc) (outcome : Outcome) → releases ≡ releases_of network → arcs ≡ arcs_of network path
-    → Answers releases arcs outcome → Answers (releases_of network) (arcs_of network path) outcome
-answers_on network path releases arcs outcome none same answers =
-    subst (λ rs. Answers rs (arcs_of network path) outcome) none (subst (λ as'. Answers releases as' outcome) same answers)
 
 module _ (network : Network) (path : List Decision) (lowest : LeastOffsets) (solves : Solves (releases_of network) (arcs_of network path) lowest) where
   pub count : length lowest.offsets ≡ stream_count network

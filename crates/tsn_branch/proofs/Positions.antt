@@ -108,27 +108,6 @@ leads_down network front triple side path old new points found whole none same i
           was_split_point network front triple side old new last none same is_front puts here;
     }
 
--- where no decision is made, the arcs are none
-pub leads_root : (network : Network) (path : List Decision) (stack : Stack) (points : List SplitPoint) (found : Option SplitPoint) → path ≡ [] → Stands network (record { path = path; stack = stack; splits = points; found = found })
-    → Leads network (record { path = path; stack = stack; splits = points; found = found })
-leads_root network path stack points found is stands = record {
-  releases = stands.releases;
-  arcs = stands.arcs ∙ ap (arcs_of network) (ap (λ p. take (length p - 1) p) is ∙ sym is);
-  split_above = stands.split_above;
-  raised = λ last at.
-      let within = slice_get_within points (length points - 1) last at in
-      let none = ap length is in
-      let count = stands.split_above.count in
-      absurd (omega arith);
-}
-
-pub stands_root_again : (network : Network) (position : Position) → position.path ≡ [] → Leads network position → Stands network position
-stands_root_again network position is leads = record {
-  releases = leads.releases;
-  arcs = leads.arcs ∙ ap (arcs_of network) (is ∙ sym (ap (λ p. take (length p - 1) p) is));
-  split_above = leads.split_above;
-}
-
 -- a decision up: the arc above is taken out too, where there is one
 pub stands_up : (network : Network) (path : List Decision) (old new : Stack) (points : List SplitPoint) (before after : Option SplitPoint)
     → Stands network (record { path = path; stack = old; splits = points; found = before }) → 0 < length old.least.arcs

@@ -1,33 +1,19 @@
 -- When the streams are done after some of them were raised, stream by stream.
-use Rattle.std.proofs.Common.{◌≡◌, ◌≢◌, ℕ, ◌+◌, ◌<◌, ◌≤◌, List, length, get_or, min, Contains, ◌⊎◌, sym, ap, ◌∙◌, subst, arith, inl, inr, refl}
+use Rattle.std.proofs.Common.{◌≡◌, ◌≢◌, ℕ, ◌+◌, ◌<◌, ◌≤◌, List, length, get_or, Contains, ◌⊎◌, sym, ap, ◌∙◌, subst, arith, inl, inr, refl}
 use Rattle.std.specs.Prelude.{slice_set}
 use Rattle.std.proofs.lemmas.Bool.{cases_lt, cases_order}
 use Rattle.std.proofs.lemmas.List.{get_or-set_same, get_or-set_other, get_or_default, length-set, ext_get_or}
-use Rattle.tsn_model.specs.Network.{Network, stream_count, latest_of}
-use Rattle.tsn_model.specs.Timing.{arrival, span}
+use Rattle.tsn_model.specs.Network.{Network, stream_count}
+use Rattle.tsn_model.specs.Timing.{arrival}
 use Rattle.tsn_model.specs.Schedule.{offset_of}
-use Rattle.tsn_branch.specs.Look.{IsDone, IsOverdue, AllFit, IsFirstOverrun}
-use Rattle.tsn_branch.specs.Ends.{EndedBefore, OthersFit}
+use Rattle.tsn_branch.specs.Look.{IsDone, IsOverdue}
+use Rattle.tsn_branch.specs.Ends.{EndedBefore}
 use Rattle.tsn_branch.proofs.Arrivals.{IsLastSoFar}
 use Rattle.tsn_model.proofs.Schedules.{arrival-le-flowspan}
 
 -- the stream at a place of the list
 abbrev pub raised_at : List ℕ → ℕ → ℕ
 raised_at raised k = get_or raised k 0
-
--- a stream is done in time, or it is overdue, and not both
-done_cases : (network : Network) (offsets : List ℕ) (i : ℕ) → IsDone network offsets i ⊎ IsOverdue network offsets i
-done_cases network offsets i = elim (cases_lt network.cycle (offset_of offsets i + span network i)) [
-  | inl over ↦ inr (inl over)
-  | inr fits ↦ elim (cases_lt (latest_of network i) (offset_of offsets i + arrival network i)) [
-    | inl late ↦ inr (inr late)
-    | inr in_time ↦ inl (fits, in_time)
-  ]
-]
-
-not_both : (network : Network) (offsets : List ℕ) (i : ℕ) → IsOverdue network offsets i → IsDone network offsets i → ⊥
-not_both network offsets i (inl over) (fits, in_time) = omega arith
-not_both network offsets i (inr late) (fits, in_time) = omega arith
 
 -- the first n of the raised streams are done in time
 abbrev pub FitSoFar : Network → List ℕ → List ℕ → ℕ → Type 0
@@ -38,73 +24,6 @@ pub record IsFirstSoFar (network : Network) (offsets raised : List ℕ) (n first
   pub counted : first < stream_count network
   pub past : IsOverdue network offsets first
   pub done_before : (k : ℕ) → k < n → k < length raised → raised_at raised k < first → IsDone network offsets (raised_at raised k)
-
-module _ (network : Network) (offsets raised : List ℕ) where
-  pub fit-more : (n s : ℕ) → raised_at raised n ≡ s → FitSoFar network offsets raised n → IsDone network offsets s → FitSoFar network offsets raised (n + 1)
-  fit-more n s is before fits k below within = elim (cases_lt k n) [
-    | inl earlier ↦ before k earlier within
-    | inr past ↦ let same : n ≡ k = omega arith in subst (IsDone network offsets) (sym is ∙ ap (raised_at raised) same) fits
-  ]
-
-  pub first-found : (n s : ℕ) → raised_at raised n ≡ s → s < stream_count network → IsOverdue network offsets s → FitSoFar network offsets raised n → IsFirstSoFar network offsets raised (n + 1) s
-  first-found n s is counted over before = record {
-    counted = counted;
-    past = over;
-    done_before = λ k below within lower. elim (cases_lt k n) [
-      | inl earlier ↦ before k earlier within
-      | inr past ↦ let same : raised_at raised k ≡ s = ap (raised_at raised) (omega arith) ∙ is in absurd (omega arith)
-    ];
-  }
-
-  pub first-kept : (n s first : ℕ) → raised_at raised n ≡ s → IsDone network offsets s → IsFirstSoFar network offsets raised n first → IsFirstSoFar network offsets raised (n + 1) first
-  first-kept n s first is fits so_far = record {
-    counted = so_far.counted;
-    past = so_far.past;
-    done_before = λ k below within lower. elim (cases_lt k n) [
-      | inl earlier ↦ so_far.done_before k earlier within lower
-      | inr past ↦ let same : n ≡ k = omega arith in subst (IsDone network offsets) (sym is ∙ ap (raised_at raised) same) fits
-    ];
-  }
-
-  pub first-lesser : (n s first : ℕ) → raised_at raised n ≡ s → s < stream_count network → IsOverdue network offsets s → IsFirstSoFar network offsets raised n first
-      → IsFirstSoFar network offsets raised (n + 1) (min first s)
-  first-lesser n s first is counted over so_far = record {
-    counted = let c = so_far.counted in omega arith;
-    past = elim (cases_lt first s) [
-      | inl lower ↦ let same : first ≡ min first s = omega arith in subst (IsOverdue network offsets) same so_far.past
-      | inr higher ↦ let same : s ≡ min first s = omega arith in subst (IsOverdue network offsets) same over
-    ];
-    done_before = λ k below within lower. elim (cases_lt k n) [
-      | inl earlier ↦ so_far.done_before k earlier within (omega arith)
-      | inr past ↦ let same : raised_at raised k ≡ s = ap (raised_at raised) (omega arith) ∙ is in absurd (omega arith)
-    ];
-  }
-
-  fits-in : (n i : ℕ) → length raised ≤ n → FitSoFar network offsets raised n → Contains raised i → IsDone network offsets i
-  fits-in n i whole so_far (k, below, is) = subst (IsDone network offsets) (get_or_default raised k 0 i below ∙ is) (so_far k (omega arith) below)
-
-  pub all-fit : (n : ℕ) → length raised ≤ n → OthersFit network raised offsets → FitSoFar network offsets raised n → AllFit network offsets
-  all-fit n whole others so_far i below = elim (done_cases network offsets i) [
-    | inr over ↦ absurd (not_both network offsets i over (others i below (λ has. not_both network offsets i over (fits-in n i whole so_far has))))
-    | inl done ↦ done
-  ]
-
-  pub first-overrun : (n first : ℕ) → length raised ≤ n → OthersFit network raised offsets → IsFirstSoFar network offsets raised n first → IsFirstOverrun network offsets first
-  first-overrun n first whole others so_far = record {
-    counted = so_far.counted;
-    past = so_far.past;
-    done_before = λ j lower. elim (done_cases network offsets j) [
-      | inr over ↦
-          let counted = so_far.counted in
-          absurd (not_both network offsets j over (others j (omega arith) (λ has. not_both network offsets j over (before j lower has))))
-      | inl done ↦ done
-    ];
-  }
-    where
-      before : (j : ℕ) → j < first → Contains raised j → IsDone network offsets j
-      before j lower (k, below, is) =
-          let at : raised_at raised k ≡ j = get_or_default raised k 0 j below ∙ is in
-          subst (IsDone network offsets) at (so_far.done_before k (omega arith) below (subst (λ i. i < first) (sym at) lower))
 
 -- ---- the last arrival
 

@@ -6,7 +6,7 @@ use Rattle.std.proofs.lemmas.List.{take_all, ext_get_or}
 use Rattle.std.proofs.lemmas.List.FromFn.{length-map-range_with_len, get_or-map-range_with_len, take-map-range_with_len}
 use Rattle.tsn_model.specs.declared.Decision.{Decision}
 use Rattle.tsn_model.specs.Network.{Network, stream_count}
-use Rattle.tsn_model.specs.Schedule.{offset_of, ComesBefore, common}
+use Rattle.tsn_model.specs.Schedule.{offset_of, common}
 use Rattle.tsn_model.specs.Arcs.{arcs_of}
 use Rattle.tsn_model.specs.Certificate.{LeadsTo, sum_on, chain_at}
 use Rattle.tsn_model.specs.Search.{ShowsOffsets}
@@ -39,9 +39,6 @@ common_all (x ∷ xs) (y ∷ ys) long same =
     ∙ ap suc (common_all xs ys (omega arith) (λ i below. same (suc i) (omega arith)))
 
 module _ (offsets best : List ℕ) (long : length best ≡ length offsets) where
-  pub comes_first : (k : ℕ) → k < length offsets → ((i : ℕ) → i < k → offset_of offsets i ≡ offset_of best i) → offset_of offsets k < offset_of best k → ComesBefore offsets best
-  comes_first k below same less = before_at offsets best k below (omega arith) same less
-
   pub compared_at : (k : ℕ) → k < length offsets → ((i : ℕ) → i < k → offset_of offsets i ≡ offset_of best i) → offset_of best k < offset_of offsets k → IsCompared offsets best (k + 1)
   compared_at k below same greater =
       let at = common_at offsets best k below (omega arith) same (λ is. absurd (omega (arith, greater, is))) in
