@@ -6,3 +6,4 @@ pub mod Playing
 pub mod Links
 pub mod Tables
 pub mod Unique
+pub mod Exchanges
