@@ -1,7 +1,7 @@
 -- Descents, a step down or up.
 use Rattle.std.proofs.Common.{◌≡◌, ℕ, pos, ◌+◌, ◌-◌, ◌≤◌, ◌<◌, List, [], ◌∷◌, ◌++◌, map, length, get_or, take, Option, Some, MatchOption, sym, ap, ◌∙◌, subst, arith, inl, inr}
 use Rattle.std.proofs.lemmas.Bool.{cases_lt}
-use Rattle.std.proofs.lemmas.List.{get_or_past, get_or_append_left, get_or_default, length-append, length-map, map-append, take_more, take-map, nil_from_length}
+use Rattle.std.proofs.lemmas.List.{get_or_past, get_or_append_left, get_or_default, length-append, map-append, take_more, take-map, nil_from_length}
 use Rattle.std.proofs.lemmas.List.Elements.{All-take}
 use Rattle.std.proofs.lemmas.Option.{get_or_from_slice_get, slice_get_within}
 use Rattle.tsn_model.specs.declared.Triple.{Triple}
@@ -166,11 +166,6 @@ of_some A B o x is holds = subst (λ p. MatchOption p A B) is holds
 pub arcs_more : (network : Network) (path : List Decision) (depth : ℕ) (d : Decision) → depth < length path → arcs_of network (take (depth + 1) path) ≡ arcs_of network (take depth path) ++ arc_on network (get_or path depth d).triple (get_or path depth d).side ∷ []
 unfolding arcs_of arc_of
 arcs_more network path depth d within = ap (map (arc_of network)) (take_more path depth d within) ∙ map-append (arc_of network) (take depth path) (get_or path depth d ∷ [])
-
--- the arcs of a path but the last are those of its decisions but the last
-pub arcs_above : (network : Network) (path : List Decision) → take (length (arcs_of network path) - 1) (arcs_of network path) ≡ arcs_of network (take (length path - 1) path)
-unfolding arcs_of
-arcs_above network path = ap (λ n. take (n - 1) (map (arc_of network) path)) (length-map path (arc_of network)) ∙ take-map (arc_of network) (length path - 1) path
 
 -- no offsets hold the arcs of a path, where none hold those of its front and of one decision more
 pub none_hold : (network : Network) (path : List Decision) (depth above n : ℕ) (d : Decision) (chain : List ℕ) → depth < above → above ≤ length path

@@ -1,10 +1,10 @@
 //! The arcs of a path, and what they come to.
-ghost use Rattle.std.specs.Prelude.{◌≡◌, ◌↔◌, ◌-◌, IsTrue, IfOk, IfSome, All, Contains, length, take, option_copied};
+ghost use Rattle.std.specs.Prelude.{◌≡◌, ◌↔◌, IsTrue, IfOk, IfSome, All, Contains, length, option_copied};
 ghost use Rattle.tsn_model.specs.Network.{Network};
 ghost use Rattle.tsn_model.specs.Arcs as model;
 ghost use Rattle.tsn_conflict.specs.Kept.{AreConflictsOf};
 ghost use Rattle.tsn_diff.specs.Limits.{IsArcAmong};
-ghost use Rattle.tsn_diff.specs.Answers.{Answers, Solves};
+ghost use Rattle.tsn_diff.specs.Answers.{Answers};
 ghost use Rattle.tsn_branch.specs.Path.{Fits};
 ghost use Rattle.tsn_branch.specs.Releases.{releases_of};
 ghost use Rattle.tsn_branch.specs.Least.{IsLeastAbove};
@@ -74,22 +74,14 @@ pub fn least_at(
     requires parent { IfSome (option_copied parent) (IsLeastAbove timing.now node.now) }
     ensures { IfOk result (Answers (releases_of timing.now) (model.arcs_of timing.now node.now)) }
 {
+    let path = node.path();
+    if let Some(above) = parent {
+        if let Some(last) = path.last() {
+            let arc = conflicts.arc(last.triple, last.side);
+            return above.with_arc(alloc, arc);
+        }
+    }
     let net = net_of(alloc, timing)?;
-    let arcs = arcs_of(alloc, conflicts, node.path())?;
-    match parent {
-        Some(parent) => least_below(alloc, &net, parent, &arcs),
-        None => net.least(alloc, &arcs),
-    }
-}
-
-/// What the arcs come to, from the least offsets by all but the last.
-fn least_below(alloc: Global, net: &Net, above: &Least, arcs: &[Arc]) -> Result<Outcome, NoMemory>
-    requires arcs { All (IsArcAmong (length net.now)) arcs.now }
-    requires above { Solves net.now (take (length arcs.now - 1) arcs.now) above.now }
-    ensures { IfOk result (Answers net.now arcs.now) }
-{
-    match arcs.split_last() {
-        Some((last, _)) => above.with_arc(alloc, *last),
-        None => net.least(alloc, arcs),
-    }
+    let arcs = arcs_of(alloc, conflicts, path)?;
+    net.least(alloc, &arcs)
 }
