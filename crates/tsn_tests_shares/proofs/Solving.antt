@@ -20,6 +20,7 @@ use Rattle.tsn_branch.specs.declared.outcome.Look.TheVariants.{Split}
 use Rattle.tsn_book.specs.Below.{next_path, events_below}
 use Rattle.tsn_share.specs.Teller.{Known, IsEven, IsSolvedBy, IsUnsolved, OnlyLastSolved, tally_with_all}
 use Rattle.tsn_share.specs.Gathered.{IsInOrder}
+use Rattle.tsn_share.proofs.Tellers.{above_solved}
 use Rattle.tsn_tests_shares.specs.Solving.{IsTied, IsWalk}
 
 -- what a look solves is below its target
@@ -30,14 +31,7 @@ solved_below network path target flowspan best (pruned bound leaf) found by = ab
 solved_below network path target flowspan best (tied bound leaf chains) found by = absurd by
 solved_below network path target flowspan best (refuted leaf) found by = absurd by
 
--- a solved leaf prunes by nothing, and below the least that its teller solved it becomes that
-pub solved_above : (network : Network) (seen flowspan : ℕ) (outcome : Outcome) → IsSolvedBy flowspan outcome → IsAboveSeen network seen outcome
-solved_above network seen flowspan (split triple) by = absurd by
-solved_above network seen flowspan (solved offsets bound leaf chains) by = tt
-solved_above network seen flowspan (pruned bound leaf) by = absurd by
-solved_above network seen flowspan (tied bound leaf chains) by = absurd by
-solved_above network seen flowspan (refuted leaf) by = absurd by
-
+-- below the least that its teller solved a solved leaf becomes that
 pub solved_least : (target flowspan : ℕ) (tally : Tally) (outcome : Outcome) → IsSolvedBy flowspan outcome → flowspan < target → target ≤ tally.2 → flowspan ≡ (tally_with tally outcome).2
 unfolding tally_with
 solved_least target flowspan tally (split triple) by below low = absurd by
@@ -113,7 +107,7 @@ module _ (network : Network) (path : List Decision) (flowspan : ℕ) (looks : Li
   pub walk_above : (seen : ℕ) → All (IsAboveSeen network seen) (map outcome_of looks)
   walk_above seen =
       subst (λ given. All (IsAboveSeen network seen) (map outcome_of given)) (sym walk.is)
-      (all_of_two (IsAboveSeen network seen) (split walk.triple) (outcome_of walk.last) tt (solved_above network seen flowspan (outcome_of walk.last) walk.by))
+      (all_of_two (IsAboveSeen network seen) (split walk.triple) (outcome_of walk.last) tt (above_solved network seen flowspan (outcome_of walk.last) walk.by))
 
   pub walk_last : OnlyLastSolved (map outcome_of looks)
   walk_last = subst (λ given. OnlyLastSolved (map outcome_of given)) (sym walk.is) (last_of_two walk.triple (split walk.triple) (outcome_of walk.last) refl)

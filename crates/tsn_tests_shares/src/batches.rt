@@ -125,7 +125,7 @@ fn past_limit<K: Named, R: Wait + Abort + AllocGlobal>(rt: &R, timing: &Timing, 
 }
 
 /// Settles the root's split and the Left node as solved at once.
-#[tactic(auto, using(crate::proofs::Solving::solved_above))]
+#[tactic(auto, using(tsn_share::proofs::Tellers::above_solved))]
 fn split_and_solved<K: Named, R: Wait + Abort + AllocGlobal>(
     rt: &R,
     timing: &Timing,
@@ -179,7 +179,7 @@ pub fn settle_by_batches<K: Named, R: Wait + Abort + AllocGlobal>(
 }
 
 /// Settles the root's split and the Left node as solved at once, and posts its schedule.
-#[tactic(auto, using(crate::proofs::Solving::solved_above, crate::proofs::Solving::solved_next))]
+#[tactic(auto, using(tsn_share::proofs::Tellers::above_solved, crate::proofs::Solving::solved_next))]
 fn split_and_solve<K: Named, R: Wait + Abort + AllocGlobal>(
     rt: &R,
     timing: &Timing,

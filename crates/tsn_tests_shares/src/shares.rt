@@ -53,7 +53,7 @@ fn split_first<K: Named, R: Wait + Abort + AllocGlobal>(
 }
 
 /// Settles a node that a look solves below the target, and gives its schedule.
-#[tactic(auto, using(crate::proofs::Solving::solved_above, crate::proofs::Solving::solved_least))]
+#[tactic(auto, using(tsn_share::proofs::Tellers::above_solved, crate::proofs::Solving::solved_least))]
 fn settle_solved<K: Named, R: Wait + Abort + AllocGlobal>(
     rt: &R,
     timing: &Timing,
