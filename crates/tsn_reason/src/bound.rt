@@ -30,6 +30,14 @@ struct LinkLoad {
     tail: i64,
 }
 
+/// A certificate, and what it is to show of the times of a network: that the plan is right.
+#[derive(Clone, Copy)]
+pub struct Shown<'a> {
+    pub timing: &'a Timing,
+    pub plan: &'a Plan,
+    pub cert: &'a Cert,
+}
+
 /// What a leaf has to show: a bound of at least so many nanoseconds, with the words before and behind that number.
 #[derive(Clone, Copy)]
 struct Wanted {
@@ -42,29 +50,27 @@ struct Wanted {
 pub fn push_low_bound(
     alloc: Global,
     text: &mut String,
-    timing: &Timing,
-    plan: &Plan,
-    cert: &Cert,
+    shown: Shown<'_>,
     number: usize,
 ) -> Result<(), NoMemory> {
-    let nodes = cert.nodes.list();
+    let nodes = shown.cert.nodes.list();
     let Some(node) = nodes.get(number) else {
         return Ok(());
     };
-    let path = path_to(alloc, timing, nodes, number)?;
+    let path = path_to(alloc, shown.timing, nodes, number)?;
     let place = Place {
-        timing,
+        timing: shown.timing,
         path: path.as_slice(),
     };
     write!(text, "node {number}: ")?;
-    Ok(push_leaf(text, place, plan, wanted_of(timing, cert), node)?)
+    Ok(push_leaf(text, place, shown.plan, wanted_of(shown), node)?)
 }
 
 /// What a leaf that is no tie has to show.
-fn wanted_of(timing: &Timing, cert: &Cert) -> Wanted {
-    let target = cert.target;
-    match cert.format {
-        Format::Two if target <= timing.cycle() => Wanted {
+fn wanted_of(shown: Shown<'_>) -> Wanted {
+    let target = shown.cert.target;
+    match shown.cert.format {
+        Format::Two if target <= shown.timing.cycle() => Wanted {
             least: target.saturating_add(1),
             before: "",
             behind: ", one more than the target",

@@ -1,6 +1,6 @@
 //! Why a certificate file, or the certificate that it has, is refused.
 
-use crate::bound::push_low_bound;
+use crate::bound::{Shown, push_low_bound};
 use crate::json::{elements_at, number_at, push_not_json, push_wrong_keys};
 use crate::text::line_of;
 use crate::{File, Reason};
@@ -8,10 +8,9 @@ use serde_json::Value;
 use std::alloc::Global;
 use std::fmt::Write;
 use tsn_cert::plan::MAX_TIME;
-use tsn_cert::{Cert, FileFault, Plan, cert_from_json};
+use tsn_cert::{FileFault, Plan, cert_from_json};
 use tsn_check::CheckFault;
 use tsn_model::NoMemory;
-use tsn_timing::Timing;
 
 /// Why a certificate file with this fault is refused.
 pub fn cert_file_line(alloc: Global, cert: File<'_>, fault: FileFault) -> Reason {
@@ -102,36 +101,27 @@ fn push_node(
 pub fn certificate_line(
     alloc: Global,
     file: File<'_>,
-    timing: &Timing,
-    plan: &Plan,
-    cert: &Cert,
+    shown: Shown<'_>,
     fault: CheckFault,
 ) -> Reason {
     let mut text = line_of(alloc, file.name)?;
     match fault {
         CheckFault::Memory => return Err(NoMemory),
-        CheckFault::FlowspanWrong => push_wrong_target(&mut text, timing, plan, cert)?,
-        CheckFault::BoundTooLow(node) => {
-            push_low_bound(alloc, &mut text, timing, plan, cert, node)?
-        }
+        CheckFault::FlowspanWrong => push_wrong_target(&mut text, shown)?,
+        CheckFault::BoundTooLow(node) => push_low_bound(alloc, &mut text, shown, node)?,
         _ => write!(text, "{fault}")?,
     }
     Ok(Some(text))
 }
 
 /// Writes what the target is, and has to be.
-fn push_wrong_target(
-    text: &mut String,
-    timing: &Timing,
-    plan: &Plan,
-    cert: &Cert,
-) -> Result<(), NoMemory> {
-    let target = cert.target;
+fn push_wrong_target(text: &mut String, shown: Shown<'_>) -> Result<(), NoMemory> {
+    let target = shown.cert.target;
     write!(text, "target is {target}, and has to be ")?;
-    match plan {
+    match shown.plan {
         Plan::Schedule { flowspan, .. } => write!(text, "{flowspan}, the flowspan of the plan")?,
         Plan::None => {
-            let past_cycle = timing.cycle().saturating_add(1);
+            let past_cycle = shown.timing.cycle().saturating_add(1);
             write!(
                 text,
                 "{past_cycle}, one more than the cycle, since the plan is that there is no schedule"

@@ -15,16 +15,17 @@ mod plan;
 mod routes;
 mod text;
 
+use crate::bound::Shown;
 use crate::certificate::{cert_file_line, certificate_line};
 use crate::network::network_line;
-use crate::offsets::offsets_line;
-use crate::plan::{plan_file_line, plan_line};
+use crate::offsets::{Schedule, offsets_line};
+use crate::plan::{Stated, is_at_fault, plan_file_line, plan_line};
 use std::alloc::Global;
 pub use text::line_of;
-use tsn_cert::{cert_from_json, plan_from_json};
-use tsn_check::{check, check_plan};
+use tsn_cert::{Cert, Plan, cert_from_json, plan_from_json};
+use tsn_check::{CheckFault, check, check_plan};
 use tsn_model::NoMemory;
-use tsn_net::read_problem;
+use tsn_net::{Problem, read_problem};
 use tsn_timing::{Timing, Validity};
 
 /// A file that was read.
@@ -36,6 +37,14 @@ pub struct File<'a> {
     pub bytes: &'a [u8],
 }
 
+/// A plan of a problem, and the file that states it.
+#[derive(Clone, Copy)]
+struct Claim<'a> {
+    problem: &'a Problem,
+    file: File<'a>,
+    plan: &'a Plan,
+}
+
 /// The line, from the name of the file at fault on and without its end; None where nothing is refused. The error says that
 /// there was no memory.
 pub type Reason = Result<Option<String>, NoMemory>;
@@ -43,65 +52,164 @@ pub type Reason = Result<Option<String>, NoMemory>;
 /// Why a network file is refused.
 pub fn network_reason(alloc: Global, network: File<'_>) -> Reason {
     match read_problem(alloc, network.bytes) {
-        Ok(_) => Ok(None),
+        Ok(problem) => {
+            drop(problem);
+            Ok(None)
+        }
         Err(fault) => network_line(alloc, network, fault),
     }
 }
 
 /// Why a network file is refused, or these offsets of its streams, in nanoseconds.
 pub fn offsets_reason(alloc: Global, network: File<'_>, offsets: &[u64]) -> Reason {
-    let problem = match read_problem(alloc, network.bytes) {
-        Ok(problem) => problem,
-        Err(fault) => return network_line(alloc, network, fault),
-    };
-    let timing = Timing::of(alloc, &problem)?;
-    match timing.validity(offsets) {
-        Validity::Valid => Ok(None),
-        Validity::Refused(violation) => {
-            offsets_line(alloc, network, &problem, &timing, offsets, violation)
+    match read_problem(alloc, network.bytes) {
+        Ok(problem) => {
+            let reason = refused_offsets(alloc, network, &problem, offsets);
+            drop(problem);
+            reason
         }
+        Err(fault) => network_line(alloc, network, fault),
     }
+}
+
+/// Why offsets for this problem are refused.
+fn refused_offsets(alloc: Global, network: File<'_>, problem: &Problem, offsets: &[u64]) -> Reason {
+    let timing = Timing::of(alloc, problem)?;
+    let schedule = Schedule {
+        problem,
+        timing: &timing,
+        offsets,
+    };
+    let reason = match timing.validity(offsets) {
+        Validity::Valid => Ok(None),
+        Validity::Refused(violation) => offsets_line(alloc, network, schedule, violation),
+    };
+    drop(timing);
+    reason
 }
 
 /// Why a network file is refused, or else a plan file, or else the plan as a schedule that can be shown.
 pub fn plan_reason(alloc: Global, network: File<'_>, plan: File<'_>) -> Reason {
-    let problem = match read_problem(alloc, network.bytes) {
-        Ok(problem) => problem,
-        Err(fault) => return network_line(alloc, network, fault),
-    };
-    let stated = match plan_from_json(alloc, plan.bytes) {
-        Ok(stated) => stated,
-        Err(fault) => return plan_file_line(alloc, plan, fault),
-    };
-    let timing = Timing::of(alloc, &problem)?;
-    match check_plan(alloc, &timing, &stated) {
-        Ok(_) => Ok(None),
-        Err(fault) => plan_line(alloc, plan, &problem, &timing, &stated, fault),
+    match read_problem(alloc, network.bytes) {
+        Ok(problem) => {
+            let reason = refused_plan_file(alloc, &problem, plan);
+            drop(problem);
+            reason
+        }
+        Err(fault) => network_line(alloc, network, fault),
     }
+}
+
+/// Why a plan file for this problem is refused, or else the plan.
+fn refused_plan_file(alloc: Global, problem: &Problem, file: File<'_>) -> Reason {
+    match plan_from_json(alloc, file.bytes) {
+        Ok(plan) => {
+            let reason = refused_plan(alloc, problem, file, &plan);
+            drop(plan);
+            reason
+        }
+        Err(fault) => plan_file_line(alloc, file, fault),
+    }
+}
+
+/// Why a plan for this problem is refused.
+fn refused_plan(alloc: Global, problem: &Problem, file: File<'_>, plan: &Plan) -> Reason {
+    let timing = Timing::of(alloc, problem)?;
+    let stated = Stated {
+        problem,
+        timing: &timing,
+        plan,
+    };
+    let reason = match check_plan(alloc, &timing, plan) {
+        Ok(valid) => {
+            drop(valid);
+            Ok(None)
+        }
+        Err(fault) => plan_line(alloc, file, stated, fault),
+    };
+    drop(timing);
+    reason
 }
 
 /// Why a network file is refused, or else a plan file, or else a certificate file, or else the plan or the certificate
 /// itself.
 pub fn cert_reason(alloc: Global, network: File<'_>, plan: File<'_>, cert: File<'_>) -> Reason {
-    let problem = match read_problem(alloc, network.bytes) {
-        Ok(problem) => problem,
-        Err(fault) => return network_line(alloc, network, fault),
-    };
-    let stated = match plan_from_json(alloc, plan.bytes) {
-        Ok(stated) => stated,
-        Err(fault) => return plan_file_line(alloc, plan, fault),
-    };
-    let shown = match cert_from_json(alloc, cert.bytes) {
-        Ok(shown) => shown,
-        Err(fault) => return cert_file_line(alloc, cert, fault),
-    };
-    let fault = match check(alloc, &problem, &stated, &shown) {
-        Ok(_) => return Ok(None),
-        Err(fault) => fault,
-    };
-    let timing = Timing::of(alloc, &problem)?;
-    if plan::is_at_fault(&timing, &stated) {
-        return plan_line(alloc, plan, &problem, &timing, &stated, fault);
+    match read_problem(alloc, network.bytes) {
+        Ok(problem) => {
+            let reason = refused_files(alloc, &problem, plan, cert);
+            drop(problem);
+            reason
+        }
+        Err(fault) => network_line(alloc, network, fault),
     }
-    certificate_line(alloc, cert, &timing, &stated, &shown, fault)
+}
+
+/// Why a plan file for this problem is refused, or else a certificate file, or else what they say.
+fn refused_files(alloc: Global, problem: &Problem, file: File<'_>, cert: File<'_>) -> Reason {
+    match plan_from_json(alloc, file.bytes) {
+        Ok(plan) => {
+            let claim = Claim {
+                problem,
+                file,
+                plan: &plan,
+            };
+            let reason = refused_cert_file(alloc, claim, cert);
+            drop(plan);
+            reason
+        }
+        Err(fault) => plan_file_line(alloc, file, fault),
+    }
+}
+
+/// Why a certificate file for this plan is refused, or else the plan or the certificate.
+fn refused_cert_file(alloc: Global, claim: Claim<'_>, file: File<'_>) -> Reason {
+    match cert_from_json(alloc, file.bytes) {
+        Ok(cert) => {
+            let reason = refused_cert(alloc, claim, file, &cert);
+            drop(cert);
+            reason
+        }
+        Err(fault) => cert_file_line(alloc, file, fault),
+    }
+}
+
+/// Why a plan or its certificate is refused.
+fn refused_cert(alloc: Global, claim: Claim<'_>, file: File<'_>, cert: &Cert) -> Reason {
+    match check(alloc, claim.problem, claim.plan, cert) {
+        Ok(_) => Ok(None),
+        Err(fault) => line_of_fault(alloc, claim, file, cert, fault),
+    }
+}
+
+/// The line on a plan or its certificate with this fault.
+fn line_of_fault(
+    alloc: Global,
+    claim: Claim<'_>,
+    file: File<'_>,
+    cert: &Cert,
+    fault: CheckFault,
+) -> Reason {
+    let Claim {
+        problem,
+        file: plan_file,
+        plan,
+    } = claim;
+    let timing = Timing::of(alloc, problem)?;
+    let reason = if is_at_fault(&timing, plan) {
+        let stated = Stated {
+            problem,
+            timing: &timing,
+            plan,
+        };
+        plan_line(alloc, plan_file, stated, fault)
+    } else {
+        let shown = Shown {
+            timing: &timing,
+            plan,
+            cert,
+        };
+        certificate_line(alloc, file, shown, fault)
+    };
+    drop(timing);
+    reason
 }

@@ -30,17 +30,10 @@ impl Schedule<'_> {
 pub fn offsets_line(
     alloc: Global,
     network: File<'_>,
-    problem: &Problem,
-    timing: &Timing,
-    offsets: &[u64],
+    schedule: Schedule<'_>,
     violation: Violation,
 ) -> Reason {
     let mut text = line_of(alloc, network.name)?;
-    let schedule = Schedule {
-        problem,
-        timing,
-        offsets,
-    };
     push_violation(&mut text, schedule, violation)?;
     Ok(Some(text))
 }

@@ -14,6 +14,14 @@ use tsn_model::NoMemory;
 use tsn_net::Problem;
 use tsn_timing::{Timing, Validity};
 
+/// A plan of a problem with these times.
+#[derive(Clone, Copy)]
+pub struct Stated<'a> {
+    pub problem: &'a Problem,
+    pub timing: &'a Timing,
+    pub plan: &'a Plan,
+}
+
 /// Why a plan file with this fault is refused.
 pub fn plan_file_line(alloc: Global, plan: File<'_>, fault: FileFault) -> Reason {
     let mut text = line_of(alloc, plan.name)?;
@@ -93,23 +101,16 @@ pub fn is_at_fault(timing: &Timing, plan: &Plan) -> bool {
 }
 
 /// Why a plan with this fault is refused.
-pub fn plan_line(
-    alloc: Global,
-    file: File<'_>,
-    problem: &Problem,
-    timing: &Timing,
-    plan: &Plan,
-    fault: CheckFault,
-) -> Reason {
+pub fn plan_line(alloc: Global, file: File<'_>, stated: Stated<'_>, fault: CheckFault) -> Reason {
     if fault == CheckFault::Memory {
         return Err(NoMemory);
     }
     let mut text = line_of(alloc, file.name)?;
-    match plan {
+    match stated.plan {
         Plan::Schedule { flowspan, offsets } => {
             let schedule = Schedule {
-                problem,
-                timing,
+                problem: stated.problem,
+                timing: stated.timing,
                 offsets: offsets.list(),
             };
             push_schedule(&mut text, schedule, *flowspan)?;
