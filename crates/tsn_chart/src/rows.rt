@@ -15,6 +15,15 @@ const NARROWEST: u64 = 6;
 /// The gate of the scheduled class alone open.
 const SCHEDULED: u8 = 0x80;
 
+/// The bar of a stream's frame in a row: where it begins, and how wide it is, in tenths of a pixel.
+#[derive(Clone, Copy)]
+struct Bar {
+    row: usize,
+    stream: usize,
+    x: u64,
+    wide: u64,
+}
+
 /// Writes a row: its label, its gates, and its frames.
 pub fn write_row(text: &mut String, sheet: Sheet<'_>, row: usize) -> Result<(), AllocError>
     requires { row < length sheet.lists.now }
@@ -144,33 +153,32 @@ fn write_bar(
     )?;
     write_colour(text, stream)?;
     text.push_str("\"/>")?;
-    write_bar_name(text, sheet, row, stream, x, wide)?;
+    let bar = Bar {
+        row,
+        stream,
+        x,
+        wide,
+    };
+    write_bar_name(text, sheet, bar)?;
     text.push_str("</g>\n")
 }
 
 /// Writes a stream's name into its bar, where there is room for some of it.
-fn write_bar_name(
-    text: &mut String,
-    sheet: Sheet<'_>,
-    row: usize,
-    stream: usize,
-    x: u64,
-    wide: u64,
-) -> Result<(), AllocError>
-    requires stream { stream < stream_count sheet.timing.now }
-    requires x { x ≤ 14_000 }
-    requires wide { wide ≤ 14_000 }
+fn write_bar_name(text: &mut String, sheet: Sheet<'_>, bar: Bar) -> Result<(), AllocError>
+    requires stream { bar.stream < stream_count sheet.timing.now }
+    requires x { bar.x ≤ 14_000 }
+    requires wide { bar.wide ≤ 14_000 }
 {
-    let room = letters_in(wide.saturating_sub(40), sheet.scale.font());
+    let room = letters_in(bar.wide.saturating_sub(40), sheet.scale.font());
     if room < 3 {
         return Ok(());
     }
-    let middle = x + wide / 2;
-    let y = sheet.scale.y(row) + sheet.scale.row_height() / 2 + sheet.scale.font() / 3;
+    let middle = bar.x + bar.wide / 2;
+    let y = sheet.scale.y(bar.row) + sheet.scale.row_height() / 2 + sheet.scale.font() / 3;
     write!(
         text,
         "<text x=\"{middle}\" y=\"{y}\" fill=\"#ffffff\" text-anchor=\"middle\">"
     )?;
-    write_name(text, sheet.name(stream), room)?;
+    write_name(text, sheet.name(bar.stream), room)?;
     text.push_str("</text>")
 }
