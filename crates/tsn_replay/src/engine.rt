@@ -10,7 +10,7 @@ ghost use Rattle.tsn_replay.specs.Progress.{setting_of, IsSetting, IsUnderWay, I
 use crate::background::Background;
 use crate::feed::Feed;
 use crate::openings::Openings;
-use crate::port::{Port, first_port};
+use crate::port::{LinkQueue, Port, first_port};
 use crate::queue::{Frame, advance, frames_of, waits};
 use crate::starts::Starts;
 use std::alloc::{AllocError, Global};
@@ -97,10 +97,13 @@ impl Replay<'_> {
             (max (free_on state.now.free.items list.now.link) state.now.time) state.now.end result }
     {
         let link = list.link();
-        Port::of(
-            self.network,
-            &state.frames,
+        let queue = LinkQueue {
+            network: self.network,
+            frames: &state.frames,
             list,
+        };
+        Port::of(
+            queue,
             state.feed.waiting(link),
             state.free[link].max(state.time),
             state.end,
@@ -195,14 +198,12 @@ impl Replay<'_> {
         state.free[link] = until;
         state.feed.sent(link);
         let next = state.feed.waiting(link);
-        state.ports[place] = port.after_sent(
-            self.network,
-            &state.frames,
+        let queue = LinkQueue {
+            network: self.network,
+            frames: &state.frames,
             list,
-            next,
-            until,
-            state.end,
-        );
+        };
+        state.ports[place] = port.after_sent(queue, next, until, state.end);
         Ok(())
     }
 }

@@ -12,6 +12,14 @@ use crate::openings::Openings;
 use crate::queue::{Frame, head};
 use tsn_model::plain::PlainNetwork;
 
+/// The frames of a network, among them the queue of the list's link.
+#[derive(Clone, Copy)]
+pub struct LinkQueue<'a> {
+    pub network: &'a PlainNetwork,
+    pub frames: &'a [Frame],
+    pub list: &'a Openings,
+}
+
 /// The first frame of a link's queue, and when it and the background frame that waits can start.
 #[derive(Clone, Copy, Debug)]
 pub struct Port {
@@ -22,57 +30,48 @@ pub struct Port {
 
 impl Port {
     /// The port of a link, from an instant on.
-    pub fn of(
-        network: &PlainNetwork,
-        frames: &[Frame],
-        list: &Openings,
-        waiting: Option<Waiting>,
-        from: u64,
-        end: u64,
-    ) -> Port
-        requires streams { All (λ (frame : Frame). frame.stream < stream_count network.now) frames.now }
-        requires ready { All (λ (frame : Frame). frame.ready ≤ latest_instant) frames.now }
+    pub fn of(queue: LinkQueue<'_>, waiting: Option<Waiting>, from: u64, end: u64) -> Port
+        requires streams { All (λ (frame : Frame). frame.stream < stream_count queue.network.now) queue.frames.now }
+        requires ready { All (λ (frame : Frame). frame.ready ≤ latest_instant) queue.frames.now }
         requires wanted { (frame : Waiting) → waiting ≡ Some frame → frame.wanted ≤ latest_instant }
         requires from { from ≤ latest_instant }
         requires end { end ≤ latest_instant }
-        ensures { IsPort network.now list.now.entries frames.now waiting list.now.link from end result }
+        ensures { IsPort queue.entry.network.now queue.entry.list.now.entries queue.entry.frames.now waiting queue.entry.list.now.link from end result }
     {
-        let head = head(network, frames, list.link());
+        let head = head(queue.network, queue.frames, queue.list.link());
         Port {
             head,
-            scheduled: scheduled_on(network, frames, head, list, from, end),
-            background: background_on(list, waiting, from, end),
+            scheduled: scheduled_on(queue, head, from, end),
+            background: background_on(queue.list, waiting, from, end),
         }
     }
 
     /// The port once the background frame that waited has started: its queue is as it was.
     pub fn after_sent(
         self,
-        network: &PlainNetwork,
-        frames: &[Frame],
-        list: &Openings,
+        queue: LinkQueue<'_>,
         waiting: Option<Waiting>,
         from: u64,
         end: u64,
     ) -> Port
-        requires streams { All (λ (frame : Frame). frame.stream < stream_count network.now) frames.now }
-        requires ready { All (λ (frame : Frame). frame.ready ≤ latest_instant) frames.now }
+        requires streams { All (λ (frame : Frame). frame.stream < stream_count queue.network.now) queue.frames.now }
+        requires ready { All (λ (frame : Frame). frame.ready ≤ latest_instant) queue.frames.now }
         requires wanted { (frame : Waiting) → waiting ≡ Some frame → frame.wanted ≤ latest_instant }
         requires from { from ≤ latest_instant }
         requires end { end ≤ latest_instant }
-        requires head { IsHead network.now frames.now list.now.link self.head }
-        requires still { from ≤ self.scheduled → IsScheduledNext network.now list.now.entries frames.now self.head from end self.scheduled }
-        ensures { IsPort network.now list.now.entries frames.now waiting list.now.link from end result }
+        requires head { IsHead queue.network.now queue.frames.now queue.list.now.link self.head }
+        requires still { from ≤ self.scheduled → IsScheduledNext queue.network.now queue.list.now.entries queue.frames.now self.head from end self.scheduled }
+        ensures { IsPort queue.entry.network.now queue.entry.list.now.entries queue.entry.frames.now waiting queue.entry.list.now.link from end result }
     {
         let scheduled = if from <= self.scheduled {
             self.scheduled
         } else {
-            scheduled_on(network, frames, self.head, list, from, end)
+            scheduled_on(queue, self.head, from, end)
         };
         Port {
             head: self.head,
             scheduled,
-            background: background_on(list, waiting, from, end),
+            background: background_on(queue.list, waiting, from, end),
         }
     }
 
@@ -103,23 +102,16 @@ pub fn first_port(ports: &[Port], end: u64) -> Option<usize>
 }
 
 /// When the first frame of the list's queue can start, from that instant on.
-fn scheduled_on(
-    network: &PlainNetwork,
-    frames: &[Frame],
-    first: Option<usize>,
-    list: &Openings,
-    from: u64,
-    end: u64,
-) -> u64
-    requires first { IsHead network.now frames.now list.now.link first }
-    requires streams { All (λ (frame : Frame). frame.stream < stream_count network.now) frames.now }
-    requires ready { All (λ (frame : Frame). frame.ready ≤ latest_instant) frames.now }
+fn scheduled_on(queue: LinkQueue<'_>, first: Option<usize>, from: u64, end: u64) -> u64
+    requires first { IsHead queue.network.now queue.frames.now queue.list.now.link first }
+    requires streams { All (λ (frame : Frame). frame.stream < stream_count queue.network.now) queue.frames.now }
+    requires ready { All (λ (frame : Frame). frame.ready ≤ latest_instant) queue.frames.now }
     requires from { from ≤ latest_instant }
     requires end { end ≤ latest_instant }
-    ensures { IsScheduledNext network.now list.now.entries frames.now first from end result }
+    ensures { IsScheduledNext queue.entry.network.now queue.entry.list.now.entries queue.entry.frames.now first from end result }
 {
     match first {
-        Some(place) => start_of(network, &frames[place], list, from, end),
+        Some(place) => start_of(queue.network, &queue.frames[place], queue.list, from, end),
         None => from.max(end),
     }
 }

@@ -10,6 +10,14 @@ use crate::trace::Row;
 use std::alloc::{AllocError, Global};
 use tsn_timing::Timing;
 
+/// When frames start: as the timing and the offsets plan it, and in the replay, by cycle, stream and hop.
+#[derive(Clone, Copy)]
+struct StartTimes<'a> {
+    timing: &'a Timing,
+    offsets: &'a [u64],
+    table: &'a [Option<u64>],
+}
+
 /// A row for each stream, cycle and hop, by cycle, then stream, then hop.
 pub fn rows_of(
     alloc: Global,
@@ -26,29 +34,39 @@ pub fn rows_of(
     ensures { IfOk result (λ rows. AreRows timing.now offsets.now cycles starts.now rows.items) }
 {
     let table = table_of(alloc, timing, cycles, starts.scheduled())?;
+    let times = StartTimes {
+        timing,
+        offsets,
+        table: &table,
+    };
+    rows_by(alloc, times, cycles)
+}
+
+/// The rows of all cycles.
+fn rows_by(alloc: Global, times: StartTimes<'_>, cycles: usize) -> Result<Vec<Row>, AllocError>
+    requires count { length times.offsets.now ≡ stream_count times.timing.now }
+    requires small { All (λ offset. offset ≤ times.timing.now.cycle) times.offsets.now }
+    requires few { cycles ≤ 16 }
+    requires table { length times.table.now ≡ cycles * stream_count times.timing.now * 16 }
+    ensures { IfOk result (λ rows. rows.items ≡ map (row_of times.entry.timing.now times.entry.offsets.now times.entry.table.now) (passages_of times.entry.timing.now cycles)) }
+{
     let mut rows = Vec::new(alloc);
     for cycle in 0..cycles {
-        push_cycle(&mut rows, timing, offsets, &table, cycle)?;
+        push_cycle(&mut rows, times, cycle)?;
     }
     Ok(rows)
 }
 
 /// Adds the rows of a cycle.
-fn push_cycle(
-    rows: &mut Vec<Row>,
-    timing: &Timing,
-    offsets: &[u64],
-    table: &[Option<u64>],
-    cycle: usize,
-) -> Result<(), AllocError>
-    requires count { length offsets.now ≡ stream_count timing.now }
-    requires small { All (λ offset. offset ≤ timing.now.cycle) offsets.now }
+fn push_cycle(rows: &mut Vec<Row>, times: StartTimes<'_>, cycle: usize) -> Result<(), AllocError>
+    requires count { length times.offsets.now ≡ stream_count times.timing.now }
+    requires small { All (λ offset. offset ≤ times.timing.now.cycle) times.offsets.now }
     requires few { cycle < 16 }
-    requires table { (cycle + 1) * stream_count timing.now * 16 ≤ length table.now }
-    ensures { IfOk result (λ _. rows.new.items ≡ rows.old.items ++ map (row_of timing.now offsets.now table.now) (cycle_passages timing.now cycle)) }
+    requires table { (cycle + 1) * stream_count times.timing.now * 16 ≤ length times.table.now }
+    ensures { IfOk result (λ _. rows.new.items ≡ rows.old.items ++ map (row_of times.entry.timing.now times.entry.offsets.now times.entry.table.now) (cycle_passages times.entry.timing.now cycle)) }
 {
-    for stream in 0..timing.streams() {
-        push_stream(rows, timing, offsets, table, cycle, stream)?;
+    for stream in 0..times.timing.streams() {
+        push_stream(rows, times, cycle, stream)?;
     }
     Ok(())
 }
@@ -56,49 +74,42 @@ fn push_cycle(
 /// Adds the rows of a stream in a cycle.
 fn push_stream(
     rows: &mut Vec<Row>,
-    timing: &Timing,
-    offsets: &[u64],
-    table: &[Option<u64>],
+    times: StartTimes<'_>,
     cycle: usize,
     stream: usize,
 ) -> Result<(), AllocError>
-    requires stream { stream < stream_count timing.now }
-    requires count { length offsets.now ≡ stream_count timing.now }
-    requires small { All (λ offset. offset ≤ timing.now.cycle) offsets.now }
+    requires stream { stream < stream_count times.timing.now }
+    requires count { length times.offsets.now ≡ stream_count times.timing.now }
+    requires small { All (λ offset. offset ≤ times.timing.now.cycle) times.offsets.now }
     requires few { cycle < 16 }
-    requires table { (cycle + 1) * stream_count timing.now * 16 ≤ length table.now }
-    ensures { IfOk result (λ _. rows.new.items ≡ rows.old.items ++ map (row_of timing.now offsets.now table.now) (stream_passages timing.now cycle stream)) }
+    requires table { (cycle + 1) * stream_count times.timing.now * 16 ≤ length times.table.now }
+    ensures { IfOk result (λ _. rows.new.items ≡ rows.old.items ++ map (row_of times.entry.timing.now times.entry.offsets.now times.entry.table.now) (stream_passages times.entry.timing.now cycle stream)) }
 {
-    for hop in 0..timing.hops(stream) {
-        rows.push(row(timing, offsets, table, cycle, stream, hop))?;
+    for hop in 0..times.timing.hops(stream) {
+        rows.push(row(times, cycle, stream, hop))?;
     }
     Ok(())
 }
 
 /// The row of a passage.
 #[tactic(auto, unfolding(crate::specs::Rows::row_of, tsn_model::specs::Bridge::planned))]
-fn row(
-    timing: &Timing,
-    offsets: &[u64],
-    table: &[Option<u64>],
-    cycle: usize,
-    stream: usize,
-    hop: usize,
-) -> Row
-    requires stream { stream < stream_count timing.now }
-    requires hop { hop < hop_count timing.now stream }
-    requires count { length offsets.now ≡ stream_count timing.now }
-    requires small { All (λ offset. offset ≤ timing.now.cycle) offsets.now }
+fn row(times: StartTimes<'_>, cycle: usize, stream: usize, hop: usize) -> Row
+    requires stream { stream < stream_count times.timing.now }
+    requires hop { hop < hop_count times.timing.now stream }
+    requires count { length times.offsets.now ≡ stream_count times.timing.now }
+    requires small { All (λ offset. offset ≤ times.timing.now.cycle) times.offsets.now }
     requires few { cycle < 16 }
-    requires table { (cycle + 1) * stream_count timing.now * 16 ≤ length table.now }
-    ensures { result ≡ row_of timing.now offsets.now table.now (record { stream = stream; cycle = cycle; hop = hop }) }
+    requires table { (cycle + 1) * stream_count times.timing.now * 16 ≤ length times.table.now }
+    ensures { result ≡ row_of times.entry.timing.now times.entry.offsets.now times.entry.table.now (record { stream = stream; cycle = cycle; hop = hop }) }
 {
     Row {
         stream,
         cycle,
         hop,
-        planned: cycle as u64 * timing.cycle() + offsets[stream] + timing.start(stream, hop),
-        actual: table[place(timing, cycle, stream, hop)],
+        planned: cycle as u64 * times.timing.cycle()
+            + times.offsets[stream]
+            + times.timing.start(stream, hop),
+        actual: times.table[place(times.timing, cycle, stream, hop)],
     }
 }
 

@@ -6,7 +6,7 @@ use Rattle.tsn_replay.proofs.port.scheduled_on.Goals as goal
 
 pub start_of-requires-clause-waits : goal.start_of-requires-clause-waits
 unfolding frame_in
-start_of-requires-clause-waits c = (subst (IsHead c.args.network.now c.args.frames.now c.args.list.now.link) c.in-Some.is c.requires.first).1
+start_of-requires-clause-waits c = (subst (IsHead c.args.queue.network.now c.args.queue.frames.now c.args.queue.list.now.link) c.in-Some.is c.requires.first).1
 
 pub returns-in-Some : goal.returns-in-Some
 unfolding frame_in
@@ -15,7 +15,7 @@ returns-in-Some c = record {
   none = λ place u is since ready before in_time fits.
       let same_some : Some place ≡ Some c.in-Some.place = sym is ∙ c.in-Some.is in
       let same : place ≡ c.in-Some.place = cc same_some in
-      c.start_of.ensures.none u since (subst (λ p. (frame_in c.args.frames.now p).ready ≤ u) same ready) before in_time
-      (subst (λ p. IsOpenFor c.args.list.now.entries (length_of c.args.network.now (passage_of (frame_in c.args.frames.now p))) u) same fits);
+      c.start_of.ensures.none u since (subst (λ p. (frame_in c.args.queue.frames.now p).ready ≤ u) same ready) before in_time
+      (subst (λ p. IsOpenFor c.args.queue.list.now.entries (length_of c.args.queue.network.now (passage_of (frame_in c.args.queue.frames.now p))) u) same fits);
   here = λ in_time. (c.in-Some.place, c.in-Some.is, c.start_of.ensures.ready, c.start_of.ensures.here in_time);
 }

@@ -7,6 +7,6 @@ use Rattle.tsn_replay.proofs.rows.push_stream.Given as goal
 
 abbrev pub invariant-loop-hop : goal.invariant-loop-hop
 invariant-loop-hop l = record {
-  so_far : l.rows.items ≡ l.fn.rows.items ++ map (row_of l.timing l.offsets l.table) (map (passage_at l.cycle l.stream) (range_with_len 0 l.hop));
-  last : l.hop-end ≡ hop_count l.timing l.stream;
+  so_far : l.rows.items ≡ l.fn.rows.items ++ map (row_of l.times.timing.now l.times.offsets.now l.times.table.now) (map (passage_at l.cycle l.stream) (range_with_len 0 l.hop));
+  last : l.hop-end ≡ hop_count l.times.timing.now l.stream;
 }
