@@ -13,6 +13,13 @@ use tsn_conflict::sharing::Conflicts;
 use tsn_model::NoMemory;
 use tsn_timing::Timing;
 
+/// A node that a teller settles.
+#[derive(Drop)]
+struct Settlement {
+    teller: usize,
+    node: Node,
+}
+
 /// Takes the steps, once more from the first one on where memory was wanting: those that were taken are refused then.
 pub fn call<R: Print + AllocGlobal>(
     rt: &R,
@@ -117,7 +124,11 @@ fn add_root(
     requires proved { All (IsProved timing.now) steps.old.items }
     ensures { OnOk result (All (IsProved timing.now) steps.new.items) }
 {
-    add_at(alloc, timing, shared, steps, 0, Node::root(alloc))?;
+    let root = Settlement {
+        teller: 0,
+        node: Node::root(alloc),
+    };
+    add_at(alloc, timing, shared, steps, root)?;
     add(steps, Step::Observe(1))
 }
 
@@ -132,10 +143,16 @@ fn add_children(
     requires proved { All (IsProved timing.now) steps.old.items }
     ensures { OnOk result (All (IsProved timing.now) steps.new.items) }
 {
-    let left = child(alloc, triple, Side::Left)?;
-    add_at(alloc, timing, shared, steps, 1, left)?;
-    let right = child(alloc, triple, Side::Right)?;
-    add_at(alloc, timing, shared, steps, 0, right)
+    let left = Settlement {
+        teller: 1,
+        node: child(alloc, triple, Side::Left)?,
+    };
+    add_at(alloc, timing, shared, steps, left)?;
+    let right = Settlement {
+        teller: 0,
+        node: child(alloc, triple, Side::Right)?,
+    };
+    add_at(alloc, timing, shared, steps, right)
 }
 
 /// Adds that a teller settles what a look finds at a node.
@@ -144,13 +161,13 @@ fn add_at(
     timing: &Timing,
     shared: &Conflicts,
     steps: &mut Vec<Step>,
-    teller: usize,
-    node: Node,
+    settlement: Settlement,
 ) -> Result<(), NoMemory>
     requires conflicts { AreConflictsOf timing.now shared.now }
     requires proved { All (IsProved timing.now) steps.old.items }
     ensures { OnOk result (All (IsProved timing.now) steps.new.items) }
 {
+    let Settlement { teller, node } = settlement;
     match event_at(alloc, timing, shared, node)? {
         Some(event) => add(steps, Step::Settle(teller, event)),
         None => Ok(()),
