@@ -13,11 +13,11 @@ ghost use Rattle.tsn_share.specs.Teller.{IsEven, IsSolvedBy};
 ghost use Rattle.tsn_tests_shares.specs.Solving.{the_conflict, IsWalk};
 
 use crate::networks::two_streams;
+use crate::settling::{Settling, finish_by};
 use crate::steps::{
     below_root, expect_fault, expect_word, first_target, look_at, one_of, parts_of, put,
     root_split, solved_at, solved_by, splits_root, tied_look,
 };
-use crate::ways::{Way, finish_by};
 use std::marker::Brand;
 use std::process::Abort;
 use std::sync::Wait;
@@ -159,7 +159,7 @@ fn expect_solved_left<R: Abort + AllocGlobal>(rt: &R, answer: Result<(), Refusal
 
 #[test]
 fn batches_finish_a_search(rt: HostRuntime) {
-    finish_by(&rt, Way::Batches);
+    finish_by(&rt, Settling::Batches);
 }
 
 /// Settles the split and the Left node at once, and then the Right one, as the only one of its section.
@@ -230,7 +230,7 @@ fn tie_alone<K: Named, R: Wait + Abort + AllocGlobal>(
 
 #[test]
 fn a_walk_finishes_a_search(rt: HostRuntime) {
-    finish_by(&rt, Way::Walks);
+    finish_by(&rt, Settling::Walks);
 }
 
 /// Settles the root and its Left child in one walk, and then the Right one, where the walk goes on.

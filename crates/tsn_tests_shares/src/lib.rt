@@ -9,8 +9,8 @@ mod ends;
 #[cfg(test)]
 mod networks;
 #[cfg(test)]
+mod settling;
+#[cfg(test)]
 mod shares;
 #[cfg(test)]
 mod steps;
-#[cfg(test)]
-mod ways;

@@ -5,11 +5,11 @@ ghost use Rattle.tsn_share.specs.Teller.{IsEven, fresh_teller};
 
 use crate::ends::expect_finished;
 use crate::networks::two_streams;
+use crate::settling::{Settling, finish_by};
 use crate::steps::{
     below_root, expect_fault, expect_word, first_target, one_of, parts_of, put, root_split,
     solved_at, splits_root, tied_look,
 };
-use crate::ways::{Way, finish_by};
 use std::marker::Brand;
 use std::process::Abort;
 use std::sync::Wait;
@@ -52,6 +52,14 @@ fn split_first<K: Named, R: Wait + Abort + AllocGlobal>(
     }
 }
 
+/// The child of the root on a side, to be solved with a flowspan below the target.
+#[derive(Clone, Copy)]
+struct Attempt {
+    side: Side,
+    /// In nanoseconds.
+    target: u64,
+}
+
 /// Settles a node that a look solves below the target, and gives its schedule.
 #[tactic(auto, using(tsn_share::proofs::Tellers::above_solved, crate::proofs::Solving::solved_least))]
 fn settle_solved<K: Named, R: Wait + Abort + AllocGlobal>(
@@ -59,16 +67,15 @@ fn settle_solved<K: Named, R: Wait + Abort + AllocGlobal>(
     timing: &Timing,
     shared: &Shared<K>,
     teller: &mut Teller<K>,
-    side: Side,
-    target: u64,
+    attempt: Attempt,
 ) -> Solved
     requires network { timing.now ≡ K.names.race.network }
-    requires target { target ≤ teller.old.tally.2 }
+    requires target { attempt.target ≤ teller.old.tally.2 }
     ensures solved { IsSolved timing.now result }
     ensures least { result.flowspan ≡ teller.new.tally.2 }
     ensures standing { teller.new.standing ≡ teller.old.standing }
 {
-    let (event, schedule) = solved_at(rt, timing, side, target);
+    let (event, schedule) = solved_at(rt, timing, attempt.side, attempt.target);
     match settle_as(rt, shared, teller, event) {
         Ok(()) => schedule,
         Err(refusal) => {
@@ -145,7 +152,7 @@ pub fn settle_in_turn<K: Named, R: Wait + Abort + AllocGlobal>(
 
 #[test]
 fn one_teller_settles_all(rt: HostRuntime) {
-    finish_by(&rt, Way::Events);
+    finish_by(&rt, Settling::Events);
 }
 
 /// What two tellers have.
@@ -255,10 +262,16 @@ fn settle_by_two<K: Named, R: Wait + Abort + AllocGlobal>(
     ensures zero { (zero.new.standing.number ≡ zero.old.standing.number) × IsEven zero.new }
     ensures one { (one.new.standing.number ≡ one.old.standing.number) × IsEven one.new }
 {
-    let target = first_target(rt, timing, shared, zero);
-    let other = first_target(rt, timing, shared, one);
-    let left = settle_solved(rt, timing, shared, zero, Side::Left, target);
-    let right = settle_solved(rt, timing, shared, one, Side::Right, other);
+    let left = Attempt {
+        side: Side::Left,
+        target: first_target(rt, timing, shared, zero),
+    };
+    let right = Attempt {
+        side: Side::Right,
+        target: first_target(rt, timing, shared, one),
+    };
+    let left = settle_solved(rt, timing, shared, zero, left);
+    let right = settle_solved(rt, timing, shared, one, right);
     post(rt, shared, zero, &left, 1_000_001);
     post(rt, shared, one, &right, 2_924);
     drop(left);

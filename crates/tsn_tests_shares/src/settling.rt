@@ -1,4 +1,4 @@
-//! Ways in which one teller finishes a search.
+//! How one teller finishes a search.
 ghost use Rattle.std.specs.Prelude.{◌≡◌, ◌+◌};
 ghost use Rattle.tsn_share.specs.Teller.{IsEven};
 
@@ -13,8 +13,9 @@ use std::sync::Wait;
 use tsn_share::{Named, Parts, Shared, Teller};
 use tsn_timing::Timing;
 
+/// How one teller settles nodes.
 #[derive(Clone, Copy)]
-pub enum Way {
+pub enum Settling {
     /// One event after another.
     Events,
     /// Several events at once.
@@ -28,34 +29,39 @@ fn settle_all<K: Named, R: Wait + Abort + AllocGlobal>(
     timing: &Timing,
     shared: &Shared<K>,
     teller: &mut Teller<K>,
-    way: Way,
+    settling: Settling,
 )
     requires network { timing.now ≡ K.names.race.network }
     requires fresh { teller.old.tally.2 ≡ K.names.race.network.cycle + 1 }
     ensures number { teller.new.standing.number ≡ teller.old.standing.number }
     ensures even { IsEven teller.new }
 {
-    match way {
-        Way::Events => settle_in_turn(rt, timing, shared, teller),
-        Way::Batches => settle_by_batches(rt, timing, shared, teller),
-        Way::Walks => settle_by_walks(rt, timing, shared, teller),
+    match settling {
+        Settling::Events => settle_in_turn(rt, timing, shared, teller),
+        Settling::Batches => settle_by_batches(rt, timing, shared, teller),
+        Settling::Walks => settle_by_walks(rt, timing, shared, teller),
     }
 }
 
-fn finish<K: Named, R: Wait + Abort + AllocGlobal>(rt: &R, timing: &Timing, parts: Parts, way: Way)
+fn finish<K: Named, R: Wait + Abort + AllocGlobal>(
+    rt: &R,
+    timing: &Timing,
+    parts: Parts,
+    settling: Settling,
+)
     requires names { parts ≡ K.names }
     requires network { timing.now ≡ K.names.race.network }
     requires tellers { K.names.race.tellers ≡ 1 }
 {
     let (shared, mut teller) = one_of::<K, _>(rt, parts);
-    settle_all(rt, timing, &shared, &mut teller, way);
+    settle_all(rt, timing, &shared, &mut teller, settling);
     expect_finished(rt, gather_one(rt, shared, teller));
 }
 
-/// One teller finishes the search of the two streams in that way.
-pub fn finish_by<R: Wait + Abort + AllocGlobal>(rt: &R, way: Way) {
+/// One teller finishes the search of the two streams, settling so.
+pub fn finish_by<R: Wait + Abort + AllocGlobal>(rt: &R, settling: Settling) {
     let timing = two_streams(rt);
     let parts = parts_of(rt, &timing, 1, 10);
-    finish::<Brand, _>(rt, &timing, parts, way);
+    finish::<Brand, _>(rt, &timing, parts, settling);
     drop(timing);
 }

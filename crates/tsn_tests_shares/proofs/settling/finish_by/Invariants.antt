@@ -1,4 +1,4 @@
-use Rattle.tsn_tests_shares.proofs.ways.finish_by.Given as goal
+use Rattle.tsn_tests_shares.proofs.settling.finish_by.Given as goal
 
 abbrev pub ghosts-finish : goal.ghosts-finish
 ghosts-finish g a = record { names = a.parts }
