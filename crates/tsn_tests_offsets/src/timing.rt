@@ -147,20 +147,19 @@ fn span_of(rt: &impl Abort, timing: &Timing, stream: usize) -> u64 {
     timing.span(stream)
 }
 
-/// Compares when a stream starts on its hops, its arrival and its span.
+/// Compares when a stream starts on its hops, and its arrival and its span.
 fn expect_times<R: Abort + AllocGlobal>(
     rt: &R,
     parts: Parts,
     stream: usize,
     starts: &[u64],
-    arrival: u64,
-    span: u64,
+    ends: (u64, u64),
 ) -> Result<(), Fail> {
     let timing = timing_of(rt.alloc(), parts)?;
     let found = starts_of(rt, rt.alloc(), &timing, stream)?;
     assert!(rt; found.as_slice() == starts);
-    assert!(rt; arrival_of(rt, &timing, stream) == arrival);
-    assert!(rt; span_of(rt, &timing, stream) == span);
+    assert!(rt; arrival_of(rt, &timing, stream) == ends.0);
+    assert!(rt; span_of(rt, &timing, stream) == ends.1);
     Ok(())
 }
 
@@ -178,11 +177,11 @@ fn expect_counts<R: Abort + AllocGlobal>(rt: &R, parts: Parts, streams: usize) -
 #[test]
 fn tells_times(rt: HostRuntime) -> Result<(), Fail> {
     expect_counts(&rt, ONE_FAST, 1)?;
-    expect_times(&rt, ONE_FAST, 0, &[0, 1626], 2252, 2298)?;
-    expect_times(&rt, LONG_FAST, 1, &[0, 13290], 25580, 25626)?;
-    expect_times(&rt, TWO_SLOW, 0, &[0, 1626], 7436, 8346)?;
-    expect_times(&rt, ROUND, 0, &[0, 576, 1152, 2496, 3072], 3648, 3744)?;
-    expect_times(&rt, ROUND, 1, &[0, 576, 1152, 1728], 2304, 2400)
+    expect_times(&rt, ONE_FAST, 0, &[0, 1626], (2252, 2298))?;
+    expect_times(&rt, LONG_FAST, 1, &[0, 13290], (25580, 25626))?;
+    expect_times(&rt, TWO_SLOW, 0, &[0, 1626], (7436, 8346))?;
+    expect_times(&rt, ROUND, 0, &[0, 576, 1152, 2496, 3072], (3648, 3744))?;
+    expect_times(&rt, ROUND, 1, &[0, 576, 1152, 1728], (2304, 2400))
 }
 
 fn hops_of(rt: &impl Abort, timing: &Timing, stream: usize) -> usize {
@@ -197,20 +196,13 @@ fn is_at(found: Option<usize>, hop: usize) -> bool {
     }
 }
 
-/// Whether a stream's hop is on this link, and occupies it so long.
-fn has_hop(
-    rt: &impl Abort,
-    timing: &Timing,
-    stream: usize,
-    hop: usize,
-    link: usize,
-    occupancy: u64,
-) -> bool {
+/// The link of a stream's hop, and how long the stream occupies it.
+fn hop_of(rt: &impl Abort, timing: &Timing, stream: usize, hop: usize) -> (usize, u64) {
     assert!(rt; stream < timing.streams());
     assert!(rt; hop < timing.hops(stream));
-    timing.route_link(stream, hop) == link
-        && timing.occ(stream, hop) == occupancy
-        && is_at(timing.hop_on(stream, link), hop)
+    let link = timing.route_link(stream, hop);
+    assert!(rt; is_at(timing.hop_on(stream, link), hop));
+    (link, timing.occ(stream, hop))
 }
 
 /// Whether the first stream uses one of these links.
@@ -243,10 +235,10 @@ fn expect_links(rt: &impl Abort, timing: &Timing) {
 fn tells_hops(rt: HostRuntime) -> Result<(), Fail> {
     let slow = timing_of(rt.alloc(), LONG_SLOW)?;
     assert!(rt; hops_of(&rt, &slow, 0) == 2 && hops_of(&rt, &slow, 1) == 2);
-    assert!(rt; has_hop(&rt, &slow, 0, 0, 0, 672));
-    assert!(rt; has_hop(&rt, &slow, 0, 1, 4, 6720));
-    assert!(rt; has_hop(&rt, &slow, 1, 0, 2, 12336));
-    assert!(rt; has_hop(&rt, &slow, 1, 1, 4, 123_360));
+    assert_eq!(rt; hop_of(&rt, &slow, 0, 0), (0, 672));
+    assert_eq!(rt; hop_of(&rt, &slow, 0, 1), (4, 6720));
+    assert_eq!(rt; hop_of(&rt, &slow, 1, 0), (2, 12336));
+    assert_eq!(rt; hop_of(&rt, &slow, 1, 1), (4, 123_360));
     expect_links(&rt, &slow);
     Ok(())
 }
