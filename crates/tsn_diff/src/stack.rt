@@ -18,7 +18,6 @@ use tsn_model::{Arc, NoMemory};
 /// Arcs put in one after another and taken out again, the last one first, with the least offsets that meet them.
 #[derive(Debug, Drop)]
 pub struct ArcStack {
-    alloc: Global,
     least: Least,
     listing: Listing,
     wave: Wave,
@@ -45,7 +44,6 @@ impl ArcStack {
         let least = net.unraised(alloc)?;
         let wave = Wave::new(alloc);
         Ok(ArcStack {
-            alloc,
             least,
             listing,
             wave,
@@ -79,14 +77,7 @@ impl ArcStack {
         let mark = self.wave.trail.formers.len();
         let labels = &mut self.least.labels;
         let arcs = &mut self.least.arcs;
-        match put_in(
-            self.alloc,
-            labels,
-            arcs,
-            &mut self.listing,
-            &mut self.wave,
-            arc,
-        ) {
+        match put_in(labels, arcs, &mut self.listing, &mut self.wave, arc) {
             Ok(None) => Ok(None),
             Ok(Some(chain)) => {
                 self.wave.trail.put_back(&mut self.least.labels, mark);
@@ -142,7 +133,6 @@ impl ArcStack {
 
 /// Raises the labels for one more arc and lists it, or gives the closed chain that it closes.
 fn put_in(
-    alloc: Global,
     labels: &mut Labels,
     arcs: &mut Vec<Arc>,
     listing: &mut Listing,
@@ -168,6 +158,7 @@ fn put_in(
 {
     let mark = wave.trail.formers.len();
     if let Some(closing) = wave.spread(labels, listing, arc)? {
+        let alloc = *arcs.allocator();
         return Ok(Some(labels.cycle(alloc, closing.place, closing.arc)?));
     }
     arcs.reserve(1)?;

@@ -6,7 +6,7 @@ use Rattle.tsn_diff.proofs.Stacks.{IsStack-opened, IsStack-closed, IsStack-poppe
 use Rattle.tsn_diff.proofs.stack.ArcStack.pop.Goals as goal
 
 -- the stack with the last arc out
-popped : (c : goal.After-put_back) → IsStack c.self-inside.inside.0.1.0.net c.pop.new.self.items (labelling_of c.put_back.new.labels) c.pop-mark.new.self c.put_back.new.self
+popped : (c : goal.After-put_back) → IsStack c.self-inside.inside.0.0.net c.pop.new.self.items (labelling_of c.put_back.new.labels) c.pop-mark.new.self c.put_back.new.self
 popped c =
     let s = IsStack-opened _ _ _ _ _ c.self-inside.invariant.forest (rw (← c.self-inside.view_is) at c.self.invariant) in
     let all = rw c.unwrap-arc.ensures at c.pop.ensures.items in

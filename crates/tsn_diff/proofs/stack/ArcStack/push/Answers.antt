@@ -12,7 +12,7 @@ put_in-requires c =
     (IsStart-pushed _ _ _ _ _ s c.args.arc (rw (← view) at c.requires), refl)
 
 -- the stack with the arc put in
-pushed : (c : goal.In-Ok-None) → IsStack c.self-inside.inside.0.1.0.net c.put_in.new.arcs.items (labelling_of c.put_in.new.labels) c.put_in.new.listing c.put_in.new.wave.trail
+pushed : (c : goal.In-Ok-None) → IsStack c.self-inside.inside.0.0.net c.put_in.new.arcs.items (labelling_of c.put_in.new.labels) c.put_in.new.listing c.put_in.new.wave.trail
 pushed c =
     let s = IsStack-opened _ _ _ _ _ c.self-inside.invariant.forest (rw (← c.self-inside.view_is) at c.self.invariant) in
     let view = rw (← c.self-inside.view_is) at c.self.view_is in
@@ -45,7 +45,7 @@ returns-in-Ok-Some-clause-solved_before c = let view = rw (← c.self-inside.vie
 pub returns-in-Ok-Some-clause-solved : goal.returns-in-Ok-Some-clause-solved
 returns-in-Ok-Some-clause-solved c =
     let refused = rw c.in-Ok-Some.field-0-is at c.in-Ok-Some.ensures.refused in
-    let mark = c.len-mark.ensures ∙ c.self-inside.inside.0.1.1.1.0.trail.formers.ok.0 in
+    let mark = c.len-mark.ensures ∙ c.self-inside.inside.0.1.1.0.trail.formers.ok.0 in
     Solves-back _ _ _ _ _ refused.0 (rw mark at c.put_back.ensures.labels ∙ c.put_in.ensures.noted.back) c.self-inside.invariant
 
 pub returns-in-Err-clause-solved_before : goal.returns-in-Err-clause-solved_before
@@ -53,5 +53,5 @@ returns-in-Err-clause-solved_before c = let view = rw (← c.self-inside.view_is
 
 pub returns-in-Err-clause-solved : goal.returns-in-Err-clause-solved
 returns-in-Err-clause-solved c =
-    let mark = c.len-mark.ensures ∙ c.self-inside.inside.0.1.1.1.0.trail.formers.ok.0 in
+    let mark = c.len-mark.ensures ∙ c.self-inside.inside.0.1.1.0.trail.formers.ok.0 in
     Solves-back _ _ _ _ _ c.in-Err.ensures.err.0 (rw mark at c.put_back-in-Err.ensures.labels ∙ c.put_in.ensures.noted.back) c.self-inside.invariant
