@@ -1,6 +1,7 @@
 -- The streams on a way back are fixed one after another.
 use Rattle.std.proofs.Common.{◌≡◌, ◌≢◌, ℕ, ◌+◌, ◌<◌, ◌≤◌, ◌⊎◌, List, [], ◌∷◌, ◌++◌, length, set, replicate, Option, Some, None, refl, sym, ◌∙◌, inl, inr, ⊎_elim, arith, length-append, get_or-set_other, get_or-set_same}
 use Rattle.std.proofs.lemmas.Bool.{cases_eq, cases_lt}
+use Rattle.std.proofs.lemmas.Option.{same_Some}
 use Rattle.std.proofs.lemmas.List.{get_or-replicate, get_or_past, length-replicate}
 use Rattle.tsn_diff.specs.declared.labels.Step.{Step}
 use Rattle.tsn_diff.specs.declared.spread.Standing.{Standing}
@@ -8,7 +9,6 @@ use Rattle.tsn_diff.specs.declared.spread.Standing.TheVariants.{Calm, Fixed}
 use Rattle.tsn_diff.specs.Forest.{Path, Rooted, last_of}
 use Rattle.tsn_diff.specs.Forest.Path.{here, back}
 use Rattle.tsn_diff.specs.Spread.{standing_of, AreCalm, AreFixed, IsLifted}
-use Rattle.tsn_diff.proofs.Cases.{Some-injective}
 use Rattle.tsn_diff.proofs.Paths.{Path-append, length-path_any}
 
 -- the streams on the way back from `first` are fixed as far as `next`, and that one isn't yet
@@ -84,7 +84,7 @@ module _ (last : List (Option Step)) (standings : List Standing) (first next cou
     begins = inr begins_now;
     closed = λ i s g h.
         ⊎_elim
-        (λ (e : i ≡ next). let same : s ≡ step = Some-injective (sym (rw e at h) ∙ known) in inr (rw same refl))
+        (λ (e : i ≡ next). let same : s ≡ step = same_Some _ _ (sym (rw e at h) ∙ known) in inr (rw same refl))
         (λ (e : i ≢ next). inl (closed_now i s e g h)) (cases_eq i next);
     way = way_now;
     others = λ i.

@@ -3,47 +3,47 @@ use Rattle.std.proofs.Common.{pos, ◌≡◌, ℕ, ◌<◌, ◌≤◌, List, [],
 use Rattle.std.proofs.lemmas.Bool.{cases_lt}
 use Rattle.tsn_model.specs.declared.Arc.{Arc}
 use Rattle.tsn_model.specs.Arcs.{arc_at, Holds}
-use Rattle.tsn_diff.specs.declared.listing.Placed.{Placed}
+use Rattle.tsn_diff.specs.declared.listing.Indexed.{Indexed}
 use Rattle.tsn_diff.specs.declared.spread.Standing.{Standing}
 use Rattle.tsn_diff.specs.declared.spread.Standing.TheVariants.{Waiting, Settled}
 use Rattle.tsn_diff.specs.declared.spread.Wave.{Wave}
 use Rattle.tsn_diff.specs.Forest.{Labelling}
 use Rattle.tsn_diff.specs.Limits.{IsArcAmong}
 use Rattle.tsn_diff.specs.Listing.{arcs_leaving}
-use Rattle.tsn_diff.specs.Spread.{Base, all_arcs, IsPlaced, MeetsFrom, standing_of, IsWave, GoesOn}
-use Rattle.tsn_diff.proofs.Listings.{arcs_leaving-placed, arcs_leaving-all}
+use Rattle.tsn_diff.specs.Spread.{Base, all_arcs, IsIndexed, MeetsFrom, standing_of, IsWave, GoesOn}
+use Rattle.tsn_diff.proofs.Listings.{arcs_leaving-indexed, arcs_leaving-all}
 use Rattle.tsn_diff.proofs.Spreads.{arc_at-old, arc_at-new}
 
 -- an arc that leaves the stream is one of all arcs
-pub placed_among : (base : Base) (stream : ℕ) (items : List Placed) → items ≡ arcs_leaving base.arcs stream → (k : ℕ) (default : Placed) → k < length items → IsPlaced (all_arcs base) (get_or items k default) × ((get_or items k default).arc.from ≡ stream)
-placed_among base stream items is k default l =
-    let among : All (λ (p : Placed). IsPlaced base.arcs p × (p.arc.from ≡ stream)) items = rw is (arcs_leaving-placed base.arcs stream) in
+pub indexed_among : (base : Base) (stream : ℕ) (items : List Indexed) → items ≡ arcs_leaving base.arcs stream → (k : ℕ) (default : Indexed) → k < length items → IsIndexed (all_arcs base) (get_or items k default) × ((get_or items k default).arc.from ≡ stream)
+indexed_among base stream items is k default l =
+    let among : All (λ (p : Indexed). IsIndexed base.arcs p × (p.arc.from ≡ stream)) items = rw is (arcs_leaving-indexed base.arcs stream) in
     let here = among k default l in
-    (record { place_in = omega (arith, here.0.place_in, length-append base.arcs (base.arc ∷ [])); arc = arc_at-old base (get_or items k default).place here.0.place_in ∙ here.0.arc }, here.1)
+    (record { index_in = omega (arith, here.0.index_in, length-append base.arcs (base.arc ∷ [])); arc = arc_at-old base (get_or items k default).index here.0.index_in ∙ here.0.arc }, here.1)
 
 -- and joins two of the streams
-pub among_placed : (base : Base) (labels : Labelling) (standings : List Standing) (wave : Wave) (p : Placed) → IsWave base labels standings wave → IsPlaced (all_arcs base) p → IsArcAmong (length labels.offsets) p.arc
-among_placed base labels standings wave p w there =
-    rw (← there.arc, w.noted.offsets) (w.among p.place (record { from = 0; to = 0; weight = pos 0 }) there.place_in)
+pub among_indexed : (base : Base) (labels : Labelling) (standings : List Standing) (wave : Wave) (p : Indexed) → IsWave base labels standings wave → IsIndexed (all_arcs base) p → IsArcAmong (length labels.offsets) p.arc
+among_indexed base labels standings wave p w there =
+    rw (← there.arc, w.noted.offsets) (w.among p.index (record { from = 0; to = 0; weight = pos 0 }) there.index_in)
 
 -- one that is met stays so while the stream is settled
-pub met_still : (base : Base) (labels new : Labelling) (standings after : List Standing) (queue longer : List ℕ) (stream : ℕ) (p : Placed) → GoesOn (all_arcs base) labels new standings after queue longer → standing_of after stream ≡ Settled → IsPlaced (all_arcs base) p × (p.arc.from ≡ stream) → Holds labels.offsets p.arc → Holds new.offsets p.arc
+pub met_still : (base : Base) (labels new : Labelling) (standings after : List Standing) (queue longer : List ℕ) (stream : ℕ) (p : Indexed) → GoesOn (all_arcs base) labels new standings after queue longer → standing_of after stream ≡ Settled → IsIndexed (all_arcs base) p × (p.arc.from ≡ stream) → Holds labels.offsets p.arc → Holds new.offsets p.arc
 met_still base labels new standings after queue longer stream p g settled here met =
-    let there : arc_at (all_arcs base) p.place ≡ p.arc = here.0.arc in
-    let seen = g.seen p.place here.0.place_in (inl (rw there met)) in
-    ⊎_elim (λ (m : Holds new.offsets (arc_at (all_arcs base) p.place)). rw there at m)
-    (λ (w : standing_of after (arc_at (all_arcs base) p.place).from ≡ Waiting). let w' = rw (there, here.1, settled) at w in cc) seen
+    let there : arc_at (all_arcs base) p.index ≡ p.arc = here.0.arc in
+    let seen = g.seen p.index here.0.index_in (inl (rw there met)) in
+    ⊎_elim (λ (m : Holds new.offsets (arc_at (all_arcs base) p.index)). rw there at m)
+    (λ (w : standing_of after (arc_at (all_arcs base) p.index).from ≡ Waiting). let w' = rw (there, here.1, settled) at w in cc) seen
 
 -- once all of them are met, so is every arc that begins at the stream
-pub MeetsFrom-leaving : (base : Base) (labels : Labelling) (standings : List Standing) (wave : Wave) (stream : ℕ) → IsWave base labels standings wave → standing_of standings stream ≡ Settled → All (λ (p : Placed). Holds labels.offsets p.arc) (arcs_leaving base.arcs stream) → MeetsFrom (all_arcs base) labels.offsets stream
-MeetsFrom-leaving base labels standings wave stream w settled all place l e =
+pub MeetsFrom-leaving : (base : Base) (labels : Labelling) (standings : List Standing) (wave : Wave) (stream : ℕ) → IsWave base labels standings wave → standing_of standings stream ≡ Settled → All (λ (p : Indexed). Holds labels.offsets p.arc) (arcs_leaving base.arcs stream) → MeetsFrom (all_arcs base) labels.offsets stream
+MeetsFrom-leaving base labels standings wave stream w settled all index l e =
     ⊎_elim
-    (λ (old : place < length base.arcs).
-    let there = arc_at-old base place old in
-    rw there (arcs_leaving-all (λ (a : Arc). Holds labels.offsets a) base.arcs stream all place old (rw there at e)))
-    (λ (new : length base.arcs ≤ place).
+    (λ (old : index < length base.arcs).
+    let there = arc_at-old base index old in
+    rw there (arcs_leaving-all (λ (a : Arc). Holds labels.offsets a) base.arcs stream all index old (rw there at e)))
+    (λ (new : length base.arcs ≤ index).
     let first = w.fixed.begins in
-    let from : base.arc.from ≡ stream = ap (λ (a : Arc). a.from) (sym (arc_at-new base place l new)) ∙ e in
+    let from : base.arc.from ≡ stream = ap (λ (a : Arc). a.from) (sym (arc_at-new base index l new)) ∙ e in
     let first' = rw (from, settled) at first in
     cc)
-    (cases_lt place (length base.arcs))
+    (cases_lt index (length base.arcs))

@@ -13,14 +13,14 @@ use Rattle.tsn_diff.specs.Limits.{IsArcAmong}
 use Rattle.tsn_model.specs.Arcs.{chain_sum, start_of}
 use Rattle.tsn_diff.specs.Offsets.{Shows}
 use Rattle.tsn_diff.specs.Offsets.{Meets, IsLeast, chain_of}
-use Rattle.tsn_diff.specs.Forest.{Labelling, last_of, Path, IsForest, IsRaised, Settles, steps_back, places_of, chain_by, least_by}
+use Rattle.tsn_diff.specs.Forest.{Labelling, last_of, Path, IsForest, IsRaised, Settles, steps_back, indexes_of, chain_by, least_by}
 use Rattle.tsn_diff.specs.Progress.{Closes}
 use Rattle.tsn_diff.specs.Forest.Path.{here, back}
 use Rattle.tsn_diff.specs.Answers.{Solves, Refutes}
 use Rattle.tsn_diff.proofs.Cases.{by_option}
 use Rattle.tsn_diff.proofs.Views.{chain_of-least_by}
 use Rattle.tsn_diff.proofs.Paths.{length-path, length-path_any, Path-steps_back, steps_back_is, Rooted-here}
-use Rattle.tsn_diff.proofs.Sums.{leads_of, places_in, explained, start_of-leads, length-places_of, Leads-push, chain_sum-push}
+use Rattle.tsn_diff.proofs.Sums.{leads_of, indexes_in, explained, start_of-leads, length-indexes_of, Leads-push, chain_sum-push}
 
 pub top_below : {last : List (Option Step)} {i r : ℕ} {ss : List Step} (n : ℕ) → ((j : ℕ) (s : Step) → last_of last j ≡ Some s → s.from < n) → Path last i ss r → i < n → r < n
 top_below n below here l = l
@@ -44,11 +44,11 @@ module _ (releases : List ℕ) (arcs : List Arc) (labels : Labelling) (s : Settl
   root_in i l = let r = forest.rooted i in let k : r.root < length labels.offsets = top_below (length labels.offsets) (λ j s h. (forest.steps j s h).from_in) r.path (omega (arith, raised.count)) in omega (arith, raised.count)
 
   -- a stream's offset is the release of its chain's root and the weight of its chain
-  exact : (i : ℕ) → pos (slice_index labels.offsets i) ≡ pos (slice_index releases (forest.rooted i).root) +ℤ chain_sum arcs (places_of (forest.rooted i).steps)
+  exact : (i : ℕ) → pos (slice_index labels.offsets i) ≡ pos (slice_index releases (forest.rooted i).root) +ℤ chain_sum arcs (indexes_of (forest.rooted i).steps)
   exact i =
       let r = forest.rooted i in
       let above = explained arcs labels.offsets labels.last forest.steps r.path in
-      let below = met_along arcs (λ j. pos (offset_of labels.offsets j)) met r.root (places_of r.steps) i (places_in arcs labels.offsets labels.last forest.steps r.path) (leads_of arcs labels.offsets labels.last forest.steps r.path) in
+      let below = met_along arcs (λ j. pos (offset_of labels.offsets j)) met r.root (indexes_of r.steps) i (indexes_in arcs labels.offsets labels.last forest.steps r.path) (leads_of arcs labels.offsets labels.last forest.steps r.path) in
       let root = raised.kept r.root r.ends in
       omega (arith, ints, above, below, root)
 
@@ -63,7 +63,7 @@ module _ (releases : List ℕ) (arcs : List Arc) (labels : Labelling) (s : Settl
   least_from_forest other m i l =
       let r = forest.rooted i in
       let here = exact i in
-      let there = met_along arcs (λ j. pos (offset_of other j)) m.met r.root (places_of r.steps) i (places_in arcs labels.offsets labels.last forest.steps r.path) (leads_of arcs labels.offsets labels.last forest.steps r.path) in
+      let there = met_along arcs (λ j. pos (offset_of other j)) m.met r.root (indexes_of r.steps) i (indexes_in arcs labels.offsets labels.last forest.steps r.path) (leads_of arcs labels.offsets labels.last forest.steps r.path) in
       let root = m.released r.root (root_in i l) in
       omega (arith, ints, here, there, root)
 
@@ -73,22 +73,22 @@ module _ (releases : List ℕ) (arcs : List Arc) (labels : Labelling) (s : Settl
       let k : length r.steps < length labels.offsets = length-path (length labels.offsets) (λ j s h. (forest.steps j s h).from_in) r.path r.ends (omega (arith, raised.count)) in
       omega (arith, raised.count)
 
-  chain_by_is : (i : ℕ) → i < length releases → chain_by labels i ≡ places_of (forest.rooted i).steps
+  chain_by_is : (i : ℕ) → i < length releases → chain_by labels i ≡ indexes_of (forest.rooted i).steps
   chain_by_is i l =
       let r = forest.rooted i in
       let k = short i l in
-      ap places_of (steps_back_is (length labels.last) r.path r.ends (omega (arith, forest.count, raised.count)))
+      ap indexes_of (steps_back_is (length labels.last) r.path r.ends (omega (arith, forest.count, raised.count)))
 
   Shows-from_forest : (i : ℕ) → i < length releases → Shows releases arcs (chain_of (least_by releases arcs labels) i) i (slice_index labels.offsets i)
   Shows-from_forest i l =
       let r = forest.rooted i in
       let way = leads_of arcs labels.offsets labels.last forest.steps r.path in
-      let start : start_of arcs (places_of r.steps) i ≡ r.root = start_of-leads arcs r.root (places_of r.steps) i way in
+      let start : start_of arcs (indexes_of r.steps) i ≡ r.root = start_of-leads arcs r.root (indexes_of r.steps) i way in
       rw (chain_of-least_by releases arcs labels i (omega (arith, forest.count, raised.count)), chain_by_is i l) (record {
-        leads = record { places = places_in arcs labels.offsets labels.last forest.steps r.path; leads = rw start way };
+        leads = record { places = indexes_in arcs labels.offsets labels.last forest.steps r.path; leads = rw start way };
         sum = rw start (exact i);
-        short = rw length-places_of (short i l);
-        empty = λ e. by_option (last_of labels.last i) (λ n. ap places_of (nil_from_none r.path n)) (λ s h. let k = raised.raised i s h in absurd (omega arith));
+        short = rw length-indexes_of (short i l);
+        empty = λ e. by_option (last_of labels.last i) (λ n. ap indexes_of (nil_from_none r.path n)) (λ s h. let k = raised.raised i s h in absurd (omega arith));
       })
 
   pub IsLeast-settled : IsLeast releases arcs labels.offsets
@@ -105,29 +105,29 @@ module _ (releases : List ℕ) (arcs : List Arc) (labels : Labelling) (s : Settl
 
 -- the steps from the first stream of an arc back to its last one
 abbrev pub closing_steps : List Arc → Labelling → ℕ → List Step
-closing_steps arcs labels place = steps_back (length labels.last) labels.last (Some (arc_at arcs place).to) (arc_at arcs place).from
+closing_steps arcs labels index = steps_back (length labels.last) labels.last (Some (arc_at arcs index).to) (arc_at arcs index).from
 
 -- an arc that is not met, and what leads from its last stream to its first, close a chain of positive sum
-pub Refutes-from_closes : (arcs : List Arc) (labels : Labelling) (place : ℕ) → IsForest arcs labels → All (IsArcAmong (length labels.offsets)) arcs → Closes arcs labels place → Refutes (length labels.offsets) arcs (places_of (closing_steps arcs labels place) ++ place ∷ [])
-Refutes-from_closes arcs labels place forest among closes =
-    let arc = arc_at arcs place in
-    let ss = closing_steps arcs labels place in
-    let ends = among place (record { from = 0; to = 0; weight = pos 0 }) closes.place_in in
+pub Refutes-from_closes : (arcs : List Arc) (labels : Labelling) (index : ℕ) → IsForest arcs labels → All (IsArcAmong (length labels.offsets)) arcs → Closes arcs labels index → Refutes (length labels.offsets) arcs (indexes_of (closing_steps arcs labels index) ++ index ∷ [])
+Refutes-from_closes arcs labels index forest among closes =
+    let arc = arc_at arcs index in
+    let ss = closing_steps arcs labels index in
+    let ends = among index (record { from = 0; to = 0; weight = pos 0 }) closes.index_in in
     let way : Path labels.last arc.from ss arc.to = Path-steps_back labels.last (length labels.last) arc.to arc.from closes.passes in
     let short : length ss < length labels.offsets = length-path_any (length labels.offsets) (λ j s h. (forest.steps j s h).from_in) way (forest.rooted arc.to) ends.from_below in
     let above = explained arcs labels.offsets labels.last forest.steps way in
     let unmet = closes.unmet in
-    let places = All-push (λ p. p < length arcs) (places_of ss) place (places_in arcs labels.offsets labels.last forest.steps way) closes.place_in in
-    let closed = Leads-push arcs arc.to (places_of ss) arc.from place (leads_of arcs labels.offsets labels.last forest.steps way) refl in
-    let long : length (places_of ss ++ place ∷ []) ≡ length ss + 1 = length-append (places_of ss) (place ∷ []) ∙ ap (λ n. n + 1) (length-places_of ss) in
-    let positive : pos 0 <ℤ chain_sum arcs (places_of ss ++ place ∷ []) = rw chain_sum-push (omega (arith, ints, above, unmet)) in
+    let indexes = All-push (λ p. p < length arcs) (indexes_of ss) index (indexes_in arcs labels.offsets labels.last forest.steps way) closes.index_in in
+    let closed = Leads-push arcs arc.to (indexes_of ss) arc.from index (leads_of arcs labels.offsets labels.last forest.steps way) refl in
+    let long : length (indexes_of ss ++ index ∷ []) ≡ length ss + 1 = length-append (indexes_of ss) (index ∷ []) ∙ ap (λ n. n + 1) (length-indexes_of ss) in
+    let positive : pos 0 <ℤ chain_sum arcs (indexes_of ss ++ index ∷ []) = rw chain_sum-push (omega (arith, ints, above, unmet)) in
     record {
       cycle = record {
-        closed = record { places = places; some_arc = omega (arith, long); returns = (arc.to, closed) };
+        closed = record { places = indexes; some_arc = omega (arith, long); returns = (arc.to, closed) };
         short = omega (arith, long, short);
         positive = positive;
       };
-      none = λ offset met. let more = met_along arcs offset met arc.to (places_of ss ++ place ∷ []) arc.to places closed in absurd (omega (arith, ints, more, positive));
+      none = λ offset met. let more = met_along arcs offset met arc.to (indexes_of ss ++ index ∷ []) arc.to indexes closed in absurd (omega (arith, ints, more, positive));
     }
 
 pub Refutes-same : (m n : ℕ) (arcs : List Arc) (chain : List ℕ) → m ≡ n → Refutes m arcs chain → Refutes n arcs chain
@@ -171,9 +171,9 @@ IsForest-more arcs labels arc f = record {
   early = f.early;
   steps = λ i s h.
       let g = f.steps i s h in
-      let same : arc_at (arcs ++ arc ∷ []) s.place ≡ arc_at arcs s.place = get_or_append_left arcs (arc ∷ []) (record { from = 0; to = 0; weight = pos 0 }) s.place g.place_in in
+      let same : arc_at (arcs ++ arc ∷ []) s.index ≡ arc_at arcs s.index = get_or_append_left arcs (arc ∷ []) (record { from = 0; to = 0; weight = pos 0 }) s.index g.index_in in
       record {
-        place_in = omega (arith, length-append arcs (arc ∷ []), g.place_in);
+        index_in = omega (arith, length-append arcs (arc ∷ []), g.index_in);
         ends = rw same g.ends;
         begins = rw same g.begins;
         from_in = g.from_in;

@@ -25,16 +25,16 @@ passes_along {last} {i} {v} (suc n) (back {step = s} h p) l =
     by_bool (eqb i v) (λ yes. rw yes refl) (λ no. rw (no, h) (passes_along n p (omega arith)))
 
 -- the arcs of a base are the old ones and the new one
-pub arc_at-old : (base : Base) (place : ℕ) → place < length base.arcs → arc_at (all_arcs base) place ≡ arc_at base.arcs place
-arc_at-old base place l = get_or_append_left base.arcs (base.arc ∷ []) (record { from = 0; to = 0; weight = pos 0 }) place l
+pub arc_at-old : (base : Base) (index : ℕ) → index < length base.arcs → arc_at (all_arcs base) index ≡ arc_at base.arcs index
+arc_at-old base index l = get_or_append_left base.arcs (base.arc ∷ []) (record { from = 0; to = 0; weight = pos 0 }) index l
 
-pub arc_at-new : (base : Base) (place : ℕ) → place < length (all_arcs base) → length base.arcs ≤ place → arc_at (all_arcs base) place ≡ base.arc
-arc_at-new base place l m = get_or_push base.arcs base.arc (record { from = 0; to = 0; weight = pos 0 }) place (omega (arith, length_push base.arcs base.arc))
+pub arc_at-new : (base : Base) (index : ℕ) → index < length (all_arcs base) → length base.arcs ≤ index → arc_at (all_arcs base) index ≡ base.arc
+arc_at-new base index l m = get_or_push base.arcs base.arc (record { from = 0; to = 0; weight = pos 0 }) index (omega (arith, length_push base.arcs base.arc))
 
 module _ (base : Base) (labels : Labelling) (standings : List Standing) (wave : Wave) (w : IsWave base labels standings wave) where
   -- the labels from before meet the old arcs
-  pub met_before : (place : ℕ) → place < length base.arcs → Holds base.labels.offsets (arc_at (all_arcs base) place)
-  met_before place l = rw (arc_at-old base place l) (w.met place (record { from = 0; to = 0; weight = pos 0 }) l)
+  pub met_before : (index : ℕ) → index < length base.arcs → Holds base.labels.offsets (arc_at (all_arcs base) index)
+  met_before index l = rw (arc_at-old base index l) (w.met index (record { from = 0; to = 0; weight = pos 0 }) l)
 
   -- what lies on the way back from a fixed stream is fixed
   fixed_along : {i v : ℕ} {ss : List Step} → Path labels.last i ss v → standing_of standings i ≡ Fixed → standing_of standings v ≡ Fixed
@@ -42,10 +42,10 @@ module _ (base : Base) (labels : Labelling) (standings : List Standing) (wave : 
   fixed_along {i} (back {step = s} h p) f = fixed_along p (w.fixed.closed i s f h)
 
   -- a step by the new arc leads to its first stream
-  new_step : (i : ℕ) (s : Step) → last_of labels.last i ≡ Some s → length base.arcs ≤ s.place → s.from ≡ base.arc.from
+  new_step : (i : ℕ) (s : Step) → last_of labels.last i ≡ Some s → length base.arcs ≤ s.index → s.from ≡ base.arc.from
   new_step i s h l =
       let f = w.forest.steps i s h in
-      sym f.begins ∙ ap (λ (a : Arc). a.from) (arc_at-new base s.place f.place_in l)
+      sym f.begins ∙ ap (λ (a : Arc). a.from) (arc_at-new base s.index f.index_in l)
 
   -- no stream on a way back has gained less than those after it, before a fixed stream is reached
   gains_along : {i v : ℕ} {ss : List Step} → Path labels.last i ss v → (standing_of standings v ≡ Fixed) ⊎ (offset_of labels.offsets i + offset_of base.labels.offsets v ≤ offset_of labels.offsets v + offset_of base.labels.offsets i)
@@ -53,14 +53,14 @@ module _ (base : Base) (labels : Labelling) (standings : List Standing) (wave : 
   gains_along {i} {v} (back {step = s} h p) =
       let f = w.forest.steps i s h in
       ⊎_elim
-      (λ (old : s.place < length base.arcs).
-      let m = met_before s.place old in
+      (λ (old : s.index < length base.arcs).
+      let m = met_before s.index old in
       ⊎_elim (λ (fixed : standing_of standings v ≡ Fixed). inl fixed)
       (λ (g : offset_of labels.offsets s.from + offset_of base.labels.offsets v ≤ offset_of labels.offsets v + offset_of base.labels.offsets s.from).
       inr (omega (arith, ints, g, f.explains, rw (f.begins, f.ends) at m))) (gains_along p))
-      (λ (new : length base.arcs ≤ s.place).
+      (λ (new : length base.arcs ≤ s.index).
       inl (fixed_along p (rw (new_step i s h new) w.fixed.begins)))
-      (cases_lt s.place (length base.arcs))
+      (cases_lt s.index (length base.arcs))
 
   -- the way back from a stream that has gained passes the new arc
   from_first : {i r : ℕ} {ss : List Step} → Path labels.last i ss r → last_of labels.last r ≡ None → offset_of base.labels.offsets i < offset_of labels.offsets i → (ts : List Step) × Path labels.last i ts base.arc.from
@@ -68,52 +68,52 @@ module _ (base : Base) (labels : Labelling) (standings : List Standing) (wave : 
   from_first {i} (back {step = s} h p) e l =
       let f = w.forest.steps i s h in
       ⊎_elim
-      (λ (old : s.place < length base.arcs).
-      let m = met_before s.place old in
+      (λ (old : s.index < length base.arcs).
+      let m = met_before s.index old in
       let rest = from_first p e (omega (arith, ints, l, f.explains, rw (f.begins, f.ends) at m)) in
       (s ∷ rest.0, back h rest.1))
-      (λ (new : length base.arcs ≤ s.place).
+      (λ (new : length base.arcs ≤ s.index).
       (s ∷ [], back h (subst (λ (x : ℕ). Path labels.last s.from [] x) (new_step i s h new) here)))
-      (cases_lt s.place (length base.arcs))
+      (cases_lt s.index (length base.arcs))
 
-  module _ (place : ℕ) (place_in : place < length (all_arcs base)) (unmet : pos (offset_of labels.offsets (arc_at (all_arcs base) place).to) <ℤ (pos (offset_of labels.offsets (arc_at (all_arcs base) place).from) +ℤ (arc_at (all_arcs base) place).weight)) where
+  module _ (index : ℕ) (index_in : index < length (all_arcs base)) (unmet : pos (offset_of labels.offsets (arc_at (all_arcs base) index).to) <ℤ (pos (offset_of labels.offsets (arc_at (all_arcs base) index).from) +ℤ (arc_at (all_arcs base) index).weight)) where
     -- an arc that asks to raise a stream that isn't fixed closes no chain
-    pub aside : (standing_of standings (arc_at (all_arcs base) place).to ≡ Fixed → ⊥) → passes_within (length labels.last) labels.last (arc_at (all_arcs base) place).to (arc_at (all_arcs base) place).from ≡ false
+    pub aside : (standing_of standings (arc_at (all_arcs base) index).to ≡ Fixed → ⊥) → passes_within (length labels.last) labels.last (arc_at (all_arcs base) index).to (arc_at (all_arcs base) index).from ≡ false
     aside loose =
-        let arc = arc_at (all_arcs base) place in
+        let arc = arc_at (all_arcs base) index in
         by_bool (passes_within (length labels.last) labels.last arc.to arc.from)
         (λ yes.
         let way = Path-steps_back labels.last (length labels.last) arc.to arc.from yes in
         absurd (⊎_elim
-        (λ (old : place < length base.arcs).
-        let m = met_before place old in
+        (λ (old : index < length base.arcs).
+        let m = met_before index old in
         ⊎_elim (λ (fixed : standing_of standings arc.to ≡ Fixed). loose fixed)
         (λ (g : offset_of labels.offsets arc.from + offset_of base.labels.offsets arc.to ≤ offset_of labels.offsets arc.to + offset_of base.labels.offsets arc.from).
         omega (arith, ints, g, m, unmet)) (gains_along way))
-        (λ (new : length base.arcs ≤ place).
-        loose (fixed_along way (rw (ap (λ (a : Arc). a.from) (arc_at-new base place place_in new)) w.fixed.begins)))
-        (cases_lt place (length base.arcs))))
+        (λ (new : length base.arcs ≤ index).
+        loose (fixed_along way (rw (ap (λ (a : Arc). a.from) (arc_at-new base index index_in new)) w.fixed.begins)))
+        (cases_lt index (length base.arcs))))
         (λ no. no)
 
     -- one that asks to raise a fixed stream closes one
-    pub closes : standing_of standings (arc_at (all_arcs base) place).to ≡ Fixed → Closes (all_arcs base) labels place
+    pub closes : standing_of standings (arc_at (all_arcs base) index).to ≡ Fixed → Closes (all_arcs base) labels index
     closes fixed =
-        let arc = arc_at (all_arcs base) place in
-        let ends = w.among place (record { from = 0; to = 0; weight = pos 0 }) place_in in
+        let arc = arc_at (all_arcs base) index in
+        let ends = w.among index (record { from = 0; to = 0; weight = pos 0 }) index_in in
         let short = λ (ss : List Step) (p : Path labels.last arc.from ss arc.to). length-path_any (length labels.last) (λ j s h. omega (arith, w.forest.count, (w.forest.steps j s h).from_in)) p (w.forest.rooted arc.to) (omega (arith, w.noted.last, ends.from_below)) in
         let further = w.fixed.way arc.to fixed in
         record {
-          place_in = place_in;
+          index_in = index_in;
           unmet = unmet;
           passes = ⊎_elim
-              (λ (old : place < length base.arcs).
-              let m = met_before place old in
+              (λ (old : index < length base.arcs).
+              let m = met_before index old in
               let r = w.forest.rooted arc.from in
               let up = from_first r.path r.ends (omega (arith, ints, m, unmet, w.kept arc.to fixed)) in
               let way = Path-append up.1 further.1 in
               passes_along (length labels.last) way (short _ way))
-              (λ (new : length base.arcs ≤ place).
-              let way = subst (λ (x : ℕ). Path labels.last x further.0 arc.to) (sym (ap (λ (a : Arc). a.from) (arc_at-new base place place_in new))) further.1 in
+              (λ (new : length base.arcs ≤ index).
+              let way = subst (λ (x : ℕ). Path labels.last x further.0 arc.to) (sym (ap (λ (a : Arc). a.from) (arc_at-new base index index_in new))) further.1 in
               passes_along (length labels.last) way (short _ way))
-              (cases_lt place (length base.arcs));
+              (cases_lt index (length base.arcs));
         }

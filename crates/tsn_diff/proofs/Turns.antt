@@ -14,7 +14,7 @@ use Rattle.tsn_diff.specs.declared.spread.Wave.{Wave}
 use Rattle.tsn_diff.specs.Forest.{Labelling}
 use Rattle.tsn_diff.specs.Limits.{IsArcAmong}
 use Rattle.tsn_diff.specs.Listing.{IsListing}
-use Rattle.tsn_diff.specs.Spread.{Base, all_arcs, noted_by, standing_of, IsPlaced, IsLifted, AreFixed, IsNoted, IsQueued, IsWave, IsTurn, IsStart, IsWide, MeetsFrom, AreQueued, IsSeen, GoesOn}
+use Rattle.tsn_diff.specs.Spread.{Base, all_arcs, noted_by, standing_of, IsIndexed, IsLifted, AreFixed, IsNoted, IsQueued, IsWave, IsTurn, IsStart, IsWide, MeetsFrom, AreQueued, IsSeen, GoesOn}
 use Rattle.tsn_diff.proofs.Solutions.{IsForest-more}
 use Rattle.tsn_diff.proofs.Spreads.{arc_at-new, met_before}
 
@@ -72,21 +72,21 @@ module _ (base : Base) (labels : Labelling) (wave : Wave) (listing : Listing) (a
     each = rw none_noted (All-nil (λ (f : Former). offset_of base.labels.offsets f.stream < offset_of labels.offsets f.stream));
   }
 
-  -- the new arc has the place after the others
-  pub IsPlaced-new : (place : ℕ) → place ≡ length listing.marks.items → IsPlaced (all_arcs base) (record { place = place; arc = arc })
-  IsPlaced-new place e =
-      let at : place ≡ length base.arcs = e ∙ start.listed.marks in
-      let in_all : place < length (all_arcs base) = omega (arith, at, length-append base.arcs (base.arc ∷ [])) in
-      record { place_in = in_all; arc = arc_at-new base place in_all (omega (arith, at)) ∙ start.arc_is }
+  -- the new arc has the index after the others
+  pub IsIndexed-new : (index : ℕ) → index ≡ length listing.marks.items → IsIndexed (all_arcs base) (record { index = index; arc = arc })
+  IsIndexed-new index e =
+      let at : index ≡ length base.arcs = e ∙ start.listed.marks in
+      let in_all : index < length (all_arcs base) = omega (arith, at, length-append base.arcs (base.arc ∷ [])) in
+      record { index_in = in_all; arc = arc_at-new base index in_all (omega (arith, at)) ∙ start.arc_is }
 
 -- once the new arc is met, every arc is seen
 pub seen_first : (base : Base) (labels new : Labelling) (standings after : List Standing) (wave : Wave) (queue : List ℕ) → IsWave base labels standings wave → base.labels ≡ labels → GoesOn (all_arcs base) labels new standings after wave.queue.items queue → Holds new.offsets base.arc
-    → (place : ℕ) → place < length (all_arcs base) → IsSeen (all_arcs base) new after place
-seen_first base labels new standings after wave queue w same g met place l =
+    → (index : ℕ) → index < length (all_arcs base) → IsSeen (all_arcs base) new after index
+seen_first base labels new standings after wave queue w same g met index l =
     ⊎_elim
-    (λ (old : place < length base.arcs). g.seen place l (inl (rw (← same) (met_before base labels standings wave w place old))))
-    (λ (at : length base.arcs ≤ place). inl (rw (arc_at-new base place l at) met))
-    (cases_lt place (length base.arcs))
+    (λ (old : index < length base.arcs). g.seen index l (inl (rw (← same) (met_before base labels standings wave w index old))))
+    (λ (at : length base.arcs ≤ index). inl (rw (arc_at-new base index l at) met))
+    (cases_lt index (length base.arcs))
 
 -- what is in a list and isn't its first element is in the rest
 contains_rest : (x i : ℕ) (xs : List ℕ) → x ≢ i → Contains (x ∷ xs) i → Contains xs i
@@ -97,17 +97,17 @@ module _ (base : Base) (labels : Labelling) (standings : List Standing) (wave : 
   abbrev after : List Standing
   after = set standings stream Settled
 
-  place : IsQueued (length base.labels.offsets) standings stream
-  place = subst (λ (s : ℕ). IsQueued (length base.labels.offsets) standings s) (sym is) (w.queued turn stream turn_in)
+  index : IsQueued (length base.labels.offsets) standings stream
+  index = subst (λ (s : ℕ). IsQueued (length base.labels.offsets) standings s) (sym is) (w.queued turn stream turn_in)
 
   stands : standing_of after stream ≡ Settled
-  stands = get_or-set_same standings stream Settled Calm (omega (arith, place.stream_in, w.room))
+  stands = get_or-set_same standings stream Settled Calm (omega (arith, index.stream_in, w.room))
 
   stands_other : (i : ℕ) → i ≢ stream → standing_of after i ≡ standing_of standings i
   stands_other i e = get_or-set_other standings stream i Settled Calm e
 
   fixed_other : (i : ℕ) → standing_of standings i ≡ Fixed → i ≢ stream
-  fixed_other i f e = rw (← e, f) at place.lifted
+  fixed_other i f e = rw (← e, f) at index.lifted
 
   still_fixed : (i : ℕ) → standing_of after i ≡ Fixed → standing_of standings i ≡ Fixed
   still_fixed i f =
@@ -140,12 +140,12 @@ module _ (base : Base) (labels : Labelling) (standings : List Standing) (wave : 
         way = λ i f. w.fixed.way i (still_fixed i f);
       };
       kept = λ i f. w.kept i (still_fixed i f);
-      lifted = λ i l. ⊎_elim (λ (e : i ≡ stream). w.lifted i (rw e place.lifted)) (λ (e : i ≢ stream). w.lifted i (rw (stands_other i e) at l)) (cases_eq i stream);
+      lifted = λ i l. ⊎_elim (λ (e : i ≡ stream). w.lifted i (rw e index.lifted)) (λ (e : i ≢ stream). w.lifted i (rw (stands_other i e) at l)) (cases_eq i stream);
       each = w.each;
       queued = All-weaker (IsQueued (length base.labels.offsets) standings) (IsQueued (length base.labels.offsets) after) queued_still wave.queue.items w.queued;
     };
     listed = listed;
-    stream_in = place.stream_in;
+    stream_in = index.stream_in;
     settled = stands;
   }
 

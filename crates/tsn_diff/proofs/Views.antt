@@ -9,9 +9,9 @@ use Rattle.tsn_model.specs.declared.Arc.{Arc}
 use Rattle.tsn_model.specs.Arcs.{arc_at}
 use Rattle.tsn_diff.specs.declared.labels.Step.{Step}
 use Rattle.tsn_diff.specs.Offsets.{chain_of}
-use Rattle.tsn_diff.specs.Forest.{Labelling, IsForest, last_of, steps_back, places_of, chain_by, least_by, step_of, labelling_by}
+use Rattle.tsn_diff.specs.Forest.{Labelling, IsForest, last_of, steps_back, indexes_of, chain_by, least_by, step_of, labelling_by}
 use Rattle.tsn_diff.proofs.Cases.{by_option}
-use Rattle.tsn_diff.proofs.Sums.{places_of-cons}
+use Rattle.tsn_diff.proofs.Sums.{indexes_of-cons}
 
 -- a stream's chain is the one that its steps make
 pub chain_of-least_by : (releases : List ℕ) (arcs : List Arc) (labels : Labelling) (i : ℕ) → i < length labels.last → chain_of (least_by releases arcs labels) i ≡ chain_by labels i
@@ -25,22 +25,22 @@ steps_some : (n : ℕ) (last : List (Option Step)) (i : ℕ) (step : Step) → 0
 steps_some zero last i step some is = absurd (omega arith)
 steps_some (suc n) last i step some is = let e : suc n - 1 ≡ n = omega arith in rw (is, e) refl
 
--- a chain ends with the place that was put last
-end_of : (chain : List ℕ) (place : ℕ) → slice_get (chain ++ place ∷ []) (length (chain ++ place ∷ []) - 1) ≡ Some place
-end_of chain place =
-    let long = length_push chain place in
-    slice_get-get_or (chain ++ place ∷ []) (length (chain ++ place ∷ []) - 1) place (omega arith) ∙ ap Some (get_or_push chain place place (length (chain ++ place ∷ []) - 1) (omega arith))
+-- a chain ends with the index that was put last
+end_of : (chain : List ℕ) (index : ℕ) → slice_get (chain ++ index ∷ []) (length (chain ++ index ∷ []) - 1) ≡ Some index
+end_of chain index =
+    let long = length_push chain index in
+    slice_get-get_or (chain ++ index ∷ []) (length (chain ++ index ∷ []) - 1) index (omega arith) ∙ ap Some (get_or_push chain index index (length (chain ++ index ∷ []) - 1) (omega arith))
 
 -- a chain ends with the stream's last step
 step_of-chain_by : (arcs : List Arc) (labels : Labelling) → IsForest arcs labels → (i : ℕ) → i < length labels.last → step_of arcs (chain_by labels i) ≡ last_of labels.last i
 step_of-chain_by arcs labels forest i l =
     by_option (last_of labels.last i)
-    (λ none. ap (λ (steps : List Step). step_of arcs (places_of steps)) (steps_none (length labels.last) labels.last i none) ∙ sym none)
+    (λ none. ap (λ (steps : List Step). step_of arcs (indexes_of steps)) (steps_none (length labels.last) labels.last i none) ∙ sym none)
     (λ step is.
     let rest = steps_back (length labels.last - 1) labels.last None step.from in
-    let begins : (arc_at arcs step.place).from ≡ step.from = (forest.steps i step is).begins in
-    let ends = end_of (places_of rest) step.place in
-    ap (λ (steps : List Step). step_of arcs (places_of steps)) (steps_some (length labels.last) labels.last i step (omega arith) is) ∙ ap (step_of arcs) (places_of-cons step rest)
+    let begins : (arc_at arcs step.index).from ≡ step.from = (forest.steps i step is).begins in
+    let ends = end_of (indexes_of rest) step.index in
+    ap (λ (steps : List Step). step_of arcs (indexes_of steps)) (steps_some (length labels.last) labels.last i step (omega arith) is) ∙ ap (step_of arcs) (indexes_of-cons step rest)
     ∙ rw (ends, begins, is) refl)
 
 -- so the labels can be told from what is seen

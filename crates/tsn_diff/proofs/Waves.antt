@@ -8,7 +8,7 @@ use Rattle.tsn_model.specs.declared.Arc.{Arc}
 use Rattle.tsn_model.specs.Schedule.{offset_of}
 use Rattle.tsn_model.specs.Arcs.{arc_at, Holds}
 use Rattle.tsn_diff.specs.declared.labels.Step.{Step}
-use Rattle.tsn_diff.specs.declared.listing.Placed.{Placed}
+use Rattle.tsn_diff.specs.declared.listing.Indexed.{Indexed}
 use Rattle.tsn_diff.specs.declared.trail.Former.{Former}
 use Rattle.tsn_diff.specs.declared.spread.Standing.{Standing}
 use Rattle.tsn_diff.specs.declared.spread.Standing.TheVariants.{Calm, Fixed, Waiting, Settled}
@@ -17,7 +17,7 @@ use Rattle.tsn_diff.specs.Forest.{Labelling, Path}
 use Rattle.tsn_diff.specs.Forest.Path.{here, back}
 use Rattle.tsn_diff.specs.Progress.{IsAsked}
 use Rattle.tsn_diff.specs.Trail.{IsTrail, former_of, put_back_all}
-use Rattle.tsn_diff.specs.Spread.{Base, all_arcs, IsPlaced, noted_by, standing_of, AreFixed, IsNoted, IsQueued, IsWave, AreQueued, IsSeen, GoesOn, queue_with, formers_with}
+use Rattle.tsn_diff.specs.Spread.{Base, all_arcs, IsIndexed, noted_by, standing_of, AreFixed, IsNoted, IsQueued, IsWave, AreQueued, IsSeen, GoesOn, queue_with, formers_with}
 use Rattle.tsn_diff.proofs.Forests.{Raises, raised_labels, unlike, offset_same, offset_other, last_same, last_other, offset_rises, IsForest-raised, KeepsRaised-raised, sum-raised}
 use Rattle.tsn_diff.proofs.Spreads.{aside}
 use Rattle.tsn_diff.proofs.Trails.{put_back_all-append, put_back_noted, put_back_again}
@@ -35,15 +35,15 @@ by_standing {P} s calm fixed waiting settled =
 marked : (base : Base) (labels : Labelling) (wave : Wave) → IsNoted base labels wave.trail → length base.formers ≤ length wave.trail.formers.items
 marked base labels wave n = omega (arith, ap length n.before, length-take (length base.formers) wave.trail.formers.items)
 
-module _ (base : Base) (labels : Labelling) (standings : List Standing) (wave next : Wave) (place value : ℕ) (w : IsWave base labels standings wave) (r : Raises (all_arcs base) labels place value) (loose : standing_of standings (arc_at (all_arcs base) place).to ≡ Fixed → ⊥)
+module _ (base : Base) (labels : Labelling) (standings : List Standing) (wave next : Wave) (index value : ℕ) (w : IsWave base labels standings wave) (r : Raises (all_arcs base) labels index value) (loose : standing_of standings (arc_at (all_arcs base) index).to ≡ Fixed → ⊥)
     (trail : IsTrail (length labels.offsets) next.trail)
-    (queue : next.queue.items ≡ queue_with (standing_of standings (arc_at (all_arcs base) place).to) wave.queue.items (arc_at (all_arcs base) place).to)
-    (formers : next.trail.formers.items ≡ formers_with (standing_of standings (arc_at (all_arcs base) place).to) wave.trail.formers.items (former_of labels (arc_at (all_arcs base) place).to)) where
+    (queue : next.queue.items ≡ queue_with (standing_of standings (arc_at (all_arcs base) index).to) wave.queue.items (arc_at (all_arcs base) index).to)
+    (formers : next.trail.formers.items ≡ formers_with (standing_of standings (arc_at (all_arcs base) index).to) wave.trail.formers.items (former_of labels (arc_at (all_arcs base) index).to)) where
   abbrev to : ℕ
-  to = (arc_at (all_arcs base) place).to
+  to = (arc_at (all_arcs base) index).to
 
   abbrev new : Labelling
-  new = raised_labels (all_arcs base) labels place value
+  new = raised_labels (all_arcs base) labels index value
 
   abbrev after : List Standing
   after = set standings to Waiting
@@ -75,14 +75,14 @@ module _ (base : Base) (labels : Labelling) (standings : List Standing) (wave ne
   path_kept : {i j : ℕ} {ss : List Step} → Path labels.last i ss j → standing_of standings i ≡ Fixed → Path new.last i ss j
   path_kept here f = here
   path_kept {i} (back {step = s} h p) f =
-      back (last_other (all_arcs base) labels place value r i (fixed_other i f) ∙ h) (path_kept p (w.fixed.closed i s f h))
+      back (last_other (all_arcs base) labels index value r i (fixed_other i f) ∙ h) (path_kept p (w.fixed.closed i s f h))
 
   AreFixed-raised : AreFixed new.last after base.arc.from
   AreFixed-raised = record {
     begins = now_fixed base.arc.from w.fixed.begins;
     closed = λ i s f h.
         let g = still_fixed i f in
-        now_fixed s.from (w.fixed.closed i s g (sym (last_other (all_arcs base) labels place value r i (fixed_other i g)) ∙ h));
+        now_fixed s.from (w.fixed.closed i s g (sym (last_other (all_arcs base) labels index value r i (fixed_other i g)) ∙ h));
     way = λ i f. let g = w.fixed.way i (still_fixed i f) in (g.0, path_kept g.1 w.fixed.begins);
   }
 
@@ -106,7 +106,7 @@ module _ (base : Base) (labels : Labelling) (standings : List Standing) (wave ne
 
   -- what is written at the raised stream
   abbrev written : Former
-  written = record { stream = to; offset = value; last = Some (record { place = place; from = (arc_at (all_arcs base) place).from }) }
+  written = record { stream = to; offset = value; last = Some (record { index = index; from = (arc_at (all_arcs base) index).from }) }
 
   back_is : put_back_all (noted_by base next.trail) new ≡ base.labels
   back_is =
@@ -128,14 +128,14 @@ module _ (base : Base) (labels : Labelling) (standings : List Standing) (wave ne
   }
 
   each_rises : (f : Former) → offset_of base.labels.offsets f.stream < offset_of labels.offsets f.stream → offset_of base.labels.offsets f.stream < offset_of new.offsets f.stream
-  each_rises f l = omega (arith, l, offset_rises (all_arcs base) labels place value r f.stream)
+  each_rises f l = omega (arith, l, offset_rises (all_arcs base) labels index value r f.stream)
 
   each_is : All (λ (f : Former). offset_of base.labels.offsets f.stream < offset_of new.offsets f.stream) (noted_by base next.trail)
   each_is =
       let P = λ (f : Former). offset_of base.labels.offsets f.stream < offset_of new.offsets f.stream in
       let before : All P (noted_by base wave.trail) = All-weaker (λ (f : Former). offset_of base.labels.offsets f.stream < offset_of labels.offsets f.stream) P each_rises (noted_by base wave.trail) w.each in
       by_standing (standing_of standings to)
-      (λ e. rw (noted_is, e) (All-push P (noted_by base wave.trail) (former_of labels to) before (omega (arith, offset_same (all_arcs base) labels place value r, r.higher, w.rises to))))
+      (λ e. rw (noted_is, e) (All-push P (noted_by base wave.trail) (former_of labels to) before (omega (arith, offset_same (all_arcs base) labels index value r, r.higher, w.rises to))))
       (λ e. rw (noted_is, e) before) (λ e. rw (noted_is, e) before) (λ e. rw (noted_is, e) before)
 
   queued_still : (i : ℕ) → IsQueued (length base.labels.offsets) standings i → IsQueued (length base.labels.offsets) after i
@@ -158,13 +158,13 @@ module _ (base : Base) (labels : Labelling) (standings : List Standing) (wave ne
     met = w.met;
     noted = IsNoted-raised;
     room = omega (arith, w.room, length-set standings to Waiting);
-    forest = IsForest-raised (all_arcs base) labels place value r;
-    raised = λ releases old. KeepsRaised-raised (all_arcs base) labels place value r releases (w.raised releases old);
-    rises = λ i. omega (arith, w.rises i, offset_rises (all_arcs base) labels place value r i);
-    roots = λ i n. ⊎_elim (λ (e : i ≡ to). let h = rw (e, last_same (all_arcs base) labels place value r) at n in cc)
-        (λ (e : i ≢ to). offset_other (all_arcs base) labels place value r i e ∙ w.roots i (sym (last_other (all_arcs base) labels place value r i e) ∙ n)) (cases_eq i to);
+    forest = IsForest-raised (all_arcs base) labels index value r;
+    raised = λ releases old. KeepsRaised-raised (all_arcs base) labels index value r releases (w.raised releases old);
+    rises = λ i. omega (arith, w.rises i, offset_rises (all_arcs base) labels index value r i);
+    roots = λ i n. ⊎_elim (λ (e : i ≡ to). let h = rw (e, last_same (all_arcs base) labels index value r) at n in cc)
+        (λ (e : i ≢ to). offset_other (all_arcs base) labels index value r i e ∙ w.roots i (sym (last_other (all_arcs base) labels index value r i e) ∙ n)) (cases_eq i to);
     fixed = AreFixed-raised;
-    kept = λ i f. let g = still_fixed i f in offset_other (all_arcs base) labels place value r i (fixed_other i g) ∙ w.kept i g;
+    kept = λ i f. let g = still_fixed i f in offset_other (all_arcs base) labels index value r i (fixed_other i g) ∙ w.kept i g;
     lifted = λ i l. ⊎_elim (λ (e : i ≡ to). rw e now_noted) (λ (e : i ≢ to). still_noted i (w.lifted i (rw (stands_other i e) at l))) (cases_eq i to);
     each = each_is;
     queued = queued_is;
@@ -175,7 +175,7 @@ module _ (base : Base) (labels : Labelling) (standings : List Standing) (wave ne
       let arc = arc_at (all_arcs base) q in
       ⊎_elim (λ (e : arc.from ≡ to). inr (rw e stands))
       (λ (e : arc.from ≢ to).
-      ⊎_elim (λ (met : Holds labels.offsets arc). inl (omega (arith, ints, met, offset_other (all_arcs base) labels place value r arc.from e, offset_rises (all_arcs base) labels place value r arc.to)))
+      ⊎_elim (λ (met : Holds labels.offsets arc). inl (omega (arith, ints, met, offset_other (all_arcs base) labels index value r arc.from e, offset_rises (all_arcs base) labels index value r arc.to)))
       (λ (waits : standing_of standings arc.from ≡ Waiting). inr (stands_other arc.from e ∙ waits)) seen) (cases_eq arc.from to)
 
   queued_more : (turn : ℕ) → turn ≤ length wave.queue.items → AreQueued standings (drop turn wave.queue.items) → AreQueued after (drop turn next.queue.items)
@@ -207,15 +207,15 @@ module _ (base : Base) (labels : Labelling) (standings : List Standing) (wave ne
         seen = λ q l seen. seen_still q seen;
         queued = queued_more;
         more = one.0;
-        raises = omega (arith, one.1, sum-raised (all_arcs base) labels place value r);
+        raises = omega (arith, one.1, sum-raised (all_arcs base) labels index value r);
       }
 
   -- the arc's first stream stands as before, and the arc is met
-  pub first_kept : standing_of after (arc_at (all_arcs base) place).from ≡ standing_of standings (arc_at (all_arcs base) place).from
-  first_kept = stands_other (arc_at (all_arcs base) place).from (unlike (all_arcs base) labels place value r)
+  pub first_kept : standing_of after (arc_at (all_arcs base) index).from ≡ standing_of standings (arc_at (all_arcs base) index).from
+  first_kept = stands_other (arc_at (all_arcs base) index).from (unlike (all_arcs base) labels index value r)
 
-  pub met_raised : Holds new.offsets (arc_at (all_arcs base) place)
-  met_raised = omega (arith, ints, r.value_is, offset_same (all_arcs base) labels place value r, offset_other (all_arcs base) labels place value r (arc_at (all_arcs base) place).from (unlike (all_arcs base) labels place value r))
+  pub met_raised : Holds new.offsets (arc_at (all_arcs base) index)
+  met_raised = omega (arith, ints, r.value_is, offset_same (all_arcs base) labels index value r, offset_other (all_arcs base) labels index value r (arc_at (all_arcs base) index).from (unlike (all_arcs base) labels index value r))
 
 -- where nothing is raised, nothing changes
 pub GoesOn-same : (arcs : List Arc) (labels : Labelling) (standings : List Standing) (queue : List ℕ) → GoesOn arcs labels labels standings standings queue queue
@@ -229,23 +229,23 @@ GoesOn-same arcs labels standings queue = record {
 -- one raise after another
 pub GoesOn-then : (arcs : List Arc) (first middle last : Labelling) (a b c : List Standing) (p q r : List ℕ) → GoesOn arcs first middle a b p q → GoesOn arcs middle last b c q r → GoesOn arcs first last a c p r
 GoesOn-then arcs first middle last a b c p q r x y = record {
-  seen = λ place l seen. y.seen place l (x.seen place l seen);
+  seen = λ index l seen. y.seen index l (x.seen index l seen);
   queued = λ turn l before. y.queued turn (omega (arith, x.more)) (x.queued turn l before);
   more = omega (arith, x.more, y.more);
   raises = omega (arith, x.raises, y.raises);
 }
 
 -- an arc that asks to raise its last stream isn't met
-pub unmet_asked : (base : Base) (labels : Labelling) (placed : Placed) (offset : ℕ) → IsPlaced (all_arcs base) placed → IsAsked labels.offsets placed.arc offset → pos (offset_of labels.offsets (arc_at (all_arcs base) placed.place).to) <ℤ (pos (offset_of labels.offsets (arc_at (all_arcs base) placed.place).from) +ℤ (arc_at (all_arcs base) placed.place).weight)
-unmet_asked base labels placed offset p asked = rw p.arc (omega (arith, ints, asked.value, asked.higher))
+pub unmet_asked : (base : Base) (labels : Labelling) (indexed : Indexed) (offset : ℕ) → IsIndexed (all_arcs base) indexed → IsAsked labels.offsets indexed.arc offset → pos (offset_of labels.offsets (arc_at (all_arcs base) indexed.index).to) <ℤ (pos (offset_of labels.offsets (arc_at (all_arcs base) indexed.index).from) +ℤ (arc_at (all_arcs base) indexed.index).weight)
+unmet_asked base labels indexed offset p asked = rw p.arc (omega (arith, ints, asked.value, asked.higher))
 
 -- it raises the stream, where that isn't fixed
-pub Raises-asked : (base : Base) (labels : Labelling) (standings : List Standing) (wave : Wave) (placed : Placed) (offset : ℕ) → IsWave base labels standings wave → IsPlaced (all_arcs base) placed → IsAsked labels.offsets placed.arc offset → (standing_of standings (arc_at (all_arcs base) placed.place).to ≡ Fixed → ⊥) → Raises (all_arcs base) labels placed.place offset
-Raises-asked base labels standings wave placed offset w p asked loose = record {
+pub Raises-asked : (base : Base) (labels : Labelling) (standings : List Standing) (wave : Wave) (indexed : Indexed) (offset : ℕ) → IsWave base labels standings wave → IsIndexed (all_arcs base) indexed → IsAsked labels.offsets indexed.arc offset → (standing_of standings (arc_at (all_arcs base) indexed.index).to ≡ Fixed → ⊥) → Raises (all_arcs base) labels indexed.index offset
+Raises-asked base labels standings wave indexed offset w p asked loose = record {
   forest = w.forest;
-  among = rw w.noted.offsets (w.among placed.place (record { from = 0; to = 0; weight = pos 0 }) p.place_in);
-  place_in = p.place_in;
+  among = rw w.noted.offsets (w.among indexed.index (record { from = 0; to = 0; weight = pos 0 }) p.index_in);
+  index_in = p.index_in;
   value_is = rw p.arc asked.value;
   higher = rw p.arc asked.higher;
-  aside = aside base labels standings wave w placed.place p.place_in (unmet_asked base labels placed offset p asked) loose;
+  aside = aside base labels standings wave w indexed.index p.index_in (unmet_asked base labels indexed offset p asked) loose;
 }

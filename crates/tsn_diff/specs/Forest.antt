@@ -31,11 +31,11 @@ pub record Rooted (last : List (Option Step)) (stream : ℕ) : Type 0 where
 
 -- the step is an arc to the stream, by which the stream's offset is no more than explained
 pub record IsStep (arcs : List Arc) (offsets : List ℕ) (stream : ℕ) (step : Step) : Type 0 where
-  pub place_in : step.place < length arcs
-  pub ends : (arc_at arcs step.place).to ≡ stream
-  pub begins : (arc_at arcs step.place).from ≡ step.from
+  pub index_in : step.index < length arcs
+  pub ends : (arc_at arcs step.index).to ≡ stream
+  pub begins : (arc_at arcs step.index).from ≡ step.from
   pub from_in : step.from < length offsets
-  pub explains : pos (slice_index offsets stream) ≤ℤ (pos (slice_index offsets step.from) +ℤ (arc_at arcs step.place).weight)
+  pub explains : pos (slice_index offsets stream) ≤ℤ (pos (slice_index offsets step.from) +ℤ (arc_at arcs step.index).weight)
 
 -- the steps lead each stream back to one that has none
 pub record IsForest (arcs : List Arc) (labels : Labelling) : Type 0 where
@@ -62,13 +62,13 @@ steps_back zero last top stream = []
 steps_back (suc n) last top stream =
     cond (is_top top stream) [] (option_map_or (λ step. step ∷ steps_back n last top step.from) (last_of last stream) [])
 
--- the places of steps back, as a chain
-abbrev pub places_of : List Step → List ℕ
-places_of steps = reverse (map (λ step. step.place) steps)
+-- the indexes of steps back, as a chain
+abbrev pub indexes_of : List Step → List ℕ
+indexes_of steps = reverse (map (λ step. step.index) steps)
 
 -- the chain that a stream's steps make
 abbrev pub chain_by : Labelling → ℕ → List ℕ
-chain_by labels stream = places_of (steps_back (length labels.last) labels.last None stream)
+chain_by labels stream = indexes_of (steps_back (length labels.last) labels.last None stream)
 
 -- the offsets with the chains that the steps make
 abbrev pub least_by : List ℕ → List Arc → Labelling → LeastOffsets
@@ -77,7 +77,7 @@ least_by releases arcs labels =
 
 -- the last step of a chain
 abbrev pub step_of : List Arc → List ℕ → Option Step
-step_of arcs chain = option_map_or (λ place. Some (record { place = place; from = (arc_at arcs place).from })) (slice_get chain (length chain - 1)) None
+step_of arcs chain = option_map_or (λ index. Some (record { index = index; from = (arc_at arcs index).from })) (slice_get chain (length chain - 1)) None
 
 -- the labels whose steps make the chains
 abbrev pub labelling_by : LeastOffsets → Labelling

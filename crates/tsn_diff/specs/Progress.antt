@@ -18,11 +18,11 @@ passes_within (suc n) last through stream =
 abbrev pub KeepsRaised : Labelling → Labelling → Type 0
 KeepsRaised old new = (releases : List ℕ) → IsRaised releases old → IsRaised releases new
 
--- the arc at this place is not met, and the chain of its first stream passes its last one
-pub record Closes (arcs : List Arc) (labels : Labelling) (place : ℕ) : Type 0 where
-  pub place_in : place < length arcs
-  pub unmet : pos (offset_of labels.offsets (arc_at arcs place).to) <ℤ (pos (offset_of labels.offsets (arc_at arcs place).from) +ℤ (arc_at arcs place).weight)
-  pub passes : passes_within (length labels.last) labels.last (arc_at arcs place).to (arc_at arcs place).from ≡ true
+-- the arc at this index is not met, and the chain of its first stream passes its last one
+pub record Closes (arcs : List Arc) (labels : Labelling) (index : ℕ) : Type 0 where
+  pub index_in : index < length arcs
+  pub unmet : pos (offset_of labels.offsets (arc_at arcs index).to) <ℤ (pos (offset_of labels.offsets (arc_at arcs index).from) +ℤ (arc_at arcs index).weight)
+  pub passes : passes_within (length labels.last) labels.last (arc_at arcs index).to (arc_at arcs index).from ≡ true
 
 -- the offset to which an arc that is not met asks to raise its last stream
 pub record IsAsked (offsets : List ℕ) (arc : Arc) (offset : ℕ) : Type 0 where
@@ -31,9 +31,9 @@ pub record IsAsked (offsets : List ℕ) (arc : Arc) (offset : ℕ) : Type 0 wher
 
 -- what a correction by one arc says
 abbrev pub Corrects : List Arc → ℕ → Labelling → Labelling → Progress → Type 0
-Corrects arcs place old new Steady = (new ≡ old) × Holds new.offsets (arc_at arcs place)
-Corrects arcs place old new Raised = sum old.offsets < sum new.offsets
-Corrects arcs place old new (Closed closing) = Closes arcs new closing
+Corrects arcs index old new Steady = (new ≡ old) × Holds new.offsets (arc_at arcs index)
+Corrects arcs index old new Raised = sum old.offsets < sum new.offsets
+Corrects arcs index old new (Closed closing) = Closes arcs new closing
 
 -- what a round of corrections says
 abbrev pub CorrectsAll : List Arc → Labelling → Labelling → Progress → Type 0

@@ -4,7 +4,7 @@ use Rattle.tsn_model.specs.declared.Arc.{Arc}
 use Rattle.tsn_model.specs.Schedule.{offset_of}
 use Rattle.tsn_model.specs.Arcs.{arc_at, Holds, HoldsAll}
 use Rattle.tsn_diff.specs.declared.labels.Step.{Step}
-use Rattle.tsn_diff.specs.declared.listing.Placed.{Placed}
+use Rattle.tsn_diff.specs.declared.listing.Indexed.{Indexed}
 use Rattle.tsn_diff.specs.declared.listing.Listing.{Listing}
 use Rattle.tsn_diff.specs.declared.trail.Former.{Former}
 use Rattle.tsn_diff.specs.declared.trail.Trail.{Trail}
@@ -32,15 +32,15 @@ all_arcs base = base.arcs ++ base.arc ∷ []
 abbrev pub base_of : Labelling → List Arc → Trail → Arc → Base
 base_of labels arcs trail arc = record { arcs = arcs; arc = arc; labels = labels; formers = trail.formers.items }
 
--- an arc with its place
-pub record IsPlaced (arcs : List Arc) (placed : Placed) : Type 0 where
-  pub place_in : placed.place < length arcs
-  pub arc : arc_at arcs placed.place ≡ placed.arc
+-- an arc with its index
+pub record IsIndexed (arcs : List Arc) (indexed : Indexed) : Type 0 where
+  pub index_in : indexed.index < length arcs
+  pub arc : arc_at arcs indexed.index ≡ indexed.arc
 
 -- the arc there closes a chain
-pub record IsClosing (arcs : List Arc) (labels : Labelling) (placed : Placed) : Type 0 where
-  pub there : IsPlaced arcs placed
-  pub closes : Closes arcs labels placed.place
+pub record IsClosing (arcs : List Arc) (labels : Labelling) (indexed : Indexed) : Type 0 where
+  pub there : IsIndexed arcs indexed
+  pub closes : Closes arcs labels indexed.index
 
 -- the former labels that the wave has noted
 abbrev pub noted_by : Base → Trail → List Former
@@ -58,7 +58,7 @@ pub record IsNoted (base : Base) (labels : Labelling) (trail : Trail) : Type 0 w
 abbrev pub standing_of : List Standing → ℕ → Standing
 standing_of standings stream = slice_index_or standings stream Calm
 
--- the queue, where the stream has a place in it
+-- the queue, where the stream waits in it
 abbrev pub queue_with : Standing → List ℕ → ℕ → List ℕ
 queue_with Calm queue stream = queue ++ stream ∷ []
 queue_with Fixed queue stream = queue
@@ -89,7 +89,7 @@ pub record AreFixed (last : List (Option Step)) (standings : List Standing) (fir
   pub closed : (stream : ℕ) (step : Step) → standing_of standings stream ≡ Fixed → last_of last stream ≡ Some step → standing_of standings step.from ≡ Fixed
   pub way : (stream : ℕ) → standing_of standings stream ≡ Fixed → (steps : List Step) × Path last first steps stream
 
--- the stream of a place in the queue
+-- the stream at an index of the queue
 pub record IsQueued (n : ℕ) (standings : List Standing) (stream : ℕ) : Type 0 where
   pub stream_in : stream < n
   pub lifted : IsLifted (standing_of standings stream)
@@ -111,10 +111,10 @@ pub record IsWave (base : Base) (labels : Labelling) (standings : List Standing)
   pub queued : All (IsQueued (length base.labels.offsets) standings) wave.queue.items
 
 -- an arc of all arcs that asks for more than its last stream has
-pub record IsRise (base : Base) (labels : Labelling) (standings : List Standing) (wave : Wave) (placed : Placed) (offset : ℕ) : Type 0 where
+pub record IsRise (base : Base) (labels : Labelling) (standings : List Standing) (wave : Wave) (indexed : Indexed) (offset : ℕ) : Type 0 where
   pub moves : IsWave base labels standings wave
-  pub there : IsPlaced (all_arcs base) placed
-  pub asked : IsAsked labels.offsets placed.arc offset
+  pub there : IsIndexed (all_arcs base) indexed
+  pub asked : IsAsked labels.offsets indexed.arc offset
 
 -- a stream whose arcs are to be looked at now
 pub record IsTurn (base : Base) (labels : Labelling) (standings : List Standing) (wave : Wave) (listing : Listing) (stream : ℕ) : Type 0 where
@@ -123,13 +123,13 @@ pub record IsTurn (base : Base) (labels : Labelling) (standings : List Standing)
   pub stream_in : stream < length base.labels.offsets
   pub settled : standing_of standings stream ≡ Settled
 
--- every stream that waits has a place in the queue
+-- every stream that waits has an index in the queue
 abbrev pub AreQueued : List Standing → List ℕ → Type 0
 AreQueued standings queue = (stream : ℕ) → standing_of standings stream ≡ Waiting → Contains queue stream
 
 -- the arcs that begin at a stream are met
 abbrev pub MeetsFrom : List Arc → List ℕ → ℕ → Type 0
-MeetsFrom arcs offsets stream = (place : ℕ) → place < length arcs → (arc_at arcs place).from ≡ stream → Holds offsets (arc_at arcs place)
+MeetsFrom arcs offsets stream = (index : ℕ) → index < length arcs → (arc_at arcs index).from ≡ stream → Holds offsets (arc_at arcs index)
 
 -- what a wave starts with
 pub record IsStart (base : Base) (labels : Labelling) (trail : Trail) (listing : Listing) (arc : Arc) : Type 0 where
@@ -151,11 +151,11 @@ pub record IsWide (base : Base) (labels : Labelling) (trail : Trail) : Type 0 wh
 
 -- an arc is met, or its first stream waits
 abbrev pub IsSeen : List Arc → Labelling → List Standing → ℕ → Type 0
-IsSeen arcs labels standings place = Holds labels.offsets (arc_at arcs place) ⊎ (standing_of standings (arc_at arcs place).from ≡ Waiting)
+IsSeen arcs labels standings index = Holds labels.offsets (arc_at arcs index) ⊎ (standing_of standings (arc_at arcs index).from ≡ Waiting)
 
--- the wave goes on: no arc is lost from sight, and each raise has added at most one place to the queue
+-- the wave goes on: no arc is lost from sight, and each raise has added at most one index to the queue
 pub record GoesOn (arcs : List Arc) (old new : Labelling) (before after : List Standing) (queue longer : List ℕ) : Type 0 where
-  pub seen : (place : ℕ) → place < length arcs → IsSeen arcs old before place → IsSeen arcs new after place
+  pub seen : (index : ℕ) → index < length arcs → IsSeen arcs old before index → IsSeen arcs new after index
   pub queued : (turn : ℕ) → turn ≤ length queue → AreQueued before (drop turn queue) → AreQueued after (drop turn longer)
   pub more : length queue ≤ length longer
   pub raises : length longer + sum old.offsets ≤ length queue + sum new.offsets

@@ -36,11 +36,11 @@ last_mark marks = slice_index marks (length marks - 1)
 abbrev pub stack_of : LeastOffsets → Listing → Trail → Stack
 stack_of least listing trail = record { least = least; raised = drop (last_mark listing.marks.items) trail.streams.items }
 
--- how many raises were noted before the arc at this place, or all, where there is none
+-- how many raises were noted before the arc at this index, or all, where there is none
 abbrev pub mark_at : List ℕ → List Former → ℕ → ℕ
 mark_at marks formers k = slice_index_or marks k (length formers)
 
--- what was noted for the arc at this place
+-- what was noted for the arc at this index
 abbrev pub noted_for : List ℕ → List Former → ℕ → List Former
 noted_for marks formers k = drop (slice_index marks k) (take (mark_at marks formers (k + 1)) formers)
 

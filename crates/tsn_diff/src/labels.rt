@@ -1,17 +1,17 @@
 ghost use Rattle.std.specs.Prelude.{◌≡◌, ◌++◌, ◌<◌, ◌≤◌, [], ◌∷◌, All, IfOk, MatchOption, length, slice_set};
 ghost use Rattle.tsn_model.specs.Arcs.{Holds};
 ghost use Rattle.tsn_diff.specs.Limits.{IsArcAmong};
-ghost use Rattle.tsn_diff.specs.Forest.{HasSteps, IsForest, steps_back, places_of};
+ghost use Rattle.tsn_diff.specs.Forest.{HasSteps, IsForest, steps_back, indexes_of};
 ghost use Rattle.tsn_diff.specs.Progress.{KeepsRaised, IsAsked, passes_within, Corrects, CorrectsAll};
 ghost use Rattle.tsn_diff.specs.Labels.{labelling_of};
 
 use std::alloc::{AllocError, Global};
 use tsn_model::Arc;
 
-/// The last arc of a stream's chain: its place in the list of arcs, and the stream where it begins.
+/// The last arc of a stream's chain: its index in the list of arcs, and the stream where it begins.
 #[derive(Clone, Copy, Debug, PartialEq, Eq)]
 pub struct Step {
-    pub place: usize,
+    pub index: usize,
     pub from: usize,
 }
 
@@ -29,7 +29,7 @@ pub enum Progress {
     Steady,
     /// Some label was raised.
     Raised,
-    /// The arc at this place is not met, and the chain of its first stream passes its last one.
+    /// The arc at this index is not met, and the chain of its first stream passes its last one.
     Closed(usize),
 }
 
@@ -44,34 +44,34 @@ impl Labels {
         ensures progress { CorrectsAll arcs.now (labelling_of self.old) (labelling_of self.new) result }
     {
         let mut progress = Progress::Steady;
-        for place in 0..arcs.len() {
-            match self.correct(arcs, place) {
+        for index in 0..arcs.len() {
+            match self.correct(arcs, index) {
                 Progress::Steady => {}
                 Progress::Raised => progress = Progress::Raised,
-                Progress::Closed(place) => return Progress::Closed(place),
+                Progress::Closed(index) => return Progress::Closed(index),
             }
         }
         progress
     }
 
     /// Raises the last stream of an arc that is not met.
-    fn correct(&mut self, arcs: &[Arc], place: usize) -> Progress
+    fn correct(&mut self, arcs: &[Arc], index: usize) -> Progress
         requires arcs { All (IsArcAmong (length self.old.offsets.items)) arcs.now }
-        requires place { place < length arcs.now }
+        requires index { index < length arcs.now }
         requires forest { IsForest arcs.now (labelling_of self.old) }
         ensures count { length self.new.offsets.items ≡ length self.old.offsets.items }
         ensures forest { IsForest arcs.now (labelling_of self.new) }
         ensures raised { KeepsRaised (labelling_of self.old) (labelling_of self.new) }
-        ensures progress { Corrects arcs.now place (labelling_of self.old) (labelling_of self.new) result }
+        ensures progress { Corrects arcs.now index (labelling_of self.old) (labelling_of self.new) result }
     {
-        let arc = arcs[place];
+        let arc = arcs[index];
         let Some(offset) = self.asked(arc) else {
             return Progress::Steady;
         };
         if self.passes(arc.from, arc.to) {
-            return Progress::Closed(place);
+            return Progress::Closed(index);
         }
-        self.raise(place, arc, offset);
+        self.raise(index, arc, offset);
         Progress::Raised
     }
 
@@ -90,16 +90,16 @@ impl Labels {
     }
 
     /// Raises the last stream of an arc to an offset.
-    pub fn raise(&mut self, place: usize, arc: Arc, offset: u64)
+    pub fn raise(&mut self, index: usize, arc: Arc, offset: u64)
         requires offsets { arc.to < length self.old.offsets.items }
         requires last { arc.to < length self.old.last.items }
         ensures offsets { self.new.offsets.items ≡ slice_set self.old.offsets.items arc.to offset }
         ensures last { self.new.last.items
-            ≡ slice_set self.old.last.items arc.to (Some (record { place = place; from = arc.from })) }
+            ≡ slice_set self.old.last.items arc.to (Some (record { index = index; from = arc.from })) }
     {
         self.offsets[arc.to] = offset;
         self.last[arc.to] = Some(Step {
-            place,
+            index,
             from: arc.from,
         });
     }
@@ -124,18 +124,18 @@ impl Labels {
     }
 
     /// The closed chain of an arc that comes after what leads from its last stream to its first.
-    pub fn cycle(&self, alloc: Global, place: usize, arc: Arc) -> Result<Vec<usize>, AllocError>
+    pub fn cycle(&self, alloc: Global, index: usize, arc: Arc) -> Result<Vec<usize>, AllocError>
         requires steps { HasSteps (labelling_of self.now) }
         requires stream { arc.from < length self.now.last.items }
         ensures { IfOk result (λ cycle. cycle.items
-            ≡ places_of (steps_back (length self.now.last.items) self.now.last.items (Some arc.to) arc.from) ++ place ∷ []) }
+            ≡ indexes_of (steps_back (length self.now.last.items) self.now.last.items (Some arc.to) arc.from) ++ index ∷ []) }
     {
         let mut cycle = self.chain(alloc, Some(arc.to), arc.from)?;
-        cycle.push(place)?;
+        cycle.push(index)?;
         Ok(cycle)
     }
 
-    /// The places of the arcs that lead to `stream`: all of its chain, or what follows `top` in it.
+    /// The indexes of the arcs that lead to `stream`: all of its chain, or what follows `top` in it.
     pub fn chain(
         &self,
         alloc: Global,
@@ -145,7 +145,7 @@ impl Labels {
         requires steps { HasSteps (labelling_of self.now) }
         requires stream { stream < length self.now.last.items }
         ensures { IfOk result (λ chain. chain.items
-            ≡ places_of (steps_back (length self.now.last.items) self.now.last.items top stream)) }
+            ≡ indexes_of (steps_back (length self.now.last.items) self.now.last.items top stream)) }
     {
         let mut chain = Vec::new(alloc);
         for _ in 0..self.last.len() {
@@ -155,7 +155,7 @@ impl Labels {
             let Some(step) = self.last[stream] else {
                 break;
             };
-            chain.push(step.place)?;
+            chain.push(step.index)?;
             stream = step.from;
         }
         chain.reverse();

@@ -5,10 +5,10 @@ ghost use Rattle.tsn_diff.specs.Listing.{IsListing};
 use std::alloc::{AllocError, Global};
 use tsn_model::Arc;
 
-/// An arc, and its place in the list of arcs.
+/// An arc, and its index in the list of arcs.
 #[derive(Clone, Copy, Debug)]
-pub struct Placed {
-    pub place: usize,
+pub struct Indexed {
+    pub index: usize,
     pub arc: Arc,
 }
 
@@ -16,7 +16,7 @@ pub struct Placed {
 #[derive(Debug, Drop)]
 pub struct Listing {
     pub marks: Vec<usize>,
-    pub leaving: Vec<Vec<Placed>>,
+    pub leaving: Vec<Vec<Indexed>>,
 }
 
 impl Listing {
@@ -46,8 +46,8 @@ impl Listing {
         ensures err_marks { OnErr result (self.new.marks.items ≡ self.old.marks.items) }
     {
         self.marks.reserve(1)?;
-        let place = self.marks.len();
-        self.leaving[arc.from].push(Placed { place, arc })?;
+        let index = self.marks.len();
+        self.leaving[arc.from].push(Indexed { index, arc })?;
         self.marks.push_reserved(mark);
         Ok(())
     }
@@ -62,7 +62,7 @@ impl Listing {
         ensures listing { (arcs : List Arc) → IsListing (length self.old.leaving.items) (arcs ++ arc ∷ []) self.old →
             IsListing (length self.old.leaving.items) arcs self.new }
     {
-        let _placed = self.leaving[arc.from].pop();
+        let _indexed = self.leaving[arc.from].pop();
         self.marks.pop().unwrap()
     }
 }

@@ -37,7 +37,7 @@ enum Releases {
 pub enum Outcome {
     /// The least offsets that meet every arc.
     Least(Least),
-    /// No offsets meet every arc, as these arcs show: a closed chain of positive sum, by their places in the list.
+    /// No offsets meet every arc, as these arcs show: a closed chain of positive sum, by their indexes in the list.
     Positive(Vec<usize>),
 }
 
@@ -184,7 +184,7 @@ impl Least {
         &self.arcs
     }
 
-    /// A chain that shows the stream's offset, by the places of its arcs: empty where the offset is the release.
+    /// A chain that shows the stream's offset, by the indexes of its arcs: empty where the offset is the release.
     pub fn chain(&self, alloc: Global, stream: usize) -> Result<Vec<usize>, NoMemory>
         requires { stream < length self.now.offsets }
         ensures { IfOk result (λ chain. chain.items ≡ chain_of self.now stream) }
@@ -239,8 +239,8 @@ fn settle(
         match labels.round(&arcs) {
             Progress::Steady => return Ok(Outcome::Least(Least { net, arcs, labels })),
             Progress::Raised => {}
-            Progress::Closed(place) => {
-                return Ok(Outcome::Positive(labels.cycle(alloc, place, arcs[place])?));
+            Progress::Closed(index) => {
+                return Ok(Outcome::Positive(labels.cycle(alloc, index, arcs[index])?));
             }
         }
     }

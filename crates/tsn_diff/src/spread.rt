@@ -8,7 +8,7 @@ ghost use Rattle.tsn_diff.specs.Trail.{IsTrail, former_of};
 ghost use Rattle.tsn_diff.specs.Spread.{Base, queue_with, formers_with, IsClosing, IsRise, MeetsFrom, IsNoted, IsWave, IsTurn, IsStart, IsWide, GoesOn, AreCalm, AreFixed, IsLifted, standing_of, all_arcs};
 
 use crate::labels::Labels;
-use crate::listing::{Listing, Placed};
+use crate::listing::{Indexed, Listing};
 use crate::solve::MAX_STREAMS;
 use crate::trail::Trail;
 use std::alloc::{AllocError, Global};
@@ -54,33 +54,33 @@ impl Wave {
         &mut self,
         labels: &mut Labels,
         standings: &mut [Standing],
-        placed: Placed,
+        indexed: Indexed,
         offset: u64,
     ) -> Result<bool, AllocError>
         ghost base: { Base }
-        requires { IsRise base (labelling_of labels.old) standings.old self.old placed offset }
+        requires { IsRise base (labelling_of labels.old) standings.old self.old indexed offset }
         ensures noted { IsNoted base (labelling_of labels.new) self.new.trail }
         ensures wave { OnOk result (IsWave base (labelling_of labels.new) standings.new self.new) }
         ensures goes_on { OnOk result
             (GoesOn (all_arcs base) (labelling_of labels.old) (labelling_of labels.new) standings.old standings.new self.old.queue.items self.new.queue.items) }
-        ensures first { standing_of standings.new placed.arc.from
-            ≡ standing_of standings.old placed.arc.from }
-        ensures met { result ≡ Ok false → Holds labels.new.offsets.items placed.arc }
+        ensures first { standing_of standings.new indexed.arc.from
+            ≡ standing_of standings.old indexed.arc.from }
+        ensures met { result ≡ Ok false → Holds labels.new.offsets.items indexed.arc }
         ensures closes { result ≡ Ok true
-            → Closes (all_arcs base) (labelling_of labels.new) placed.place }
+            → Closes (all_arcs base) (labelling_of labels.new) indexed.index }
     {
-        let arc = placed.arc;
+        let arc = indexed.arc;
         let standing = standings[arc.to];
         if let Standing::Fixed = standing {
             return Ok(true);
         }
         self.enter(labels, standing, arc.to)?;
         standings[arc.to] = Standing::Waiting;
-        labels.raise(placed.place, arc, offset);
+        labels.raise(indexed.index, arc, offset);
         Ok(false)
     }
 
-    /// Gives a stream that is about to be raised a place in the queue, unless it waits, and notes its label, unless that was done.
+    /// Puts a stream that is about to be raised into the queue, unless it waits, and notes its label, unless that was done.
     fn enter(
         &mut self,
         labels: &Labels,
@@ -116,7 +116,7 @@ impl Wave {
         standings: &mut [Standing],
         listing: &Listing,
         stream: usize,
-    ) -> Result<Option<Placed>, AllocError>
+    ) -> Result<Option<Indexed>, AllocError>
         ghost base: { Base }
         requires { IsTurn base (labelling_of labels.old) standings.old self.old listing.now stream }
         ensures noted { IsNoted base (labelling_of labels.new) self.new.trail }
@@ -128,12 +128,12 @@ impl Wave {
             (IsClosing (all_arcs base) (labelling_of labels.new))) }
     {
         let leaving = &listing.leaving[stream];
-        for placed in leaving {
-            let Some(offset) = labels.asked(placed.arc) else {
+        for indexed in leaving {
+            let Some(offset) = labels.asked(indexed.arc) else {
                 continue;
             };
-            if self.raise(labels, standings, *placed, offset)? {
-                return Ok(Some(*placed));
+            if self.raise(labels, standings, *indexed, offset)? {
+                return Ok(Some(*indexed));
             }
         }
         Ok(None)
@@ -145,26 +145,26 @@ impl Wave {
         labels: &mut Labels,
         listing: &Listing,
         arc: Arc,
-    ) -> Result<Option<Placed>, AllocError>
+    ) -> Result<Option<Indexed>, AllocError>
         ghost base: { Base }
         requires { IsStart base (labelling_of labels.old) self.old.trail listing.now arc }
         ensures noted { IsNoted base (labelling_of labels.new) self.new.trail }
         ensures wide { result ≡ Ok None → IsWide base (labelling_of labels.new) self.new.trail }
         ensures closing { IfOk result (λ closing. IfSome closing
-            (λ placed. IsForest (all_arcs base) (labelling_of labels.new) × IsClosing (all_arcs base) (labelling_of labels.new) placed)) }
+            (λ indexed. IsForest (all_arcs base) (labelling_of labels.new) × IsClosing (all_arcs base) (labelling_of labels.new) indexed)) }
     {
         let Some(offset) = labels.asked(arc) else {
             return Ok(None);
         };
-        let placed = Placed {
-            place: listing.marks.len(),
+        let indexed = Indexed {
+            index: listing.marks.len(),
             arc,
         };
         let mut standings = [Standing::Calm; MAX_STREAMS];
         fix_chain(labels, &mut standings, arc.from);
         self.queue.clear();
-        if self.raise(labels, &mut standings, placed, offset)? {
-            return Ok(Some(placed));
+        if self.raise(labels, &mut standings, indexed, offset)? {
+            return Ok(Some(indexed));
         }
         let mut turn = 0;
         while turn < self.queue.len() {

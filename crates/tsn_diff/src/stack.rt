@@ -58,7 +58,7 @@ impl ArcStack {
     }
 
     /// Puts one more arc last. `None`: it is in. `Some`: no offsets meet all of the arcs, as this closed chain of positive
-    /// sum shows, whose places count the arc as the last one; it isn't in. The error says that there was no memory.
+    /// sum shows, whose indexes count the arc as the last one; it isn't in. The error says that there was no memory.
     /// Where the arc isn't in, all is as before.
     pub fn push(&mut self, arc: Arc) -> Result<Option<Vec<usize>>, NoMemory>
         requires { IsArcAmong (length self.old.least.releases) arc }
@@ -159,7 +159,7 @@ fn put_in(
     let mark = wave.trail.formers.len();
     if let Some(closing) = wave.spread(labels, listing, arc)? {
         let alloc = *arcs.allocator();
-        return Ok(Some(labels.cycle(alloc, closing.place, closing.arc)?));
+        return Ok(Some(labels.cycle(alloc, closing.index, closing.arc)?));
     }
     arcs.reserve(1)?;
     listing.push(arc, mark)?;

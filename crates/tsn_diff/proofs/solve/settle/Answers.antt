@@ -37,6 +37,6 @@ returns-in-Closed c =
     let long : length now.offsets ≡ length c.args.net = c.in-Closed.ensures.count ∙ c.loop-net.invariant.raised.count in
     let among = subst (λ (n : ℕ). All (IsArcAmong n) c.args.arcs.items) (sym long) c.requires.among in
     let closes = rw c.deref.ensures.value at c.in-Closed.ensures.progress in
-    let refutes = Refutes-from_closes c.args.arcs.items now c.in-Closed.place (rw c.deref.ensures.value at c.in-Closed.ensures.forest) among closes in
-    let read : c.index.result.now ≡ arc_at c.args.arcs.items c.in-Closed.place = get_or_read c.args.arcs.items c.in-Closed.place c.index.result.now closes.place_in c.index.ensures (record { from = 0; to = 0; weight = pos 0 }) in
+    let refutes = Refutes-from_closes c.args.arcs.items now c.in-Closed.index (rw c.deref.ensures.value at c.in-Closed.ensures.forest) among closes in
+    let read : c.index.result.now ≡ arc_at c.args.arcs.items c.in-Closed.index = get_or_read c.args.arcs.items c.in-Closed.index c.index.result.now closes.index_in c.index.ensures (record { from = 0; to = 0; weight = pos 0 }) in
     rw (c.in_ok-cycle-in-Closed.ensures, read) (Refutes-same _ _ c.args.arcs.items _ long refutes)

@@ -20,7 +20,7 @@ pub cycle-requires-clause-stream : goal.cycle-requires-clause-stream
 cycle-requires-clause-stream g c =
     let closing = rw c.in-Some.is at c.in_ok-closing.ensures.closing in
     let there = closing.1.there in
-    let ends = rw there.arc at (c.requires.0.among c.in-Some.closing.place (record { from = 0; to = 0; weight = pos 0 }) there.place_in) in
+    let ends = rw there.arc at (c.requires.0.among c.in-Some.closing.index (record { from = 0; to = 0; weight = pos 0 }) there.index_in) in
     omega (arith, ends.from_below, c.in_ok-closing.ensures.noted.last)
 
 pub returns-in_err-cycle-clause-noted : goal.returns-in_err-cycle-clause-noted
@@ -33,7 +33,7 @@ pub returns-in-Some-clause-closed : goal.returns-in-Some-clause-closed
 returns-in-Some-clause-closed g c =
     let closing = rw c.in-Some.is at c.in_ok-closing.ensures.closing in
     let n = c.spread.ensures.noted in
-    let refutes = Refutes-from_closes (all_arcs g.base) (labelling_of c.spread.new.labels) c.in-Some.closing.place closing.0 (rw n.offsets c.requires.0.among) closing.1.closes in
+    let refutes = Refutes-from_closes (all_arcs g.base) (labelling_of c.spread.new.labels) c.in-Some.closing.index closing.0 (rw n.offsets c.requires.0.among) closing.1.closes in
     rw (c.in_ok-cycle.ensures, ← closing.1.there.arc) (Refutes-same _ _ (all_arcs g.base) _ n.offsets refutes)
 
 pub push-requires : goal.push-requires

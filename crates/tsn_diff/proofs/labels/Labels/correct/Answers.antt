@@ -14,7 +14,7 @@ pub returns-then-passes-clause-progress : goal.returns-then-passes-clause-progre
 returns-then-passes-clause-progress c =
     let asked = c.in-Some.ensures in
     record {
-      place_in = c.requires.place;
+      index_in = c.requires.index;
       unmet = omega (arith, ints, asked.value, asked.higher);
       passes = sym c.passes.ensures ∙ c.if-passes.true;
     }
@@ -23,10 +23,10 @@ pub returns : goal.returns
 returns c =
     let arcs = c.args.arcs.now in
     let now = labelling_of c.args.self.now in
-    let raises : Raises arcs now c.args.place c.in-Some.offset = record {
+    let raises : Raises arcs now c.args.index c.in-Some.offset = record {
       forest = c.requires.forest;
-      among = arc_among arcs _ c.args.place c.requires.arcs c.requires.place;
-      place_in = c.requires.place;
+      among = arc_among arcs _ c.args.index c.requires.arcs c.requires.index;
+      index_in = c.requires.index;
       value_is = c.in-Some.ensures.value;
       higher = c.in-Some.ensures.higher;
       aside = sym c.passes.ensures ∙ c.if-passes.false;
@@ -34,7 +34,7 @@ returns c =
     rw (c.raise.ensures.offsets, c.raise.ensures.last)
     (record {
       count = length-set c.args.self.now.offsets.items _ _;
-      forest = IsForest-raised arcs now c.args.place _ raises;
-      raised = KeepsRaised-raised arcs now c.args.place _ raises;
-      progress = sum-raised arcs now c.args.place _ raises;
+      forest = IsForest-raised arcs now c.args.index _ raises;
+      raised = KeepsRaised-raised arcs now c.args.index _ raises;
+      progress = sum-raised arcs now c.args.index _ raises;
     })

@@ -14,6 +14,6 @@ returns-clause-listing c =
     record {
       from_in = All-front (λ (a : Arc). a.from < length listing.leaving.items) arcs arc listed.from_in;
       count = length-set listing.leaving.items _ _;
-      leaving = leaving_pop listing.leaving.items arcs arc c.pop-placed.new.self c.index_mut.result.now c.requires.from c.index_mut.ensures.value listed.leaving (rw (← count) c.pop-placed.ensures.rest);
+      leaving = leaving_pop listing.leaving.items arcs arc c.pop-indexed.new.self c.index_mut.result.now c.requires.from c.index_mut.ensures.value listed.leaving (rw (← count) c.pop-indexed.ensures.rest);
       marks = omega (arith, ap length marks, length_push arcs arc, length_push c.pop.new.self.items c.unwrap.result, listed.marks);
     }

@@ -12,10 +12,10 @@ returns-clause-listing c =
     let listing = c.args.self.now in
     let arc = c.args.arc in
     let marks : c.push_reserved.new.self.items ≡ listing.marks.items ++ c.args.mark ∷ [] = grind (arith, common_steps) in
-    let place : c.len-place.result ≡ length arcs = c.len-place.ensures ∙ c.reserve.new.self.ok.0 ∙ ap length c.reserve.ensures.items ∙ listed.marks in
+    let index : c.len-index.result ≡ length arcs = c.len-index.ensures ∙ c.reserve.new.self.ok.0 ∙ ap length c.reserve.ensures.items ∙ listed.marks in
     record {
       from_in = All-push (λ (a : Arc). a.from < length listing.leaving.items) arcs arc listed.from_in c.requires.from;
       count = length-set listing.leaving.items _ _;
-      leaving = leaving_push listing.leaving.items arcs arc c.push.new.self c.index_mut.result.now c.requires.from c.index_mut.ensures.value listed.leaving (rw place at c.in_ok-push.ensures.items);
+      leaving = leaving_push listing.leaving.items arcs arc c.push.new.self c.index_mut.result.now c.requires.from c.index_mut.ensures.value listed.leaving (rw index at c.in_ok-push.ensures.items);
       marks = omega (arith, ap length marks, length_push listing.marks.items c.args.mark, length_push arcs arc, listed.marks);
     }

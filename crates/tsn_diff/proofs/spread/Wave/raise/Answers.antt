@@ -6,32 +6,32 @@ use Rattle.tsn_diff.proofs.spread.Wave.raise.Goals as goal
 pub returns-in-Fixed-clause-closes : goal.returns-in-Fixed-clause-closes
 returns-in-Fixed-clause-closes g c =
     let labels = labelling_of c.args.labels.now in
-    let placed = c.args.placed in
+    let indexed = c.args.indexed in
     let w = c.requires.moves in
     let p = c.requires.there in
     let asked = c.requires.asked in
-    λ e. closes g.base labels c.args.standings.now c.args.self.now w placed.place p.place_in (unmet_asked g.base labels placed c.args.offset p asked) (rw p.arc c.in-Fixed.is)
+    λ e. closes g.base labels c.args.standings.now c.args.self.now w indexed.index p.index_in (unmet_asked g.base labels indexed c.args.offset p asked) (rw p.arc c.in-Fixed.is)
 
 pub returns : goal.returns
 returns g c =
     let labels = labelling_of c.args.labels.now in
     let standings = c.args.standings.now in
-    let placed = c.args.placed in
+    let indexed = c.args.indexed in
     let wave = c.args.self.now in
     let next = c.enter.new.self in
     let w = c.requires.moves in
     let p = c.requires.there in
     let asked = c.requires.asked in
     let loose = rw (← p.arc) at c.in_default.not-Fixed in
-    let raises = Raises-asked g.base labels standings wave placed c.args.offset w p asked loose in
+    let raises = Raises-asked g.base labels standings wave indexed c.args.offset w p asked loose in
     let queue = rw (← p.arc) at c.in_ok-enter.ensures.queue in
     let formers = rw (← p.arc) at c.in_ok-enter.ensures.formers in
     rw (c.raise.ensures.offsets, c.raise.ensures.last, ← p.arc)
     (record {
-      noted = IsNoted-raised g.base labels standings wave next placed.place c.args.offset w raises loose c.in_ok-enter.ensures.trail queue formers;
-      wave = IsWave-raised g.base labels standings wave next placed.place c.args.offset w raises loose c.in_ok-enter.ensures.trail queue formers;
-      goes_on = GoesOn-raised g.base labels standings wave next placed.place c.args.offset w raises loose c.in_ok-enter.ensures.trail queue formers;
-      first = first_kept g.base labels standings wave next placed.place c.args.offset w raises loose c.in_ok-enter.ensures.trail queue formers;
-      met = λ e. met_raised g.base labels standings wave next placed.place c.args.offset w raises loose c.in_ok-enter.ensures.trail queue formers;
+      noted = IsNoted-raised g.base labels standings wave next indexed.index c.args.offset w raises loose c.in_ok-enter.ensures.trail queue formers;
+      wave = IsWave-raised g.base labels standings wave next indexed.index c.args.offset w raises loose c.in_ok-enter.ensures.trail queue formers;
+      goes_on = GoesOn-raised g.base labels standings wave next indexed.index c.args.offset w raises loose c.in_ok-enter.ensures.trail queue formers;
+      first = first_kept g.base labels standings wave next indexed.index c.args.offset w raises loose c.in_ok-enter.ensures.trail queue formers;
+      met = λ e. met_raised g.base labels standings wave next indexed.index c.args.offset w raises loose c.in_ok-enter.ensures.trail queue formers;
       closes = λ e. cc;
     })

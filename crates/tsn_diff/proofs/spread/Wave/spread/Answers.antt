@@ -2,7 +2,7 @@ use Rattle.std.proofs.Common.{◌≡◌, Ok, length, ap, ◌∙◌, arith}
 use Rattle.tsn_diff.specs.declared.spread.Wave.{Wave}
 use Rattle.tsn_diff.proofs.Fixes.{AreCalm-replicate}
 use Rattle.tsn_diff.proofs.Forests.{all_small, HasSteps-from_forest, offsets_small}
-use Rattle.tsn_diff.proofs.Turns.{start_among, stream_in, IsWide-start, IsWave-start, IsPlaced-new, seen_first, IsTurn-settled, seen_then, queued_then, turn_smaller, IsWide-end}
+use Rattle.tsn_diff.proofs.Turns.{start_among, stream_in, IsWide-start, IsWave-start, IsIndexed-new, seen_first, IsTurn-settled, seen_then, queued_then, turn_smaller, IsWide-end}
 use Rattle.tsn_diff.proofs.spread.Wave.spread.Goals as goal
 
 pub asked-requires-clause-small : goal.asked-requires-clause-small
@@ -35,7 +35,7 @@ raise-requires g c =
     let wave : Wave = record { trail = c.args.self.now.trail; queue = c.clear.new.self } in
     record {
       moves = IsWave-start g.base _ wave c.args.listing.now c.args.arc c.requires c.fix_chain.new.standings (omega (arith, c.requires.forest.few, c.fix_chain.auto.standings)) c.fix_chain.ensures.fixed c.fix_chain.ensures.others c.clear.ensures.items;
-      there = IsPlaced-new g.base _ wave c.args.listing.now c.args.arc c.requires c.len.result (c.len.ensures ∙ c.args.listing.now.marks.ok.0);
+      there = IsIndexed-new g.base _ wave c.args.listing.now c.args.arc c.requires c.len.result (c.len.ensures ∙ c.args.listing.now.marks.ok.0);
       asked = c.in-Some.ensures;
     }
 

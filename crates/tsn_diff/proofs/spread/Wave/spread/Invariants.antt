@@ -13,7 +13,7 @@ abbrev pub invariant-loop-turn : goal.invariant-loop-turn
 invariant-loop-turn g l =
     record {
       wave : IsWave g.base (labelling_of l.labels) l.standings l.self;
-      seen : (place : ℕ) → place < length (all_arcs g.base) → IsSeen (all_arcs g.base) (labelling_of l.labels) l.standings place;
+      seen : (index : ℕ) → index < length (all_arcs g.base) → IsSeen (all_arcs g.base) (labelling_of l.labels) l.standings index;
       queued : AreQueued l.standings (drop l.turn l.self.queue.items);
       turn_in : l.turn ≤ length l.self.queue.items;
     }
