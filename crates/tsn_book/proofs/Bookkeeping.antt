@@ -340,19 +340,6 @@ pub none_best : (network : Network) (history : List Settlement) → IsLegal netw
 unfolding target_of
 none_best network history legal none = sym (kept_target network history legal) ∙ ap (target_of network) none
 
--- the offsets of the event that a book keeps, as they are read
-pub book_keeps : (network : Network) (origins : List Origin) (standings : List Standing) (events : List Settled) (flags : List Bool) (limit open_count best : ℕ) (kept : Option ℕ) (tallies : List (ℕ × ℕ × ℕ))
-    → IsBook network origins standings events flags limit open_count best kept tallies → (number : ℕ) → kept ≡ Some number → (read : Settled) → read ≡ get_or events number read
-    → (offsets : List ℕ) × HasOffsets offsets (outcome_of read.look) × (kept_of network (history_of origins events) ≡ Some offsets)
-book_keeps network origins standings events flags limit open_count best kept tallies book number is read there =
-    let stored = (kept_is_stored network origins events number (subst (IsKept network (history_of origins events)) is book.summary.kept)).1 read there in
-    (stored.0, stored_offsets stored.0 stored.1 stored.2 stored.3 (outcome_of read.look) stored.4, stored.5)
-
-pub keeps_within : (network : Network) (origins : List Origin) (standings : List Standing) (events : List Settled) (flags : List Bool) (limit open_count best : ℕ) (kept : Option ℕ) (tallies : List (ℕ × ℕ × ℕ))
-    → IsBook network origins standings events flags limit open_count best kept tallies → (number : ℕ) → kept ≡ Some number → number < length events
-keeps_within network origins standings events flags limit open_count best kept tallies book number is =
-    (kept_is_stored network origins events number (subst (IsKept network (history_of origins events)) is book.summary.kept)).0
-
 -- the least solved flowspan is a target
 pub best_target : (network : Network) (history : List Settlement) → IsLegal network history → IsBelowBounds network (best_bound network history) history
 best_target network history legal = let below = best_is_below network history legal in (below.solved, below.pruned)
@@ -392,15 +379,6 @@ even_better first offsets bound best same =
     let not_less : nat_lt bound best ≡ false = le-ltb bound best (omega (arith, same)) in
     let even : nat_eq bound best ≡ true = eq-eqb bound best same in
     λ i. not_less i || (even i && before_kept first offsets)
-
-pub other_better : (first : Option (List ℕ)) (offsets : List ℕ) (bound best : ℕ) → bound ≢ best → (nat_lt bound best || (nat_eq bound best && before_kept first offsets)) ≡ nat_lt bound best
-other_better first offsets bound best apart =
-    let other : nat_eq bound best ≡ false = ne_eqb bound best apart in
-    (λ i. nat_lt bound best || (other i && before_kept first offsets)) ∙ or_false (nat_lt bound best)
-  where
-    or_false : (b : Bool) → (b || false) ≡ b
-    or_false true = refl
-    or_false false = refl
 
 -- what follows from each case of a search follows from its answer
 pub match_gives : {X : Type 0} (found : Option X) (None_is Other : Type 0) (Is That : X → Type 0) → (None_is → Other) → ((x : X) → Is x → That x) → MatchOption found None_is Is → MatchOption found Other That

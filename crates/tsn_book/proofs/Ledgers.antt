@@ -22,10 +22,6 @@ module _ (ledger : Ledger) (agrees : IsLedger ledger) (place : ℕ) where
       → IsAllowed ledger.tree.network (settled_in ledger.tree) (record { path = path_at (paths_of ledger.tree.places.origins) place; outcome = outcome })
   allowed_at outcome allowed = subst (λ path. IsAllowed ledger.tree.network (settled_in ledger.tree) (record { path = path; outcome = outcome })) (sym same_path) allowed
 
-  pub allowed_made : (outcome : Outcome) → IsAllowed ledger.tree.network (settled_in ledger.tree) (record { path = path_at (paths_of ledger.tree.places.origins) place; outcome = outcome })
-      → IsAllowed ledger.tree.network (settled_in ledger.tree) (record { path = path_made (settled_in ledger.tree) place; outcome = outcome })
-  allowed_made outcome allowed = subst (λ path. IsAllowed ledger.tree.network (settled_in ledger.tree) (record { path = path; outcome = outcome })) same_path allowed
-
 -- there are as many places as the history made
 pub places_made : (ledger : Ledger) → IsLedger ledger → length ledger.tree.places.origins ≡ length (made_paths (settled_in ledger.tree))
 places_made ledger agrees = length-made ledger.tree.network ledger.tree.places.origins ledger.tree.places.standings ledger.tree.events.items agrees.tree
@@ -33,11 +29,11 @@ places_made ledger agrees = length-made ledger.tree.network ledger.tree.places.o
 pub ledger_lawful : (ledger : Ledger) → IsLedger ledger → IsLawful (progress_of ledger)
 ledger_lawful ledger agrees =
     let tree = ledger.tree in
-    lawful tree.network tree.places.origins tree.places.standings tree.events.items ledger.closed.items ledger.limit ledger.open_nodes ledger.best ledger.kept ledger.tallies.items agrees
+    lawful tree.network tree.places.origins tree.places.standings tree.events.items ledger.closed.items ledger.bounds.limit ledger.open_nodes ledger.bounds.best ledger.bounds.kept ledger.tallies.items agrees
 
 -- the progress, where the log has these events
 abbrev pub progress_by : Ledger → List Settled → Progress
-progress_by ledger events = record { network = ledger.tree.network; tellers = length ledger.tallies.items; limit = ledger.limit; history = history_of ledger.tree.places.origins events }
+progress_by ledger events = record { network = ledger.tree.network; tellers = length ledger.tallies.items; limit = ledger.bounds.limit; history = history_of ledger.tree.places.origins events }
 
 -- what waits changes nothing of it
 pub same_progress : (ledger : Ledger) (events : List Settled) → events ≡ ledger.tree.events.items → progress_by ledger events ≡ progress_of ledger

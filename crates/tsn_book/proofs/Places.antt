@@ -24,7 +24,7 @@ use Rattle.tsn_book.specs.declared.standings.Standing.{Standing}
 use Rattle.tsn_book.specs.declared.standings.Standing.TheVariants.{Open, Split, Leaf}
 use Rattle.tsn_book.specs.declared.log.Settled.{Settled}
 use Rattle.tsn_book.specs.declared.arena.Stop.TheVariants.{Settled as AtSettled, Outside}
-use Rattle.tsn_book.specs.Arena.{path_at, path_from, with_path, paths_of, history_of, IsEvent, IsPlaced, IsTree, IsStop, IsOpenPlace}
+use Rattle.tsn_book.specs.Arena.{path_at, path_from, with_path, paths_of, history_of, IsEvent, IsPlaced, IsTree, IsStop}
 
 -- ---- paths
 
@@ -259,13 +259,6 @@ pub placed_as : (network : Network) (origins : List Origin) (standings : List St
     → (standing is : Standing) → standing ≡ get_or standings place standing → standing ≡ is → IsPlaced (paths_of origins) (history_of origins events) place is
 placed_as network origins standings events tree place below standing is read same =
     subst (IsPlaced (paths_of origins) (history_of origins events) place) same (standing_at network origins standings events tree place below standing read)
-
--- an open place
-pub opens_at : (network : Network) (origins : List Origin) (standings : List Standing) (events : List Settled) → IsTree network origins standings events → (place : ℕ) → place < length origins
-    → (standing : Standing) → standing ≡ get_or standings place standing → standing ≡ Open → IsOpenPlace standings place
-opens_at network origins standings events tree place below standing read same =
-    let within : place < length standings = omega (arith, tree.counted) in
-    record { within = within; is_open = get_or_default standings place Open standing within ∙ sym read ∙ same }
 
 -- a walk along all of a path
 pub walked : (path reached : List Decision) (k : ℕ) → reached ≡ take k path → length path ≤ k → reached ≡ path

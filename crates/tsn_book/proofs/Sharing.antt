@@ -9,7 +9,7 @@ use Rattle.tsn_model.specs.Search.{Event, Settlement, solved_bounds, settled_by,
 use Rattle.tsn_model.specs.Core as shared
 use Rattle.tsn_model.specs.Core.{Teller, State, initial_state, observe, post, settle, teller_at, IsAboveSeen, MayTake, effect_of, IsSound, IsQuiet}
 use Rattle.tsn_search_laws.specs.Replies as replies
-use Rattle.tsn_search_laws.specs.Replies.{found, recorded, refused_for, not_allowed, not_open, limit_met, not_conflict, already_decided, not_met, Answers, AnswersAll}
+use Rattle.tsn_search_laws.specs.Replies.{found, recorded, refused_for, not_open, limit_met, not_conflict, already_decided, not_met, Answers, AnswersAll}
 use Rattle.tsn_search_laws.proofs.Lists.{All-from_Contains}
 use Rattle.tsn_search_laws.proofs.Histories.{legal_last}
 use Rattle.tsn_search_laws.proofs.Numbers.{fold-min-le-each}
@@ -138,9 +138,6 @@ answers_more network limit [] (r ∷ rs) step reply state last next before lates
 answers_more network limit (s ∷ ss) [] step reply state last next before latest = absurd before
 answers_more network limit (s ∷ ss) (r ∷ rs) step reply state last next before latest =
     (before.0, before.1, answers_more network limit ss rs step reply before.0 last next before.2 latest)
-
-pub no_replies : (network : Network) (limit : ℕ) (state : State) → AreReplies network limit state [] [] state
-no_replies network limit state = ([], refl, refl)
 
 pub replies_more : (network : Network) (limit : ℕ) (state last next : State) (steps : List Step) (given : List Reply) (step : Step) (reply : Reply)
     → AreReplies network limit state steps given last → IsReply network limit last (step_of step) reply next → AreReplies network limit state (steps ++ step ∷ []) (given ++ reply ∷ []) next

@@ -11,13 +11,13 @@ use Rattle.tsn_book.specs.Below.{settlements_by}
 
 -- what was settled so far
 abbrev pub progress_of : Ledger → Progress
-progress_of ledger = record { network = ledger.tree.network; tellers = length ledger.tallies.items; limit = ledger.limit; history = settled_in ledger.tree }
+progress_of ledger = record { network = ledger.tree.network; tellers = length ledger.tallies.items; limit = ledger.bounds.limit; history = settled_in ledger.tree }
 
 -- its parts agree
 abbrev pub IsLedger : Ledger → Type 0
 IsLedger ledger =
     IsBook ledger.tree.network ledger.tree.places.origins ledger.tree.places.standings ledger.tree.events.items ledger.closed.items
-    ledger.limit ledger.open_nodes ledger.best ledger.kept ledger.tallies.items
+    ledger.bounds.limit ledger.open_nodes ledger.bounds.best ledger.bounds.kept ledger.tallies.items
 
 -- they agree, and nothing waits to be settled
 pub record IsWhole (ledger : Ledger) : Type 0 where
@@ -33,7 +33,7 @@ abbrev pub with_one : Ledger → ℕ → List Decision → Outcome → Progress
 with_one ledger teller path outcome = record {
   network = ledger.tree.network;
   tellers = length ledger.tallies.items;
-  limit = ledger.limit;
+  limit = ledger.bounds.limit;
   history = settled_in ledger.tree ++ record { teller = teller; event = record { path = path; outcome = outcome } } ∷ [];
 }
 
@@ -42,6 +42,6 @@ abbrev pub with_all : Ledger → ℕ → List Event → Progress
 with_all ledger teller events = record {
   network = ledger.tree.network;
   tellers = length ledger.tallies.items;
-  limit = ledger.limit;
+  limit = ledger.bounds.limit;
   history = settled_in ledger.tree ++ settlements_by teller events;
 }

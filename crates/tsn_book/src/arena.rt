@@ -34,6 +34,17 @@ pub enum Stop {
     Outside,
 }
 
+/// What is asked of an event beside its place: at most `limit` events, and no leaf pruned or tied that may be better than
+/// what is kept.
+#[derive(Clone, Copy)]
+pub struct Bounds {
+    pub limit: usize,
+    /// The least flowspan solved, in nanoseconds.
+    pub best: u64,
+    /// The number of the event that solved it by the first offsets in their order.
+    pub kept: Option<usize>,
+}
+
 /// The places and what was settled, oldest first.
 #[derive(Drop)]
 pub struct Tree {
@@ -283,28 +294,21 @@ impl Tree {
         }
     }
 
-    /// The open place of an event that may be settled, where at most `limit` may be, `best` is the least flowspan solved and
-    /// `kept` the number of the event that is kept; else the first reason why it may not.
-    pub fn place_for(
-        &self,
-        limit: usize,
-        best: u64,
-        kept: Option<usize>,
-        event: &Event,
-    ) -> Result<usize, BookFault>
+    /// The open place of an event that may be settled within the bounds; else the first reason why it may not.
+    pub fn place_for(&self, bounds: Bounds, event: &Event) -> Result<usize, BookFault>
         requires tree { IsArena self.now }
-        requires limit { length self.now.events.items ≤ limit }
-        requires best { best ≡ best_bound self.now.network (settled_in self.now) }
-        requires kept { IsKept self.now.network (settled_in self.now) kept }
+        requires limit { length self.now.events.items ≤ bounds.limit }
+        requires best { bounds.best ≡ best_bound self.now.network (settled_in self.now) }
+        requires kept { IsKept self.now.network (settled_in self.now) bounds.kept }
         requires proof { HasProof self.now.network event.now.node (outcome_of event.now.look) }
         ensures { let history = settled_in self.now in MatchResult result
             (λ place. IsOpenPlace self.now.places.standings place × (path_in self.now place ≡ event.now.node)
-            × (length history < limit) × IsAllowed self.now.network history (event_of event.now))
-            (λ fault. IsFault self.now.network limit history (event_of event.now) fault) }
+            × (length history < bounds.limit) × IsAllowed self.now.network history (event_of event.now))
+            (λ fault. IsFault self.now.network bounds.limit history (event_of event.now) fault) }
     {
         let path = event.node.path();
         let stop = self.find(path);
-        let place = self.admit(limit, best, kept, stop, path, &event.look)?;
+        let place = self.admit(bounds, stop, path, &event.look)?;
         if let Look::Split(triple) = &event.look {
             if !is_conflict(&self.network, *triple) {
                 return Err(BookFault::NotConflict);
@@ -316,13 +320,11 @@ impl Tree {
         Ok(place)
     }
 
-    /// Whether what was found at a place may be settled; else the first reason why it may not. The triple of a split isn't
-    /// tested: it's a conflict that the path doesn't decide.
+    /// Whether what was found at a place may be settled within the bounds; else the first reason why it may not. The triple of
+    /// a split isn't tested: it's a conflict that the path doesn't decide.
     pub fn admit_at(
         &self,
-        limit: usize,
-        best: u64,
-        kept: Option<usize>,
+        bounds: Bounds,
         place: usize,
         path: &[Decision],
         look: &Look,
@@ -330,15 +332,15 @@ impl Tree {
         requires tree { IsArena self.now }
         requires place { place < length self.now.places.origins }
         requires path { path.now ≡ path_in self.now place }
-        requires best { best ≡ best_bound self.now.network (settled_in self.now) }
-        requires kept { IsKept self.now.network (settled_in self.now) kept }
+        requires best { bounds.best ≡ best_bound self.now.network (settled_in self.now) }
+        requires kept { IsKept self.now.network (settled_in self.now) bounds.kept }
         requires proof { HasProof self.now.network (path_in self.now place) (outcome_of look.now) }
         requires undecided { SplitsUndecided self.now.network (path_in self.now place) (outcome_of look.now) }
         ensures { let history = settled_in self.now in MatchResult result
-            (λ done. (length history < limit) × IsAllowed self.now.network history (record { path = path_in self.now place; outcome = outcome_of look.now }))
-            (λ fault. IsFault self.now.network limit history (record { path = path_in self.now place; outcome = outcome_of look.now }) fault) }
+            (λ done. (length history < bounds.limit) × IsAllowed self.now.network history (record { path = path_in self.now place; outcome = outcome_of look.now }))
+            (λ fault. IsFault self.now.network bounds.limit history (record { path = path_in self.now place; outcome = outcome_of look.now }) fault) }
     {
-        self.admit(limit, best, kept, self.stop_at(place), path, look)?;
+        self.admit(bounds, self.stop_at(place), path, look)?;
         Ok(())
     }
 
@@ -346,42 +348,40 @@ impl Tree {
     // first reason.
     fn admit(
         &self,
-        limit: usize,
-        best: u64,
-        kept: Option<usize>,
+        bounds: Bounds,
         stop: Stop,
         path: &[Decision],
         look: &Look,
     ) -> Result<usize, BookFault>
         requires tree { IsArena self.now }
-        requires best { best ≡ best_bound self.now.network (settled_in self.now) }
-        requires kept { IsKept self.now.network (settled_in self.now) kept }
+        requires best { bounds.best ≡ best_bound self.now.network (settled_in self.now) }
+        requires kept { IsKept self.now.network (settled_in self.now) bounds.kept }
         requires proof { HasProof self.now.network path.now (outcome_of look.now) }
         requires stop { IsStop self.now.places.origins self.now.places.standings self.now.events.items path.now stop }
         ensures { let history = settled_in self.now in MatchResult result
-            (λ place. (stop ≡ Stop.Open place) × (length history < limit) × IsMet self.now.network history path.now (outcome_of look.now))
-            (λ fault. IsFault self.now.network limit history (record { path = path.now; outcome = outcome_of look.now }) fault) }
+            (λ place. (stop ≡ Stop.Open place) × (length history < bounds.limit) × IsMet self.now.network history path.now (outcome_of look.now))
+            (λ fault. IsFault self.now.network bounds.limit history (record { path = path.now; outcome = outcome_of look.now }) fault) }
     {
         let place = match stop {
             Stop::Open(place) => place,
             Stop::Settled(number) => return Err(BookFault::NotOpen(Some(number))),
             Stop::Outside => return Err(BookFault::NotOpen(None)),
         };
-        if self.events.len() >= limit {
+        if self.events.len() >= bounds.limit {
             return Err(BookFault::Limit(self.events.len()));
         }
-        if self.is_met(best, kept, path, look) {
+        if self.is_met(bounds, path, look) {
             Ok(place)
         } else {
-            Err(BookFault::NotMet(best))
+            Err(BookFault::NotMet(bounds.best))
         }
     }
 
     // Whether a pruned or tied leaf is shown to be no better than what is kept.
-    fn is_met(&self, best: u64, kept: Option<usize>, path: &[Decision], look: &Look) -> bool
+    fn is_met(&self, bounds: Bounds, path: &[Decision], look: &Look) -> bool
         requires tree { IsArena self.now }
-        requires best { best ≡ best_bound self.now.network (settled_in self.now) }
-        requires kept { IsKept self.now.network (settled_in self.now) kept }
+        requires best { bounds.best ≡ best_bound self.now.network (settled_in self.now) }
+        requires kept { IsKept self.now.network (settled_in self.now) bounds.kept }
         requires decided { All (λ decision. IsConflict self.now.network decision.triple) path.now }
         requires proof { HasProof self.now.network path.now (outcome_of look.now) }
         ensures { let history = settled_in self.now in MatchBool result
@@ -390,37 +390,28 @@ impl Tree {
         match look {
             Look::Split(_) => true,
             Look::Solved { .. } => true,
-            Look::Pruned { bound, .. } => *bound > best.min(self.network.cycle()),
-            Look::Tied { bound, chains, .. } => {
-                self.is_no_better(best, kept, path, *bound, chains)
-            }
+            Look::Pruned { bound, .. } => *bound > bounds.best.min(self.network.cycle()),
+            Look::Tied { bound, chains, .. } => self.is_no_better(bounds, path, *bound, chains),
             Look::Refuted(_) => true,
         }
     }
 
     // Whether the bound is above that of what is kept, or equal to it while the chains show that no schedule on the path comes
     // before it.
-    fn is_no_better(
-        &self,
-        best: u64,
-        kept: Option<usize>,
-        path: &[Decision],
-        bound: u64,
-        chains: &Chains,
-    ) -> bool
+    fn is_no_better(&self, bounds: Bounds, path: &[Decision], bound: u64, chains: &Chains) -> bool
         requires tree { IsArena self.now }
-        requires best { best ≡ best_bound self.now.network (settled_in self.now) }
-        requires kept { IsKept self.now.network (settled_in self.now) kept }
+        requires best { bounds.best ≡ best_bound self.now.network (settled_in self.now) }
+        requires kept { IsKept self.now.network (settled_in self.now) bounds.kept }
         requires decided { All (λ decision. IsConflict self.now.network decision.triple) path.now }
         requires chains { AreChains self.now.network path.now chains.now }
         ensures { let history = settled_in self.now in MatchBool result
             (IsNoBetter self.now.network history path.now bound chains.now) (IsNoBetter self.now.network history path.now bound chains.now → ⊥) }
     {
-        let Some(best_solved) = self.kept(kept) else {
+        let Some(best_solved) = self.kept(bounds.kept) else {
             return false;
         };
-        if bound != best {
-            return best < bound;
+        if bound != bounds.best {
+            return bounds.best < bound;
         }
         shows_after(
             &self.network,
@@ -449,18 +440,18 @@ impl Tree {
     }
 
     /// Whether what was found solves a lesser flowspan than what is kept, or the same one by offsets that come before.
-    pub fn is_better(&self, best: u64, kept: Option<usize>, look: &Look) -> bool
+    pub fn is_better(&self, bounds: Bounds, look: &Look) -> bool
         requires tree { IsArena self.now }
-        requires kept { IsKept self.now.network (settled_in self.now) kept }
-        ensures { result ≡ is_better (kept_of self.now.network (settled_in self.now)) best (outcome_of look.now) }
+        requires kept { IsKept self.now.network (settled_in self.now) bounds.kept }
+        ensures { result ≡ is_better (kept_of self.now.network (settled_in self.now)) bounds.best (outcome_of look.now) }
     {
         let Look::Solved { solved, .. } = look else {
             return false;
         };
-        if solved.flowspan() != best {
-            return solved.flowspan() < best;
+        if solved.flowspan() != bounds.best {
+            return solved.flowspan() < bounds.best;
         }
-        let Some(best_solved) = self.kept(kept) else {
+        let Some(best_solved) = self.kept(bounds.kept) else {
             return false;
         };
         comes_before(solved.valid().offsets(), best_solved.valid().offsets())

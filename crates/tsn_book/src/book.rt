@@ -11,17 +11,16 @@ ghost use Rattle.tsn_search_laws.specs.Walk.{path_made, IsPlaceOf};
 ghost use Rattle.tsn_book.specs.Book.{Progress, IsLawful, IsFault, SpellsAccepted};
 ghost use Rattle.tsn_book.specs.Solving.{IsSolvedBy};
 
-use crate::arena::{Stop, Tree};
+use crate::arena::{Bounds, Stop, Tree};
 use crate::event::Event;
 use crate::fault::BookFault;
 use crate::ledger::Ledger;
 use crate::log::{Log, Settled};
-use crate::spelling::nodes_of;
 use std::alloc::{AllocError, Global};
 use std::marker::Model;
 use tsn_branch::outcome::Look;
 use tsn_branch::{Decision, NoMemory, Node};
-use tsn_cert::{Cert, Format, Nodes};
+use tsn_cert::Cert;
 use tsn_timing::{Solved, Timing};
 
 /// How many events a teller settled, the least bound that it pruned by, and the least flowspan that it solved, each in
@@ -68,9 +67,11 @@ impl Book {
                 tree: Tree::new(alloc, network)?,
                 closed: vec![in alloc; false]?,
                 open_nodes: 1,
-                limit,
-                best: past_cycle,
-                kept: None,
+                bounds: Bounds {
+                    limit,
+                    best: past_cycle,
+                    kept: None,
+                },
                 tallies: tallies_of(alloc, tellers, past_cycle)?,
             },
         })
@@ -92,12 +93,7 @@ impl Book {
         ensures fault { IfErr result (λ refusal. IsFault self.old.network self.old.limit self.old.history (event_of event) refusal.0) }
         ensures returned { IfErr result (λ refusal. refusal.1 ≡ event) }
     {
-        let placed = self.ledger.tree.place_for(
-            self.ledger.limit,
-            self.ledger.best,
-            self.ledger.kept,
-            &event,
-        );
+        let placed = self.ledger.tree.place_for(self.ledger.bounds, &event);
         let place = match placed {
             Ok(place) => place,
             Err(fault) => return Err((fault, event)),
@@ -139,14 +135,10 @@ impl Book {
             (record { path = path_made self.old.history place; outcome = outcome_of look }) refusal.0) }
         ensures returned { IfErr result (λ refusal. refusal.1 ≡ look) }
     {
-        let admitted = self.ledger.tree.admit_at(
-            self.ledger.limit,
-            self.ledger.best,
-            self.ledger.kept,
-            place,
-            path,
-            &look,
-        );
+        let admitted = self
+            .ledger
+            .tree
+            .admit_at(self.ledger.bounds, place, path, &look);
         if let Err(fault) = admitted {
             return Err((fault, look));
         }
@@ -165,14 +157,10 @@ impl Book {
         ensures { IsFault self.now.network self.now.limit self.now.history
             (record { path = path_made self.now.history place; outcome = outcome_of look.now }) result }
     {
-        let admitted = self.ledger.tree.admit_at(
-            self.ledger.limit,
-            self.ledger.best,
-            self.ledger.kept,
-            place,
-            path,
-            look,
-        );
+        let admitted = self
+            .ledger
+            .tree
+            .admit_at(self.ledger.bounds, place, path, look);
         match admitted {
             Ok(()) => BookFault::Memory,
             Err(fault) => fault,
@@ -283,7 +271,7 @@ impl Book {
         ensures target { IsBelowBounds self.now.network result self.now.history }
         ensures lawful { IsLawful self.now }
     {
-        self.ledger.best
+        self.ledger.bounds.best
     }
 
     /// The schedule that is first in list order of the solved leaves of least flowspan.
@@ -294,7 +282,7 @@ impl Book {
             (λ solved. IsSolved self.now.network solved.now × (solved.now.flowspan ≡ best_bound self.now.network self.now.history)) }
         ensures lawful { IsLawful self.now }
     {
-        self.ledger.tree.kept(self.ledger.kept)
+        self.ledger.tree.kept(self.ledger.bounds.kept)
     }
 
     /// The certificate of a finished search, in format 2 for what is kept: one node for each event. The error says that there
@@ -306,23 +294,10 @@ impl Book {
         ensures accepted { IfOk result (λ cert. SpellsAccepted self.network (kept_of self.network self.history) cert.nodes) }
         ensures counted { IfOk result (λ cert. length cert.nodes ≡ length self.history) }
     {
-        let Book { ledger } = self;
-        let Ledger {
-            tree,
-            best,
-            kept,
-            ..
-        } = ledger;
-        let plan = match tree.kept(kept) {
-            None => None,
-            Some(solved) => Some(solved.copy()?),
-        };
-        let nodes = Nodes::of(nodes_of(tree, plan.as_ref())?);
-        Ok(Cert {
-            format: Format::Two,
-            target: best,
-            nodes,
-        })
+        let Book { mut ledger } = self;
+        let cert = ledger.take_cert();
+        drop(ledger);
+        cert
     }
 }
 

@@ -1,23 +1,27 @@
 //! What a book is made of, and how it settles what waits in its log.
-ghost use Rattle.std.specs.Prelude.{◌≡◌, ◌<◌, ◌≤◌, ◌+◌, ◌^◌, length, map, take, drop, fold, min, All, IfOk, IfErr, OnOk, OnErr, MatchResult, slice_index_or, vec_len, vec_capacity};
+ghost use Rattle.std.specs.Prelude.{◌≡◌, ◌<◌, ◌≤◌, ◌+◌, ◌^◌, [], length, map, take, drop, fold, min, All, IfOk, IfErr, OnOk, OnErr, MatchResult, slice_index_or, vec_len, vec_capacity};
+ghost use Rattle.tsn_cert.specs.declared.cert.Format.{Format};
 ghost use Rattle.tsn_model.specs.declared.Side.TheVariants.{Left};
 ghost use Rattle.tsn_model.specs.Certificate.{decided};
-ghost use Rattle.tsn_model.specs.Search.{made_paths, kept_of, solved_bound, split, IsAllowed};
+ghost use Rattle.tsn_model.specs.Search.{made_paths, open_paths, best_bound, kept_of, solved_bound, split, IsAllowed};
 ghost use Rattle.tsn_search_laws.specs.Walk.{path_made, IsPlaceOf};
 ghost use Rattle.tsn_branch.specs.declared.outcome.Look.{Look};
 ghost use Rattle.tsn_branch.specs.Outcome.{outcome_of};
 ghost use Rattle.tsn_branch.specs.Look.{HasProof, SplitsUndecided};
 ghost use Rattle.tsn_book.specs.Arena.{HasRoom, settled_in};
-ghost use Rattle.tsn_book.specs.Book.{IsFault, child_count, is_better, kept_after, tally_after};
+ghost use Rattle.tsn_book.specs.Book.{IsFault, IsPlanOf, SpellsAccepted, child_count, is_better, kept_after, tally_after};
 ghost use Rattle.tsn_book.specs.Below.{events_below, path_after, next_path, after_leaf, IsFaultAt};
 ghost use Rattle.tsn_book.specs.Log.{next_of};
 ghost use Rattle.tsn_book.specs.Ledger.{IsLedger, progress_of, next_outcome, with_one, with_all};
 
-use crate::arena::{Tree, split_of};
+use crate::arena::{Bounds, Tree, split_of};
 use crate::book::Tally;
 use crate::fault::BookFault;
+use crate::spelling::nodes_of;
 use tsn_branch::outcome::Look;
 use tsn_branch::{Decision, NoMemory, Node, Side, Triple};
+use tsn_cert::{Cert, Format, Nodes};
+use tsn_timing::Solved;
 
 /// The tree of a search, and what is known of it all.
 #[derive(Drop)]
@@ -26,10 +30,7 @@ pub struct Ledger {
     // Of each place of the tree, whether nothing is open at it and below it.
     pub closed: Vec<bool>,
     pub open_nodes: usize,
-    pub limit: usize,
-    // The least flowspan solved, and the number of the event that solved it by the first offsets in their order.
-    pub best: u64,
-    pub kept: Option<usize>,
+    pub bounds: Bounds,
     pub tallies: Vec<Tally>,
 }
 
@@ -50,7 +51,7 @@ impl Ledger {
         requires room_closed { vec_len self.old.closed + 2 ≤ vec_capacity self.old.closed }
         requires small { length self.old.tree.places.origins < 2 ^ 63 }
         requires teller { teller < length self.old.tallies.items }
-        requires limit { length (settled_in self.old.tree) < self.old.limit }
+        requires limit { length (settled_in self.old.tree) < self.old.bounds.limit }
         requires place { place < length (made_paths (settled_in self.old.tree)) }
         requires allowed { IsAllowed self.old.tree.network (settled_in self.old.tree)
             (record { path = path_made (settled_in self.old.tree) place; outcome = next_outcome self.old }) }
@@ -60,8 +61,8 @@ impl Ledger {
     {
         let after = self.after_next(teller);
         self.open_nodes = after.open_nodes;
-        self.best = after.best;
-        self.kept = after.kept;
+        self.bounds.best = after.best;
+        self.bounds.kept = after.kept;
         self.tallies[teller] = after.tally;
         self.tree.settle(&mut self.closed, place, teller);
     }
@@ -74,17 +75,17 @@ impl Ledger {
         requires small { length self.now.tree.places.origins < 2 ^ 63 }
         requires teller { teller < length self.now.tallies.items }
         ensures open_nodes { result.open_nodes + 1 ≡ self.now.open_nodes + child_count (next_outcome self.now) }
-        ensures best { result.best ≡ fold min self.now.best (solved_bound (next_outcome self.now)) }
-        ensures kept { result.kept ≡ kept_after (is_better (kept_of self.now.tree.network (settled_in self.now.tree)) self.now.best (next_outcome self.now))
-            self.now.kept (length self.now.tree.events.items) }
+        ensures best { result.best ≡ fold min self.now.bounds.best (solved_bound (next_outcome self.now)) }
+        ensures kept { result.kept ≡ kept_after (is_better (kept_of self.now.tree.network (settled_in self.now.tree)) self.now.bounds.best (next_outcome self.now))
+            self.now.bounds.kept (length self.now.tree.events.items) }
         ensures tally { result.tally ≡ tally_after (slice_index_or self.now.tallies.items teller (0, 0, 0)) (next_outcome self.now) }
     {
         let look = self.tree.events.next();
-        let better = self.tree.is_better(self.best, self.kept, look);
+        let better = self.tree.is_better(self.bounds, look);
         Summary {
             open_nodes: open_after(self.open_nodes, look),
-            best: best_after(self.best, look),
-            kept: kept_after(better, self.kept, self.tree.events.len()),
+            best: best_after(self.bounds.best, look),
+            kept: kept_after(better, self.bounds.kept, self.tree.events.len()),
             tally: tally_after(self.tallies[teller], look),
         }
     }
@@ -109,7 +110,7 @@ impl Ledger {
         ensures some { IfErr result (λ refusal. (refusal.0 < length self.old.tree.events.waiting)
             × (progress_of self.new ≡ with_all self.old teller (take refusal.0 (events_below walk.old (map outcome_of self.old.tree.events.waiting))))
             × (walk.new ≡ path_after walk.old (take refusal.0 (map outcome_of self.old.tree.events.waiting)))) }
-        ensures fault { IfErr result (λ refusal. IsFaultAt self.old.tree.network self.old.limit (settled_in self.new.tree)
+        ensures fault { IfErr result (λ refusal. IsFaultAt self.old.tree.network self.old.bounds.limit (settled_in self.new.tree)
             (events_below walk.old (map outcome_of self.old.tree.events.waiting)) refusal.0 refusal.1) }
     {
         let before = self.tree.events.len();
@@ -144,7 +145,7 @@ impl Ledger {
         ensures at { IfOk result (IsPlaceOf (settled_in self.new.tree) walk.new) }
         ensures refused { OnErr result (progress_of self.new ≡ progress_of self.old) }
         ensures stays { OnErr result (walk.new ≡ walk.old) }
-        ensures fault { IfErr result (IsFault self.old.tree.network self.old.limit (settled_in self.old.tree) (record { path = walk.old; outcome = next_outcome self.old })) }
+        ensures fault { IfErr result (IsFault self.old.tree.network self.old.bounds.limit (settled_in self.old.tree) (record { path = walk.old; outcome = next_outcome self.old })) }
     {
         if let Some(triple) = split_of(self.tree.events.next()) {
             return self.split_at(teller, place, walk, triple);
@@ -176,7 +177,7 @@ impl Ledger {
         ensures at { IfOk result (IsPlaceOf (settled_in self.new.tree) walk.new) }
         ensures refused { OnErr result (progress_of self.new ≡ progress_of self.old) }
         ensures stays { OnErr result (walk.new ≡ walk.old) }
-        ensures fault { IfErr result (IsFault self.old.tree.network self.old.limit (settled_in self.old.tree) (record { path = walk.old; outcome = split triple })) }
+        ensures fault { IfErr result (IsFault self.old.tree.network self.old.bounds.limit (settled_in self.old.tree) (record { path = walk.old; outcome = split triple })) }
     {
         // The walk goes down first, since only that can be taken back.
         if let Err(NoMemory) = walk.push(triple, Side::Left) {
@@ -209,7 +210,7 @@ impl Ledger {
         ensures ok { OnOk result (progress_of self.new ≡ with_one self.old teller path.now (next_outcome self.old)) }
         ensures waiting { OnOk result (self.new.tree.events.waiting ≡ drop 1 self.old.tree.events.waiting) }
         ensures refused { OnErr result (progress_of self.new ≡ progress_of self.old) }
-        ensures fault { IfErr result (IsFault self.old.tree.network self.old.limit (settled_in self.old.tree) (record { path = path.now; outcome = next_outcome self.old })) }
+        ensures fault { IfErr result (IsFault self.old.tree.network self.old.bounds.limit (settled_in self.old.tree) (record { path = path.now; outcome = next_outcome self.old })) }
     {
         self.admit(place, path)?;
         if self.tree.reserve(&mut self.closed).is_err() {
@@ -226,7 +227,7 @@ impl Ledger {
         requires at { IsPlaceOf (settled_in self.now.tree) path.now place }
         requires proof { HasProof self.now.tree.network path.now (next_outcome self.now) }
         requires undecided { SplitsUndecided self.now.tree.network path.now (next_outcome self.now) }
-        ensures { IsFault self.now.tree.network self.now.limit (settled_in self.now.tree) (record { path = path.now; outcome = next_outcome self.now }) result }
+        ensures { IsFault self.now.tree.network self.now.bounds.limit (settled_in self.now.tree) (record { path = path.now; outcome = next_outcome self.now }) result }
     {
         match self.admit(place, path) {
             Ok(()) => BookFault::Memory,
@@ -242,12 +243,47 @@ impl Ledger {
         requires proof { HasProof self.now.tree.network path.now (next_outcome self.now) }
         requires undecided { SplitsUndecided self.now.tree.network path.now (next_outcome self.now) }
         ensures { let history = settled_in self.now.tree in MatchResult result
-            (λ done. (length history < self.now.limit) × IsAllowed self.now.tree.network history (record { path = path.now; outcome = next_outcome self.now }))
-            (λ fault. IsFault self.now.tree.network self.now.limit history (record { path = path.now; outcome = next_outcome self.now }) fault) }
+            (λ done. (length history < self.now.bounds.limit) × IsAllowed self.now.tree.network history (record { path = path.now; outcome = next_outcome self.now }))
+            (λ fault. IsFault self.now.tree.network self.now.bounds.limit history (record { path = path.now; outcome = next_outcome self.now }) fault) }
     {
         let look = self.tree.events.next();
-        self.tree
-            .admit_at(self.limit, self.best, self.kept, place, path, look)
+        self.tree.admit_at(self.bounds, place, path, look)
+    }
+
+    /// The certificate of a finished search. What the leaves' events found is taken out of the tree.
+    pub fn take_cert(&mut self) -> Result<Cert, NoMemory>
+        requires agrees { IsLedger self.old }
+        requires finished { open_paths (settled_in self.old.tree) ≡ [] }
+        ensures format { IfOk result (λ cert. cert.format ≡ Format.Two) }
+        ensures target { IfOk result (λ cert. cert.target ≡ best_bound self.old.tree.network (settled_in self.old.tree)) }
+        ensures accepted { IfOk result (λ cert.
+            SpellsAccepted self.old.tree.network (kept_of self.old.tree.network (settled_in self.old.tree)) cert.nodes) }
+        ensures counted { IfOk result (λ cert. length cert.nodes ≡ length (settled_in self.old.tree)) }
+    {
+        let plan = self.plan()?;
+        let nodes = nodes_of(
+            &self.tree.network,
+            &self.tree.places,
+            &mut self.tree.events,
+            plan.as_ref(),
+        );
+        drop(plan);
+        Ok(Cert {
+            format: Format::Two,
+            target: self.bounds.best,
+            nodes: Nodes::of(nodes?),
+        })
+    }
+
+    // A copy of the schedule that is kept.
+    fn plan(&self) -> Result<Option<Solved>, NoMemory>
+        requires agrees { IsLedger self.now }
+        ensures { IfOk result (IsPlanOf self.now.tree.network (settled_in self.now.tree)) }
+    {
+        match self.tree.kept(self.bounds.kept) {
+            None => Ok(None),
+            Some(solved) => Ok(Some(solved.copy()?)),
+        }
     }
 
     // Goes on with a walk from a leaf at a place.

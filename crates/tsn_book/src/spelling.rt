@@ -7,33 +7,32 @@ ghost use Rattle.tsn_model.specs.Schedule.{common};
 ghost use Rattle.tsn_model.specs.Certificate.{HasBound, tie_node};
 ghost use Rattle.tsn_branch.specs.Leaf.{leaf_of};
 ghost use Rattle.tsn_branch.specs.Outcome.{outcome_of};
-ghost use Rattle.tsn_book.specs.Arena.{IsArena, settled_in};
+ghost use Rattle.tsn_book.specs.Arena.{IsTree, history_of};
 ghost use Rattle.tsn_book.specs.Book.{SpellsAccepted, planned, IsPlan, IsPlanOf, HasTie};
 ghost use Rattle.tsn_book.specs.declared.log.Settled.{Settled};
 
-use crate::arena::Tree;
 use crate::log::Log;
-use crate::standings::Standing;
+use crate::standings::{Places, Standing};
 use std::alloc::AllocError;
 use tsn_branch::outcome::{Leaf, Look};
 use tsn_cert::{Chain, Chains, Node};
 use tsn_timing::{Solved, Timing};
 
 /// The nodes of a tree in which nothing is open, in format 2 for what is kept: a split's node stands before those of its Left
-/// child, and these before those of its Right child.
-pub fn nodes_of(tree: Tree, plan: Option<&Solved>) -> Result<Vec<Node>, AllocError>
-    requires tree { IsArena tree }
-    requires plan { IsPlanOf tree.network (settled_in tree) (option_copied plan) }
-    requires finished { open_paths (settled_in tree) ≡ [] }
-    ensures accepted { IfOk result (λ nodes. SpellsAccepted tree.network (kept_of tree.network (settled_in tree)) (map tree_node nodes.items)) }
-    ensures counted { IfOk result (λ nodes. length nodes.items ≡ length (settled_in tree)) }
+/// child, and these before those of its Right child. What the leaves' events found is taken out of the log.
+pub fn nodes_of(
+    network: &Timing,
+    places: &Places,
+    events: &mut Log,
+    plan: Option<&Solved>,
+) -> Result<Vec<Node>, AllocError>
+    requires tree { IsTree network.now places.now.origins places.now.standings events.old.items }
+    requires plan { IsPlanOf network.now (history_of places.now.origins events.old.items) (option_copied plan) }
+    requires finished { open_paths (history_of places.now.origins events.old.items) ≡ [] }
+    ensures accepted { IfOk result (λ nodes.
+        SpellsAccepted network.now (kept_of network.now (history_of places.now.origins events.old.items)) (map tree_node nodes.items)) }
+    ensures counted { IfOk result (λ nodes. length nodes.items ≡ length (history_of places.now.origins events.old.items)) }
 {
-    let Tree {
-        network,
-        places,
-        mut events,
-        ..
-    } = tree;
     let alloc = *events.allocator();
     let mut nodes = Vec::with_capacity(alloc, events.len())?;
     let mut stack = vec![in alloc; 0]?;
@@ -50,7 +49,7 @@ pub fn nodes_of(tree: Tree, plan: Option<&Solved>) -> Result<Vec<Node>, AllocErr
                 stack.push(children)?;
                 nodes.push(Node::Branch(triple))?;
             }
-            Standing::Leaf(event) => nodes.push(take_node(&network, &mut events, event, plan))?,
+            Standing::Leaf(event) => nodes.push(take_node(network, events, event, plan))?,
         }
     }
     Ok(nodes)
@@ -137,7 +136,7 @@ fn first_chains(chains: Chains, count: usize) -> Chains
     Chains::of(list)
 }
 
-// How many numbers the lists have in common before the first place where they differ.
+// How many numbers the lists have in common before they differ.
 fn common(offsets: &[u64], others: &[u64]) -> usize
     ensures count { result ≡ common offsets.now others.now }
     ensures short { result < 2 ^ 63 }

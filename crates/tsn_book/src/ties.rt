@@ -8,7 +8,7 @@ use tsn_branch::{Decision, Side};
 use tsn_cert::Chain;
 use tsn_timing::Timing;
 
-/// Whether the first place where the lists differ has a lesser number in the first list.
+/// Whether the first list has the lesser number where the lists first differ.
 pub fn comes_before(offsets: &[u64], others: &[u64]) -> bool
     ensures { result ≡ comes_before offsets.now others.now }
 {
@@ -50,8 +50,8 @@ fn sum_on(timing: &Timing, path: &[Decision], stream: usize, chain: &Chain) -> i
     let mut start = stream;
     let mut sum: i64 = 0;
     let depths = chain.depths();
-    for place in (0..depths.len()).rev() {
-        let (from, weight) = arc_of(timing, path[depths[place]]);
+    for index in (0..depths.len()).rev() {
+        let (from, weight) = arc_of(timing, path[depths[index]]);
         start = from;
         sum += weight;
     }

@@ -16,150 +16,138 @@ use Rattle.tsn_book.proofs.spelling.nodes_of.Goals as goal
 
 pub loop-place-init : goal.loop-place-init
 loop-place-init c =
-    let tree = c.args.tree in
-    let plan = kept_of tree.network (history_of tree.places.origins tree.events.items) in
+    let plan = kept_of c.args.network.now (history_of c.args.places.now.origins c.args.events.now.items) in
     rw c.in_ok-stack.ensures.items (rw c.in_ok-nodes.ensures.items
-    (walk_begins tree.network plan tree.places.origins tree.places.standings tree.events.items c.requires.tree c.requires.finished))
+    (walk_begins c.args.network.now plan c.args.places.now.origins c.args.places.now.standings c.args.events.now.items c.requires.tree c.requires.finished))
 
 pub standing-standing-requires : goal.standing-standing-requires
 standing-standing-requires c =
-    let tree = c.args.tree in
-    let plan = kept_of tree.network (history_of tree.places.origins tree.events.items) in
+    let plan = kept_of c.args.network.now (history_of c.args.places.now.origins c.args.events.now.items) in
     let known = c.requires.tree in
     let stack = c.pop.new.self.items in
     let nodes = map tree_node c.loop-place.nodes.items in
-    let walk : IsWalk tree.network plan (paths_of tree.places.origins) (history_of tree.places.origins tree.events.items) tree.events.items c.loop-place.events.items (stack ++ c.in-Some.place ∷ []) nodes =
-    subst (λ s. IsWalk tree.network plan (paths_of tree.places.origins) (history_of tree.places.origins tree.events.items) tree.events.items c.loop-place.events.items s nodes) c.in-Some.ensures.items c.loop-place.invariant in
-    let within = waits_within tree.network plan tree.places.origins tree.places.standings tree.events.items known c.loop-place.events.items stack c.in-Some.place nodes walk in
+    let walk : IsWalk c.args.network.now plan (paths_of c.args.places.now.origins) (history_of c.args.places.now.origins c.args.events.now.items) c.args.events.now.items c.loop-place.events.items (stack ++ c.in-Some.place ∷ []) nodes =
+    subst (λ s. IsWalk c.args.network.now plan (paths_of c.args.places.now.origins) (history_of c.args.places.now.origins c.args.events.now.items) c.args.events.now.items c.loop-place.events.items s nodes) c.in-Some.ensures.items c.loop-place.invariant in
+    let within = waits_within c.args.network.now plan c.args.places.now.origins c.args.places.now.standings c.args.events.now.items known c.loop-place.events.items stack c.in-Some.place nodes walk in
     omega (arith, within, known.counted)
 
 pub unreachable-requires : goal.unreachable-requires
 unreachable-requires c =
-    let tree = c.args.tree in
-    let plan = kept_of tree.network (history_of tree.places.origins tree.events.items) in
+    let plan = kept_of c.args.network.now (history_of c.args.places.now.origins c.args.events.now.items) in
     let known = c.requires.tree in
     let stack = c.pop.new.self.items in
     let nodes = map tree_node c.loop-place.nodes.items in
-    let walk : IsWalk tree.network plan (paths_of tree.places.origins) (history_of tree.places.origins tree.events.items) tree.events.items c.loop-place.events.items (stack ++ c.in-Some.place ∷ []) nodes =
-    subst (λ s. IsWalk tree.network plan (paths_of tree.places.origins) (history_of tree.places.origins tree.events.items) tree.events.items c.loop-place.events.items s nodes) c.in-Some.ensures.items c.loop-place.invariant in
-    let within = waits_within tree.network plan tree.places.origins tree.places.standings tree.events.items known c.loop-place.events.items stack c.in-Some.place nodes walk in
-    let placed = placed_as tree.network tree.places.origins tree.places.standings tree.events.items known c.in-Some.place within _ _ c.standing-standing.ensures.known c.in-Open.is in
-    open_waits tree.network plan tree.places.origins tree.places.standings tree.events.items known c.loop-place.events.items stack c.in-Some.place nodes walk placed
+    let walk : IsWalk c.args.network.now plan (paths_of c.args.places.now.origins) (history_of c.args.places.now.origins c.args.events.now.items) c.args.events.now.items c.loop-place.events.items (stack ++ c.in-Some.place ∷ []) nodes =
+    subst (λ s. IsWalk c.args.network.now plan (paths_of c.args.places.now.origins) (history_of c.args.places.now.origins c.args.events.now.items) c.args.events.now.items c.loop-place.events.items s nodes) c.in-Some.ensures.items c.loop-place.invariant in
+    let within = waits_within c.args.network.now plan c.args.places.now.origins c.args.places.now.standings c.args.events.now.items known c.loop-place.events.items stack c.in-Some.place nodes walk in
+    let placed = placed_as c.args.network.now c.args.places.now.origins c.args.places.now.standings c.args.events.now.items known c.in-Some.place within _ _ c.standing-standing.ensures.known c.in-Open.is in
+    open_waits c.args.network.now plan c.args.places.now.origins c.args.places.now.standings c.args.events.now.items known c.loop-place.events.items stack c.in-Some.place nodes walk placed
 
 pub overflow_add-children : goal.overflow_add-children
 overflow_add-children c =
-    let tree = c.args.tree in
-    let plan = kept_of tree.network (history_of tree.places.origins tree.events.items) in
+    let plan = kept_of c.args.network.now (history_of c.args.places.now.origins c.args.events.now.items) in
     let known = c.requires.tree in
     let stack = c.pop.new.self.items in
     let nodes = map tree_node c.loop-place.nodes.items in
-    let walk : IsWalk tree.network plan (paths_of tree.places.origins) (history_of tree.places.origins tree.events.items) tree.events.items c.loop-place.events.items (stack ++ c.in-Some.place ∷ []) nodes =
-    subst (λ s. IsWalk tree.network plan (paths_of tree.places.origins) (history_of tree.places.origins tree.events.items) tree.events.items c.loop-place.events.items s nodes) c.in-Some.ensures.items c.loop-place.invariant in
-    let within = waits_within tree.network plan tree.places.origins tree.places.standings tree.events.items known c.loop-place.events.items stack c.in-Some.place nodes walk in
-    let placed = placed_as tree.network tree.places.origins tree.places.standings tree.events.items known c.in-Some.place within _ _ c.standing-standing.ensures.known c.in-Split.is in
-    omega (arith, placed.1, length-paths_of tree.places.origins, c.standing-standing.ensures.small, known.counted)
+    let walk : IsWalk c.args.network.now plan (paths_of c.args.places.now.origins) (history_of c.args.places.now.origins c.args.events.now.items) c.args.events.now.items c.loop-place.events.items (stack ++ c.in-Some.place ∷ []) nodes =
+    subst (λ s. IsWalk c.args.network.now plan (paths_of c.args.places.now.origins) (history_of c.args.places.now.origins c.args.events.now.items) c.args.events.now.items c.loop-place.events.items s nodes) c.in-Some.ensures.items c.loop-place.invariant in
+    let within = waits_within c.args.network.now plan c.args.places.now.origins c.args.places.now.standings c.args.events.now.items known c.loop-place.events.items stack c.in-Some.place nodes walk in
+    let placed = placed_as c.args.network.now c.args.places.now.origins c.args.places.now.standings c.args.events.now.items known c.in-Some.place within _ _ c.standing-standing.ensures.known c.in-Split.is in
+    omega (arith, placed.1, length-paths_of c.args.places.now.origins, c.standing-standing.ensures.small, known.counted)
 
 pub loop-place-smaller-in-Continue-branch-5 : goal.loop-place-smaller-in-Continue-branch-5
 loop-place-smaller-in-Continue-branch-5 c =
-    let tree = c.args.tree in
-    let plan = kept_of tree.network (history_of tree.places.origins tree.events.items) in
+    let plan = kept_of c.args.network.now (history_of c.args.places.now.origins c.args.events.now.items) in
     let known = c.requires.tree in
     let stack = c.pop.new.self.items in
     let nodes = map tree_node c.loop-place.nodes.items in
-    let walk : IsWalk tree.network plan (paths_of tree.places.origins) (history_of tree.places.origins tree.events.items) tree.events.items c.loop-place.events.items (stack ++ c.in-Some.place ∷ []) nodes =
-    subst (λ s. IsWalk tree.network plan (paths_of tree.places.origins) (history_of tree.places.origins tree.events.items) tree.events.items c.loop-place.events.items s nodes) c.in-Some.ensures.items c.loop-place.invariant in
-    let within = waits_within tree.network plan tree.places.origins tree.places.standings tree.events.items known c.loop-place.events.items stack c.in-Some.place nodes walk in
-    let room = walk_room tree.network plan (paths_of tree.places.origins) (history_of tree.places.origins tree.events.items) tree.events.items c.loop-place.events.items stack c.in-Some.place nodes walk in
-    omega (arith, room, length-map c.loop-place.nodes.items tree_node, length-history_of tree.places.origins tree.events.items, ap length c.in_ok-push-in-Split-3.ensures.items, length-append c.loop-place.nodes.items (Branch c.in-Split.triple ∷ []))
+    let walk : IsWalk c.args.network.now plan (paths_of c.args.places.now.origins) (history_of c.args.places.now.origins c.args.events.now.items) c.args.events.now.items c.loop-place.events.items (stack ++ c.in-Some.place ∷ []) nodes =
+    subst (λ s. IsWalk c.args.network.now plan (paths_of c.args.places.now.origins) (history_of c.args.places.now.origins c.args.events.now.items) c.args.events.now.items c.loop-place.events.items s nodes) c.in-Some.ensures.items c.loop-place.invariant in
+    let within = waits_within c.args.network.now plan c.args.places.now.origins c.args.places.now.standings c.args.events.now.items known c.loop-place.events.items stack c.in-Some.place nodes walk in
+    let room = walk_room c.args.network.now plan (paths_of c.args.places.now.origins) (history_of c.args.places.now.origins c.args.events.now.items) c.args.events.now.items c.loop-place.events.items stack c.in-Some.place nodes walk in
+    omega (arith, room, length-map c.loop-place.nodes.items tree_node, length-history_of c.args.places.now.origins c.args.events.now.items, ap length c.in_ok-push-in-Split-3.ensures.items, length-append c.loop-place.nodes.items (Branch c.in-Split.triple ∷ []))
 
 pub loop-place-preserved-in-Continue-branch-5 : goal.loop-place-preserved-in-Continue-branch-5
 loop-place-preserved-in-Continue-branch-5 c =
-    let tree = c.args.tree in
-    let plan = kept_of tree.network (history_of tree.places.origins tree.events.items) in
+    let plan = kept_of c.args.network.now (history_of c.args.places.now.origins c.args.events.now.items) in
     let known = c.requires.tree in
     let stack = c.pop.new.self.items in
     let nodes = map tree_node c.loop-place.nodes.items in
-    let walk : IsWalk tree.network plan (paths_of tree.places.origins) (history_of tree.places.origins tree.events.items) tree.events.items c.loop-place.events.items (stack ++ c.in-Some.place ∷ []) nodes =
-    subst (λ s. IsWalk tree.network plan (paths_of tree.places.origins) (history_of tree.places.origins tree.events.items) tree.events.items c.loop-place.events.items s nodes) c.in-Some.ensures.items c.loop-place.invariant in
-    let within = waits_within tree.network plan tree.places.origins tree.places.standings tree.events.items known c.loop-place.events.items stack c.in-Some.place nodes walk in
-    let placed = placed_as tree.network tree.places.origins tree.places.standings tree.events.items known c.in-Some.place within _ _ c.standing-standing.ensures.known c.in-Split.is in
+    let walk : IsWalk c.args.network.now plan (paths_of c.args.places.now.origins) (history_of c.args.places.now.origins c.args.events.now.items) c.args.events.now.items c.loop-place.events.items (stack ++ c.in-Some.place ∷ []) nodes =
+    subst (λ s. IsWalk c.args.network.now plan (paths_of c.args.places.now.origins) (history_of c.args.places.now.origins c.args.events.now.items) c.args.events.now.items c.loop-place.events.items s nodes) c.in-Some.ensures.items c.loop-place.invariant in
+    let within = waits_within c.args.network.now plan c.args.places.now.origins c.args.places.now.standings c.args.events.now.items known c.loop-place.events.items stack c.in-Some.place nodes walk in
+    let placed = placed_as c.args.network.now c.args.places.now.origins c.args.places.now.standings c.args.events.now.items known c.in-Some.place within _ _ c.standing-standing.ensures.known c.in-Split.is in
     rw c.in_ok-push-in-Split-2.ensures.items (rw c.in_ok-push-in-Split.ensures.items (rw c.in_ok-push-in-Split-3.ensures.items (rw (map-append tree_node c.loop-place.nodes.items (Branch c.in-Split.triple ∷ []))
-    (split_spelled tree.network plan tree.places.origins tree.places.standings tree.events.items known c.loop-place.events.items stack c.in-Some.place nodes walk c.in-Split.triple c.in-Split.children c.in-Split.event placed))))
+    (split_spelled c.args.network.now plan c.args.places.now.origins c.args.places.now.standings c.args.events.now.items known c.loop-place.events.items stack c.in-Some.place nodes walk c.in-Split.triple c.in-Split.children c.in-Split.event placed))))
 
 pub take_node-requires-clause-within : goal.take_node-requires-clause-within
 take_node-requires-clause-within c =
-    let tree = c.args.tree in
-    let plan = kept_of tree.network (history_of tree.places.origins tree.events.items) in
+    let plan = kept_of c.args.network.now (history_of c.args.places.now.origins c.args.events.now.items) in
     let known = c.requires.tree in
     let stack = c.pop.new.self.items in
     let nodes = map tree_node c.loop-place.nodes.items in
-    let walk : IsWalk tree.network plan (paths_of tree.places.origins) (history_of tree.places.origins tree.events.items) tree.events.items c.loop-place.events.items (stack ++ c.in-Some.place ∷ []) nodes =
-    subst (λ s. IsWalk tree.network plan (paths_of tree.places.origins) (history_of tree.places.origins tree.events.items) tree.events.items c.loop-place.events.items s nodes) c.in-Some.ensures.items c.loop-place.invariant in
-    let within = waits_within tree.network plan tree.places.origins tree.places.standings tree.events.items known c.loop-place.events.items stack c.in-Some.place nodes walk in
-    let placed = placed_as tree.network tree.places.origins tree.places.standings tree.events.items known c.in-Some.place within _ _ c.standing-standing.ensures.known c.in-Leaf.is in
-    let inside = leaf_within tree.network plan tree.places.origins tree.places.standings tree.events.items known c.loop-place.events.items (stack ++ c.in-Some.place ∷ []) c.in-Some.place nodes walk c.in-Leaf.event placed in
+    let walk : IsWalk c.args.network.now plan (paths_of c.args.places.now.origins) (history_of c.args.places.now.origins c.args.events.now.items) c.args.events.now.items c.loop-place.events.items (stack ++ c.in-Some.place ∷ []) nodes =
+    subst (λ s. IsWalk c.args.network.now plan (paths_of c.args.places.now.origins) (history_of c.args.places.now.origins c.args.events.now.items) c.args.events.now.items c.loop-place.events.items s nodes) c.in-Some.ensures.items c.loop-place.invariant in
+    let within = waits_within c.args.network.now plan c.args.places.now.origins c.args.places.now.standings c.args.events.now.items known c.loop-place.events.items stack c.in-Some.place nodes walk in
+    let placed = placed_as c.args.network.now c.args.places.now.origins c.args.places.now.standings c.args.events.now.items known c.in-Some.place within _ _ c.standing-standing.ensures.known c.in-Leaf.is in
+    let inside = leaf_within c.args.network.now plan c.args.places.now.origins c.args.places.now.standings c.args.events.now.items known c.loop-place.events.items (stack ++ c.in-Some.place ∷ []) c.in-Some.place nodes walk c.in-Leaf.event placed in
     inside
 
 pub take_node-requires-clause-tie : goal.take_node-requires-clause-tie
 take_node-requires-clause-tie c =
-    let tree = c.args.tree in
-    let plan = kept_of tree.network (history_of tree.places.origins tree.events.items) in
+    let plan = kept_of c.args.network.now (history_of c.args.places.now.origins c.args.events.now.items) in
     let known = c.requires.tree in
     let stack = c.pop.new.self.items in
     let nodes = map tree_node c.loop-place.nodes.items in
-    let walk : IsWalk tree.network plan (paths_of tree.places.origins) (history_of tree.places.origins tree.events.items) tree.events.items c.loop-place.events.items (stack ++ c.in-Some.place ∷ []) nodes =
-    subst (λ s. IsWalk tree.network plan (paths_of tree.places.origins) (history_of tree.places.origins tree.events.items) tree.events.items c.loop-place.events.items s nodes) c.in-Some.ensures.items c.loop-place.invariant in
-    let within = waits_within tree.network plan tree.places.origins tree.places.standings tree.events.items known c.loop-place.events.items stack c.in-Some.place nodes walk in
-    let placed = placed_as tree.network tree.places.origins tree.places.standings tree.events.items known c.in-Some.place within _ _ c.standing-standing.ensures.known c.in-Leaf.is in
+    let walk : IsWalk c.args.network.now plan (paths_of c.args.places.now.origins) (history_of c.args.places.now.origins c.args.events.now.items) c.args.events.now.items c.loop-place.events.items (stack ++ c.in-Some.place ∷ []) nodes =
+    subst (λ s. IsWalk c.args.network.now plan (paths_of c.args.places.now.origins) (history_of c.args.places.now.origins c.args.events.now.items) c.args.events.now.items c.loop-place.events.items s nodes) c.in-Some.ensures.items c.loop-place.invariant in
+    let within = waits_within c.args.network.now plan c.args.places.now.origins c.args.places.now.standings c.args.events.now.items known c.loop-place.events.items stack c.in-Some.place nodes walk in
+    let placed = placed_as c.args.network.now c.args.places.now.origins c.args.places.now.standings c.args.events.now.items known c.in-Some.place within _ _ c.standing-standing.ensures.known c.in-Leaf.is in
     λ d.
-    (leaf_tie tree.network plan tree.places.origins tree.places.standings tree.events.items known c.loop-place.events.items stack c.in-Some.place nodes walk c.in-Leaf.event placed (option_copied c.args.plan) c.requires.plan.1 d)
+    (leaf_tie c.args.network.now plan c.args.places.now.origins c.args.places.now.standings c.args.events.now.items known c.loop-place.events.items stack c.in-Some.place nodes walk c.in-Leaf.event placed (option_copied c.args.plan) c.requires.plan.1 d)
 
 pub loop-place-smaller : goal.loop-place-smaller
 loop-place-smaller c =
-    let tree = c.args.tree in
-    let plan = kept_of tree.network (history_of tree.places.origins tree.events.items) in
+    let plan = kept_of c.args.network.now (history_of c.args.places.now.origins c.args.events.now.items) in
     let known = c.requires.tree in
     let stack = c.pop.new.self.items in
     let nodes = map tree_node c.loop-place.nodes.items in
-    let walk : IsWalk tree.network plan (paths_of tree.places.origins) (history_of tree.places.origins tree.events.items) tree.events.items c.loop-place.events.items (stack ++ c.in-Some.place ∷ []) nodes =
-    subst (λ s. IsWalk tree.network plan (paths_of tree.places.origins) (history_of tree.places.origins tree.events.items) tree.events.items c.loop-place.events.items s nodes) c.in-Some.ensures.items c.loop-place.invariant in
-    let within = waits_within tree.network plan tree.places.origins tree.places.standings tree.events.items known c.loop-place.events.items stack c.in-Some.place nodes walk in
-    let room = walk_room tree.network plan (paths_of tree.places.origins) (history_of tree.places.origins tree.events.items) tree.events.items c.loop-place.events.items stack c.in-Some.place nodes walk in
-    omega (arith, room, length-map c.loop-place.nodes.items tree_node, length-history_of tree.places.origins tree.events.items, ap length c.in_ok-push-in-Leaf.ensures.items, length-append c.loop-place.nodes.items (c.take_node.result ∷ []))
+    let walk : IsWalk c.args.network.now plan (paths_of c.args.places.now.origins) (history_of c.args.places.now.origins c.args.events.now.items) c.args.events.now.items c.loop-place.events.items (stack ++ c.in-Some.place ∷ []) nodes =
+    subst (λ s. IsWalk c.args.network.now plan (paths_of c.args.places.now.origins) (history_of c.args.places.now.origins c.args.events.now.items) c.args.events.now.items c.loop-place.events.items s nodes) c.in-Some.ensures.items c.loop-place.invariant in
+    let within = waits_within c.args.network.now plan c.args.places.now.origins c.args.places.now.standings c.args.events.now.items known c.loop-place.events.items stack c.in-Some.place nodes walk in
+    let room = walk_room c.args.network.now plan (paths_of c.args.places.now.origins) (history_of c.args.places.now.origins c.args.events.now.items) c.args.events.now.items c.loop-place.events.items stack c.in-Some.place nodes walk in
+    omega (arith, room, length-map c.loop-place.nodes.items tree_node, length-history_of c.args.places.now.origins c.args.events.now.items, ap length c.in_ok-push-in-Leaf.ensures.items, length-append c.loop-place.nodes.items (c.take_node.result ∷ []))
 
 pub loop-place-preserved : goal.loop-place-preserved
 loop-place-preserved c =
-    let tree = c.args.tree in
-    let plan = kept_of tree.network (history_of tree.places.origins tree.events.items) in
+    let plan = kept_of c.args.network.now (history_of c.args.places.now.origins c.args.events.now.items) in
     let known = c.requires.tree in
     let stack = c.pop.new.self.items in
     let nodes = map tree_node c.loop-place.nodes.items in
-    let walk : IsWalk tree.network plan (paths_of tree.places.origins) (history_of tree.places.origins tree.events.items) tree.events.items c.loop-place.events.items (stack ++ c.in-Some.place ∷ []) nodes =
-    subst (λ s. IsWalk tree.network plan (paths_of tree.places.origins) (history_of tree.places.origins tree.events.items) tree.events.items c.loop-place.events.items s nodes) c.in-Some.ensures.items c.loop-place.invariant in
-    let within = waits_within tree.network plan tree.places.origins tree.places.standings tree.events.items known c.loop-place.events.items stack c.in-Some.place nodes walk in
-    let placed = placed_as tree.network tree.places.origins tree.places.standings tree.events.items known c.in-Some.place within _ _ c.standing-standing.ensures.known c.in-Leaf.is in
+    let walk : IsWalk c.args.network.now plan (paths_of c.args.places.now.origins) (history_of c.args.places.now.origins c.args.events.now.items) c.args.events.now.items c.loop-place.events.items (stack ++ c.in-Some.place ∷ []) nodes =
+    subst (λ s. IsWalk c.args.network.now plan (paths_of c.args.places.now.origins) (history_of c.args.places.now.origins c.args.events.now.items) c.args.events.now.items c.loop-place.events.items s nodes) c.in-Some.ensures.items c.loop-place.invariant in
+    let within = waits_within c.args.network.now plan c.args.places.now.origins c.args.places.now.standings c.args.events.now.items known c.loop-place.events.items stack c.in-Some.place nodes walk in
+    let placed = placed_as c.args.network.now c.args.places.now.origins c.args.places.now.standings c.args.events.now.items known c.in-Some.place within _ _ c.standing-standing.ensures.known c.in-Leaf.is in
     let as_many : length c.take_node.new.events.items ≡ length c.loop-place.events.items = c.take_node.ensures.counted in
     rw c.in_ok-push-in-Leaf.ensures.items (rw (map-append tree_node c.loop-place.nodes.items (c.take_node.result ∷ []))
-    (leaf_spelled tree.network plan tree.places.origins tree.places.standings tree.events.items known c.loop-place.events.items stack c.in-Some.place nodes walk c.in-Leaf.event placed
+    (leaf_spelled c.args.network.now plan c.args.places.now.origins c.args.places.now.standings c.args.events.now.items known c.loop-place.events.items stack c.in-Some.place nodes walk c.in-Leaf.event placed
     c.take_node.new.events.items as_many c.take_node.ensures.others
     (tree_node c.take_node.result) (λ d.
     c.take_node.ensures.node d
-    ∙ ap (λ p. node_of tree.network p (outcome_of (slice_index_or c.loop-place.events.items c.in-Leaf.event d).look)) (sym c.requires.plan.1))))
+    ∙ ap (λ p. node_of c.args.network.now p (outcome_of (slice_index_or c.loop-place.events.items c.in-Leaf.event d).look)) (sym c.requires.plan.1))))
 
 pub returns-clause-accepted : goal.returns-clause-accepted
 returns-clause-accepted c =
-    let tree = c.args.tree in
-    let plan = kept_of tree.network (history_of tree.places.origins tree.events.items) in
+    let plan = kept_of c.args.network.now (history_of c.args.places.now.origins c.args.events.now.items) in
     let none : c.loop-place.stack.items ≡ [] = nil_from_length c.loop-place.stack.items (omega (arith, c.in_default.ensures.cases.0, c.loop-place.stack.ok)) in
     let nodes = map tree_node c.loop-place.nodes.items in
-    let walk = subst (λ s. IsWalk tree.network plan (paths_of tree.places.origins) (history_of tree.places.origins tree.events.items) tree.events.items c.loop-place.events.items s nodes) none c.loop-place.invariant in
-    walk_accepted tree.network (paths_of tree.places.origins) (history_of tree.places.origins tree.events.items) c.requires.tree.legal tree.events.items c.loop-place.events.items nodes walk
+    let walk = subst (λ s. IsWalk c.args.network.now plan (paths_of c.args.places.now.origins) (history_of c.args.places.now.origins c.args.events.now.items) c.args.events.now.items c.loop-place.events.items s nodes) none c.loop-place.invariant in
+    walk_accepted c.args.network.now (paths_of c.args.places.now.origins) (history_of c.args.places.now.origins c.args.events.now.items) c.requires.tree.legal c.args.events.now.items c.loop-place.events.items nodes walk
 
 pub returns-clause-counted : goal.returns-clause-counted
 returns-clause-counted c =
-    let tree = c.args.tree in
-    let plan = kept_of tree.network (history_of tree.places.origins tree.events.items) in
+    let plan = kept_of c.args.network.now (history_of c.args.places.now.origins c.args.events.now.items) in
     let none : c.loop-place.stack.items ≡ [] = nil_from_length c.loop-place.stack.items (omega (arith, c.in_default.ensures.cases.0, c.loop-place.stack.ok)) in
     let nodes = map tree_node c.loop-place.nodes.items in
-    let walk = subst (λ s. IsWalk tree.network plan (paths_of tree.places.origins) (history_of tree.places.origins tree.events.items) tree.events.items c.loop-place.events.items s nodes) none c.loop-place.invariant in
-    sym (length-map c.loop-place.nodes.items tree_node) ∙ walk_counted tree.network plan (paths_of tree.places.origins) (history_of tree.places.origins tree.events.items) tree.events.items c.loop-place.events.items nodes walk
+    let walk = subst (λ s. IsWalk c.args.network.now plan (paths_of c.args.places.now.origins) (history_of c.args.places.now.origins c.args.events.now.items) c.args.events.now.items c.loop-place.events.items s nodes) none c.loop-place.invariant in
+    sym (length-map c.loop-place.nodes.items tree_node) ∙ walk_counted c.args.network.now plan (paths_of c.args.places.now.origins) (history_of c.args.places.now.origins c.args.events.now.items) c.args.events.now.items c.loop-place.events.items nodes walk

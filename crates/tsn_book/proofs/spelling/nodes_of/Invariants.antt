@@ -7,7 +7,7 @@ use Rattle.tsn_book.proofs.spelling.nodes_of.Given as goal
 
 abbrev pub invariant-loop-place : goal.invariant-loop-place
 invariant-loop-place l =
-    IsWalk l.fn.tree.network (kept_of l.fn.tree.network (history_of l.fn.tree.places.origins l.fn.tree.events.items)) (paths_of l.fn.tree.places.origins) (history_of l.fn.tree.places.origins l.fn.tree.events.items) l.fn.tree.events.items l.events.items l.stack.items (map tree_node l.nodes.items)
+    IsWalk l.fn.network (kept_of l.fn.network (history_of l.fn.places.origins l.fn.events.items)) (paths_of l.fn.places.origins) (history_of l.fn.places.origins l.fn.events.items) l.fn.events.items l.events.items l.stack.items (map tree_node l.nodes.items)
 
 abbrev pub decreases-loop-place : goal.decreases-loop-place
-decreases-loop-place l = length l.fn.tree.events.items - length l.nodes.items
+decreases-loop-place l = length l.fn.events.items - length l.nodes.items

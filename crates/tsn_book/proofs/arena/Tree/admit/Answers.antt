@@ -3,13 +3,13 @@ use Rattle.tsn_book.specs.Arena.{history_of}
 use Rattle.tsn_book.proofs.Asking.{open_stop, stop_decides, length-history_of}
 use Rattle.tsn_book.proofs.arena.Tree.admit.Goals as goal
 
-pub returns-then-len-limit : goal.returns-then-len-limit
-returns-then-len-limit c =
+pub returns-then-len-bounds : goal.returns-then-len-bounds
+returns-then-len-bounds c =
     let self = c.args.self.now in
     let history = history_of self.places.origins self.events.items in
     let is_open = open_stop self.network self.places.origins self.places.standings self.events.items c.requires.tree c.args.path.now c.args.stop c.in-Open.place c.in-Open.is c.requires.stop in
     let count : length history ≡ length self.events.items = length-history_of self.places.origins self.events.items in
-    (is_open, omega (arith, count, c.len.ensures.count, c.if-len-limit.true), omega (arith, count, c.len-then-len-limit.ensures.count))
+    (is_open, omega (arith, count, c.len.ensures.count, c.if-len-bounds.true), omega (arith, count, c.len-then-len-bounds.ensures.count))
 
 pub is_met-requires-clause-decided : goal.is_met-requires-clause-decided
 is_met-requires-clause-decided c =
@@ -21,7 +21,7 @@ returns-then-is_met c =
     let self = c.args.self.now in
     let history = history_of self.places.origins self.events.items in
     let count : length history ≡ length self.events.items = length-history_of self.places.origins self.events.items in
-    let below : length history < c.args.limit = omega (arith, count, c.len.ensures.count, c.if-len-limit.false) in
+    let below : length history < c.args.bounds.limit = omega (arith, count, c.len.ensures.count, c.if-len-bounds.false) in
     (c.in-Open.is, below, c.if-is_met.ensures)
 
 pub returns-else-is_met : goal.returns-else-is_met
@@ -30,5 +30,5 @@ returns-else-is_met c =
     let history = history_of self.places.origins self.events.items in
     let is_open = open_stop self.network self.places.origins self.places.standings self.events.items c.requires.tree c.args.path.now c.args.stop c.in-Open.place c.in-Open.is c.requires.stop in
     let count : length history ≡ length self.events.items = length-history_of self.places.origins self.events.items in
-    let below : length history < c.args.limit = omega (arith, count, c.len.ensures.count, c.if-len-limit.false) in
+    let below : length history < c.args.bounds.limit = omega (arith, count, c.len.ensures.count, c.if-len-bounds.false) in
     (is_open, below, c.if-is_met.ensures, c.requires.best)

@@ -11,7 +11,7 @@ returns-in_err-admit c =
     let self = c.args.self.now in
     let history = history_of self.places.origins self.events.items in
     let p = err_from_is_err_and c.from_residual.result c.from_residual.ensures.1 in
-    rw (p.1, p.2) (subst (λ path. IsFault self.network c.args.limit history (record { path = path; outcome = outcome_of c.args.look.now }) c.in_err-admit.field-0.0) c.requires.path c.in_err-admit.ensures)
+    rw (p.1, p.2) (subst (λ path. IsFault self.network c.args.bounds.limit history (record { path = path; outcome = outcome_of c.args.look.now }) c.in_err-admit.field-0.0) c.requires.path c.in_err-admit.ensures)
 
 pub returns : goal.returns
 returns c =

@@ -14,7 +14,7 @@ returns-in_err-place c =
     let self = c.args.self.now in
     let history = history_of self.places.origins self.events.items in
     let p = err_from_is_err_and c.from_residual.result c.from_residual.ensures.1 in
-    rw (p.1, p.2) (subst (λ path. IsFault self.network c.args.limit history (record { path = path; outcome = outcome_of c.args.event.now.look }) c.in_err-place.field-0.0) c.path-path.ensures.value c.in_err-place.ensures)
+    rw (p.1, p.2) (subst (λ path. IsFault self.network c.args.bounds.limit history (record { path = path; outcome = outcome_of c.args.event.now.look }) c.in_err-place.field-0.0) c.path-path.ensures.value c.in_err-place.ensures)
 
 pub returns-then-not-is_conflict : goal.returns-then-not-is_conflict
 returns-then-not-is_conflict c =

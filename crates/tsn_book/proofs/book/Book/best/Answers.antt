@@ -10,12 +10,12 @@ returns-clause-lawful c =
     let inside = c.self.inside in
     let tree = inside.ledger.tree in
     subst IsLawful c.self.view_is
-    (lawful tree.network tree.places.origins tree.places.standings tree.events.items inside.ledger.closed.items inside.ledger.limit inside.ledger.open_nodes inside.ledger.best inside.ledger.kept inside.ledger.tallies.items c.self.invariant.agrees)
+    (lawful tree.network tree.places.origins tree.places.standings tree.events.items inside.ledger.closed.items inside.ledger.bounds.limit inside.ledger.open_nodes inside.ledger.bounds.best inside.ledger.bounds.kept inside.ledger.tallies.items c.self.invariant.agrees)
 
 pub returns-clause-target : goal.returns-clause-target
 returns-clause-target c =
     let inside = c.self.inside in
     let tree = inside.ledger.tree in
     let history = history_of tree.places.origins tree.events.items in
-    subst (λ (p : Progress). IsBelowBounds p.network inside.ledger.best p.history) c.self.view_is
+    subst (λ (p : Progress). IsBelowBounds p.network inside.ledger.bounds.best p.history) c.self.view_is
     (subst (λ best. IsBelowBounds tree.network best history) (sym c.self.invariant.agrees.summary.lowest) (best_target tree.network history c.self.invariant.agrees.tree.legal))

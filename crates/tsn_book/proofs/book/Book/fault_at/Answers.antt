@@ -37,7 +37,7 @@ returns-in-Err c =
     let tree = inside.ledger.tree in
     let outcome = outcome_of c.args.look.now in
     subst (λ (p : Progress). IsFault p.network p.limit p.history (record { path = path_made p.history c.args.place; outcome = outcome }) c.in-Err.fault) c.self.view_is
-    (subst (λ path. IsFault tree.network inside.ledger.limit (history_of tree.places.origins tree.events.items) (record { path = path; outcome = outcome }) c.in-Err.fault)
+    (subst (λ path. IsFault tree.network inside.ledger.bounds.limit (history_of tree.places.origins tree.events.items) (record { path = path; outcome = outcome }) c.in-Err.fault)
     (path_made-at tree.network tree.places.origins tree.places.standings tree.events.items c.self.invariant.agrees.tree c.args.place) c.in-Err.ensures)
 
 pub returns-in-Ok : goal.returns-in-Ok

@@ -33,8 +33,8 @@ returns c =
     let history = settled_in ledger.tree in
     let same = same_path ledger c.requires.agrees c.args.place ∙ c.requires.at.is in
     subst (λ (look : Look). MatchResult c.admit_at.result
-    (λ done. (length history < ledger.limit) × IsAllowed ledger.tree.network history (record { path = c.args.path.now; outcome = outcome_of look }))
-    (λ fault. IsFault ledger.tree.network ledger.limit history (record { path = c.args.path.now; outcome = outcome_of look }) fault)) c.next-look.ensures
+    (λ done. (length history < ledger.bounds.limit) × IsAllowed ledger.tree.network history (record { path = c.args.path.now; outcome = outcome_of look }))
+    (λ fault. IsFault ledger.tree.network ledger.bounds.limit history (record { path = c.args.path.now; outcome = outcome_of look }) fault)) c.next-look.ensures
     (subst (λ (path : List Decision). MatchResult c.admit_at.result
-    (λ done. (length history < ledger.limit) × IsAllowed ledger.tree.network history (record { path = path; outcome = outcome_of c.next-look.result.now }))
-    (λ fault. IsFault ledger.tree.network ledger.limit history (record { path = path; outcome = outcome_of c.next-look.result.now }) fault)) same c.admit_at.ensures)
+    (λ done. (length history < ledger.bounds.limit) × IsAllowed ledger.tree.network history (record { path = path; outcome = outcome_of c.next-look.result.now }))
+    (λ fault. IsFault ledger.tree.network ledger.bounds.limit history (record { path = path; outcome = outcome_of c.next-look.result.now }) fault)) same c.admit_at.ensures)

@@ -29,7 +29,7 @@ returns-clause-agrees c =
     let path = path_at (paths_of tree.places.origins) place in
     let outcome = next_outcome ledger in
     let allowed = allowed_at ledger c.requires.agrees place outcome c.requires.allowed in
-    book_grows tree.network tree.places.origins tree.places.standings tree.events.items ledger.closed.items ledger.limit ledger.open_nodes ledger.best ledger.kept ledger.tallies.items c.requires.agrees
+    book_grows tree.network tree.places.origins tree.places.standings tree.events.items ledger.closed.items ledger.bounds.limit ledger.open_nodes ledger.bounds.best ledger.bounds.kept ledger.tallies.items c.requires.agrees
     c.args.teller path outcome c.requires.teller c.requires.limit allowed
     after.network after.places.origins after.places.standings after.events.items c.settle.new.closed.items c.settle.ensures.network c.settle.ensures.tree c.settle.ensures.closed c.settle.ensures.history
     known.open_nodes known.best known.kept known.tally (length tree.events.items) refl
@@ -43,4 +43,4 @@ returns-clause-ok c =
     let longer =
     c.settle.ensures.history
     ∙ ap (λ (path : List Decision). let one : Settlement = record { teller = c.args.teller; event = record { path = path; outcome = next_outcome ledger } } in history ++ one ∷ []) (same_path ledger c.requires.agrees c.args.place) in
-    λ i. record { network = c.settle.ensures.network i; tellers = tellers i; limit = ledger.limit; history = longer i }
+    λ i. record { network = c.settle.ensures.network i; tellers = tellers i; limit = ledger.bounds.limit; history = longer i }

@@ -63,11 +63,11 @@ pub overflow_sub-result : goal.overflow_sub-result
 overflow_sub-result c = omega (arith, counted c)
 
 -- the refusal, where the walk stands then
-fault_now : (c : goal.After-len) → IsFault c.settle_next.new.self.tree.network c.settle_next.new.self.limit (settled_in c.settle_next.new.self.tree) (record { path = c.settle_next.new.walk; outcome = outcome_of (next_of c.loop-self.self.tree.events) }) c.in-Err.fault
+fault_now : (c : goal.After-len) → IsFault c.settle_next.new.self.tree.network c.settle_next.new.self.bounds.limit (settled_in c.settle_next.new.self.tree) (record { path = c.settle_next.new.walk; outcome = outcome_of (next_of c.loop-self.self.tree.events) }) c.in-Err.fault
 fault_now c =
     let outcome = outcome_of (next_of c.loop-self.self.tree.events) in
     let fault = c.in-Err.fault in
-    subst (λ (path : List Decision). IsFault c.settle_next.new.self.tree.network c.settle_next.new.self.limit (settled_in c.settle_next.new.self.tree) (record { path = path; outcome = outcome }) fault) (sym c.in-Err.ensures.stays)
+    subst (λ (path : List Decision). IsFault c.settle_next.new.self.tree.network c.settle_next.new.self.bounds.limit (settled_in c.settle_next.new.self.tree) (record { path = path; outcome = outcome }) fault) (sym c.in-Err.ensures.stays)
     (subst (λ (p : Progress). IsFault p.network p.limit p.history (record { path = c.loop-self.walk; outcome = outcome }) fault) (sym c.in-Err.ensures.refused) c.in-Err.ensures.fault)
 
 pub returns-in-Err-clause-some : goal.returns-in-Err-clause-some

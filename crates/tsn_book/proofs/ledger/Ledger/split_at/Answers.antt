@@ -37,8 +37,8 @@ pub returns-in-Err-settle_here-clause-fault : goal.returns-in-Err-settle_here-cl
 returns-in-Err-settle_here-clause-fault c =
     let before = c.args.self.now in
     let above = above_push c.path-2.result.now c.path-3.result.now c.args.walk.now c.args.triple (c.path-2.ensures.value ∙ c.in_default.ensures.ok) (c.path-3.ensures.value ∙ c.in_default.ensures.ok) in
-    subst (λ (look : Look). IsFault before.tree.network before.limit (settled_in before.tree) (record { path = c.args.walk.now; outcome = outcome_of look }) c.in-Err-settle_here.fault) c.requires.next
-    (subst (λ (path : List Decision). IsFault before.tree.network before.limit (settled_in before.tree) (record { path = path; outcome = next_outcome before }) c.in-Err-settle_here.fault) above c.in-Err-settle_here.ensures.fault)
+    subst (λ (look : Look). IsFault before.tree.network before.bounds.limit (settled_in before.tree) (record { path = c.args.walk.now; outcome = outcome_of look }) c.in-Err-settle_here.fault) c.requires.next
+    (subst (λ (path : List Decision). IsFault before.tree.network before.bounds.limit (settled_in before.tree) (record { path = path; outcome = next_outcome before }) c.in-Err-settle_here.fault) above c.in-Err-settle_here.ensures.fault)
 
 settled : (c : goal.After-len) → progress_of c.settle_here.new.self ≡ with_one c.args.self.now c.args.teller c.args.walk.now (split c.args.triple)
 settled c =
