@@ -1,5 +1,5 @@
 //! The book of a search, as its callers see it: what was settled so far.
-ghost use Rattle.std.specs.Prelude.{◌≡◌, ◌<◌, ◌+◌, ◌++◌, ◌∷◌, [], length, replicate, IfOk, IfErr, OnErr, OnOk, MatchOption, MatchResult, Some, None, IsTrue, ◌↔◌, Any, Contains};
+ghost use Rattle.std.specs.Prelude.{◌≡◌, ◌<◌, ◌+◌, ◌++◌, ◌∷◌, [], false, length, replicate, IfOk, IfErr, OnErr, OnOk, MatchOption, MatchResult, Some, None, IsTrue, ◌↔◌, Any, Contains};
 ghost use Rattle.tsn_cert.specs.declared.cert.Format.{Format};
 ghost use Rattle.tsn_timing.specs.Solution.{IsSolved};
 ghost use Rattle.tsn_model.specs.Search.{Outcome, made_paths, open_paths, best_bound, kept_of, tally_of, solved_bounds, settled_by, IsAllowed, IsFirstOpen};
@@ -54,25 +54,21 @@ impl Book {
     ) -> Result<Book, NoMemory>
         ensures { IfOk result (λ book. book ≡ record { network = timing.now; tellers = tellers; limit = limit; history = [] }) }
     {
-        Ok(Book::of(alloc, timing.copy(alloc)?, tellers, limit)?)
-    }
-
-    // A book with nothing settled, for that network.
-    fn of(alloc: Global, network: Timing, tellers: usize, limit: usize) -> Result<Book, AllocError>
-        ensures { IfOk result (λ book. book ≡ record { network = network; tellers = tellers; limit = limit; history = [] }) }
-    {
-        let past_cycle = network.cycle() + 1;
+        let past_cycle = timing.cycle() + 1;
+        let closed = one_open(alloc)?;
+        let tallies = tallies_of(alloc, tellers, past_cycle)?;
+        let tree = Tree::new(alloc, timing.copy(alloc)?)?;
         Ok(Book {
             ledger: Ledger {
-                tree: Tree::new(alloc, network)?,
-                closed: vec![in alloc; false]?,
+                tree,
+                closed,
                 open_nodes: 1,
                 bounds: Bounds {
                     limit,
                     best: past_cycle,
                     kept: None,
                 },
-                tallies: tallies_of(alloc, tellers, past_cycle)?,
+                tallies,
             },
         })
     }
@@ -299,6 +295,13 @@ impl Book {
         drop(ledger);
         cert
     }
+}
+
+/// Of the one place of a new tree, that it isn't closed.
+fn one_open(alloc: Global) -> Result<Vec<bool>, AllocError>
+    ensures { IfOk result (λ closed. closed.items ≡ false ∷ []) }
+{
+    Ok(vec![in alloc; false]?)
 }
 
 /// The tallies of tellers that have settled nothing.

@@ -40,6 +40,7 @@ impl Looks {
         ensures refused { OnErr result (self.new ≡ self.old) }
     {
         if self.list.try_reserve(1).is_err() {
+            drop(look);
             return Err(NoMemory);
         }
         self.list.push_reserved(Settled {

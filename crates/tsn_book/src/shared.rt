@@ -131,8 +131,8 @@ impl Core {
         ensures sound { IfOk result (λ shared. IsSound shared.network shared.state) }
     {
         let past_cycle = timing.cycle() + 1;
-        let book = Book::new(alloc, timing, tellers, limit)?;
         let known = unknowing(alloc, tellers, past_cycle)?;
+        let book = Book::new(alloc, timing, tellers, limit)?;
         Ok(Core {
             book,
             word: past_cycle,
@@ -204,7 +204,10 @@ impl Core {
     {
         // Where that growth is refused nothing else would tell that the state is sound.
         let _ = &self.word;
-        replies.try_reserve(1)?;
+        if replies.try_reserve(1).is_err() {
+            drop(step);
+            return Err(NoMemory);
+        }
         let reply = self.apply(step)?;
         replies.push_reserved(reply);
         Ok(reply)
@@ -269,13 +272,13 @@ impl Core {
         ensures wanting { OnErr result (IsWanting self.old.network self.old.limit self.old.state (settle teller (event_of event))) }
     {
         if !self.may_settle(teller, &event.look) {
-            give_up(event);
+            drop(event);
             return Ok(Reply::NotAllowed);
         }
         match self.book.settle(teller, event) {
             Ok(()) => Ok(Reply::Settled),
             Err((fault, event)) => {
-                give_up(event);
+                drop(event);
                 refused(fault)
             }
         }
@@ -309,9 +312,6 @@ fn is_above_seen(timing: &Timing, seen: u64, look: &Look) -> bool
         Look::Refuted(_) => true,
     }
 }
-
-/// Lets an event go.
-fn give_up(_event: Event) {}
 
 /// The answer to a settling that the book refused.
 fn refused(fault: BookFault) -> Result<Reply, NoMemory>
