@@ -29,13 +29,13 @@ head_of [] = nothing
 head_of (p ∷ ps) = p
 
 -- the seat and the half are those of one number of this search; the least bound pruned is worse than what was seen, and the least flowspan solved is at most what was posted
-pub record Keeps (names : Names) (number : ℕ) (place : Place) (share : Half) : Type 0 where
-  pub sits : place ≡ record { race = names.race; standings = head_of place.standings ∷ [] }
+pub record Keeps (names : Names) (number : ℕ) (seat : Place) (share : Half) : Type 0 where
+  pub sits : seat ≡ record { race = names.race; standings = head_of seat.standings ∷ [] }
   pub shares : share ≡ half names.halves number false share.tally
-  pub numbered : (head_of place.standings).number ≡ number
+  pub numbered : (head_of seat.standings).number ≡ number
   pub within : number < names.race.tellers
-  pub pruned : beyond names.race.network (head_of place.standings).seen ≤ share.tally.1
-  pub solved : share.tally.2 ≤ (head_of place.standings).posted
+  pub pruned : beyond names.race.network (head_of seat.standings).seen ≤ share.tally.1
+  pub solved : share.tally.2 ≤ (head_of seat.standings).posted
 
 -- it has posted the least flowspan that it solved
 abbrev pub IsEven : Known → Type 0

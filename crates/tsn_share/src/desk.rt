@@ -20,6 +20,13 @@ use tsn_branch::{NoMemory, Node};
 use tsn_incumbent::{Half, Halves};
 use tsn_timing::Solved;
 
+/// Whose tally it is: the table of halves, and the number of the teller in it.
+#[derive(Clone, Copy)]
+pub struct Owner<'a> {
+    pub halves: &'a Halves,
+    pub teller: usize,
+}
+
 /// How many events were settled, how many nodes are open, and the open node that is first in preorder.
 #[derive(Drop)]
 pub struct Counts {
@@ -52,101 +59,98 @@ impl<K: Named> Desk<K> {
     /// Settles an event, where it may be, and sets both halves of the teller's tally.
     pub fn settle(
         &mut self,
-        halves: &Halves,
-        teller: usize,
+        owner: Owner<'_>,
         share: &mut Half,
         event: Event,
     ) -> Result<(), (BookFault, Event)>
-        requires table { halves.now ≡ K.names.halves }
-        requires share { share.old ≡ half K.names.halves teller false share.old.tally }
-        requires within { teller < K.names.race.tellers }
+        requires table { owner.halves.now ≡ K.names.halves }
+        requires share { share.old ≡ half K.names.halves owner.teller false share.old.tally }
+        requires within { owner.teller < K.names.race.tellers }
         requires proof { HasProof K.names.race.network event.node (outcome_of event.look) }
-        ensures history { OnOk result (self.new.history ≡ self.old.history ++ record { teller = teller; event = event_of event } ∷ []) }
-        ensures share { OnOk result (share.new ≡ half K.names.halves teller false (tally_with share.old.tally (outcome_of event.look))) }
+        ensures history { OnOk result (self.new.history ≡ self.old.history ++ record { teller = owner.entry.teller; event = event_of event } ∷ []) }
+        ensures share { OnOk result (share.new ≡ half K.names.halves owner.entry.teller false (tally_with share.old.tally (outcome_of event.look))) }
         ensures refused { OnErr result ((self.new ≡ self.old) × (share.new ≡ share.old)) }
         ensures returned { IfErr result (λ refusal. refusal.1 ≡ event) }
         ensures fault { IfErr result (λ refusal. IsFault K.names.race.network K.names.limit self.new.history (event_of event) refusal.0) }
-        ensures agrees { tally_of K.names.race.network teller self.new.history ≡ share.new.tally }
+        ensures agrees { tally_of K.names.race.network owner.entry.teller self.new.history ≡ share.new.tally }
         ensures book { IsBookOf K.names self.new }
         ensures lawful { IsLawful self.new }
     {
-        let settled = self.book.settle(teller, event);
-        let tally = self.book.tally(teller);
-        let mine = &mut self.halves[teller];
-        halves.set_in_place(share, mine, tally);
+        let settled = self.book.settle(owner.teller, event);
+        let tally = self.book.tally(owner.teller);
+        let mine = &mut self.halves[owner.teller];
+        owner.halves.set_in_place(share, mine, tally);
         settled
     }
 
     /// Settles events in order, up to the first refusal, and sets both halves of the teller's tally.
     pub fn settle_all(
         &mut self,
-        halves: &Halves,
-        teller: usize,
+        owner: Owner<'_>,
         share: &mut Half,
         events: Vec<Event>,
     ) -> Result<(), (usize, BookFault, Vec<Event>)>
-        requires table { halves.now ≡ K.names.halves }
-        requires share { share.old ≡ half K.names.halves teller false share.old.tally }
-        requires within { teller < K.names.race.tellers }
+        requires table { owner.halves.now ≡ K.names.halves }
+        requires share { share.old ≡ half K.names.halves owner.teller false share.old.tally }
+        requires within { owner.teller < K.names.race.tellers }
         requires proofs { All (λ event. HasProof K.names.race.network event.node (outcome_of event.look)) events.items }
-        ensures all { OnOk result (share.new ≡ half K.names.halves teller false (tally_with_all share.old.tally (map (λ event. outcome_of event.look) events.items))) }
+        ensures all { OnOk result (share.new ≡ half K.names.halves owner.entry.teller false (tally_with_all share.old.tally (map (λ event. outcome_of event.look) events.items))) }
         ensures some { IfErr result (λ refusal. (refusal.0 < length events.items)
-            × (share.new ≡ half K.names.halves teller false (tally_with_all share.old.tally (take refusal.0 (map (λ event. outcome_of event.look) events.items))))
+            × (share.new ≡ half K.names.halves owner.entry.teller false (tally_with_all share.old.tally (take refusal.0 (map (λ event. outcome_of event.look) events.items))))
             × (refusal.2.items ≡ drop refusal.0 events.items)) }
         ensures fault { IfErr result (λ refusal. IsFaultAt K.names.race.network K.names.limit self.new.history (map event_of events.items) refusal.0 refusal.1) }
-        ensures agrees { tally_of K.names.race.network teller self.new.history ≡ share.new.tally }
+        ensures agrees { tally_of K.names.race.network owner.entry.teller self.new.history ≡ share.new.tally }
         ensures book { IsBookOf K.names self.new }
         ensures lawful { IsLawful self.new }
     {
-        let settled = self.book.settle_all(teller, events);
-        let tally = self.book.tally(teller);
-        let mine = &mut self.halves[teller];
-        halves.set_in_place(share, mine, tally);
+        let settled = self.book.settle_all(owner.teller, events);
+        let tally = self.book.tally(owner.teller);
+        let mine = &mut self.halves[owner.teller];
+        owner.halves.set_in_place(share, mine, tally);
         settled
     }
 
     /// Settles the nodes of a walk from a node on, up to the first refusal, and sets both halves of the teller's tally.
     pub fn settle_below(
         &mut self,
-        halves: &Halves,
-        teller: usize,
+        owner: Owner<'_>,
         share: &mut Half,
         from: &mut Node,
         looks: Looks,
     ) -> Result<(), (usize, BookFault)>
-        requires table { halves.now ≡ K.names.halves }
-        requires share { share.old ≡ half K.names.halves teller false share.old.tally }
-        requires within { teller < K.names.race.tellers }
+        requires table { owner.halves.now ≡ K.names.halves }
+        requires share { share.old ≡ half K.names.halves owner.teller false share.old.tally }
+        requires within { owner.teller < K.names.race.tellers }
         requires proofs { All (λ event. HasProof K.names.race.network event.path event.outcome × SplitsUndecided K.names.race.network event.path event.outcome)
             (events_below from.old (map outcome_of looks)) }
-        ensures all { OnOk result (share.new ≡ half K.names.halves teller false (tally_with_all share.old.tally (map outcome_of looks))) }
+        ensures all { OnOk result (share.new ≡ half K.names.halves owner.entry.teller false (tally_with_all share.old.tally (map outcome_of looks))) }
         ensures from { OnOk result (from.new ≡ path_after from.old (map outcome_of looks)) }
         ensures some { IfErr result (λ refusal. (refusal.0 < length looks)
-            × (share.new ≡ half K.names.halves teller false (tally_with_all share.old.tally (take refusal.0 (map outcome_of looks))))
+            × (share.new ≡ half K.names.halves owner.entry.teller false (tally_with_all share.old.tally (take refusal.0 (map outcome_of looks))))
             × (from.new ≡ path_after from.old (take refusal.0 (map outcome_of looks)))) }
         ensures fault { IfErr result (λ refusal. IsFaultAt K.names.race.network K.names.limit self.new.history (events_below from.old (map outcome_of looks)) refusal.0 refusal.1) }
-        ensures agrees { tally_of K.names.race.network teller self.new.history ≡ share.new.tally }
+        ensures agrees { tally_of K.names.race.network owner.entry.teller self.new.history ≡ share.new.tally }
         ensures book { IsBookOf K.names self.new }
         ensures lawful { IsLawful self.new }
     {
-        let settled = self.book.settle_below(teller, from, looks);
-        let tally = self.book.tally(teller);
-        let mine = &mut self.halves[teller];
-        halves.set_in_place(share, mine, tally);
+        let settled = self.book.settle_below(owner.teller, from, looks);
+        let tally = self.book.tally(owner.teller);
+        let mine = &mut self.halves[owner.teller];
+        owner.halves.set_in_place(share, mine, tally);
         settled
     }
 
     /// Tells that the teller's share is its tally in the book.
-    pub fn agree(&mut self, halves: &Halves, teller: usize, share: &mut Half)
-        requires table { halves.now ≡ K.names.halves }
-        requires share { share.old ≡ half K.names.halves teller false share.old.tally }
-        requires within { teller < K.names.race.tellers }
-        ensures agrees { share.old.tally ≡ tally_of K.names.race.network teller self.old.history }
+    pub fn agree(&mut self, owner: Owner<'_>, share: &mut Half)
+        requires table { owner.halves.now ≡ K.names.halves }
+        requires share { share.old ≡ half K.names.halves owner.teller false share.old.tally }
+        requires within { owner.teller < K.names.race.tellers }
+        ensures agrees { share.old.tally ≡ tally_of K.names.race.network owner.entry.teller self.old.history }
         ensures same { (share.new ≡ share.old) × (self.new ≡ self.old) }
     {
-        let tally = self.book.tally(teller);
-        let mine = &mut self.halves[teller];
-        halves.set_in_place(share, mine, tally);
+        let tally = self.book.tally(owner.teller);
+        let mine = &mut self.halves[owner.teller];
+        owner.halves.set_in_place(share, mine, tally);
     }
 
     /// The counts of the book.

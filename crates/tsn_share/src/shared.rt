@@ -12,7 +12,7 @@ ghost use Rattle.tsn_book.specs.Below.{path_after, events_below};
 ghost use Rattle.tsn_share.specs.Teller.{IsEven, IsSolvedBy, settled, settled_all, OnlyLastSolved};
 ghost use Rattle.tsn_share.specs.Desk.{IsReading, IsBest, IsRefused, IsRefusedAt};
 
-use crate::desk::{Counts, Desk};
+use crate::desk::{Counts, Desk, Owner};
 use crate::names::Named;
 use crate::teller::Teller;
 use std::alloc::Global;
@@ -92,11 +92,11 @@ pub fn settle_as<K: Named>(
     ensures returned { IfErr result (λ refusal. refusal.1 ≡ event) }
     ensures fault { IfErr result (λ refusal. IsRefused K.names teller.new (event_of event) refusal.0) }
 {
-    let number = teller.number;
-    shared
-        .desk
-        .lock(rt)
-        .settle(&shared.halves, number, &mut teller.share, event)
+    let owner = Owner {
+        halves: &shared.halves,
+        teller: teller.number,
+    };
+    shared.desk.lock(rt).settle(owner, &mut teller.share, event)
 }
 
 /// Settles 1 to 64 events, of which at most the last is solved, in one critical section, in order, up to the first that may
@@ -120,11 +120,14 @@ pub fn settle_all_as<K: Named>(
         × (refusal.2.items ≡ drop refusal.0 events.items)) }
     ensures fault { IfErr result (λ refusal. IsRefusedAt K.names teller.new (map event_of events.items) refusal.0 refusal.1) }
 {
-    let number = teller.number;
+    let owner = Owner {
+        halves: &shared.halves,
+        teller: teller.number,
+    };
     shared
         .desk
         .lock(rt)
-        .settle_all(&shared.halves, number, &mut teller.share, events)
+        .settle_all(owner, &mut teller.share, events)
 }
 
 /// Settles the nodes of a walk depth first from a node on, of which 1 to 64 looks are given in that order and at most the last
@@ -153,8 +156,11 @@ pub fn settle_below_as<K: Named>(
         × (from.new ≡ path_after from.old (take refusal.0 (map outcome_of looks)))) }
     ensures fault { IfErr result (λ refusal. IsRefusedAt K.names teller.new (events_below from.old (map outcome_of looks)) refusal.0 refusal.1) }
 {
-    let number = teller.number;
-    desk_of(rt, shared).settle_below(&shared.halves, number, &mut teller.share, from, looks)
+    let owner = Owner {
+        halves: &shared.halves,
+        teller: teller.number,
+    };
+    desk_of(rt, shared).settle_below(owner, &mut teller.share, from, looks)
 }
 
 // Takes the lock. A section is much shorter than the sleep of a thread, so it is tried for a while before the thread sleeps.
@@ -204,9 +210,12 @@ pub fn with_book<K: Named>(
     ensures reading { IfOk result (IsReading K.names teller.old) }
     ensures same { teller.new ≡ teller.old }
 {
-    let number = teller.number;
+    let owner = Owner {
+        halves: &shared.halves,
+        teller: teller.number,
+    };
     let mut desk = shared.desk.lock(rt);
-    desk.agree(&shared.halves, number, &mut teller.share);
+    desk.agree(owner, &mut teller.share);
     desk.counts(alloc)
 }
 
@@ -236,8 +245,11 @@ fn kept_as<K: Named>(
     ensures best { IfOk result (IsBest K.names teller.old) }
     ensures same { teller.new ≡ teller.old }
 {
-    let number = teller.number;
+    let owner = Owner {
+        halves: &shared.halves,
+        teller: teller.number,
+    };
     let mut desk = shared.desk.lock(rt);
-    desk.agree(&shared.halves, number, &mut teller.share);
+    desk.agree(owner, &mut teller.share);
     desk.best()
 }

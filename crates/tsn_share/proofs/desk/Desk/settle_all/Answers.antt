@@ -15,7 +15,7 @@ use Rattle.tsn_share.proofs.desk.Desk.settle_all.Goals as goal
 pub invariant_of-self : goal.invariant_of-self
 invariant_of-self g c =
     let names = g.K.Named.names in
-    let k = c.args.teller in
+    let k = c.args.owner.teller in
     let before = c.self.inside.book in
     let history =
     history_taken c.settle_all-settled.result (λ r. r.0) (λ r. map event_of (take r.0 c.args.events.items)) (λ r. r.0 < length c.args.events.items) (λ r. r.2.items ≡ drop r.0 c.args.events.items)
@@ -32,7 +32,7 @@ invariant_of-self g c =
 pub returns-clause-all : goal.returns-clause-all
 returns-clause-all g c =
     let names = g.K.Named.names in
-    let k = c.args.teller in
+    let k = c.args.owner.teller in
     let before = c.self.inside.book in
     let history =
     history_taken c.settle_all-settled.result (λ r. r.0) (λ r. map event_of (take r.0 c.args.events.items)) (λ r. r.0 < length c.args.events.items) (λ r. r.2.items ≡ drop r.0 c.args.events.items)
@@ -50,7 +50,7 @@ returns-clause-all g c =
 pub returns-clause-some : goal.returns-clause-some
 returns-clause-some g c =
     let names = g.K.Named.names in
-    let k = c.args.teller in
+    let k = c.args.owner.teller in
     let before = c.self.inside.book in
     let history =
     history_taken c.settle_all-settled.result (λ r. r.0) (λ r. map event_of (take r.0 c.args.events.items)) (λ r. r.0 < length c.args.events.items) (λ r. r.2.items ≡ drop r.0 c.args.events.items)

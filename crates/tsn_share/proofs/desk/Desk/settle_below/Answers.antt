@@ -14,7 +14,7 @@ use Rattle.tsn_share.proofs.desk.Desk.settle_below.Goals as goal
 pub invariant_of-self : goal.invariant_of-self
 invariant_of-self g c =
     let names = g.K.Named.names in
-    let k = c.args.teller in
+    let k = c.args.owner.teller in
     let before = c.self.inside.book in
     let history =
     history_taken c.settle_below-settled.result (λ r. r.0) (λ r. take r.0 (events_below c.args.from.now (map outcome_of c.args.looks))) (λ r. r.0 < length c.args.looks) (λ r. c.settle_below-settled.new.from ≡ path_after c.args.from.now (take r.0 (map outcome_of c.args.looks)))
@@ -31,7 +31,7 @@ invariant_of-self g c =
 pub returns-clause-all : goal.returns-clause-all
 returns-clause-all g c =
     let names = g.K.Named.names in
-    let k = c.args.teller in
+    let k = c.args.owner.teller in
     let before = c.self.inside.book in
     let history =
     history_taken c.settle_below-settled.result (λ r. r.0) (λ r. take r.0 (events_below c.args.from.now (map outcome_of c.args.looks))) (λ r. r.0 < length c.args.looks) (λ r. c.settle_below-settled.new.from ≡ path_after c.args.from.now (take r.0 (map outcome_of c.args.looks)))
@@ -49,7 +49,7 @@ returns-clause-all g c =
 pub returns-clause-some : goal.returns-clause-some
 returns-clause-some g c =
     let names = g.K.Named.names in
-    let k = c.args.teller in
+    let k = c.args.owner.teller in
     let before = c.self.inside.book in
     let history =
     history_taken c.settle_below-settled.result (λ r. r.0) (λ r. take r.0 (events_below c.args.from.now (map outcome_of c.args.looks))) (λ r. r.0 < length c.args.looks) (λ r. c.settle_below-settled.new.from ≡ path_after c.args.from.now (take r.0 (map outcome_of c.args.looks)))
