@@ -1,6 +1,6 @@
 -- Nodes that are looked at and settled together.
 --     walked_over, walked_down, begun_at     where a walk stands
---     look_schedule, prunes_above            what a look gives
+--     prunes_above                           what a look gives
 --     IsCollecting, collected_more, collected     the looks of a batch, one after another
 --     unsolved_all, solved_last, few_unsolved     what a batch does to its teller
 use Rattle.std.proofs.Common.{◌≡◌, ℕ, ◌<◌, ◌≤◌, List, [], ◌∷◌, ◌++◌, map, length, take, refl, sym, ap, ◌∙◌, subst, arith, length-append}
@@ -11,7 +11,6 @@ use Rattle.tsn_model.specs.declared.Triple.{Triple}
 use Rattle.tsn_model.specs.declared.Decision.{Decision}
 use Rattle.tsn_model.specs.Network.{Network}
 use Rattle.tsn_model.specs.Places.{pending}
-use Rattle.tsn_model.specs.Schedule.{flowspan}
 use Rattle.tsn_model.specs.declared.Side.TheVariants.{Left}
 use Rattle.tsn_model.specs.Certificate.{beyond, decided}
 use Rattle.tsn_model.specs.Search.{Outcome, split, solved, pruned, tied, refuted, Event}
@@ -20,14 +19,14 @@ use Rattle.tsn_timing.specs.Solution.{Solution, IsSolved}
 use Rattle.tsn_search_laws.specs.Gathering.{tally_with}
 use Rattle.tsn_incumbent.specs.Halves.{Tally}
 use Rattle.tsn_branch.specs.Outcome.{outcome_of}
-use Rattle.tsn_branch.specs.Look.{HasProof, IsLook, PrunesFrom}
+use Rattle.tsn_branch.specs.Look.{PrunesFrom}
 use Rattle.tsn_branch.specs.Path.{Fits}
 use Rattle.tsn_branch.specs.Descent.{Position, Stands, IsAfter, Closes}
 use Rattle.tsn_branch.specs.declared.outcome.Look.{Look}
 use Rattle.tsn_book.specs.Below.{next_path, after_leaf, path_after, events_below}
 use Rattle.tsn_book.proofs.Below.{events_below-more, path_after-more}
 use Rattle.tsn_share.specs.Teller.{IsSolvedBy, IsUnsolved, OnlyLastSolved, Known, IsEven, settled_all, tally_with_all}
-use Rattle.tsn_worker.specs.Below.{StandsAt, IsProved, IsScheduleOf, HoldsSchedule, EndsSolved, IsBatch}
+use Rattle.tsn_worker.specs.Below.{StandsAt, IsProved, HoldsSchedule, EndsSolved, IsBatch}
 use Rattle.tsn_worker.specs.declared.below.Batch.{Batch}
 
 -- ---- walks
@@ -80,18 +79,6 @@ begun_at network triples copy node (Ok (Some position)) same fits at stands = re
 begun_at network triples copy node (Err fault) same fits at stands = tt
 
 -- ---- looks
-
--- the schedule of a solved look is valid, and below the target
-pub look_schedule : (network : Network) (path : List Decision) (target : ℕ) (best : Option Solution) (outcome : Outcome) (schedule : Option Solution)
-    → HasProof network path outcome → IsLook network path target best outcome → MatchOption schedule (IsUnsolved outcome) (IsScheduleOf outcome) → HoldsSchedule network target outcome schedule
-look_schedule network path target best outcome None proof look is = is
-look_schedule network path target best (split triple) (Some solution) proof look is = absurd is
-look_schedule network path target best (solved offsets bound leaf chains) (Some solution) proof look is =
-    let below = look.3 in
-    ((rw is.0 proof.0, ap (λ os. flowspan network os) is.0 ∙ proof.1 ∙ sym is.1), is.1, omega (arith, below, is.1))
-look_schedule network path target best (pruned bound leaf) (Some solution) proof look is = absurd is
-look_schedule network path target best (tied bound leaf chains) (Some solution) proof look is = absurd is
-look_schedule network path target best (refuted leaf) (Some solution) proof look is = absurd is
 
 -- what is pruned at the target beyond what was seen is worse than that
 pub prunes_above : (network : Network) (seen target : ℕ) (outcome : Outcome) → target ≡ beyond network seen → PrunesFrom target outcome → IsAboveSeen network seen outcome
