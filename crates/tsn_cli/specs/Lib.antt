@@ -3,6 +3,6 @@ pub mod Valid
 pub mod Check
 pub mod Tables
 pub mod Outcome
-pub mod Told
+pub mod PlanOutput
 pub mod Plan
 pub mod Laws

@@ -63,13 +63,13 @@ ShowsPicture output = (picture : List ℕ) × IsLine 0 picture output
 -- the output is what is asked for
 abbrev pub ShowsTable : Table → NamedNetwork → List ℕ → Output → Type 0
 ShowsTable (Gates format) problem offsets output = ShowsLists format problem offsets output
-ShowsTable (Replay cycles is_greedy format) problem offsets output = ShowsReplay format problem offsets cycles is_greedy output
+ShowsTable (Replay options) problem offsets output = ShowsReplay options.format problem offsets options.cycles options.greedy output
 ShowsTable (Chart until) problem offsets output = ShowsPicture output
 
 -- a replay has 1 to 16 cycles, and a picture ends from 1 to 1,000,000,000 on
 abbrev pub CanShow : Table → Type 0
 CanShow (Gates format) = Unit {0}
-CanShow (Replay cycles is_greedy format) = (1 ≤ cycles) × (cycles ≤ 16)
+CanShow (Replay options) = (1 ≤ options.cycles) × (options.cycles ≤ 16)
 CanShow (Chart until) = (1 ≤ until) × (until ≤ 1000000000)
 
 -- the plan is a valid schedule with its flowspan, and its table is shown
@@ -101,7 +101,7 @@ abbrev pub GatesAnswers : GatesFormat → Command
 GatesAnswers format = TableAnswers (Gates format)
 
 abbrev pub ReplayAnswers : ReplayFormat → ℕ → Bool → Command
-ReplayAnswers format cycles is_greedy = TableAnswers (Replay cycles is_greedy format)
+ReplayAnswers format cycles is_greedy = TableAnswers (Replay (record { cycles = cycles; greedy = is_greedy; format = format }))
 
 abbrev pub ChartAnswers : ℕ → Command
 ChartAnswers until = TableAnswers (Chart until)

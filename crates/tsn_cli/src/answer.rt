@@ -9,9 +9,9 @@ pub(crate) struct Answer {
     ghost not_device: { status < 8 },
 }
 
-/// A status, and the texts that go with it: a plan, its certificate, and a line.
+/// What a run of `plan` prints: a status, and the texts that go with it: a plan, its certificate, and a line.
 #[derive(Drop)]
-pub(crate) struct Told {
+pub(crate) struct PlanOutput {
     pub(crate) status: u8,
     pub(crate) plan: String,
     pub(crate) cert: String,

@@ -102,7 +102,11 @@ fn answer_to_network<P: Source, C: Source>(
         × (C.failed cert.new ≡ C.failed cert.old) }
 {
     match read_problem(alloc, file) {
-        Ok(problem) => answer_on(alloc, &problem, plan, cert),
+        Ok(problem) => {
+            let answer = answer_on(alloc, &problem, plan, cert);
+            drop(problem);
+            answer
+        }
         Err(fault) => Ok(refusal(alloc, fault)?),
     }
 }
@@ -143,7 +147,11 @@ fn answer_to_plan<C: Source>(
     ensures kept { (result ≡ Err ReadFault.Broken → ⊥) → C.failed cert.new ≡ C.failed cert.old }
 {
     match plan_from_json(alloc, file) {
-        Ok(plan) => answer_on_plan(alloc, problem, &plan, cert),
+        Ok(plan) => {
+            let answer = answer_on_plan(alloc, problem, &plan, cert);
+            drop(plan);
+            answer
+        }
         Err(fault) => Ok(file_refusal(alloc, "plan", fault)?),
     }
 }
@@ -176,7 +184,11 @@ fn answer_to_cert(
     ensures { IfOk result (λ a. JudgesCert problem.now.network plan.now file.now (output_of (Ok a))) }
 {
     match cert_from_json(alloc, file) {
-        Ok(cert) => judgement(alloc, problem, plan, &cert),
+        Ok(cert) => {
+            let answer = judgement(alloc, problem, plan, &cert);
+            drop(cert);
+            answer
+        }
         Err(fault) => file_refusal(alloc, "cert", fault),
     }
 }

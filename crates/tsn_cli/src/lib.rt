@@ -6,10 +6,10 @@ mod check;
 pub mod format;
 pub mod laws;
 mod plan;
+mod print;
 pub mod run;
 mod table;
 mod tables;
-mod told;
 mod valid;
 
 pub use check::check_run;

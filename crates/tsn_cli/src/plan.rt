@@ -3,12 +3,12 @@ ghost use Rattle.std.specs.Prelude.{◌≡◌, ◌≢◌, ◌≤◌, ◌<◌, �
 ghost use Rattle.std.specs.Io.KnownBytes.{Keeps};
 ghost use Rattle.tsn_cli.specs.Run.{Ends, EndsEarly, IsOutput, reading_of, writing_of};
 ghost use Rattle.tsn_cli.specs.Plan.{PlanAnswers, optimal_line, output_of};
-ghost use Rattle.tsn_cli.specs.Told.{line_alone, told_by};
+ghost use Rattle.tsn_cli.specs.PlanOutput.{line_alone, printed};
 ghost use Rattle.tsn_worker.specs.declared.answer.Answer.TheVariants.{Optimal, NoSchedule, Stopped};
 
-use crate::answer::{Answer as Line, Told};
+use crate::answer::{Answer as Line, PlanOutput};
+use crate::print::print;
 use crate::run::{DEVICE, DONE, MAX_FILE};
-use crate::told::tell;
 use crate::valid::refusal;
 use std::alloc::Global;
 use std::sync::Wait;
@@ -25,6 +25,13 @@ pub const NO_SCHEDULE: u8 = 4;
 
 /// The limit of settlements was met.
 pub const STOPPED: u8 = 5;
+
+/// With how many workers to plan, and how many nodes may be settled.
+#[derive(Clone, Copy)]
+struct Effort {
+    workers: usize,
+    limit: usize,
+}
 
 /// Reads a network file and plans it with 1 to 16 workers and at most `limit` settlements, 1 to 1,000,000,000. It writes the
 /// plan, then its certificate, then a line on what was found; or a line on why the file is refused. Where the limit is met
@@ -69,12 +76,8 @@ pub fn plan_run<R: Threads + Wait + Sync, N: Source, G: Gate + Sync, P: Sink, C:
         (writing_of (P.taken plan.old) (P.taken plan.new) ∷ writing_of (C.taken cert.old) (C.taken cert.new)
         ∷ writing_of (W.taken sink.old) (W.taken sink.new) ∷ []) }
 {
-    tell(
-        plan,
-        cert,
-        sink,
-        found(rt, alloc, network, workers, limit, gate),
-    )
+    let effort = Effort { workers, limit };
+    print(plan, cert, sink, found(rt, alloc, network, effort, gate))
 }
 
 /// What the run found.
@@ -82,23 +85,22 @@ fn found<R: Threads + Wait + Sync, N: Source, G: Gate + Sync>(
     rt: &R,
     alloc: Global,
     network: &mut N,
-    workers: usize,
-    limit: usize,
+    effort: Effort,
     gate: &G,
-) -> Result<Told, ReadFault>
-    requires workers { (1 ≤ workers) × (workers ≤ 16) }
-    requires some { 1 ≤ limit }
-    requires few { limit ≤ 1_000_000_000 }
+) -> Result<PlanOutput, ReadFault>
+    requires workers { (1 ≤ effort.workers) × (effort.workers ≤ 16) }
+    requires some { 1 ≤ effort.limit }
+    requires few { effort.limit ≤ 1_000_000_000 }
     requires reads { N.failed network.old < 2 ^ 64 - 1 }
-    ensures answer { (result ≡ Err ReadFault.Broken → ⊥) → IsOutput (PlanAnswers limit)
+    ensures answer { (result ≡ Err ReadFault.Broken → ⊥) → IsOutput (PlanAnswers effort.limit)
         (reading_of (N.given network.old) (N.given network.new) (N.is_at_end network.new) ∷ [])
-        (told_by result) }
+        (printed result) }
     ensures broken { result ≡ Err ReadFault.Broken → N.failed network.new ≡ N.failed network.old + 1 }
     ensures kept { (result ≡ Err ReadFault.Broken → ⊥) → N.failed network.new ≡ N.failed network.old }
 {
     let file = read_all(alloc, network, MAX_FILE)?;
-    match found_in(rt, alloc, &file, workers, limit, gate) {
-        Ok(told) => Ok(told),
+    match found_in(rt, alloc, &file, effort, gate) {
+        Ok(output) => Ok(output),
         Err(NoMemory) => Err(ReadFault::Memory),
     }
 }
@@ -108,40 +110,54 @@ fn found_in<R: Threads + Wait + Sync, G: Gate + Sync>(
     rt: &R,
     alloc: Global,
     file: &[u8],
-    workers: usize,
-    limit: usize,
+    effort: Effort,
     gate: &G,
-) -> Result<Told, NoMemory>
-    requires workers { (1 ≤ workers) × (workers ≤ 16) }
-    requires some { 1 ≤ limit }
-    requires few { limit ≤ 1_000_000_000 }
-    ensures { IfOk result (λ told. PlanAnswers limit (file.now ∷ []) (told_by (Ok told))) }
+) -> Result<PlanOutput, NoMemory>
+    requires workers { (1 ≤ effort.workers) × (effort.workers ≤ 16) }
+    requires some { 1 ≤ effort.limit }
+    requires few { effort.limit ≤ 1_000_000_000 }
+    ensures { IfOk result (λ output. PlanAnswers effort.limit (file.now ∷ []) (printed (Ok output))) }
 {
-    let problem = match read_problem(alloc, file) {
-        Ok(problem) => problem,
-        Err(fault) => return Ok(alone(alloc, refusal(alloc, fault)?)),
-    };
-    let answer = plan(rt, alloc, &problem, workers, limit, gate)?;
-    told_of(alloc, answer)
+    match read_problem(alloc, file) {
+        Ok(problem) => {
+            let answer = plan(rt, alloc, &problem, effort.workers, effort.limit, gate);
+            drop(problem);
+            output_for(alloc, answer?)
+        }
+        Err(fault) => Ok(alone(alloc, refusal(alloc, fault)?)),
+    }
 }
 
-/// What is said of a planner's answer.
-fn told_of(alloc: Global, answer: Answer) -> Result<Told, NoMemory>
-    ensures { IfOk result (λ told. told_by (Ok told) ≡ output_of answer) }
+/// What is printed of a planner's answer.
+fn output_for(alloc: Global, answer: Answer) -> Result<PlanOutput, NoMemory>
+    ensures { IfOk result (λ output. printed (Ok output) ≡ output_of answer) }
 {
     match answer {
-        Answer::Optimal(plan, cert, count) => optimal(alloc, &plan, &cert, count),
-        Answer::NoSchedule(cert, count) => no_schedule(alloc, &cert, count),
-        Answer::Stopped(book) => stopped(alloc, &book),
+        Answer::Optimal(plan, cert, count) => {
+            let output = optimal(alloc, &plan, &cert, count);
+            drop(plan);
+            drop(cert);
+            output
+        }
+        Answer::NoSchedule(cert, count) => {
+            let output = no_schedule(alloc, &cert, count);
+            drop(cert);
+            output
+        }
+        Answer::Stopped(book) => {
+            let output = stopped(alloc, &book);
+            drop(book);
+            output
+        }
     }
 }
 
 /// An answer that is a line alone.
-fn alone(alloc: Global, answer: Line) -> Told
-    ensures { told_by (Ok result) ≡ line_alone answer.status (string_bytes answer.text) }
+fn alone(alloc: Global, answer: Line) -> PlanOutput
+    ensures { printed (Ok result) ≡ line_alone answer.status (string_bytes answer.text) }
 {
     let Line { status, text } = answer;
-    Told {
+    PlanOutput {
         status,
         plan: String::new(alloc),
         cert: String::new(alloc),
@@ -163,10 +179,10 @@ fn line_of(alloc: Global, plan: &Plan, count: usize) -> Result<String, NoMemory>
 }
 
 /// What is said of an optimal plan.
-fn optimal(alloc: Global, plan: &Plan, cert: &Cert, count: usize) -> Result<Told, NoMemory>
-    ensures { IfOk result (λ told. told_by (Ok told) ≡ output_of (Optimal plan.now cert.now count)) }
+fn optimal(alloc: Global, plan: &Plan, cert: &Cert, count: usize) -> Result<PlanOutput, NoMemory>
+    ensures { IfOk result (λ output. printed (Ok output) ≡ output_of (Optimal plan.now cert.now count)) }
 {
-    Ok(Told {
+    Ok(PlanOutput {
         status: DONE,
         plan: plan_to_json(alloc, plan)?,
         cert: cert_to_json(alloc, cert)?,
@@ -175,10 +191,10 @@ fn optimal(alloc: Global, plan: &Plan, cert: &Cert, count: usize) -> Result<Told
 }
 
 /// What is said where there is no schedule.
-fn no_schedule(alloc: Global, cert: &Cert, count: usize) -> Result<Told, NoMemory>
-    ensures { IfOk result (λ told. told_by (Ok told) ≡ output_of (NoSchedule cert.now count)) }
+fn no_schedule(alloc: Global, cert: &Cert, count: usize) -> Result<PlanOutput, NoMemory>
+    ensures { IfOk result (λ output. printed (Ok output) ≡ output_of (NoSchedule cert.now count)) }
 {
-    Ok(Told {
+    Ok(PlanOutput {
         status: NO_SCHEDULE,
         plan: plan_to_json(alloc, &Plan::None)?,
         cert: cert_to_json(alloc, cert)?,
@@ -187,8 +203,8 @@ fn no_schedule(alloc: Global, cert: &Cert, count: usize) -> Result<Told, NoMemor
 }
 
 /// What is said of a search that was stopped.
-fn stopped(alloc: Global, book: &Book) -> Result<Told, NoMemory>
-    ensures { IfOk result (λ told. told_by (Ok told) ≡ output_of (Stopped book.now)) }
+fn stopped(alloc: Global, book: &Book) -> Result<PlanOutput, NoMemory>
+    ensures { IfOk result (λ output. printed (Ok output) ≡ output_of (Stopped book.now)) }
 {
     let count = book.count();
     let (plan, line) = match book.kept() {
@@ -207,7 +223,7 @@ fn stopped(alloc: Global, book: &Book) -> Result<Told, NoMemory>
             format!(in alloc; "stopped none settled {count}\n")?,
         ),
     };
-    Ok(Told {
+    Ok(PlanOutput {
         status: STOPPED,
         plan,
         cert: String::new(alloc),

@@ -15,7 +15,7 @@ use crate::answer::Answer;
 use crate::check::{Cause, file_refusal};
 use crate::format::{GatesFormat, ReplayFormat};
 use crate::run::{DEVICE, DONE, MAX_FILE, REJECTED, respond};
-use crate::table::Table;
+use crate::table::{ReplayOptions, Table};
 use crate::valid::refusal;
 use std::alloc::Global;
 use tsn_cert::{Plan, plan_from_json};
@@ -100,12 +100,15 @@ pub fn replay_run<N: Source, P: Source, W: Sink>(
         ∷ reading_of (P.given plan.old) (P.given plan.new) (P.is_at_end plan.new) ∷ [])
         (writing_of (W.taken sink.old) (W.taken sink.new) ∷ []) }
 {
-    let table = Table::Replay {
+    let options = ReplayOptions {
         cycles,
         greedy,
         format,
     };
-    respond(sink, answer_of(alloc, network, plan, table))
+    respond(
+        sink,
+        answer_of(alloc, network, plan, Table::Replay(options)),
+    )
 }
 
 /// Reads a network file and a plan file, the first judged before the second is read, and writes a picture of the plan
@@ -186,7 +189,11 @@ fn answer_to_network<P: Source>(
     ensures kept { (result ≡ Err ReadFault.Broken → ⊥) → P.failed plan.new ≡ P.failed plan.old }
 {
     match read_problem(alloc, file) {
-        Ok(problem) => answer_on(alloc, &problem, plan, table),
+        Ok(problem) => {
+            let answer = answer_on(alloc, &problem, plan, table);
+            drop(problem);
+            answer
+        }
         Err(fault) => Ok(refusal(alloc, fault)?),
     }
 }
@@ -220,7 +227,11 @@ fn answer_to_plan(
     ensures { IfOk result (λ a. JudgesPlan table problem.now file.now (output_of (Ok a))) }
 {
     match plan_from_json(alloc, file) {
-        Ok(plan) => judgement(alloc, problem, &plan, table),
+        Ok(plan) => {
+            let answer = judgement(alloc, problem, &plan, table);
+            drop(plan);
+            answer
+        }
         Err(fault) => file_refusal(alloc, "plan", fault),
     }
 }
@@ -237,8 +248,14 @@ fn judgement(
         ⊎ RejectsPlan problem.now.network plan.now (output_of (Ok a))) }
 {
     let timing = Timing::of(alloc, problem)?;
-    match check_plan(alloc, &timing, plan) {
-        Ok(valid) => table_of(alloc, problem, &valid, table),
+    let checked = check_plan(alloc, &timing, plan);
+    drop(timing);
+    match checked {
+        Ok(valid) => {
+            let answer = table_of(alloc, problem, &valid, table);
+            drop(valid);
+            answer
+        }
         Err(fault) => rejection(alloc, fault),
     }
 }
@@ -256,11 +273,7 @@ fn table_of(
 {
     match table {
         Table::Gates(format) => lists(alloc, problem, valid, format),
-        Table::Replay {
-            cycles,
-            greedy,
-            format,
-        } => replay_table(alloc, problem, valid, cycles, greedy, format),
+        Table::Replay(options) => replay_table(alloc, problem, valid, options),
         Table::Chart { until } => picture(alloc, problem, valid, until),
     }
 }
@@ -270,24 +283,22 @@ fn replay_table(
     alloc: Global,
     problem: &Problem,
     valid: &Valid,
-    cycles: usize,
-    greedy: bool,
-    format: ReplayFormat,
+    options: ReplayOptions,
 ) -> Result<Answer, NoMemory>
-    requires some { 1 ≤ cycles }
-    requires few { cycles ≤ 16 }
+    requires some { 1 ≤ options.cycles }
+    requires few { options.cycles ≤ 16 }
     requires valid { IsValid problem.now.network valid.now }
-    ensures { IfOk result (λ a. ShowsReplay format problem.now valid.now cycles greedy (output_of (Ok a))) }
+    ensures { IfOk result (λ a. ShowsReplay options.format problem.now valid.now options.cycles options.greedy (output_of (Ok a))) }
 {
     let lists = gate_lists(alloc, problem, valid)?;
-    let background = Background::of(greedy);
+    let background = Background::of(options.greedy);
     // The network is within its limits.
     let _limits = problem.cycle();
-    let trace = match replay(alloc, problem, valid, &lists, cycles, &background) {
+    let trace = match replay(alloc, problem, valid, &lists, options.cycles, &background) {
         Ok(trace) => trace,
         Err(fault) => return Err(want_of_memory(fault)),
     };
-    let text = rows_text(alloc, problem, &trace, format)?;
+    let text = rows_text(alloc, problem, &trace, options.format)?;
     Ok(Answer { status: DONE, text })
 }
 

@@ -63,12 +63,24 @@ fn answer_of<S: Source>(alloc: Global, source: &mut S, offsets: &[u64]) -> Resul
 fn answer_to(alloc: Global, file: &[u8], offsets: &[u64]) -> Result<Answer, NoMemory>
     ensures { IfOk result (λ a. ValidAnswers offsets.now (file.now ∷ []) (output_of (Ok a))) }
 {
-    let problem = match read_problem(alloc, file) {
-        Ok(problem) => problem,
-        Err(fault) => return refusal(alloc, fault),
-    };
-    let timing = Timing::of(alloc, &problem)?;
-    judgement(alloc, &timing, offsets)
+    match read_problem(alloc, file) {
+        Ok(problem) => {
+            let timing = Timing::of(alloc, &problem);
+            drop(problem);
+            answer_on(alloc, timing?, offsets)
+        }
+        Err(fault) => refusal(alloc, fault),
+    }
+}
+
+/// What the run answers on a network of these times.
+fn answer_on(alloc: Global, timing: Timing, offsets: &[u64]) -> Result<Answer, NoMemory>
+    ensures { IfOk result (λ a. Accepts timing offsets.now (output_of (Ok a))
+        ⊎ Rejects timing offsets.now (output_of (Ok a))) }
+{
+    let answer = judgement(alloc, &timing, offsets);
+    drop(timing);
+    answer
 }
 
 /// What is said of a network file with this fault.

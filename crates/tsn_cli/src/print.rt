@@ -1,25 +1,25 @@
-//! What a run tells in three texts: a plan, its certificate, and a line.
+//! How a run of `plan` ends: it prints a plan, its certificate, and a line.
 ghost use Rattle.std.specs.Prelude.{◌≡◌, ◌≢◌, ◌<◌, ◌+◌, ◌-◌, ◌^◌, [], ◌∷◌};
 ghost use Rattle.tsn_cli.specs.Run.{TakesAll, TakesBeginning, writing_of};
-ghost use Rattle.tsn_cli.specs.Told.{told_by};
+ghost use Rattle.tsn_cli.specs.PlanOutput.{printed};
 
-use crate::answer::Told;
+use crate::answer::PlanOutput;
 use crate::run::{DEVICE, MEMORY, NO_MEMORY_LINE, REFUSED, TOO_LONG_LINE, finish};
 use tsn_device::device::{ReadFault, Sink, write_all};
 
 /// Writes the texts, or the line of the fault for which there are none, and says the status.
-pub(crate) fn tell<P: Sink, C: Sink, W: Sink>(
+pub(crate) fn print<P: Sink, C: Sink, W: Sink>(
     plan: &mut P,
     cert: &mut C,
     sink: &mut W,
-    outcome: Result<Told, ReadFault>,
+    outcome: Result<PlanOutput, ReadFault>,
 ) -> u8
     requires plan_writes { P.failed plan.old < 2 ^ 64 - 1 }
     requires cert_writes { C.failed cert.old < 2 ^ 64 - 1 }
     requires writes { W.failed sink.old < 2 ^ 64 - 1 }
-    ensures whole { result ≢ DEVICE → (result ≡ (told_by outcome).status)
+    ensures whole { result ≢ DEVICE → (result ≡ (printed outcome).status)
         × TakesAll (writing_of (P.taken plan.old) (P.taken plan.new) ∷ writing_of (C.taken cert.old) (C.taken cert.new)
-        ∷ writing_of (W.taken sink.old) (W.taken sink.new) ∷ []) (told_by outcome).texts
+        ∷ writing_of (W.taken sink.old) (W.taken sink.new) ∷ []) (printed outcome).texts
         × (P.failed plan.new ≡ P.failed plan.old) × (C.failed cert.new ≡ C.failed cert.old)
         × (W.failed sink.new ≡ W.failed sink.old) }
     ensures unread { outcome ≡ Err ReadFault.Broken → (result ≡ DEVICE) × (plan.new ≡ plan.old)
@@ -30,10 +30,10 @@ pub(crate) fn tell<P: Sink, C: Sink, W: Sink>(
     ensures beginning { P.failed plan.new + C.failed cert.new + W.failed sink.new
         ≢ P.failed plan.old + C.failed cert.old + W.failed sink.old → (outcome ≡ Err ReadFault.Broken → ⊥)
         × TakesBeginning (writing_of (P.taken plan.old) (P.taken plan.new) ∷ writing_of (C.taken cert.old) (C.taken cert.new)
-        ∷ writing_of (W.taken sink.old) (W.taken sink.new) ∷ []) (told_by outcome).texts }
+        ∷ writing_of (W.taken sink.old) (W.taken sink.new) ∷ []) (printed outcome).texts }
 {
     match outcome {
-        Ok(told) => tell_all(plan, cert, sink, &told),
+        Ok(output) => print_all(plan, cert, sink, &output),
         Err(ReadFault::TooLong) => finish(sink, REFUSED, TOO_LONG_LINE),
         Err(ReadFault::Memory) => finish(sink, MEMORY, NO_MEMORY_LINE),
         Err(ReadFault::Broken) => DEVICE,
@@ -41,13 +41,18 @@ pub(crate) fn tell<P: Sink, C: Sink, W: Sink>(
 }
 
 /// Writes the texts, each to its sink, and says the status, or `DEVICE` where a write fails.
-fn tell_all<P: Sink, C: Sink, W: Sink>(plan: &mut P, cert: &mut C, sink: &mut W, told: &Told) -> u8
+fn print_all<P: Sink, C: Sink, W: Sink>(
+    plan: &mut P,
+    cert: &mut C,
+    sink: &mut W,
+    output: &PlanOutput,
+) -> u8
     requires plan_writes { P.failed plan.old < 2 ^ 64 - 1 }
     requires cert_writes { C.failed cert.old < 2 ^ 64 - 1 }
     requires writes { W.failed sink.old < 2 ^ 64 - 1 }
-    ensures whole { result ≢ DEVICE → (result ≡ told.now.status)
+    ensures whole { result ≢ DEVICE → (result ≡ output.now.status)
         × TakesAll (writing_of (P.taken plan.old) (P.taken plan.new) ∷ writing_of (C.taken cert.old) (C.taken cert.new)
-        ∷ writing_of (W.taken sink.old) (W.taken sink.new) ∷ []) (told_by (Ok told.now)).texts
+        ∷ writing_of (W.taken sink.old) (W.taken sink.new) ∷ []) (printed (Ok output.now)).texts
         × (P.failed plan.new ≡ P.failed plan.old) × (C.failed cert.new ≡ C.failed cert.old)
         × (W.failed sink.new ≡ W.failed sink.old) }
     ensures device { result ≡ DEVICE → P.failed plan.new + C.failed cert.new + W.failed sink.new
@@ -55,13 +60,13 @@ fn tell_all<P: Sink, C: Sink, W: Sink>(plan: &mut P, cert: &mut C, sink: &mut W,
     ensures beginning { P.failed plan.new + C.failed cert.new + W.failed sink.new
         ≢ P.failed plan.old + C.failed cert.old + W.failed sink.old
         → TakesBeginning (writing_of (P.taken plan.old) (P.taken plan.new) ∷ writing_of (C.taken cert.old) (C.taken cert.new)
-        ∷ writing_of (W.taken sink.old) (W.taken sink.new) ∷ []) (told_by (Ok told.now)).texts }
+        ∷ writing_of (W.taken sink.old) (W.taken sink.new) ∷ []) (printed (Ok output.now)).texts }
 {
-    if write_all(plan, told.plan.as_bytes()).is_err() {
+    if write_all(plan, output.plan.as_bytes()).is_err() {
         return DEVICE;
     }
-    if write_all(cert, told.cert.as_bytes()).is_err() {
+    if write_all(cert, output.cert.as_bytes()).is_err() {
         return DEVICE;
     }
-    finish(sink, told.status, told.line.as_bytes())
+    finish(sink, output.status, output.line.as_bytes())
 }
