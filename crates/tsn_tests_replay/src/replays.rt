@@ -67,22 +67,41 @@ fn change_last(alloc: Global, stage: &mut Stage, list: &str) -> Result<(), Fail>
     Ok(())
 }
 
-/// Compares the table of a replay and the background on link 4 from one instant until another, or the replay's fault.
-fn expect_between<R: Abort + AllocGlobal>(
+/// A replay of so many cycles with this background, of which that on link 4 is shown in the window.
+#[derive(Clone, Copy)]
+struct Play<'a> {
+    cycles: usize,
+    background: &'a str,
+    window: Window,
+}
+
+/// A replay whose background on link 4 is shown from one instant until another.
+fn between(cycles: usize, background: &str, from: u64, until: u64) -> Play<'_> {
+    Play {
+        cycles,
+        background,
+        window: Window {
+            link: 4,
+            from,
+            until,
+        },
+    }
+}
+
+/// Compares the table of a replay and the background that is shown, or the replay's fault.
+fn expect<R: Abort + AllocGlobal>(
     rt: &R,
     stage: &Stage,
-    cycles: usize,
-    background: &str,
-    from: u64,
-    until: u64,
+    play: Play<'_>,
     answer: &str,
 ) -> Result<(), Fail> {
-    let window = Window {
-        link: 4,
-        from,
-        until,
-    };
-    let text = shown(rt.alloc(), stage, cycles, background, &[window])?;
+    let text = shown(
+        rt.alloc(),
+        stage,
+        play.cycles,
+        play.background,
+        &[play.window],
+    )?;
     expect_same(rt, text.as_str(), answer);
     Ok(())
 }
@@ -90,10 +109,15 @@ fn expect_between<R: Abort + AllocGlobal>(
 #[test]
 fn replays_a_greedy_background(rt: HostRuntime) -> Result<(), Fail> {
     let mut stage = stage(rt.alloc(), TWO, &[0, 672])?;
-    expect_between(&rt, &stage, 2, "greedy", 0, 0, GREEDY)?;
+    expect(&rt, &stage, between(2, "greedy", 0, 0), GREEDY)?;
     let unguarded = "4: 00 1626, 80 1344, 7F 997030";
     change_last(rt.alloc(), &mut stage, unguarded)?;
-    expect_between(&rt, &stage, 2, "greedy", 980_000, 1_002_970, UNGUARDED)
+    expect(
+        &rt,
+        &stage,
+        between(2, "greedy", 980_000, 1_002_970),
+        UNGUARDED,
+    )
 }
 
 const FRAMES: &str = "4 2298 64, 4 2298 1522, 4 989289 64, 4 989290 64";
@@ -101,8 +125,8 @@ const FRAMES: &str = "4 2298 64, 4 2298 1522, 4 989289 64, 4 989290 64";
 #[test]
 fn replays_background_frames(rt: HostRuntime) -> Result<(), Fail> {
     let stage = stage(rt.alloc(), ONE, &[0])?;
-    expect_between(&rt, &stage, 2, FRAMES, 0, 2_000_000, LISTED)?;
-    expect_between(&rt, &stage, 1, FRAMES, 0, 2_000_000, ONCE)
+    expect(&rt, &stage, between(2, FRAMES, 0, 2_000_000), LISTED)?;
+    expect(&rt, &stage, between(1, FRAMES, 0, 2_000_000), ONCE)
 }
 
 #[test]
@@ -114,8 +138,8 @@ fn refuses_what_is_outside_the_limits(rt: HostRuntime) -> Result<(), Fail> {
         ("4 1000000 64", "P2"),
         ("5 0 63", "P1"),
     ] {
-        expect_between(&rt, &stage, 1, frame, 0, 0, fault)?;
+        expect(&rt, &stage, between(1, frame, 0, 0), fault)?;
     }
     change_last(rt.alloc(), &mut stage, "4: 80 999999")?;
-    expect_between(&rt, &stage, 1, "", 0, 0, "P2")
+    expect(&rt, &stage, between(1, "", 0, 0), "P2")
 }
