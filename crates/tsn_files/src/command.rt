@@ -18,6 +18,13 @@ use tsn_worker::{Gate, OpenGate};
 /// What standard output is called.
 const STANDARD_OUTPUT: &str = "standard output";
 
+/// How a run ended: its status, and the line on standard error that says why.
+#[derive(Drop)]
+struct Ended {
+    status: u8,
+    line: Option<String>,
+}
+
 /// Runs a command over the files that its words name, standard input and an output, and says the status. Where a file is
 /// refused, or a device fails, a line is told on why.
 pub fn run<'a, R: Files + Input + Eprint + Clock + Threads + Wait + Sync, P: Print, E: Eprint>(
@@ -51,6 +58,8 @@ pub fn valid<'a, R: Files + Input, P: Print, E: Eprint>(
     let line = source_line(alloc, status, &network)
         .or(failure_line(alloc, status, sink.failure()))
         .or(offsets_line(alloc, status, file_of(&network), &words.offsets));
+    drop(network);
+    drop(sink);
     tell(told, line);
     status
 }
@@ -65,23 +74,22 @@ pub fn plan<'a, R: Files + Input + Eprint + Clock + Threads + Wait + Sync, P: Pr
     words: PlanWords<'a>,
 ) -> u8 {
     if !words.progress {
-        return plan_at(rt, alloc, output, told, words, &OpenGate);
+        return end(told, plan_at(rt, alloc, output, words, &OpenGate));
     }
     let progress = Progress::new(rt);
-    let status = plan_at(rt, alloc, output, told, words, &progress);
+    let status = end(told, plan_at(rt, alloc, output, words, &progress));
     progress.end();
     status
 }
 
 /// Plans a network at a gate.
-fn plan_at<'a, R: Files + Input + Threads + Wait + Sync, P: Print, E: Eprint, G: Gate + Sync>(
+fn plan_at<'a, R: Files + Input + Threads + Wait + Sync, P: Print, G: Gate + Sync>(
     rt: &'a R,
     alloc: Global,
     output: &P,
-    told: &E,
     words: PlanWords<'a>,
     gate: &G,
-) -> u8 {
+) -> Ended {
     let mut network = FileSource::network(rt, alloc, words.network);
     let mut plan = FileSink::new(rt, words.plan);
     let mut cert = FileSink::new(rt, words.cert);
@@ -102,8 +110,11 @@ fn plan_at<'a, R: Files + Input + Threads + Wait + Sync, P: Print, E: Eprint, G:
         .or(failure_line(alloc, status, cert.failure()))
         .or(failure_line(alloc, status, sink.failure()))
         .or(network_line(alloc, status, file_of(&network)));
-    tell(told, line);
-    status
+    drop(network);
+    drop(plan);
+    drop(cert);
+    drop(sink);
+    Ended { status, line }
 }
 
 /// Checks a certificate; the network `-` is standard input.
@@ -130,6 +141,10 @@ pub fn check<'a, R: Files + Input, P: Print, E: Eprint>(
             file_of(&plan),
             file_of(&cert),
         ));
+    drop(network);
+    drop(plan);
+    drop(cert);
+    drop(sink);
     tell(told, line);
     status
 }
@@ -151,6 +166,9 @@ pub fn gates<'a, R: Files + Input, P: Print, E: Eprint>(
         .or(source_line(alloc, status, &plan))
         .or(failure_line(alloc, status, sink.failure()))
         .or(plan_line(alloc, status, file_of(&network), file_of(&plan)));
+    drop(network);
+    drop(plan);
+    drop(sink);
     tell(told, line);
     status
 }
@@ -179,6 +197,9 @@ pub fn replay<'a, R: Files + Input, P: Print, E: Eprint>(
         .or(source_line(alloc, status, &plan))
         .or(failure_line(alloc, status, sink.failure()))
         .or(plan_line(alloc, status, file_of(&network), file_of(&plan)));
+    drop(network);
+    drop(plan);
+    drop(sink);
     tell(told, line);
     status
 }
@@ -200,6 +221,9 @@ pub fn chart<'a, R: Files + Input, P: Print, E: Eprint>(
         .or(source_line(alloc, status, &plan))
         .or(failure_line(alloc, status, sink.failure()))
         .or(plan_line(alloc, status, file_of(&network), file_of(&plan)));
+    drop(network);
+    drop(plan);
+    drop(sink);
     tell(told, line);
     status
 }
@@ -224,6 +248,13 @@ fn replay_format(format: tsn_words::ReplayFormat) -> ReplayFormat {
 /// Whether a run of this status refused what it read.
 fn is_refused(status: u8) -> bool {
     status == REFUSED || status == REJECTED
+}
+
+/// Tells why a run ended, if there is a line on that, and says its status.
+fn end<E: Eprint>(told: &E, ended: Ended) -> u8 {
+    let Ended { status, line } = ended;
+    tell(told, line);
+    status
 }
 
 /// Tells a line on standard error, if there is one. That it can't be told there ends no run.
