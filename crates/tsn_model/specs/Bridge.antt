@@ -39,12 +39,12 @@ pub record ScheduledStart : Type 0 where
   pub passage : Passage
   pub time : ℕ
 
--- the start of a background frame; `place` is its place in the list of frames handed in
+-- the start of a background frame, with its number in the list of frames handed in
 pub record BackgroundStart : Type 0 where
   pub link : ℕ
   pub time : ℕ
   pub octets : ℕ
-  pub place : ℕ
+  pub number : ℕ
 
 pub record BridgeRun : Type 0 where
   pub scheduled : List ScheduledStart
@@ -157,19 +157,19 @@ pub data Background : Type 0 where
   greedy : Background
   frames : List BackgroundFrame → Background
 
--- the frame at that place of the list
+-- the frame of that number of the list
 unfoldable pub frame_at : List BackgroundFrame → ℕ → BackgroundFrame
-frame_at list place = slice_index_or list place (record { link = 0; wanted = 0; octets = 0 })
+frame_at list number = slice_index_or list number (record { link = 0; wanted = 0; octets = 0 })
 
--- one place of the list is before another on their link: by wanted start, then by place
+-- one frame of the list is before another on their link: by wanted start, then by number
 pub record IsBefore (list : List BackgroundFrame) (first second : ℕ) : Type 0 where
   pub listed : first < length list
   pub same_link : (frame_at list first).link ≡ (frame_at list second).link
   pub order : ((frame_at list first).wanted < (frame_at list second).wanted) ⊎ (((frame_at list first).wanted ≡ (frame_at list second).wanted) × (first < second))
 
--- the frame at that place of the list started before instant t
-abbrev pub PlaceStartedBefore : BridgeRun → ℕ → ℕ → Type 0
-PlaceStartedBefore run place t = Any (λ (begun : BackgroundStart). (begun.place ≡ place) × (begun.time < t)) run.background
+-- the frame of that number of the list started before instant t
+abbrev pub FrameStartedBefore : BridgeRun → ℕ → ℕ → Type 0
+FrameStartedBefore run number t = Any (λ (begun : BackgroundStart). (begun.number ≡ number) × (begun.time < t)) run.background
 
 -- a frame that started by instant t has the wire
 abbrev pub IsTaken : Network → BridgeRun → ℕ → ℕ → Type 0
@@ -181,12 +181,12 @@ IsHeld network gates run link t = (¬ BackgroundOpen gates link t) ⊎ IsTaken n
 
 -- the background frames that start are those of the list, each once, in order, from their wanted start on, and none waits that could start
 pub record IsFedByList (network : Network) (gates : List LinkGates) (cycles : ℕ) (list : List BackgroundFrame) (run : BridgeRun) : Type 0 where
-  pub listed : All (λ (begun : BackgroundStart). (begun.place < length list) × (begun.link ≡ (frame_at list begun.place).link) × (begun.octets ≡ (frame_at list begun.place).octets)) run.background
-  pub once : AllPairs (λ (a b : BackgroundStart). a.place ≢ b.place) run.background
-  pub wanted : All (λ (begun : BackgroundStart). (frame_at list begun.place).wanted ≤ begun.time) run.background
-  pub in_order : All (λ (begun : BackgroundStart). (earlier : ℕ) → IsBefore list earlier begun.place → PlaceStartedBefore run earlier begun.time) run.background
-  pub waits : (place t : ℕ) → place < length list → (frame_at list place).wanted ≤ t → t < cycles * network.cycle → ¬ PlaceStartedBefore run place (t + 1)
-      → IsHeld network gates run (frame_at list place).link t ⊎ ((earlier : ℕ) × IsBefore list earlier place × ¬ PlaceStartedBefore run earlier (t + 1))
+  pub listed : All (λ (begun : BackgroundStart). (begun.number < length list) × (begun.link ≡ (frame_at list begun.number).link) × (begun.octets ≡ (frame_at list begun.number).octets)) run.background
+  pub once : AllPairs (λ (a b : BackgroundStart). a.number ≢ b.number) run.background
+  pub wanted : All (λ (begun : BackgroundStart). (frame_at list begun.number).wanted ≤ begun.time) run.background
+  pub in_order : All (λ (begun : BackgroundStart). (earlier : ℕ) → IsBefore list earlier begun.number → FrameStartedBefore run earlier begun.time) run.background
+  pub waits : (number t : ℕ) → number < length list → (frame_at list number).wanted ≤ t → t < cycles * network.cycle → ¬ FrameStartedBefore run number (t + 1)
+      → IsHeld network gates run (frame_at list number).link t ⊎ ((earlier : ℕ) × IsBefore list earlier number × ¬ FrameStartedBefore run earlier (t + 1))
 
 -- where the run's background frames come from
 abbrev pub IsFed : Network → List LinkGates → ℕ → Background → BridgeRun → Type 0

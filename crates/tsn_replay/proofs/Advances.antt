@@ -56,46 +56,46 @@ module _ (network : Network) (offsets : List ℕ) (cycles : ℕ) (run : BridgeRu
     ready = λ below. inr (frame.hop, time, refl, Contains-push run.scheduled (record { passage = passage_of frame; time = time }), refl);
   }
 
-pub frame_set_same : (frames : List Frame) (place : ℕ) (frame : Frame) → place < length frames → frame_in (slice_set frames place frame) place ≡ frame
+pub frame_set_same : (frames : List Frame) (number : ℕ) (frame : Frame) → number < length frames → frame_in (slice_set frames number frame) number ≡ frame
 unfolding frame_in
-frame_set_same frames place frame below = get_or-set_same frames place frame _ below
+frame_set_same frames number frame below = get_or-set_same frames number frame _ below
 
-pub frame_set_other : (frames : List Frame) (place other : ℕ) (frame : Frame) → (place ≡ other → ⊥) → frame_in (slice_set frames place frame) other ≡ frame_in frames other
+pub frame_set_other : (frames : List Frame) (number other : ℕ) (frame : Frame) → (number ≡ other → ⊥) → frame_in (slice_set frames number frame) other ≡ frame_in frames other
 unfolding frame_in
-frame_set_other frames place other frame differ = get_or-set_other frames place other frame _ (λ same. differ (sym same))
+frame_set_other frames number other frame differ = get_or-set_other frames number other frame _ (λ same. differ (sym same))
 
-module _ (network : Network) (offsets : List ℕ) (cycles : ℕ) (run : BridgeRun) (frames : List Frame) (tracked : IsTracked network offsets cycles run frames) (place time : ℕ) (below : place < length frames)
-    (waits : (frame_in frames place).hop < hop_count network (frame_in frames place).stream) where
+module _ (network : Network) (offsets : List ℕ) (cycles : ℕ) (run : BridgeRun) (frames : List Frame) (tracked : IsTracked network offsets cycles run frames) (number time : ℕ) (below : number < length frames)
+    (waits : (frame_in frames number).hop < hop_count network (frame_in frames number).stream) where
   abbrev pub set_frames : List Frame
-  set_frames = slice_set frames place (advanced network (frame_in frames place) time)
+  set_frames = slice_set frames number (advanced network (frame_in frames number) time)
 
   -- a frame keeps its stream and cycle
   same_id : (other : ℕ) → ((frame_in set_frames other).stream ≡ (frame_in frames other).stream) × ((frame_in set_frames other).cycle ≡ (frame_in frames other).cycle)
-  same_id other = elim (cases_eq place other) [
+  same_id other = elim (cases_eq number other) [
     | inl same ↦
-        let is : frame_in set_frames other ≡ advanced network (frame_in frames place) time = ap (frame_in set_frames) (sym same) ∙ frame_set_same frames place (advanced network (frame_in frames place) time) below in
-        let old : frame_in frames place ≡ frame_in frames other = ap (frame_in frames) same in
+        let is : frame_in set_frames other ≡ advanced network (frame_in frames number) time = ap (frame_in set_frames) (sym same) ∙ frame_set_same frames number (advanced network (frame_in frames number) time) below in
+        let old : frame_in frames number ≡ frame_in frames other = ap (frame_in frames) same in
         (ap (λ (f : Frame). f.stream) is ∙ ap (λ (f : Frame). f.stream) old, ap (λ (f : Frame). f.cycle) is ∙ ap (λ (f : Frame). f.cycle) old)
     | inr differ ↦
-        let is = frame_set_other frames place other (advanced network (frame_in frames place) time) differ in
+        let is = frame_set_other frames number other (advanced network (frame_in frames number) time) differ in
         (ap (λ (f : Frame). f.stream) is, ap (λ (f : Frame). f.cycle) is)
   ]
 
   long : length set_frames ≡ length frames
-  long = length-set frames place (advanced network (frame_in frames place) time)
+  long = length-set frames number (advanced network (frame_in frames number) time)
 
-  pub tracked_next : IsTracked network offsets cycles (with_passage run (passage_of (frame_in frames place)) time) set_frames
+  pub tracked_next : IsTracked network offsets cycles (with_passage run (passage_of (frame_in frames number)) time) set_frames
   tracked_next = record {
-    each = λ other other_below. elim (cases_eq place other) [
+    each = λ other other_below. elim (cases_eq number other) [
       | inl same ↦
-          let is : frame_in set_frames other ≡ advanced network (frame_in frames place) time = ap (frame_in set_frames) (sym same) ∙ frame_set_same frames place (advanced network (frame_in frames place) time) below in
-          subst (IsFrame network offsets cycles (with_passage run (passage_of (frame_in frames place)) time)) (sym is) (advances network offsets cycles run time (frame_in frames place) waits (tracked.each place below))
+          let is : frame_in set_frames other ≡ advanced network (frame_in frames number) time = ap (frame_in set_frames) (sym same) ∙ frame_set_same frames number (advanced network (frame_in frames number) time) below in
+          subst (IsFrame network offsets cycles (with_passage run (passage_of (frame_in frames number)) time)) (sym is) (advances network offsets cycles run time (frame_in frames number) waits (tracked.each number below))
       | inr differ ↦
           let size = long in
           let other_old : other < length frames = omega arith in
-          subst (IsFrame network offsets cycles (with_passage run (passage_of (frame_in frames place)) time)) (sym (frame_set_other frames place other (advanced network (frame_in frames place) time) differ))
-          (others_kept network offsets cycles run time (frame_in frames place) waits (tracked.each place below) (frame_in frames other) (tracked.each other other_old)
-          (λ stream cycle. differ (tracked.distinct place other below other_old stream cycle)))
+          subst (IsFrame network offsets cycles (with_passage run (passage_of (frame_in frames number)) time)) (sym (frame_set_other frames number other (advanced network (frame_in frames number) time) differ))
+          (others_kept network offsets cycles run time (frame_in frames number) waits (tracked.each number below) (frame_in frames other) (tracked.each other other_old)
+          (λ stream cycle. differ (tracked.distinct number other below other_old stream cycle)))
     ];
     complete = λ stream cycle stream_below cycle_below.
         let at = tracked.complete stream cycle stream_below cycle_below in

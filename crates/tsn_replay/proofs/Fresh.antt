@@ -14,9 +14,9 @@ use Rattle.tsn_replay.specs.Queue.{frame_in, passage_of}
 use Rattle.tsn_replay.specs.Feeding.{no_start}
 use Rattle.tsn_replay.specs.Progress.{IsTracked}
 
--- the frame at a place is that place's stream and cycle, on its first hop
-pub record IsFresh (network : Network) (offsets : List ℕ) (cycles : ℕ) (place : ℕ) (frame : Frame) : Type 0 where
-  pub index : place ≡ frame.cycle * stream_count network + frame.stream
+-- the frame of a number is that number's stream and cycle, on its first hop
+pub record IsFresh (network : Network) (offsets : List ℕ) (cycles : ℕ) (number : ℕ) (frame : Frame) : Type 0 where
+  pub index : number ≡ frame.cycle * stream_count network + frame.stream
   pub stream : frame.stream < stream_count network
   pub cycle : frame.cycle < cycles
   pub hop : frame.hop ≡ 0
@@ -27,12 +27,12 @@ mul_less : (a b i n : ℕ) → a < b → i < n → a * n + i < b * n
 mul_less a b i n less below = let gap = cycle_below a b n less in omega arith
 
 module _ (network : Network) (offsets : List ℕ) (cycles : ℕ) (frames : List Frame) (count : length frames ≡ cycles * stream_count network)
-    (fresh : (place : ℕ) → place < length frames → IsFresh network offsets cycles place (frame_in frames place)) where
+    (fresh : (number : ℕ) → number < length frames → IsFresh network offsets cycles number (frame_in frames number)) where
   pub fresh_tracked : IsTracked network offsets cycles no_start frames
   unfolding passage_of
   fresh_tracked = record {
-    each = λ place below.
-        let is = fresh place below in
+    each = λ number below.
+        let is = fresh number below in
         let first = is.hop in
         record {
           stream = is.stream;
@@ -59,19 +59,19 @@ module _ (network : Network) (offsets : List ℕ) (cycles : ℕ) (frames : List 
         omega arith;
   }
 
--- what holds of the frame at each place, and of one more
-pub frames_more : (P : ℕ → Frame → Type 0) (frames : List Frame) (frame : Frame) → ((place : ℕ) → place < length frames → P place (frame_in frames place)) → P (length frames) frame
-    → (place : ℕ) → place < length (frames ++ frame ∷ []) → P place (frame_in (frames ++ frame ∷ []) place)
+-- what holds of the frame at each number, and of one more
+pub frames_more : (P : ℕ → Frame → Type 0) (frames : List Frame) (frame : Frame) → ((number : ℕ) → number < length frames → P number (frame_in frames number)) → P (length frames) frame
+    → (number : ℕ) → number < length (frames ++ frame ∷ []) → P number (frame_in (frames ++ frame ∷ []) number)
 unfolding frame_in
-frames_more P frames frame before last place below = elim (cases_lt place (length frames)) [
-  | inl old ↦ subst (P place) (sym (get_or-append frames (frame ∷ []) (record { stream = 0; cycle = 0; hop = 0; ready = 0 }) place old)) (before place old)
+frames_more P frames frame before last number below = elim (cases_lt number (length frames)) [
+  | inl old ↦ subst (P number) (sym (get_or-append frames (frame ∷ []) (record { stream = 0; cycle = 0; hop = 0; ready = 0 }) number old)) (before number old)
   | inr new ↦
       let size : length (frames ++ frame ∷ []) ≡ length frames + 1 = length-append frames (frame ∷ []) in
-      let same : length frames ≡ place = omega arith in
+      let same : length frames ≡ number = omega arith in
       subst (λ n. P n (get_or (frames ++ frame ∷ []) n (record { stream = 0; cycle = 0; hop = 0; ready = 0 }))) same
       (subst (P (length frames)) (sym (get_or-append_seam frames frame [] (record { stream = 0; cycle = 0; hop = 0; ready = 0 }))) last)
 ]
 
-pub early_all : (network : Network) (offsets : List ℕ) (cycles : ℕ) (frames : List Frame) → ((place : ℕ) → place < length frames → IsFresh network offsets cycles place (frame_in frames place))
+pub early_all : (network : Network) (offsets : List ℕ) (cycles : ℕ) (frames : List Frame) → ((number : ℕ) → number < length frames → IsFresh network offsets cycles number (frame_in frames number))
     → All (λ (frame : Frame). frame.ready ≤ 2 ^ 50) frames
 early_all network offsets cycles frames fresh k d below = from_frame (λ (frame : Frame). frame.ready ≤ 2 ^ 50) frames k d below (fresh k below).early

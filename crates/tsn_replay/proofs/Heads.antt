@@ -6,13 +6,9 @@ use Rattle.tsn_model.specs.Network.{Network}
 use Rattle.tsn_replay.specs.declared.queue.Frame.{Frame}
 use Rattle.tsn_replay.specs.Queue.{Waits, Precedes, IsFirstOf, frame_in}
 
-pub at_frame : (P : Frame → Type 0) (frames : List Frame) (place : ℕ) (d : Frame) → place < length frames → P (get_or frames place d) → P (frame_in frames place)
+pub from_frame : (P : Frame → Type 0) (frames : List Frame) (number : ℕ) (d : Frame) → number < length frames → P (frame_in frames number) → P (get_or frames number d)
 unfolding frame_in
-at_frame P frames place d below has = subst P (get_or_default frames place d (record { stream = 0; cycle = 0; hop = 0; ready = 0 }) below) has
-
-pub from_frame : (P : Frame → Type 0) (frames : List Frame) (place : ℕ) (d : Frame) → place < length frames → P (frame_in frames place) → P (get_or frames place d)
-unfolding frame_in
-from_frame P frames place d below has = subst P (sym (get_or_default frames place d (record { stream = 0; cycle = 0; hop = 0; ready = 0 }) below)) has
+from_frame P frames number d below has = subst P (sym (get_or_default frames number d (record { stream = 0; cycle = 0; hop = 0; ready = 0 }) below)) has
 
 pub precedes_further : (a b c : Frame) → Precedes a b → Precedes b c → Precedes a c
 precedes_further a b c (inl less) (inl more) = inl (omega arith)
@@ -21,25 +17,25 @@ precedes_further a b c (inr (same, order)) (inl more) = inl (omega arith)
 precedes_further a b c (inr (same, order)) (inr (same_too, order_too)) = inr (omega arith, omega arith)
 
 module _ (network : Network) (frames : List Frame) (link count : ℕ) where
-  -- the places below the next one are those below, and it
-  each_more : (P : ℕ → Type 0) → ((place : ℕ) → place < count → P place) → P count → (place : ℕ) → place < count + 1 → P place
-  each_more P before here place below = elim (cases_lt place count) [
-    | inl earlier ↦ before place earlier
-    | inr last ↦ let same : count ≡ place = omega arith in subst P same here
+  -- the numbers below the next one are those below, and it
+  each_more : (P : ℕ → Type 0) → ((number : ℕ) → number < count → P number) → P count → (number : ℕ) → number < count + 1 → P number
+  each_more P before here number below = elim (cases_lt number count) [
+    | inl earlier ↦ before number earlier
+    | inr last ↦ let same : count ≡ number = omega arith in subst P same here
   ]
 
   pub head_skip : (first : Option ℕ) → IsFirstOf network frames link count first → (Waits network link (frame_in frames count) → ⊥) → IsFirstOf network frames link (count + 1) first
-  head_skip None none not_here = each_more (λ place. Waits network link (frame_in frames place) → ⊥) none not_here
+  head_skip None none not_here = each_more (λ number. Waits network link (frame_in frames number) → ⊥) none not_here
   head_skip (Some best) (below, waits, first) not_here =
-      (omega arith, waits, each_more (λ place. Waits network link (frame_in frames place) → Precedes (frame_in frames best) (frame_in frames place)) first (λ here. absurd (not_here here)))
+      (omega arith, waits, each_more (λ number. Waits network link (frame_in frames number) → Precedes (frame_in frames best) (frame_in frames number)) first (λ here. absurd (not_here here)))
 
   pub head_only : (first : Option ℕ) → first ≡ None → IsFirstOf network frames link count first → Waits network link (frame_in frames count) → IsFirstOf network frames link (count + 1) (Some count)
   head_only first is before here =
       let none = subst (IsFirstOf network frames link count) is before in (
         omega arith,
         here,
-        each_more (λ place. Waits network link (frame_in frames place) → Precedes (frame_in frames count) (frame_in frames place))
-            (λ place below waits. absurd (none place below waits)) (λ waits. inr (refl, omega arith)),
+        each_more (λ number. Waits network link (frame_in frames number) → Precedes (frame_in frames count) (frame_in frames number))
+            (λ number below waits. absurd (none number below waits)) (λ waits. inr (refl, omega arith)),
       )
 
   pub head_kept : (first : Option ℕ) (best : ℕ) → first ≡ Some best → IsFirstOf network frames link count first → (best < length frames → Precedes (frame_in frames best) (frame_in frames count)) → count < length frames
@@ -47,7 +43,7 @@ module _ (network : Network) (frames : List Frame) (link count : ℕ) where
   head_kept first best is before order counted =
       let some = subst (IsFirstOf network frames link count) is before in
       let below = some.0 in
-      (omega arith, some.1, each_more (λ place. Waits network link (frame_in frames place) → Precedes (frame_in frames best) (frame_in frames place)) some.2 (λ waits. order (omega arith)))
+      (omega arith, some.1, each_more (λ number. Waits network link (frame_in frames number) → Precedes (frame_in frames best) (frame_in frames number)) some.2 (λ waits. order (omega arith)))
 
   pub head_new : (first : Option ℕ) (best : ℕ) → first ≡ Some best → IsFirstOf network frames link count first → Waits network link (frame_in frames count)
       → (best < length frames → Precedes (frame_in frames count) (frame_in frames best)) → count < length frames → IsFirstOf network frames link (count + 1) (Some count)
@@ -57,9 +53,6 @@ module _ (network : Network) (frames : List Frame) (link count : ℕ) where
       let less = order (omega arith) in (
         omega arith,
         here,
-        each_more (λ place. Waits network link (frame_in frames place) → Precedes (frame_in frames count) (frame_in frames place))
-            (λ place earlier waits. precedes_further (frame_in frames count) (frame_in frames best) (frame_in frames place) less (some.2 place earlier waits)) (λ waits. inr (refl, omega arith)),
+        each_more (λ number. Waits network link (frame_in frames number) → Precedes (frame_in frames count) (frame_in frames number))
+            (λ number earlier waits. precedes_further (frame_in frames count) (frame_in frames best) (frame_in frames number) less (some.2 number earlier waits)) (λ waits. inr (refl, omega arith)),
       )
-
-  pub head_within : (first : Option ℕ) (best : ℕ) → first ≡ Some best → IsFirstOf network frames link count first → best < count
-  head_within first best is before = let some = subst (IsFirstOf network frames link count) is before in some.0

@@ -1,4 +1,4 @@
--- An element put between two lists, and the elements before a place.
+-- An element put between two lists, and the elements before a number.
 use Rattle.std.proofs.Common.{◌≡◌, ℕ, ◌≤◌, ◌<◌, List, [], ◌∷◌, ◌++◌, min, take, length, get_or, All, arith}
 use Rattle.std.proofs.Math.Nat.{min-le_left, le-min}
 use Rattle.std.proofs.lemmas.List.{get_or-take, length-take}
@@ -18,7 +18,7 @@ AllPairs-insert R (x ∷ xs) ys y pairs all turn =
     (All-insert (R x) xs ys y (AllPairs-head R x (xs ++ ys) pairs) (All-head (λ z. R z y) x (xs ++ ys) all))
     (AllPairs-insert R xs ys y (AllPairs-tail R x (xs ++ ys) pairs) (All-tail (λ z. R z y) x (xs ++ ys) all) turn)
 
--- the elements before a place
+-- the elements before a number
 pub taken_below : {X : Type 0} (n : ℕ) (xs : List X) (k : ℕ) → k < length (take n xs) → k < n
 taken_below n xs k below = let size = length-take n xs in let least = min-le_left n (length xs) in omega arith
 

@@ -15,7 +15,7 @@ use Rattle.tsn_replay.proofs.Advances.{frame_set_same, frame_set_other}
 
 pub scheduled_later : (network : Network) (entries : List GateEntry) (frames : List Frame) (head : Option ℕ) (from later end time : ℕ) → from ≤ later → later ≤ time
     → IsScheduledNext network entries frames head from end time → IsScheduledNext network entries frames head later end time
-scheduled_later network entries frames head from later end time order upto is = record { forward = upto; none = λ place u at since. is.none place u at (omega arith); here = is.here }
+scheduled_later network entries frames head from later end time order upto is = record { forward = upto; none = λ number u at since. is.none number u at (omega arith); here = is.here }
 
 pub background_later : (entries : List GateEntry) (waiting : Option Waiting) (from later end time : ℕ) → from ≤ later → later ≤ time → IsBackgroundNext entries waiting from end time → IsBackgroundNext entries waiting later end time
 background_later entries waiting from later end time order upto is = record { forward = upto; none = λ frame u at since. is.none frame u at (omega arith); here = is.here }
@@ -28,27 +28,27 @@ port_later network entries frames waiting link from later end port order by_sche
   background = background_later entries waiting from later end port.background order by_background is.background;
 }
 
-module _ (network : Network) (frames : List Frame) (link place : ℕ) (moved : Frame) (below : place < length frames)
-    (not_old : Waits network link (frame_in frames place) → ⊥) (not_new : Waits network link moved → ⊥) where
+module _ (network : Network) (frames : List Frame) (link number : ℕ) (moved : Frame) (below : number < length frames)
+    (not_old : Waits network link (frame_in frames number) → ⊥) (not_new : Waits network link moved → ⊥) where
   -- a frame that waits on this link is another one, and as it was
-  same_frame : (p : ℕ) → Waits network link (frame_in frames p) → frame_in (slice_set frames place moved) p ≡ frame_in frames p
-  same_frame p waits = frame_set_other frames place p moved (λ same. not_old (subst (λ n. Waits network link (frame_in frames n)) (sym same) waits))
+  same_frame : (p : ℕ) → Waits network link (frame_in frames p) → frame_in (slice_set frames number moved) p ≡ frame_in frames p
+  same_frame p waits = frame_set_other frames number p moved (λ same. not_old (subst (λ n. Waits network link (frame_in frames n)) (sym same) waits))
 
-  waited : (p : ℕ) → Waits network link (frame_in (slice_set frames place moved) p) → Waits network link (frame_in frames p)
-  waited p waits = elim (cases_eq place p) [
-    | inl same ↦ absurd (not_new (subst (Waits network link) (frame_set_same frames place moved below) (subst (λ n. Waits network link (frame_in (slice_set frames place moved) n)) (sym same) waits)))
-    | inr differ ↦ subst (Waits network link) (frame_set_other frames place p moved differ) waits
+  waited : (p : ℕ) → Waits network link (frame_in (slice_set frames number moved) p) → Waits network link (frame_in frames p)
+  waited p waits = elim (cases_eq number p) [
+    | inl same ↦ absurd (not_new (subst (Waits network link) (frame_set_same frames number moved below) (subst (λ n. Waits network link (frame_in (slice_set frames number moved) n)) (sym same) waits)))
+    | inr differ ↦ subst (Waits network link) (frame_set_other frames number p moved differ) waits
   ]
 
-  head_kept : (head : Option ℕ) → IsHead network frames link head → IsHead network (slice_set frames place moved) link head
-  head_kept None none = λ p p_below waits. let size = length-set frames place moved in none p (omega arith) (waited p waits)
+  head_kept : (head : Option ℕ) → IsHead network frames link head → IsHead network (slice_set frames number moved) link head
+  head_kept None none = λ p p_below waits. let size = length-set frames number moved in none p (omega arith) (waited p waits)
   head_kept (Some h) (h_below, h_waits, first) =
-      let size = length-set frames place moved in (
+      let size = length-set frames number moved in (
         omega arith,
         subst (Waits network link) (sym (same_frame h h_waits)) h_waits,
         λ p p_below waits.
             let before = waited p waits in
-            subst (λ f. Precedes (frame_in (slice_set frames place moved) h) f) (sym (same_frame p before))
+            subst (λ f. Precedes (frame_in (slice_set frames number moved) h) f) (sym (same_frame p before))
             (subst (λ f. Precedes f (frame_in frames p)) (sym (same_frame h h_waits)) (first p (omega arith) before)),
       )
 
@@ -56,7 +56,7 @@ module _ (network : Network) (frames : List Frame) (link place : ℕ) (moved : F
   head_waits head h is head_is = (subst (IsHead network frames link) is head_is).1
 
   -- a frame that leaves another link for another link changes nothing here
-  pub port_kept : (entries : List GateEntry) (waiting : Option Waiting) (from end : ℕ) (port : Port) → IsPort network entries frames waiting link from end port → IsPort network entries (slice_set frames place moved) waiting link from end port
+  pub port_kept : (entries : List GateEntry) (waiting : Option Waiting) (from end : ℕ) (port : Port) → IsPort network entries frames waiting link from end port → IsPort network entries (slice_set frames number moved) waiting link from end port
   port_kept entries waiting from end port is = record {
     head = head_kept port.head is.head;
     scheduled = record {

@@ -17,27 +17,27 @@ no_fault network lists cycles background None never both = both
 no_fault network lists cycles background (Some fault) never has = absurd (never fault refl)
 
 -- where the list of a link stands
-listed_at : (lists : List LinkGates) (link : ℕ) → IsListed lists link → (place : ℕ) × (place < length lists) × ((d : LinkGates) → (get_or lists place d).link ≡ link)
-listed_at lists link (place, list, below, is, same) = (place, below, λ d. ap (λ (g : LinkGates). g.link) (get_or_default lists place d list below ∙ is) ∙ same)
+listed_at : (lists : List LinkGates) (link : ℕ) → IsListed lists link → (number : ℕ) × (number < length lists) × ((d : LinkGates) → (get_or lists number d).link ≡ link)
+listed_at lists link (number, list, below, is, same) = (number, below, λ d. ap (λ (g : LinkGates). g.link) (get_or_default lists number d list below ∙ is) ∙ same)
 
 listed_exists : (network : Network) (lists : List LinkGates) (link : ℕ) → All (λ (list : LinkGates). list.link < length network.links) lists → IsListed lists link → link < length network.links
-listed_exists network lists link exist (place, list, below, is, same) =
-    let here = exist place list below in
+listed_exists network lists link exist (number, list, below, is, same) =
+    let here = exist number list below in
     subst (λ n. n < length network.links) (ap (λ (g : LinkGates). g.link) is ∙ same) here
 
 given_frame : (network : Network) (formed : IsWellFormed network) (lists : List LinkGates) (cycles : ℕ) (few : cycles ≤ 16) (list : List BackgroundFrame) → NamesLinks network lists (frames list) → KeepsLimits network lists cycles (frames list)
-    → (place : ℕ) → place < length list → IsGivenFrame network lists (frame_at list place)
+    → (number : ℕ) → number < length list → IsGivenFrame network lists (frame_at list number)
 unfolding frame_at
-given_frame network formed lists cycles few list names keeps place below =
+given_frame network formed lists cycles few list names keeps number below =
     let none : BackgroundFrame = record { link = 0; wanted = 0; octets = 0 } in
-    let listed = names.waited place none below in
-    let within = keeps.within place none below in
+    let listed = names.waited number none below in
+    let within = keeps.within number none below in
     let soon = within.2 in
     let short = formed.short_cycle in
     let end : cycles * network.cycle ≤ 16 * 1000000000 = mul-le-mul few short in
     record {
-      exists = listed_exists network lists (get_or list place none).link names.exist listed;
-      listed = listed_at lists (get_or list place none).link listed;
+      exists = listed_exists network lists (get_or list number none).link names.exist listed;
+      listed = listed_at lists (get_or list number none).link listed;
       early = omega arith;
       short = within.1;
     }

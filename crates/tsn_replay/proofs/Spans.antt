@@ -60,8 +60,8 @@ pub cycle_none : (entries : List GateEntry) → cycle_of (take 0 entries) ≡ 0
 unfolding cycle_of
 cycle_none entries = refl
 
-later_place : (at u size : ℕ) → at ≤ u → at % size + (u - at) < size → u % size ≡ at % size + (u - at)
-later_place at u size since within =
+later_phase : (at u size : ℕ) → at ≤ u → at % size + (u - at) < size → u % size ≡ at % size + (u - at)
+later_phase at u size since within =
     let split : at % size + at / size * size ≡ at = mod-add-div' at size in
     let whole : u ≡ at / size * size + (at % size + (u - at)) = omega arith in
     ap (λ n. n % size) whole ∙ mod-mul-add (at / size) size (at % size + (u - at)) within
@@ -72,7 +72,7 @@ pub span_octet : (entries : List GateEntry) (index : ℕ) (entry : GateEntry) (a
 span_octet entries index entry at u below is begun ends since until =
     let long = ap (λ (e : GateEntry). e.interval) is in
     let within = cycle_of_part entries index entry below in
-    let place = later_place at u (cycle_of entries) since (omega arith) in
+    let phase = later_phase at u (cycle_of entries) since (omega arith) in
     record {
       before = take index entries;
       after = drop (index + 1) entries;
@@ -95,9 +95,9 @@ ends_rise entries ends are = IsNonDecreasingBy-from_all_adjacent (λ (end : ℕ)
     omega arith)
 
 -- the entry is the first that ends later
-pub entry_from_ends : (entries : List GateEntry) (ends : List ℕ) (place index : ℕ) → AreEnds entries ends → place < cycle_of entries → index ≤ length ends
-    → ((k : ℕ) → k < index → get_or ends k 0 ≤ place) → (index < length ends → place < get_or ends index 0) → IsEntryAt entries place index
-entry_from_ends entries ends place zero are below upto passed later =
+pub entry_from_ends : (entries : List GateEntry) (ends : List ℕ) (phase index : ℕ) → AreEnds entries ends → phase < cycle_of entries → index ≤ length ends
+    → ((k : ℕ) → k < index → get_or ends k 0 ≤ phase) → (index < length ends → phase < get_or ends index 0) → IsEntryAt entries phase index
+entry_from_ends entries ends phase zero are below upto passed later =
     let none = cycle_none entries in
     let some : 0 < length entries = elim (cases_lt 0 (length entries)) [
       | inl some ↦ some
@@ -107,7 +107,7 @@ entry_from_ends entries ends place zero are below upto passed later =
     let after = later (omega arith) in
     let first = are.each 0 some in
     record { within = some; begun = omega arith; not_ended = omega arith }
-entry_from_ends entries ends place (suc before) are below upto passed later =
+entry_from_ends entries ends phase (suc before) are below upto passed later =
     let counted = are.count in
     let last = passed before (omega arith) in
     let value = are.each before (omega arith) in

@@ -37,21 +37,21 @@ module _ (setting : Setting) (state : State) (can : IsSetting setting) (is : IsS
   end = setting.cycles * network.cycle
 
   abbrev port_at : ℕ → Port
-  port_at place = port_in state.ports.items place
+  port_at number = port_in state.ports.items number
 
   abbrev pub link_of_list : ℕ → ℕ
-  link_of_list place = (get_or setting.gates place no_list).link
+  link_of_list number = (get_or setting.gates number no_list).link
 
-  pub link_is : (place : ℕ) (d : LinkGates) → place < length setting.gates → (get_or setting.gates place d).link ≡ link_of_list place
-  link_is place d below = ap (λ (g : LinkGates). g.link) (get_or_default setting.gates place d no_list below)
+  pub link_is : (number : ℕ) (d : LinkGates) → number < length setting.gates → (get_or setting.gates number d).link ≡ link_of_list number
+  link_is number d below = ap (λ (g : LinkGates). g.link) (get_or_default setting.gates number d no_list below)
 
-  ports : (place : ℕ) (d : LinkGates) → place < length setting.gates
-      → IsPort network (get_or setting.gates place d).entries state.frames.items (line (get_or setting.gates place d).link) (get_or setting.gates place d).link (max (free_on state.free.items (get_or setting.gates place d).link) state.time) end (port_at place)
-  ports place d below = subst (λ n. IsPort network (get_or setting.gates place d).entries state.frames.items (line (get_or setting.gates place d).link) (get_or setting.gates place d).link
-      (max (free_on state.free.items (get_or setting.gates place d).link) state.time) n (port_at place)) is.under_way.end (is.ports.each place below d)
+  ports : (number : ℕ) (d : LinkGates) → number < length setting.gates
+      → IsPort network (get_or setting.gates number d).entries state.frames.items (line (get_or setting.gates number d).link) (get_or setting.gates number d).link (max (free_on state.free.items (get_or setting.gates number d).link) state.time) end (port_at number)
+  ports number d below = subst (λ n. IsPort network (get_or setting.gates number d).entries state.frames.items (line (get_or setting.gates number d).link) (get_or setting.gates number d).link
+      (max (free_on state.free.items (get_or setting.gates number d).link) state.time) n (port_at number)) is.under_way.end (is.ports.each number below d)
 
   -- nothing starts before the end
-  module _ (late : (place : ℕ) → place < length state.ports.items → state.end ≤ port_time (port_at place)) where
+  module _ (late : (number : ℕ) → number < length state.ports.items → state.end ≤ port_time (port_at number)) where
     none : IsNextOf network setting.gates state.frames.items line state.free.items state.time end (record { link = 0; time = end; frame = None })
     none =
         let end_is = is.under_way.end in
@@ -74,15 +74,15 @@ module _ (setting : Setting) (state : State) (can : IsSetting setting) (is : IsS
         (record { link = 0; time = end; frame = None }) none (omega arith) (omega arith)
 
   -- something starts first on the link of a list
-  module _ (place : ℕ) (first : IsFirstPort state.ports.items state.end place) where
-    pub below : place < length setting.gates
+  module _ (number : ℕ) (first : IsFirstPort state.ports.items state.end number) where
+    pub below : number < length setting.gates
     below = let within = first.within in let count = is.ports.count in omega arith
 
-    least : (other : ℕ) → other < length setting.gates → port_time (port_at place) ≤ port_time (port_at other)
+    least : (other : ℕ) → other < length setting.gates → port_time (port_at number) ≤ port_time (port_at other)
     least other other_below = let count = is.ports.count in first.least other (omega arith)
 
     abbrev pub link : ℕ
-    link = link_of_list place
+    link = link_of_list number
 
     -- another list's port stays right until then, where neither its wire nor its queue changes
     other_later : (time other : ℕ) (d : LinkGates) (frames : List Frame) (free : List ℕ) (feed : Feed) → state.time ≤ time → time ≤ port_time (port_at other)
@@ -109,12 +109,12 @@ module _ (setting : Setting) (state : State) (can : IsSetting setting) (is : IsS
 
     -- ---- a scheduled frame
 
-    module _ (waiting : ℕ) (head : (port_at place).head ≡ Some waiting) (time : ℕ) (time_is : (port_at place).scheduled ≡ time) (order : time ≤ (port_at place).background) where
-      scheduled_time : port_time (port_at place) ≡ time
+    module _ (waiting : ℕ) (head : (port_at number).head ≡ Some waiting) (time : ℕ) (time_is : (port_at number).scheduled ≡ time) (order : time ≤ (port_at number).background) where
+      scheduled_time : port_time (port_at number) ≡ time
       scheduled_time =
-          let facts = time_facts (port_at place) in
+          let facts = time_facts (port_at number) in
           let by_scheduled = facts.0 in
-          let low : time ≤ port_time (port_at place) = le-min (omega arith) order in
+          let low : time ≤ port_time (port_at number) = le-min (omega arith) order in
           omega arith
 
       abbrev next : Next
@@ -123,8 +123,8 @@ module _ (setting : Setting) (state : State) (can : IsSetting setting) (is : IsS
       is_next : IsNextOf network setting.gates state.frames.items line state.free.items state.time end next
       is_next =
           subst (λ h. IsNextOf network setting.gates state.frames.items line state.free.items state.time end (record { link = link; time = time; frame = h })) head
-          (subst (λ t. IsNextOf network setting.gates state.frames.items line state.free.items state.time end (record { link = link; time = t; frame = (port_at place).head })) time_is
-          (next_scheduled network setting.gates can.lists state.frames.items line state.free.items state.time end port_at ports place no_list below least (omega arith)))
+          (subst (λ t. IsNextOf network setting.gates state.frames.items line state.free.items state.time end (record { link = link; time = t; frame = (port_at number).head })) time_is
+          (next_scheduled network setting.gates can.lists state.frames.items line state.free.items state.time end port_at ports number no_list below least (omega arith)))
 
       pub in_time : time < end
       in_time =
@@ -201,17 +201,17 @@ module _ (setting : Setting) (state : State) (can : IsSetting setting) (is : IsS
 
     -- ---- a background frame
 
-    module _ (port : Port) (port_is : port_at place ≡ port) (order : port.scheduled ≤ port.background → port.head ≡ None) where
-      is_port : (d : LinkGates) → IsPort network (get_or setting.gates place d).entries state.frames.items (line (get_or setting.gates place d).link) (get_or setting.gates place d).link
-          (max (free_on state.free.items (get_or setting.gates place d).link) state.time) end port
-      is_port d = subst (IsPort network (get_or setting.gates place d).entries state.frames.items (line (get_or setting.gates place d).link) (get_or setting.gates place d).link
-          (max (free_on state.free.items (get_or setting.gates place d).link) state.time) end) port_is (ports place d below)
+    module _ (port : Port) (port_is : port_at number ≡ port) (order : port.scheduled ≤ port.background → port.head ≡ None) where
+      is_port : (d : LinkGates) → IsPort network (get_or setting.gates number d).entries state.frames.items (line (get_or setting.gates number d).link) (get_or setting.gates number d).link
+          (max (free_on state.free.items (get_or setting.gates number d).link) state.time) end port
+      is_port d = subst (IsPort network (get_or setting.gates number d).entries state.frames.items (line (get_or setting.gates number d).link) (get_or setting.gates number d).link
+          (max (free_on state.free.items (get_or setting.gates number d).link) state.time) end) port_is (ports number d below)
 
       port_soon : port_time port < end
       port_soon =
           let soon = first.in_time in
           let end_is = is.under_way.end in
-          let same : port_time (port_at place) ≡ port_time port = ap port_time port_is in
+          let same : port_time (port_at number) ≡ port_time port = ap port_time port_is in
           omega arith
 
       -- the background comes first, since no head could start
@@ -239,7 +239,7 @@ module _ (setting : Setting) (state : State) (can : IsSetting setting) (is : IsS
 
       is_send_next : IsNextOf network setting.gates state.frames.items line state.free.items state.time end send_next
       is_send_next = subst (λ (p : Port). p.background < p.scheduled → IsNextOf network setting.gates state.frames.items line state.free.items state.time end (record { link = link; time = p.background; frame = None })) port_is
-          (next_background network setting.gates can.lists state.frames.items line state.free.items state.time end port_at ports place no_list below least) sooner
+          (next_background network setting.gates can.lists state.frames.items line state.free.items state.time end port_at ports number no_list below least) sooner
 
       pub send_in_time : port.background < end
       send_in_time = let soon = port_soon in let at = port_first in omega arith
@@ -247,12 +247,12 @@ module _ (setting : Setting) (state : State) (can : IsSetting setting) (is : IsS
       pub some_waits : (waiting : Waiting) × (line link ≡ Some waiting)
       some_waits = let here = (is_send_next.can send_in_time).0 in (here.0, here.1)
 
-      pub send_head : (d : LinkGates) → IsHead network state.frames.items (get_or setting.gates place d).link port.head
+      pub send_head : (d : LinkGates) → IsHead network state.frames.items (get_or setting.gates number d).link port.head
       send_head d = (is_port d).head
 
       module _ (waiting : Waiting) (waits : line link ≡ Some waiting) where
         pub given : IsGiven network link waiting
-        given = line_given network setting.gates setting.cycles (free_on state.free.items) state.time line state.starts setting.background can.background is.under_way.fed link (can.lists.links place no_list below) waiting waits
+        given = line_given network setting.gates setting.cycles (free_on state.free.items) state.time line state.starts setting.background can.background is.under_way.fed link (can.lists.links number no_list below) waiting waits
 
         module _ (until : ℕ) (until_is : until ≡ port.background + (waiting.octets + 20) * (link_at network link).r) (some : 1 ≤ (link_at network link).r) (few : (link_at network link).r ≤ 800) where
           pub until_short : (port.background < until) × (until ≤ port.background + 1542 * 800)
@@ -264,22 +264,22 @@ module _ (setting : Setting) (state : State) (can : IsSetting setting) (is : IsS
               let pos : 0 < (waiting.octets + 20) * (link_at network link).r = mul-pos sent some in
               (omega arith, omega arith)
 
-          pub send_still : (d : LinkGates) → until ≤ port.scheduled → IsScheduledNext network (get_or setting.gates place d).entries state.frames.items port.head until state.end port.scheduled
+          pub send_still : (d : LinkGates) → until ≤ port.scheduled → IsScheduledNext network (get_or setting.gates number d).entries state.frames.items port.head until state.end port.scheduled
           send_still d upto =
               let short = until_short in
               let longer = short.0 in
               let from = (is_port d).background.forward in
-              subst (λ n. IsScheduledNext network (get_or setting.gates place d).entries state.frames.items port.head until n port.scheduled) (sym is.under_way.end)
-              (scheduled_later network (get_or setting.gates place d).entries state.frames.items port.head (max (free_on state.free.items (get_or setting.gates place d).link) state.time) until end port.scheduled (omega arith) upto (is_port d).scheduled)
+              subst (λ n. IsScheduledNext network (get_or setting.gates number d).entries state.frames.items port.head until n port.scheduled) (sym is.under_way.end)
+              (scheduled_later network (get_or setting.gates number d).entries state.frames.items port.head (max (free_on state.free.items (get_or setting.gates number d).link) state.time) until end port.scheduled (omega arith) upto (is_port d).scheduled)
 
-          module _ (trace : BridgeRun) (trace_is : trace ≡ with_background state.starts (record { link = waiting.link; time = port.background; octets = waiting.octets; place = waiting.place })) (feed : Feed)
+          module _ (trace : BridgeRun) (trace_is : trace ≡ with_background state.starts (record { link = waiting.link; time = port.background; octets = waiting.octets; number = waiting.number })) (feed : Feed)
               (feed_is : IsFeedOf setting.background (length network.links) feed) (others : (m : ℕ) → (m ≡ link → ⊥) → waiting_on feed m ≡ line m) (follows : IsSent setting.background (line link) (waiting_on feed link))
               (free : Vec ℕ Global) (free_is : free.items ≡ slice_set state.free.items link until) where
             abbrev sent : State
             sent = record state { time = port.background; free = free; feed = feed; starts = trace }
 
-            trace_at : trace ≡ with_background state.starts (record { link = link; time = port.background; octets = waiting.octets; place = waiting.place })
-            trace_at = trace_is ∙ ap (λ l. with_background state.starts (record { link = l; time = port.background; octets = waiting.octets; place = waiting.place })) given.on
+            trace_at : trace ≡ with_background state.starts (record { link = link; time = port.background; octets = waiting.octets; number = waiting.number })
+            trace_at = trace_is ∙ ap (λ l. with_background state.starts (record { link = l; time = port.background; octets = waiting.octets; number = waiting.number })) given.on
 
             pub sent_under_way : IsUnderWay setting sent
             sent_under_way =
@@ -301,7 +301,7 @@ module _ (setting : Setting) (state : State) (can : IsSetting setting) (is : IsS
                   fed = subst (λ fs. IsFedSoFar network setting.gates setting.cycles (free_on fs) port.background setting.background (waiting_on feed) trace) (sym free_is)
                       (subst (IsFedSoFar network setting.gates setting.cycles (free_on (slice_set state.free.items link until)) port.background setting.background (waiting_on feed)) (sym trace_at) fed);
                   tracked = subst (λ r. IsTracked network setting.offsets setting.cycles r state.frames.items) (sym trace_at)
-                      (still_tracked network setting.offsets setting.cycles state.starts state.frames.items (record { link = link; time = port.background; octets = waiting.octets; place = waiting.place }) is.under_way.tracked);
+                      (still_tracked network setting.offsets setting.cycles state.starts state.frames.items (record { link = link; time = port.background; octets = waiting.octets; number = waiting.number }) is.under_way.tracked);
                   feed = feed_is;
                   wires = ap length free_is ∙ (length-set state.free.items link until ∙ is.under_way.wires);
                   frees = subst (All (λ t. t ≤ 2 ^ 40)) (sym free_is) (All-set (λ t. t ≤ 2 ^ 40) state.free.items link until (omega arith) is.under_way.frees);
@@ -310,33 +310,33 @@ module _ (setting : Setting) (state : State) (can : IsSetting setting) (is : IsS
 
             free_here : free_on free.items link ≡ until
             free_here =
-                let exists = can.lists.links place no_list below in
+                let exists = can.lists.links number no_list below in
                 let wires = is.under_way.wires in
                 ap (λ fs. free_on fs link) free_is ∙ get_or-set_same state.free.items link until 0 (omega arith)
 
             -- with the port of its link made anew
-            module _ (new : Port) (new_is : (d : LinkGates) → IsPort network (get_or setting.gates place d).entries state.frames.items (waiting_on feed (get_or setting.gates place d).link) (get_or setting.gates place d).link until state.end new)
-                (all : Vec Port Global) (all_are : all.items ≡ slice_set state.ports.items place new) where
-              sent_port : (d : LinkGates) → IsPort network (get_or setting.gates place d).entries state.frames.items (waiting_on feed (get_or setting.gates place d).link) (get_or setting.gates place d).link
-                  (max (free_on free.items (get_or setting.gates place d).link) port.background) state.end new
+            module _ (new : Port) (new_is : (d : LinkGates) → IsPort network (get_or setting.gates number d).entries state.frames.items (waiting_on feed (get_or setting.gates number d).link) (get_or setting.gates number d).link until state.end new)
+                (all : Vec Port Global) (all_are : all.items ≡ slice_set state.ports.items number new) where
+              sent_port : (d : LinkGates) → IsPort network (get_or setting.gates number d).entries state.frames.items (waiting_on feed (get_or setting.gates number d).link) (get_or setting.gates number d).link
+                  (max (free_on free.items (get_or setting.gates number d).link) port.background) state.end new
               sent_port d =
-                  let at : free_on free.items (get_or setting.gates place d).link ≡ until = ap (free_on free.items) (link_is place d below) ∙ free_here in
+                  let at : free_on free.items (get_or setting.gates number d).link ≡ until = ap (free_on free.items) (link_is number d below) ∙ free_here in
                   let short = until_short in
                   let longer = short.0 in
-                  let least_of = le-max_left (free_on free.items (get_or setting.gates place d).link) port.background in
-                  let most : max (free_on free.items (get_or setting.gates place d).link) port.background ≤ until = max-le (omega arith) (omega arith) in
-                  let same : until ≡ max (free_on free.items (get_or setting.gates place d).link) port.background = omega arith in
-                  subst (λ n. IsPort network (get_or setting.gates place d).entries state.frames.items (waiting_on feed (get_or setting.gates place d).link) (get_or setting.gates place d).link n state.end new) same (new_is d)
+                  let least_of = le-max_left (free_on free.items (get_or setting.gates number d).link) port.background in
+                  let most : max (free_on free.items (get_or setting.gates number d).link) port.background ≤ until = max-le (omega arith) (omega arith) in
+                  let same : until ≡ max (free_on free.items (get_or setting.gates number d).link) port.background = omega arith in
+                  subst (λ n. IsPort network (get_or setting.gates number d).entries state.frames.items (waiting_on feed (get_or setting.gates number d).link) (get_or setting.gates number d).link n state.end new) same (new_is d)
 
-              sent_other : (other : ℕ) → other < length setting.gates → (place ≡ other → ⊥) → IsPortAt setting sent other (port_at other)
+              sent_other : (other : ℕ) → other < length setting.gates → (number ≡ other → ⊥) → IsPortAt setting sent other (port_at other)
               sent_other other other_below differ d =
                   let at = (get_or setting.gates other d).link in
-                  let apart : at ≡ link → ⊥ = λ same. elim (cases_lt place other) [
-                    | inl before ↦ can.lists.distinct place other no_list before other_below (sym same ∙ link_is other d other_below)
-                    | inr not_before ↦ can.lists.distinct other place no_list (omega arith) below (sym (link_is other d other_below) ∙ same)
+                  let apart : at ≡ link → ⊥ = λ same. elim (cases_lt number other) [
+                    | inl before ↦ can.lists.distinct number other no_list before other_below (sym same ∙ link_is other d other_below)
+                    | inr not_before ↦ can.lists.distinct other number no_list (omega arith) below (sym (link_is other d other_below) ∙ same)
                   ] in
                   let soon = least other other_below in
-                  let here : port_time (port_at place) ≡ port_time port = ap port_time port_is in
+                  let here : port_time (port_at number) ≡ port_time port = ap port_time port_is in
                   let now = port_first in
                   other_later port.background other d state.frames.items free.items feed is_send_next.forward (omega arith) (ap (λ fs. free_on fs at) free_is ∙ get_or-set_other state.free.items link at until 0 apart) (others at apart)
                   (is.ports.each other other_below d)
@@ -345,14 +345,14 @@ module _ (setting : Setting) (state : State) (can : IsSetting setting) (is : IsS
               sent_state = record {
                 under_way = under_way_ports setting sent all sent_under_way;
                 ports = record {
-                  count = ap length all_are ∙ (length-set state.ports.items place new ∙ is.ports.count);
-                  each = λ other other_below. elim (cases_eq place other) [
+                  count = ap length all_are ∙ (length-set state.ports.items number new ∙ is.ports.count);
+                  each = λ other other_below. elim (cases_eq number other) [
                     | inl same ↦
                         let count = is.ports.count in
-                        let read : new ≡ port_in all.items place = sym (port_set_same state.ports.items place new (let b = below in omega arith)) ∙ ap (λ ps. port_in ps place) (sym all_are) in
-                        subst (λ n. IsPortAt setting sent n (port_in all.items n)) same (subst (IsPortAt setting sent place) read sent_port)
+                        let read : new ≡ port_in all.items number = sym (port_set_same state.ports.items number new (let b = below in omega arith)) ∙ ap (λ ps. port_in ps number) (sym all_are) in
+                        subst (λ n. IsPortAt setting sent n (port_in all.items n)) same (subst (IsPortAt setting sent number) read sent_port)
                     | inr differ ↦
-                        let read : port_at other ≡ port_in all.items other = sym (port_set_other state.ports.items place other new differ) ∙ ap (λ ps. port_in ps other) (sym all_are) in
+                        let read : port_at other ≡ port_in all.items other = sym (port_set_other state.ports.items number other new differ) ∙ ap (λ ps. port_in ps other) (sym all_are) in
                         subst (IsPortAt setting sent other) read (sent_other other other_below differ)
                   ];
                 };
@@ -365,7 +365,7 @@ module _ (setting : Setting) (state : State) (can : IsSetting setting) (is : IsS
                 let short = until_short in
                 let longer = short.0 in
                 let wire = is_send_next.wire send_in_time in
-                let exists = can.lists.links place no_list below in
+                let exists = can.lists.links number no_list below in
                 let wires = is.under_way.wires in
                 subst (λ fs. sum_by (λ t. state.end - t) fs < sum_by (λ t. state.end - t) state.free.items) (sym free_is)
                 (time_falls state.free.items link until state.end (omega arith) (omega arith) (omega arith))

@@ -8,7 +8,7 @@ use Rattle.std.proofs.lemmas.List.Elements.{All-nil}
 use Rattle.tsn_model.proofs.Lists.{Contains-nil}
 use Rattle.tsn_model.specs.Network.{Network, IsWellFormed, link_at}
 use Rattle.tsn_model.specs.Timing.{occupancy}
-use Rattle.tsn_model.specs.Bridge.{LinkGates, BackgroundOpen, ScheduledStart, BackgroundStart, BackgroundFrame, Background, BridgeRun, WireUse, wire_uses, link_of, length_of, IsPassage, IsReady, FitsAt, IsTaken, IsBefore, PlaceStartedBefore, frame_at, IsBridgeRun, IsFed}
+use Rattle.tsn_model.specs.Bridge.{LinkGates, BackgroundOpen, ScheduledStart, BackgroundStart, BackgroundFrame, Background, BridgeRun, WireUse, wire_uses, link_of, length_of, IsPassage, IsReady, FitsAt, IsTaken, IsBefore, FrameStartedBefore, frame_at, IsBridgeRun, IsFed}
 use Rattle.tsn_model.specs.Bridge.Background.{nothing, greedy, frames as listed}
 use Rattle.tsn_replay.specs.declared.queue.Frame.{Frame}
 use Rattle.tsn_replay.specs.declared.feed.Waiting.{Waiting}
@@ -33,7 +33,7 @@ pub record IsGiven (network : Network) (link : ℕ) (waiting : Waiting) : Type 0
 listed_given : (network : Network) (gates : List LinkGates) (list : List BackgroundFrame) → HasBackground network gates (listed list) → (link : ℕ) (waiting : Waiting) → IsOfList list link waiting → IsGiven network link waiting
 unfolding waiting_at
 listed_given network gates list given link waiting of =
-    let frame = given waiting.place of.listed in
+    let frame = given waiting.number of.listed in
     let octets = ap (λ (w : Waiting). w.octets) of.is in
     let wanted = ap (λ (w : Waiting). w.wanted) of.is in
     let short = frame.short in
@@ -72,9 +72,9 @@ module _ (network : Network) (formed : IsWellFormed network) (offsets : List ℕ
   passed : (later : ℕ) → now ≤ later → later ≤ next.time → IsRunSoFar network offsets gates cycles (free_on free) later run
   passed later forward upto = time_passes network offsets gates cycles (free_on free) now later run forward so_far (λ t present soon in_time link open'. quiet_until t present (omega arith) in_time link open')
 
-  closed_until : (t : ℕ) → now ≤ t → t < next.time → t < cycles * network.cycle → (place : ℕ) (d : LinkGates) → place < length gates → free_on free (get_or gates place d).link ≤ t
-      → (waiting : Waiting) → line (get_or gates place d).link ≡ Some waiting → waiting.wanted ≤ t → BackgroundOpen gates (get_or gates place d).link t → ⊥
-  closed_until t present before in_time place d below open' = (is.idle t place d present before in_time below open').background
+  closed_until : (t : ℕ) → now ≤ t → t < next.time → t < cycles * network.cycle → (number : ℕ) (d : LinkGates) → number < length gates → free_on free (get_or gates number d).link ≤ t
+      → (waiting : Waiting) → line (get_or gates number d).link ≡ Some waiting → waiting.wanted ≤ t → BackgroundOpen gates (get_or gates number d).link t → ⊥
+  closed_until t present before in_time number d below open' = (is.idle t number d present before in_time below open').background
 
   fed_passed : (later : ℕ) → now ≤ later → later ≤ next.time → IsFedSoFar network gates cycles (free_on free) later background line run
   fed_passed later forward upto = passes background given fed where
@@ -87,13 +87,13 @@ module _ (network : Network) (formed : IsWellFormed network) (offsets : List ℕ
     )
     passes (listed list) frames_given (before, lines) = (
       list_passes network formed offsets gates cycles (free_on free) now run so_far list before later
-          (λ place t below present soon in_time open'.
-          let frame = frames_given place below in
+          (λ number t below present soon in_time open'.
+          let frame = frames_given number below in
           let at = frame.listed in
           let none : LinkGates = record { link = 0; entries = [] } in
           let same = at.2 none in (
-            line (frame_at list place).link,
-            lines (frame_at list place).link frame.exists,
+            line (frame_at list number).link,
+            lines (frame_at list number).link frame.exists,
             λ waiting first wanted opened. closed_until t present (omega arith) in_time at.0 none at.1 (subst (λ l. free_on free l ≤ t) (sym same) open')
                 waiting (subst (λ l. line l ≡ Some waiting) (sym same) first) wanted (subst (λ l. BackgroundOpen gates l t) (sym same) opened),
           )),
@@ -119,69 +119,69 @@ module _ (network : Network) (formed : IsWellFormed network) (offsets : List ℕ
     here_fed = fed_passed next.time is.forward (omega arith)
 
     -- a scheduled frame
-    module _ (place : ℕ) (frame_is : next.frame ≡ Some place) where
-      pub can_start : CanStart network gates frames line next (Some place)
+    module _ (number : ℕ) (frame_is : next.frame ≡ Some number) where
+      pub can_start : CanStart network gates frames line next (Some number)
       can_start = subst (CanStart network gates frames line next) frame_is (is.can in_time)
 
-      due : IsDue network offsets gates cycles (free_on free) next.time run (passage_of (frame_in frames place)) (frame_in frames place).ready
-      due = due_from_head network formed offsets gates cycles (free_on free) next.time run here_so_far frames tracked next.link place next.time (omega arith) in_time (is.wire in_time) can_start.0 can_start.1 can_start.2
+      due : IsDue network offsets gates cycles (free_on free) next.time run (passage_of (frame_in frames number)) (frame_in frames number).ready
+      due = due_from_head network formed offsets gates cycles (free_on free) next.time run here_so_far frames tracked next.link number next.time (omega arith) in_time (is.wire in_time) can_start.0 can_start.1 can_start.2
 
-      on : link_of network (passage_of (frame_in frames place)) ≡ next.link
-      on = waiting_link network next.link (frame_in frames place) can_start.0.1
+      on : link_of network (passage_of (frame_in frames number)) ≡ next.link
+      on = waiting_link network next.link (frame_in frames number) can_start.0.1
 
-      module _ (until : ℕ) (until_is : until ≡ next.time + length_of network (passage_of (frame_in frames place))) (wires : length free ≡ length network.links) where
-        set_here : free_on (slice_set free next.link until) (link_of network (passage_of (frame_in frames place))) ≡ next.time + length_of network (passage_of (frame_in frames place))
+      module _ (until : ℕ) (until_is : until ≡ next.time + length_of network (passage_of (frame_in frames number))) (wires : length free ≡ length network.links) where
+        set_here : free_on (slice_set free next.link until) (link_of network (passage_of (frame_in frames number))) ≡ next.time + length_of network (passage_of (frame_in frames number))
         set_here =
             let exists = is.link in_time in
             ap (free_on (slice_set free next.link until)) on ∙ (get_or-set_same free next.link until 0 (omega arith) ∙ until_is)
 
-        set_elsewhere : (m : ℕ) → (m ≡ link_of network (passage_of (frame_in frames place)) → ⊥) → free_on (slice_set free next.link until) m ≡ free_on free m
+        set_elsewhere : (m : ℕ) → (m ≡ link_of network (passage_of (frame_in frames number)) → ⊥) → free_on (slice_set free next.link until) m ≡ free_on free m
         set_elsewhere m differ = get_or-set_other free next.link m until 0 (λ same. differ (same ∙ sym on))
 
-        pub passage_run : IsRunSoFar network offsets gates cycles (free_on (slice_set free next.link until)) next.time (with_passage run (passage_of (frame_in frames place)) next.time)
-        passage_run = passage_begins network formed offsets gates cycles (free_on free) (free_on (slice_set free next.link until)) next.time run here_so_far (passage_of (frame_in frames place)) (frame_in frames place).ready due set_here set_elsewhere
+        pub passage_run : IsRunSoFar network offsets gates cycles (free_on (slice_set free next.link until)) next.time (with_passage run (passage_of (frame_in frames number)) next.time)
+        passage_run = passage_begins network formed offsets gates cycles (free_on free) (free_on (slice_set free next.link until)) next.time run here_so_far (passage_of (frame_in frames number)) (frame_in frames number).ready due set_here set_elsewhere
 
-        passage_busy : (m t : ℕ) → next.time ≤ t → t < free_on (slice_set free next.link until) m → IsTaken network (with_passage run (passage_of (frame_in frames place)) next.time) m t
+        passage_busy : (m t : ℕ) → next.time ≤ t → t < free_on (slice_set free next.link until) m → IsTaken network (with_passage run (passage_of (frame_in frames number)) next.time) m t
         passage_busy = passage_run.busy
 
         fed_passage : (b : Background) → IsFedSoFar network gates cycles (free_on free) next.time b line run
-            → IsFedSoFar network gates cycles (free_on (slice_set free next.link until)) next.time b line (with_passage run (passage_of (frame_in frames place)) next.time)
+            → IsFedSoFar network gates cycles (free_on (slice_set free next.link until)) next.time b line (with_passage run (passage_of (frame_in frames number)) next.time)
         fed_passage nothing before = before
         fed_passage greedy (before, always) = (
-          passage_greedy network formed offsets gates cycles (free_on free) (free_on (slice_set free next.link until)) next.time run here_so_far (passage_of (frame_in frames place)) (frame_in frames place).ready due set_here set_elsewhere before,
+          passage_greedy network formed offsets gates cycles (free_on free) (free_on (slice_set free next.link until)) next.time run here_so_far (passage_of (frame_in frames number)) (frame_in frames number).ready due set_here set_elsewhere before,
           always,
         )
         fed_passage (listed list) (before, lines) = (
-          list_kept network formed offsets gates cycles (free_on free) next.time run here_so_far (with_passage run (passage_of (frame_in frames place)) next.time) (free_on (slice_set free next.link until))
-              (passage_extends network formed offsets gates cycles (free_on free) (free_on (slice_set free next.link until)) next.time run here_so_far (passage_of (frame_in frames place)) (frame_in frames place).ready due set_here set_elsewhere)
+          list_kept network formed offsets gates cycles (free_on free) next.time run here_so_far (with_passage run (passage_of (frame_in frames number)) next.time) (free_on (slice_set free next.link until))
+              (passage_extends network formed offsets gates cycles (free_on free) (free_on (slice_set free next.link until)) next.time run here_so_far (passage_of (frame_in frames number)) (frame_in frames number).ready due set_here set_elsewhere)
               passage_busy list before refl,
           lines,
         )
 
-        pub passage_fed : IsFedSoFar network gates cycles (free_on (slice_set free next.link until)) next.time background line (with_passage run (passage_of (frame_in frames place)) next.time)
+        pub passage_fed : IsFedSoFar network gates cycles (free_on (slice_set free next.link until)) next.time background line (with_passage run (passage_of (frame_in frames number)) next.time)
         passage_fed = fed_passage background here_fed
 
-        pub passage_tracked : IsTracked network offsets cycles (with_passage run (passage_of (frame_in frames place)) next.time) (slice_set frames place (advanced network (frame_in frames place) next.time))
-        passage_tracked = tracked_next network offsets cycles run frames tracked place next.time can_start.0.0 can_start.0.1.waits
+        pub passage_tracked : IsTracked network offsets cycles (with_passage run (passage_of (frame_in frames number)) next.time) (slice_set frames number (advanced network (frame_in frames number) next.time))
+        passage_tracked = tracked_next network offsets cycles run frames tracked number next.time can_start.0.0 can_start.0.1.waits
 
-      pub length_is : (occ : ℕ) → occ ≡ occupancy network (frame_in frames place).stream next.link → next.time + occ ≡ next.time + length_of network (passage_of (frame_in frames place))
-      length_is occ is_occ = ap (λ n. next.time + n) (is_occ ∙ (ap (occupancy network (frame_in frames place).stream) (sym on) ∙ length_at network (frame_in frames place)))
+      pub length_is : (occ : ℕ) → occ ≡ occupancy network (frame_in frames number).stream next.link → next.time + occ ≡ next.time + length_of network (passage_of (frame_in frames number))
+      length_is occ is_occ = ap (λ n. next.time + n) (is_occ ∙ (ap (occupancy network (frame_in frames number).stream) (sym on) ∙ length_at network (frame_in frames number)))
 
       -- the state after it, from what the program computed
-      pub passage_step : (frame : Frame) → frame ≡ frame_in frames place → (trace : BridgeRun) → trace ≡ with_passage run (passage_of frame) next.time → (occ : ℕ) → occ ≡ occupancy network frame.stream next.link
+      pub passage_step : (frame : Frame) → frame ≡ frame_in frames number → (trace : BridgeRun) → trace ≡ with_passage run (passage_of frame) next.time → (occ : ℕ) → occ ≡ occupancy network frame.stream next.link
           → (moved : Frame) → moved ≡ advanced network frame next.time → length free ≡ length network.links
           → IsRunSoFar network offsets gates cycles (free_on (slice_set free next.link (next.time + occ))) next.time trace
           × IsFedSoFar network gates cycles (free_on (slice_set free next.link (next.time + occ))) next.time background line trace
-          × IsTracked network offsets cycles trace (slice_set frames place moved)
+          × IsTracked network offsets cycles trace (slice_set frames number moved)
       passage_step frame same trace trace_is occ is_occ moved moved_is wires =
-          let occ_at : occ ≡ occupancy network (frame_in frames place).stream next.link = is_occ ∙ ap (λ (f : Frame). occupancy network f.stream next.link) same in
+          let occ_at : occ ≡ occupancy network (frame_in frames number).stream next.link = is_occ ∙ ap (λ (f : Frame). occupancy network f.stream next.link) same in
           let until = length_is occ occ_at in
-          let run_is : trace ≡ with_passage run (passage_of (frame_in frames place)) next.time = trace_is ∙ ap (λ (f : Frame). with_passage run (passage_of f) next.time) same in
-          let frame_at : moved ≡ advanced network (frame_in frames place) next.time = moved_is ∙ ap (λ (f : Frame). advanced network f next.time) same in (
+          let run_is : trace ≡ with_passage run (passage_of (frame_in frames number)) next.time = trace_is ∙ ap (λ (f : Frame). with_passage run (passage_of f) next.time) same in
+          let frame_at : moved ≡ advanced network (frame_in frames number) next.time = moved_is ∙ ap (λ (f : Frame). advanced network f next.time) same in (
             subst (IsRunSoFar network offsets gates cycles (free_on (slice_set free next.link (next.time + occ))) next.time) (sym run_is) (passage_run (next.time + occ) until wires),
             subst (IsFedSoFar network gates cycles (free_on (slice_set free next.link (next.time + occ))) next.time background line) (sym run_is) (passage_fed (next.time + occ) until wires),
-            subst (λ r. IsTracked network offsets cycles r (slice_set frames place moved)) (sym run_is)
-                (subst (λ f. IsTracked network offsets cycles (with_passage run (passage_of (frame_in frames place)) next.time) (slice_set frames place f)) (sym frame_at) (passage_tracked (next.time + occ) until wires)),
+            subst (λ r. IsTracked network offsets cycles r (slice_set frames number moved)) (sym run_is)
+                (subst (λ f. IsTracked network offsets cycles (with_passage run (passage_of (frame_in frames number)) next.time) (slice_set frames number f)) (sym frame_at) (passage_tracked (next.time + occ) until wires)),
           )
 
     -- a background frame
@@ -211,23 +211,23 @@ module _ (network : Network) (formed : IsWellFormed network) (offsets : List ℕ
       sent_elsewhere m differ = get_or-set_other free next.link m until 0 differ
 
       abbrev sent : BridgeRun
-      sent = with_background run (record { link = next.link; time = next.time; octets = waiting.octets; place = waiting.place })
+      sent = with_background run (record { link = next.link; time = next.time; octets = waiting.octets; number = waiting.number })
 
       is_given : IsGiven network next.link waiting
       is_given = line_given network gates cycles (free_on free) next.time line run background given here_fed next.link (is.link in_time) waiting first
 
       pub send_run : IsRunSoFar network offsets gates cycles (free_on (slice_set free next.link until)) next.time sent
-      send_run = background_begins network offsets gates cycles (free_on free) (free_on (slice_set free next.link until)) next.time run here_so_far next.link waiting.octets waiting.place send_due is_given.short sent_here sent_elsewhere
+      send_run = background_begins network offsets gates cycles (free_on free) (free_on (slice_set free next.link until)) next.time run here_so_far next.link waiting.octets waiting.number send_due is_given.short sent_here sent_elsewhere
 
       send_extends : Extends network run sent next.time
-      send_extends = background_extends network offsets gates cycles (free_on free) (free_on (slice_set free next.link until)) next.time run here_so_far next.link waiting.octets waiting.place send_due is_given.short sent_here sent_elsewhere
+      send_extends = background_extends network offsets gates cycles (free_on free) (free_on (slice_set free next.link until)) next.time run here_so_far next.link waiting.octets waiting.number send_due is_given.short sent_here sent_elsewhere
 
       module _ (line' : ℕ → Option Waiting) (others : (m : ℕ) → (m ≡ next.link → ⊥) → line' m ≡ line m) (follows : IsSent background (line next.link) (line' next.link)) where
         fed_send : (b : Background) → IsFedSoFar network gates cycles (free_on free) next.time b line run → IsSent b (line next.link) (line' next.link)
             → IsFedSoFar network gates cycles (free_on (slice_set free next.link until)) next.time b line' sent
         fed_send nothing (before, never) still = let none : None ≡ Some waiting = sym (never next.link (is.link in_time)) ∙ first in cc
         fed_send greedy (before, always) still = (
-          background_greedy network offsets gates cycles (free_on free) (free_on (slice_set free next.link until)) next.time run here_so_far next.link waiting.octets waiting.place send_due is_given.short sent_here sent_elsewhere greatest before,
+          background_greedy network offsets gates cycles (free_on free) (free_on (slice_set free next.link until)) next.time run here_so_far next.link waiting.octets waiting.number send_due is_given.short sent_here sent_elsewhere greatest before,
           λ m exists. elim (cases_eq m next.link) [
             | inl same ↦ subst (λ l. line' l ≡ Some (greatest_on l)) (sym same) (still ∙ always next.link (is.link in_time))
             | inr differ ↦ others m differ ∙ always m exists
@@ -239,17 +239,17 @@ module _ (network : Network) (formed : IsWellFormed network) (offsets : List ℕ
               let same : waiting ≡ greatest_on next.link = cc some in
               ap (λ (w : Waiting). w.octets) same
         fed_send (listed list) (before, lines) still = (
-          subst (λ l. IsListSoFar network gates cycles list (free_on (slice_set free next.link until)) next.time (with_background run (record { link = l; time = next.time; octets = waiting.octets; place = waiting.place }))) is_given.on
+          subst (λ l. IsListSoFar network gates cycles list (free_on (slice_set free next.link until)) next.time (with_background run (record { link = l; time = next.time; octets = waiting.octets; number = waiting.number }))) is_given.on
               (list_sent network formed offsets gates cycles (free_on free) next.time run here_so_far list before next.link (is.link in_time) waiting in_line wanted (is.wire in_time) (free_on (slice_set free next.link until))
-              (subst (λ l. Extends network run (with_background run (record { link = l; time = next.time; octets = waiting.octets; place = waiting.place })) next.time) (sym is_given.on) send_extends)
-              (subst (λ l. (m t : ℕ) → next.time ≤ t → t < free_on (slice_set free next.link until) m → IsTaken network (with_background run (record { link = l; time = next.time; octets = waiting.octets; place = waiting.place })) m t) (sym is_given.on) send_run.busy)),
+              (subst (λ l. Extends network run (with_background run (record { link = l; time = next.time; octets = waiting.octets; number = waiting.number })) next.time) (sym is_given.on) send_extends)
+              (subst (λ l. (m t : ℕ) → next.time ≤ t → t < free_on (slice_set free next.link until) m → IsTaken network (with_background run (record { link = l; time = next.time; octets = waiting.octets; number = waiting.number })) m t) (sym is_given.on) send_run.busy)),
           λ m exists. elim (cases_eq m next.link) [
             | inl same ↦ subst (λ l. IsLine list sent l (line' l)) (sym same)
-                (subst (λ l. IsLine list (with_background run (record { link = l; time = next.time; octets = waiting.octets; place = waiting.place })) next.link (line' next.link)) is_given.on
+                (subst (λ l. IsLine list (with_background run (record { link = l; time = next.time; octets = waiting.octets; number = waiting.number })) next.link (line' next.link)) is_given.on
                 (line_sent network formed offsets gates cycles (free_on free) next.time run here_so_far list before next.link (is.link in_time) waiting in_line wanted (is.wire in_time) (free_on (slice_set free next.link until))
                 (line' next.link) (still waiting first)))
             | inr differ ↦ subst (IsLine list sent m) (sym (others m differ))
-                (subst (λ l. IsLine list (with_background run (record { link = l; time = next.time; octets = waiting.octets; place = waiting.place })) m (line m)) is_given.on
+                (subst (λ l. IsLine list (with_background run (record { link = l; time = next.time; octets = waiting.octets; number = waiting.number })) m (line m)) is_given.on
                 (line_other network formed offsets gates cycles (free_on free) next.time run here_so_far list before next.link (is.link in_time) waiting in_line wanted (is.wire in_time) (free_on (slice_set free next.link until))
                 m differ (line m) (lines m exists)))
           ],
@@ -284,11 +284,11 @@ no_run network offsets gates cycles free empty = record {
 
 no_list : (network : Network) (gates : List LinkGates) (cycles : ℕ) (free : List ℕ) → ((link : ℕ) → free_on free link ≡ 0) → (list : List BackgroundFrame) → IsListSoFar network gates cycles list (free_on free) 0 no_start
 no_list network gates cycles free empty list = record {
-  listed = All-nil (λ (begun : BackgroundStart). (begun.place < length list) × (begun.link ≡ (frame_at list begun.place).link) × (begun.octets ≡ (frame_at list begun.place).octets));
+  listed = All-nil (λ (begun : BackgroundStart). (begun.number < length list) × (begun.link ≡ (frame_at list begun.number).link) × (begun.octets ≡ (frame_at list begun.number).octets));
   once = λ i j d order below. absurd (omega arith);
-  wanted = All-nil (λ (begun : BackgroundStart). (frame_at list begun.place).wanted ≤ begun.time);
-  in_order = All-nil (λ (begun : BackgroundStart). (earlier : ℕ) → IsBefore list earlier begun.place → PlaceStartedBefore no_start earlier begun.time);
-  waits = λ place t below wanted in_time when never. let none = empty (frame_at list place).link in elim when [ inl past ↦ absurd (omega arith) | inr soon ↦ absurd (omega arith) ];
+  wanted = All-nil (λ (begun : BackgroundStart). (frame_at list begun.number).wanted ≤ begun.time);
+  in_order = All-nil (λ (begun : BackgroundStart). (earlier : ℕ) → IsBefore list earlier begun.number → FrameStartedBefore no_start earlier begun.time);
+  waits = λ number t below wanted in_time when never. let none = empty (frame_at list number).link in elim when [ inl past ↦ absurd (omega arith) | inr soon ↦ absurd (omega arith) ];
 }
 
 pub no_fed : (network : Network) (gates : List LinkGates) (cycles : ℕ) (free : List ℕ) → ((link : ℕ) → free_on free link ≡ 0) → (background : Background) (line : ℕ → Option Waiting)
@@ -305,16 +305,16 @@ no_fed network gates cycles free empty (listed list) line first = (no_list netwo
 
 -- ---- readings
 
-pub read_frame : (frames : List Frame) (place : ℕ) (frame : Frame) → place < length frames → frame ≡ get_or frames place frame → frame ≡ frame_in frames place
+pub read_frame : (frames : List Frame) (number : ℕ) (frame : Frame) → number < length frames → frame ≡ get_or frames number frame → frame ≡ frame_in frames number
 unfolding frame_in
-read_frame frames place frame below is = is ∙ get_or_default frames place frame (record { stream = 0; cycle = 0; hop = 0; ready = 0 }) below
+read_frame frames number frame below is = is ∙ get_or_default frames number frame (record { stream = 0; cycle = 0; hop = 0; ready = 0 }) below
 
 still_frame : (network : Network) (offsets : List ℕ) (cycles : ℕ) (run : BridgeRun) (frame : Frame) (begun : BackgroundStart) → IsFrame network offsets cycles run frame → IsFrame network offsets cycles (with_background run begun) frame
 still_frame network offsets cycles run frame begun is = record { stream = is.stream; cycle = is.cycle; hop = is.hop; started = is.started; unstarted = is.unstarted; ready = is.ready }
 
 -- a background start changes nothing for the frames
 pub still_tracked : (network : Network) (offsets : List ℕ) (cycles : ℕ) (run : BridgeRun) (frames : List Frame) (begun : BackgroundStart) → IsTracked network offsets cycles run frames → IsTracked network offsets cycles (with_background run begun) frames
-still_tracked network offsets cycles run frames begun tracked = record { each = λ place below. still_frame network offsets cycles run (frame_in frames place) begun (tracked.each place below); complete = tracked.complete; distinct = tracked.distinct }
+still_tracked network offsets cycles run frames begun tracked = record { each = λ number below. still_frame network offsets cycles run (frame_in frames number) begun (tracked.each number below); complete = tracked.complete; distinct = tracked.distinct }
 
 pub zeros : (n link : ℕ) → free_on (replicate n 0) link ≡ 0
 zeros n link = elim (cases_lt link n) [

@@ -11,7 +11,7 @@ use Rattle.tsn_model.proofs.Limits.{hops-le}
 use Rattle.tsn_model.proofs.Lists.{All-flat_map, All-range, All-unmap, Contains-nil, range_more}
 use Rattle.tsn_model.proofs.OnTime.{passage_cases, same_cycle, cycle_below}
 use Rattle.tsn_replay.specs.declared.trace.Row.{Row}
-use Rattle.tsn_replay.specs.Rows.{stream_passages, cycle_passages, passages_of, place_of, row_of, row_passage, IsTable, IsRow, AreRows}
+use Rattle.tsn_replay.specs.Rows.{stream_passages, cycle_passages, passages_of, cell_of, row_of, row_passage, IsTable, IsRow, AreRows}
 
 abbrev pub passage_at : ℕ → ℕ → ℕ → Passage
 passage_at cycle stream hop = record { stream = stream; cycle = cycle; hop = hop }
@@ -29,29 +29,29 @@ pieces_more f g n =
     ap (flat_map g) more ∙ (flat_map-append g (range_with_len 0 n) (n ∷ []) ∙ ap (λ ys. flat_map g (range_with_len 0 n) ++ ys) (append-nil (g n))) in
     ap (map f) pieces ∙ map-append f (flat_map g (range_with_len 0 n)) (g n)
 
--- ---- places
+-- ---- numbers
 
 module _ (network : Network) (formed : IsWellFormed network) (cycles : ℕ) where
-  pub place_below : (p : Passage) → IsPassage network cycles p → place_of network p < (p.cycle + 1) * stream_count network * 16
-  unfolding place_of
-  place_below p is =
+  pub cell_below : (p : Passage) → IsPassage network cycles p → cell_of network p < (p.cycle + 1) * stream_count network * 16
+  unfolding cell_of
+  cell_below p is =
       let few = hops-le network formed p.stream is.stream in
       let hop = is.hop in
       let stream = is.stream in
       let gap = cycle_below p.cycle (p.cycle + 1) (stream_count network) (omega arith) in
       omega arith
 
-  pub place_inside : (p : Passage) → IsPassage network cycles p → place_of network p < cycles * stream_count network * 16
-  place_inside p is =
-      let below = place_below p is in
+  pub cell_inside : (p : Passage) → IsPassage network cycles p → cell_of network p < cycles * stream_count network * 16
+  cell_inside p is =
+      let below = cell_below p is in
       let cycle : p.cycle + 1 ≤ cycles = let c = is.cycle in omega arith in
       let same : stream_count network ≤ stream_count network = omega arith in
       let product : (p.cycle + 1) * stream_count network ≤ cycles * stream_count network = mul-le-mul cycle same in
       omega arith
 
-  pub place_once : (p q : Passage) → IsPassage network cycles p → IsPassage network cycles q → place_of network p ≡ place_of network q → p ≡ q
-  unfolding place_of
-  place_once p q is_p is_q same =
+  pub cell_once : (p q : Passage) → IsPassage network cycles p → IsPassage network cycles q → cell_of network p ≡ cell_of network q → p ≡ q
+  unfolding cell_of
+  cell_once p q is_p is_q same =
       let few_p = hops-le network formed p.stream is_p.stream in
       let few_q = hops-le network formed q.stream is_q.stream in
       let hop_p = is_p.hop in
@@ -70,7 +70,7 @@ module _ (network : Network) (formed : IsWellFormed network) (cycles : ℕ) wher
     count = ap length is ∙ length-replicate (cycles * stream_count network * 16) None;
     has = λ p t passage. (
       λ some.
-          let none : get_or table (place_of network p) None ≡ None = ap (λ xs. get_or xs (place_of network p) None) is ∙ get_or-replicate (cycles * stream_count network * 16) (place_of network p) None None (place_inside p passage) in
+          let none : get_or table (cell_of network p) None ≡ None = ap (λ xs. get_or xs (cell_of network p) None) is ∙ get_or-replicate (cycles * stream_count network * 16) (cell_of network p) None None (cell_inside p passage) in
           let never : None ≡ Some t = sym none ∙ some in
           cc,
       λ has. absurd (Contains-nil _ has),
@@ -98,16 +98,16 @@ module _ (network : Network) (formed : IsWellFormed network) (cycles : ℕ) wher
         let same = once at.0 index begun at.1 below (ap (λ (b : ScheduledStart). b.passage) here ∙ sym (ap (λ (b : ScheduledStart). b.passage) is)) in
         sym (ap (λ (b : ScheduledStart). b.time) here) ∙ (same ∙ ap (λ (b : ScheduledStart). b.time) is)
 
-    pub table_more : IsTable network cycles (take (index + 1) starts) (slice_set table (place_of network begun.passage) (Some begun.time))
+    pub table_more : IsTable network cycles (take (index + 1) starts) (slice_set table (cell_of network begun.passage) (Some begun.time))
     table_more = record {
-      count = length-set table (place_of network begun.passage) (Some begun.time) ∙ before.count;
+      count = length-set table (cell_of network begun.passage) (Some begun.time) ∙ before.count;
       has = λ p t passage. elim (passage_cases begun.passage p) [
         | inl same ↦
             let size = before.count in
-            let inside = place_inside begun.passage begun_passage in
-            let read : get_or (slice_set table (place_of network begun.passage) (Some begun.time)) (place_of network begun.passage) None ≡ Some begun.time =
-            get_or-set_same table (place_of network begun.passage) (Some begun.time) None (omega arith) in
-            subst (λ q. (get_or (slice_set table (place_of network begun.passage) (Some begun.time)) (place_of network q) None ≡ Some t) ↔ Contains (take (index + 1) starts) (record { passage = q; time = t })) same (
+            let inside = cell_inside begun.passage begun_passage in
+            let read : get_or (slice_set table (cell_of network begun.passage) (Some begun.time)) (cell_of network begun.passage) None ≡ Some begun.time =
+            get_or-set_same table (cell_of network begun.passage) (Some begun.time) None (omega arith) in
+            subst (λ q. (get_or (slice_set table (cell_of network begun.passage) (Some begun.time)) (cell_of network q) None ≡ Some t) ↔ Contains (take (index + 1) starts) (record { passage = q; time = t })) same (
               λ some.
                   let both : Some begun.time ≡ Some t = sym read ∙ some in
                   let time : begun.time ≡ t = cc both in
@@ -115,9 +115,9 @@ module _ (network : Network) (formed : IsWellFormed network) (cycles : ℕ) wher
               λ has. read ∙ ap Some (sym (one_time t has)),
             )
         | inr differ ↦
-            let apart : place_of network p ≡ place_of network begun.passage → ⊥ = λ same. differ (place_once begun.passage p begun_passage passage (sym same)) in
-            let read : get_or (slice_set table (place_of network begun.passage) (Some begun.time)) (place_of network p) None ≡ get_or table (place_of network p) None =
-            get_or-set_other table (place_of network begun.passage) (place_of network p) (Some begun.time) None apart in (
+            let apart : cell_of network p ≡ cell_of network begun.passage → ⊥ = λ same. differ (cell_once begun.passage p begun_passage passage (sym same)) in
+            let read : get_or (slice_set table (cell_of network begun.passage) (Some begun.time)) (cell_of network p) None ≡ get_or table (cell_of network p) None =
+            get_or-set_other table (cell_of network begun.passage) (cell_of network p) (Some begun.time) None apart in (
               λ some. subst (λ xs. Contains xs (record { passage = p; time = t })) (sym more)
                   (Contains-append_left (take index starts) (begun ∷ []) (record { passage = p; time = t }) ((before.has p t passage).0 (sym read ∙ some))),
               λ has. read ∙ (before.has p t passage).1

@@ -17,7 +17,7 @@ use Rattle.tsn_replay.specs.Queue.{Waits, IsHead, IsSilent, frame_in, passage_of
 use Rattle.tsn_replay.specs.Progress.{IsRunSoFar, IsTracked, IsDue, IsQuiet}
 use Rattle.tsn_replay.proofs.Nexts.{waiting_link}
 
--- two elements at different places of the first of two lists
+-- two elements at different numbers of the first of two lists
 pairs_apart : {X Y : Type 0} (R : Y → Y → Type 0) (f : X → Y) (xs : List X) (ys : List Y) (d : X) (i j : ℕ) → AllPairs R (map f xs ++ ys) → i < j → j < length xs → R (f (get_or xs i d)) (f (get_or xs j d))
 pairs_apart {X} {Y} R f xs ys d i j pairs order below =
     let long : length (map f xs) ≡ length xs = length-map xs f in
@@ -122,11 +122,11 @@ module _ (network : Network) (formed : IsWellFormed network) (offsets : List ℕ
   module _ (frames : List Frame) (tracked : IsTracked network offsets cycles run frames) where
     -- a passage that is ready and hasn't started is a waiting frame's
     record Found (q : Passage) (ready : ℕ) : Type 0 where
-      place : ℕ
-      below : place < length frames
-      is : passage_of (frame_in frames place) ≡ q
-      ready_is : (frame_in frames place).ready ≡ ready
-      waits : Waits network (link_of network q) (frame_in frames place)
+      number : ℕ
+      below : number < length frames
+      is : passage_of (frame_in frames number) ≡ q
+      ready_is : (frame_in frames number).ready ≡ ready
+      waits : Waits network (link_of network q) (frame_in frames number)
 
     found : (q : Passage) (ready : ℕ) → IsPassage network cycles q → IsReady network offsets run q ready → ((s : ℕ) → StartedAt run q s → ⊥) → Found q ready
     unfolding passage_of link_of
@@ -146,39 +146,39 @@ module _ (network : Network) (formed : IsWellFormed network) (offsets : List ℕ
         let is : record { stream = (frame_in frames at.0).stream; cycle = (frame_in frames at.0).cycle; hop = (frame_in frames at.0).hop } ≡ q = λ i. record { stream = at.2 i; cycle = at.3 i; hop = hop i } in
         let below : (frame_in frames at.0).hop < hop_count network (frame_in frames at.0).stream = subst (λ (x : Passage). x.hop < hop_count network x.stream) (sym is) passage.hop in
         record {
-          place = at.0;
+          number = at.0;
           below = at.1;
           is = is;
           ready_is = ready_once q (frame_in frames at.0).ready ready (subst (λ (x : Passage). IsReady network offsets run x (frame_in frames at.0).ready) is (frame.ready below)) is_ready;
           waits = record { waits = below; on = ap (λ (x : Passage). route_link network x.stream x.hop) is };
         }
 
-    frame_passage : (place : ℕ) → place < length frames → (frame_in frames place).hop < hop_count network (frame_in frames place).stream → IsPassage network cycles (passage_of (frame_in frames place))
+    frame_passage : (number : ℕ) → number < length frames → (frame_in frames number).hop < hop_count network (frame_in frames number).stream → IsPassage network cycles (passage_of (frame_in frames number))
     unfolding passage_of
-    frame_passage place below waits = let frame = tracked.each place below in record { stream = frame.stream; cycle = frame.cycle; hop = waits }
+    frame_passage number below waits = let frame = tracked.each number below in record { stream = frame.stream; cycle = frame.cycle; hop = waits }
 
     -- a waiting frame other than the head is behind it
-    behind : (link : ℕ) (head place : ℕ) → IsHead network frames link (Some head) → place < length frames → Waits network link (frame_in frames place)
-        → (passage_of (frame_in frames place) ≡ passage_of (frame_in frames head) → ⊥)
-        → ((frame_in frames head).ready < (frame_in frames place).ready) ⊎ (((frame_in frames head).ready ≡ (frame_in frames place).ready) × ((frame_in frames head).stream < (frame_in frames place).stream))
+    behind : (link : ℕ) (head number : ℕ) → IsHead network frames link (Some head) → number < length frames → Waits network link (frame_in frames number)
+        → (passage_of (frame_in frames number) ≡ passage_of (frame_in frames head) → ⊥)
+        → ((frame_in frames head).ready < (frame_in frames number).ready) ⊎ (((frame_in frames head).ready ≡ (frame_in frames number).ready) × ((frame_in frames head).stream < (frame_in frames number).stream))
     unfolding passage_of
-    behind link head place (head_below, head_waits, first) below waits differ = elim (first place below waits) [
+    behind link head number (head_below, head_waits, first) below waits differ = elim (first number below waits) [
       | inl sooner ↦ inl sooner
-      | inr (same, order) ↦ elim (cases_lt (frame_in frames head).stream (frame_in frames place).stream) [
+      | inr (same, order) ↦ elim (cases_lt (frame_in frames head).stream (frame_in frames number).stream) [
         | inl less ↦ inr (same, less)
         | inr not_less ↦
-            let stream : (frame_in frames place).stream ≡ (frame_in frames head).stream = omega arith in
+            let stream : (frame_in frames number).stream ≡ (frame_in frames head).stream = omega arith in
             let h = frame_passage head head_below head_waits.waits in
-            let p = frame_passage place below waits.waits in
-            absurd (differ (readies_differ (passage_of (frame_in frames place)) (passage_of (frame_in frames head)) (frame_in frames place).ready p h
-            (waiting_link network link (frame_in frames place) waits ∙ sym (waiting_link network link (frame_in frames head) head_waits)) stream
-            ((tracked.each place below).ready waits.waits) (subst (IsReady network offsets run (passage_of (frame_in frames head))) same ((tracked.each head head_below).ready head_waits.waits))))
+            let p = frame_passage number below waits.waits in
+            absurd (differ (readies_differ (passage_of (frame_in frames number)) (passage_of (frame_in frames head)) (frame_in frames number).ready p h
+            (waiting_link network link (frame_in frames number) waits ∙ sym (waiting_link network link (frame_in frames head) head_waits)) stream
+            ((tracked.each number below).ready waits.waits) (subst (IsReady network offsets run (passage_of (frame_in frames head))) same ((tracked.each head head_below).ready head_waits.waits))))
       ]
     ]
 
-    frame_never : (place : ℕ) → place < length frames → (s : ℕ) → StartedAt run (passage_of (frame_in frames place)) s → ⊥
+    frame_never : (number : ℕ) → number < length frames → (s : ℕ) → StartedAt run (passage_of (frame_in frames number)) s → ⊥
     unfolding passage_of
-    frame_never place below s started = (tracked.each place below).unstarted (frame_in frames place).hop s (omega arith) started
+    frame_never number below s started = (tracked.each number below).unstarted (frame_in frames number).hop s (omega arith) started
 
     -- every start so far is at or before the present instant
     not_later : (q : Passage) (t s : ℕ) → now ≤ t → NotStartedBefore run q (t + 1) → StartedAt run q s → ⊥
@@ -190,9 +190,9 @@ module _ (network : Network) (formed : IsWellFormed network) (offsets : List ℕ
         let early = begins.0 in
         absurd (omega arith)
 
-    one_place : (a b : ℕ) → a < length frames → b < length frames → passage_of (frame_in frames a) ≡ passage_of (frame_in frames b) → a ≡ b
+    one_number : (a b : ℕ) → a < length frames → b < length frames → passage_of (frame_in frames a) ≡ passage_of (frame_in frames b) → a ≡ b
     unfolding passage_of
-    one_place a b a_below b_below is = tracked.distinct a b a_below b_below (ap (λ (x : Passage). x.stream) is) (ap (λ (x : Passage). x.cycle) is)
+    one_number a b a_below b_below is = tracked.distinct a b a_below b_below (ap (λ (x : Passage). x.stream) is) (ap (λ (x : Passage). x.cycle) is)
 
     passage_order : (a b : Frame) → (a.ready < b.ready) ⊎ ((a.ready ≡ b.ready) × (a.stream < b.stream)) → (a.ready < b.ready) ⊎ ((a.ready ≡ b.ready) × ((passage_of a).stream < (passage_of b).stream))
     unfolding passage_of
@@ -203,22 +203,22 @@ module _ (network : Network) (formed : IsWellFormed network) (offsets : List ℕ
     order_at a b c p q r ready is (inr (same, less)) = inr (omega arith, subst (λ (x : Passage). p.stream < x.stream) is less)
 
     blocked_by : (head : Option ℕ) (link t : ℕ) (q : Passage) (ready : ℕ) → IsPassage network cycles q → link_of network q ≡ link → Found q ready → ready ≤ t → IsHead network frames link head
-        → ((place : ℕ) → head ≡ Some place → (frame_in frames place).ready ≤ t → FitsAt network gates (passage_of (frame_in frames place)) t → ⊥) → NotStartedBefore run q (t + 1)
+        → ((number : ℕ) → head ≡ Some number → (frame_in frames number).ready ≤ t → FitsAt network gates (passage_of (frame_in frames number)) t → ⊥) → NotStartedBefore run q (t + 1)
         → IsBlocked network offsets gates cycles run q ready t
-    blocked_by None link t q ready passage on at since none closed not_yet = absurd (none at.place at.below (subst (λ l. Waits network l (frame_in frames at.place)) on at.waits))
+    blocked_by None link t q ready passage on at since none closed not_yet = absurd (none at.number at.below (subst (λ l. Waits network l (frame_in frames at.number)) on at.waits))
     blocked_by (Some head) link t q ready passage on at since is_head closed not_yet =
-        let waits = subst (λ l. Waits network l (frame_in frames at.place)) on at.waits in
+        let waits = subst (λ l. Waits network l (frame_in frames at.number)) on at.waits in
         let head_below = is_head.0 in
         let ready_is = at.ready_is in
-        elim (cases_eq head at.place) [
+        elim (cases_eq head at.number) [
           | inl same ↦
               let is : passage_of (frame_in frames head) ≡ q = ap (λ n. passage_of (frame_in frames n)) same ∙ at.is in
               let early : (frame_in frames head).ready ≡ ready = ap (λ n. (frame_in frames n).ready) same ∙ at.ready_is in
               inl (λ fits. closed head refl (omega arith) (subst (λ x. FitsAt network gates x t) (sym is) fits))
-          | inr differ ↦ elim (passage_cases (passage_of (frame_in frames at.place)) (passage_of (frame_in frames head))) [
-            | inl is ↦ absurd (differ (sym (one_place at.place head at.below head_below is)))
+          | inr differ ↦ elim (passage_cases (passage_of (frame_in frames at.number)) (passage_of (frame_in frames head))) [
+            | inl is ↦ absurd (differ (sym (one_number at.number head at.below head_below is)))
             | inr apart ↦
-                let order = behind link head at.place is_head at.below waits apart in
+                let order = behind link head at.number is_head at.below waits apart in
                 inr (inr (
                   passage_of (frame_in frames head),
                   (frame_in frames head).ready,
@@ -226,7 +226,7 @@ module _ (network : Network) (formed : IsWellFormed network) (offsets : List ℕ
                   record {
                     same_link = waiting_link network link (frame_in frames head) is_head.1 ∙ sym on;
                     ready = (tracked.each head head_below).ready is_head.1.waits;
-                    order = order_at (frame_in frames head).ready (frame_in frames at.place).ready ready (passage_of (frame_in frames head)) (passage_of (frame_in frames at.place)) q at.ready_is at.is (passage_order (frame_in frames head) (frame_in frames at.place) order);
+                    order = order_at (frame_in frames head).ready (frame_in frames at.number).ready ready (passage_of (frame_in frames head)) (passage_of (frame_in frames at.number)) q at.ready_is at.is (passage_order (frame_in frames head) (frame_in frames at.number) order);
                   },
                   λ s started. absurd (frame_never head head_below s started),
                 ))
@@ -241,20 +241,20 @@ module _ (network : Network) (formed : IsWellFormed network) (offsets : List ℕ
     }
 
     -- the head of a queue that fits is due
-    pub due_from_head : (link place t : ℕ) → now ≤ t → t < cycles * network.cycle → free link ≤ t → IsHead network frames link (Some place) → (frame_in frames place).ready ≤ t
-        → FitsAt network gates (passage_of (frame_in frames place)) t → IsDue network offsets gates cycles free t run (passage_of (frame_in frames place)) (frame_in frames place).ready
-    due_from_head link place t present in_time wire head since fits = record {
-      passage_is = frame_passage place head.0 head.1.waits;
-      ready_at = (tracked.each place head.0).ready head.1.waits;
+    pub due_from_head : (link number t : ℕ) → now ≤ t → t < cycles * network.cycle → free link ≤ t → IsHead network frames link (Some number) → (frame_in frames number).ready ≤ t
+        → FitsAt network gates (passage_of (frame_in frames number)) t → IsDue network offsets gates cycles free t run (passage_of (frame_in frames number)) (frame_in frames number).ready
+    due_from_head link number t present in_time wire head since fits = record {
+      passage_is = frame_passage number head.0 head.1.waits;
+      ready_at = (tracked.each number head.0).ready head.1.waits;
       since = since;
-      unstarted = frame_never place head.0;
-      wire = subst (λ l. free l ≤ t) (sym (waiting_link network link (frame_in frames place) head.1)) wire;
+      unstarted = frame_never number head.0;
+      wire = subst (λ l. free l ≤ t) (sym (waiting_link network link (frame_in frames number) head.1)) wire;
       in_time = in_time;
       fits = fits;
       first = λ other other_ready passage same ready none differ.
           let at = found other other_ready passage ready (λ s started. not_later other t s present none started) in
-          let on : link_of network other ≡ link = same ∙ waiting_link network link (frame_in frames place) head.1 in
-          let waits = subst (λ l. Waits network l (frame_in frames at.place)) on at.waits in
-          order_at (frame_in frames place).ready (frame_in frames at.place).ready other_ready (passage_of (frame_in frames place)) (passage_of (frame_in frames at.place)) other at.ready_is at.is
-          (passage_order (frame_in frames place) (frame_in frames at.place) (behind link place at.place head at.below waits (λ is. differ (sym at.is ∙ is))));
+          let on : link_of network other ≡ link = same ∙ waiting_link network link (frame_in frames number) head.1 in
+          let waits = subst (λ l. Waits network l (frame_in frames at.number)) on at.waits in
+          order_at (frame_in frames number).ready (frame_in frames at.number).ready other_ready (passage_of (frame_in frames number)) (passage_of (frame_in frames at.number)) other at.ready_is at.is
+          (passage_order (frame_in frames number) (frame_in frames at.number) (behind link number at.number head at.below waits (λ is. differ (sym at.is ∙ is))));
     }

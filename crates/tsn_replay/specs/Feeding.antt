@@ -30,27 +30,27 @@ background_for false = nothing
 abbrev pub no_start : BridgeRun
 no_start = record { scheduled = []; background = [] }
 
--- the frame at that place of the list of all
+-- the frame of that number of the list of all
 unfoldable pub waiting_at : List model.BackgroundFrame → ℕ → Waiting
-waiting_at list place = record { link = (frame_at list place).link; wanted = (frame_at list place).wanted; octets = (frame_at list place).octets; place = place }
+waiting_at list number = record { link = (frame_at list number).link; wanted = (frame_at list number).wanted; octets = (frame_at list number).octets; number = number }
 
--- the frame at that place of the order
+-- the frame of that number of the order
 unfoldable pub waiting_in : List Waiting → ℕ → Waiting
-waiting_in order k = slice_index_or order k (record { link = 0; wanted = 0; octets = 0; place = 0 })
+waiting_in order k = slice_index_or order k (record { link = 0; wanted = 0; octets = 0; number = 0 })
 
--- the frames of the list, by place
+-- the frames of the list, by number
 pub record AreWaiting (list : List model.BackgroundFrame) (all : List Waiting) : Type 0 where
   pub count : length all ≡ length list
   pub each : (k : ℕ) → k < length list → waiting_in all k ≡ waiting_at list k
 
--- by wanted start, then by place
+-- by wanted start, then by number
 abbrev pub ComesFirst : Waiting → Waiting → Type 0
-ComesFirst a b = (a.wanted < b.wanted) ⊎ ((a.wanted ≡ b.wanted) × (a.place < b.place))
+ComesFirst a b = (a.wanted < b.wanted) ⊎ ((a.wanted ≡ b.wanted) × (a.number < b.number))
 
--- the order has each frame of the list, and they come by wanted start, then by place
+-- the order has each frame of the list, and they come by wanted start, then by number
 pub record IsOrder (list : List model.BackgroundFrame) (order : List Waiting) : Type 0 where
-  pub each : (k : ℕ) → k < length order → ((waiting_in order k).place < length list) × (waiting_in order k ≡ waiting_at list (waiting_in order k).place)
-  pub complete : (place : ℕ) → place < length list → (k : ℕ) × (k < length order) × ((waiting_in order k).place ≡ place)
+  pub each : (k : ℕ) → k < length order → ((waiting_in order k).number < length list) × (waiting_in order k ≡ waiting_at list (waiting_in order k).number)
+  pub complete : (number : ℕ) → number < length list → (k : ℕ) × (k < length order) × ((waiting_in order k).number ≡ number)
   pub sorted : (j k : ℕ) → j < k → k < length order → ComesFirst (waiting_in order j) (waiting_in order k)
 
 -- of the order from that index on, the first on the link, or the end
@@ -74,14 +74,14 @@ IsFeedOf greedy links feed.Greedy = Unit {0}
 IsFeedOf (frames list) links (feed.Listed lines) = IsLines list links lines
 IsFeedOf background links other = ⊥
 
--- the feed has a place for the link
+-- the feed has an entry for the link
 abbrev pub HasLink : ℕ → Feed → Type 0
 HasLink link (feed.Listed lines) = link < length lines.next.items
 HasLink link other = Unit {0}
 
 -- the greatest frame, always waiting
 abbrev pub greatest_on : ℕ → Waiting
-greatest_on link = record { link = link; wanted = 0; octets = 1522; place = 0 }
+greatest_on link = record { link = link; wanted = 0; octets = 1522; number = 0 }
 
 -- the frame that waits on a link before any other
 abbrev pub waiting_on : Feed → ℕ → Option Waiting
@@ -89,27 +89,27 @@ waiting_on feed.Nothing link = None
 waiting_on feed.Greedy link = Some (greatest_on link)
 waiting_on (feed.Listed lines) link = slice_get lines.order.items (slice_index lines.next.items link)
 
--- the frame at that place of the list has started
-abbrev pub PlaceStarted : BridgeRun → ℕ → Type 0
-PlaceStarted run place = Any (λ (begun : BackgroundStart). begun.place ≡ place) run.background
+-- the frame of that number of the list has started
+abbrev pub FrameStarted : BridgeRun → ℕ → Type 0
+FrameStarted run number = Any (λ (begun : BackgroundStart). begun.number ≡ number) run.background
 
 -- a frame of the list that waits on the link
 pub record IsOfList (list : List model.BackgroundFrame) (link : ℕ) (waiting : Waiting) : Type 0 where
-  pub listed : waiting.place < length list
-  pub is : waiting ≡ waiting_at list waiting.place
+  pub listed : waiting.number < length list
+  pub is : waiting ≡ waiting_at list waiting.number
   pub on : waiting.link ≡ link
 
 -- the first frame of the link that hasn't started: all before it have, and none after it has
 abbrev pub IsLine : List model.BackgroundFrame → BridgeRun → ℕ → Option Waiting → Type 0
-IsLine list run link None = (place : ℕ) → place < length list → (frame_at list place).link ≡ link → PlaceStarted run place
-IsLine list run link (Some waiting) = IsOfList list link waiting × ((place : ℕ) → IsBefore list place waiting.place → PlaceStarted run place)
-    × All (λ (begun : BackgroundStart). begun.link ≡ link → IsBefore list begun.place waiting.place) run.background
+IsLine list run link None = (number : ℕ) → number < length list → (frame_at list number).link ≡ link → FrameStarted run number
+IsLine list run link (Some waiting) = IsOfList list link waiting × ((number : ℕ) → IsBefore list number waiting.number → FrameStarted run number)
+    × All (λ (begun : BackgroundStart). begun.link ≡ link → IsBefore list begun.number waiting.number) run.background
 
 -- the frame of its link that comes right after the one that waits
 abbrev pub IsFollowing : List model.BackgroundFrame → Waiting → Option Waiting → Type 0
-IsFollowing list waiting None = (place : ℕ) → place < length list → (frame_at list place).link ≡ waiting.link → IsBefore list place waiting.place ⊎ (place ≡ waiting.place)
-IsFollowing list waiting (Some next) = IsOfList list waiting.link next × IsBefore list waiting.place next.place
-    × ((place : ℕ) → IsBefore list place next.place → IsBefore list place waiting.place ⊎ (place ≡ waiting.place))
+IsFollowing list waiting None = (number : ℕ) → number < length list → (frame_at list number).link ≡ waiting.link → IsBefore list number waiting.number ⊎ (number ≡ waiting.number)
+IsFollowing list waiting (Some next) = IsOfList list waiting.link next × IsBefore list waiting.number next.number
+    × ((number : ℕ) → IsBefore list number next.number → IsBefore list number waiting.number ⊎ (number ≡ waiting.number))
 
 -- before any start this frame waits on the link
 abbrev pub IsFirstOn : model.Background → ℕ → Option Waiting → Type 0

@@ -13,10 +13,10 @@ pub record AreEnds (entries : List GateEntry) (ends : List ℕ) : Type 0 where
   pub each : (k : ℕ) → k < length entries → slice_index ends k ≡ cycle_of (take (k + 1) entries)
 
 -- the entry within which that instant of the cycle falls
-pub record IsEntryAt (entries : List GateEntry) (place index : ℕ) : Type 0 where
+pub record IsEntryAt (entries : List GateEntry) (phase index : ℕ) : Type 0 where
   pub within : index < length entries
-  pub begun : cycle_of (take index entries) ≤ place
-  pub not_ended : place < cycle_of (take (index + 1) entries)
+  pub begun : cycle_of (take index entries) ≤ phase
+  pub not_ended : phase < cycle_of (take (index + 1) entries)
 
 -- at instant t the octet has the property
 pub record OctetHas (entries : List GateEntry) (t : ℕ) (P : ℕ → Type 0) : Type 0 where
@@ -46,12 +46,12 @@ pub record IsFirstFrom (from end : ℕ) (P : ℕ → Type 0) (t : ℕ) : Type 0 
 pub record HasLists (network : Network) (gates : List LinkGates) : Type 0 where
   pub links : All (λ (item : LinkGates). item.link < length network.links) gates
   pub distinct : AllPairs (λ (a b : LinkGates). a.link ≢ b.link) gates
-  pub used : (i k : ℕ) → i < stream_count network → k < hop_count network i → (place : ℕ) × (place < length gates) × ((d : LinkGates) → (slice_index_or gates place d).link ≡ route_link network i k)
+  pub used : (i k : ℕ) → i < stream_count network → k < hop_count network i → (number : ℕ) × (number < length gates) × ((d : LinkGates) → (slice_index_or gates number d).link ≡ route_link network i k)
 
 -- a background frame that waits on the link of a list, from a small instant on
 pub record IsGivenFrame (network : Network) (gates : List LinkGates) (frame : BackgroundFrame) : Type 0 where
   pub exists : frame.link < length network.links
-  pub listed : (place : ℕ) × (place < length gates) × ((d : LinkGates) → (slice_index_or gates place d).link ≡ frame.link)
+  pub listed : (number : ℕ) × (number < length gates) × ((d : LinkGates) → (slice_index_or gates number d).link ≡ frame.link)
   pub early : frame.wanted ≤ latest_instant
   pub short : frame.octets ≤ 1522
 
@@ -59,4 +59,4 @@ pub record IsGivenFrame (network : Network) (gates : List LinkGates) (frame : Ba
 abbrev pub HasBackground : Network → List LinkGates → Background → Type 0
 HasBackground network gates nothing = Unit {0}
 HasBackground network gates greedy = Unit {0}
-HasBackground network gates (frames list) = (place : ℕ) → place < length list → IsGivenFrame network gates (frame_at list place)
+HasBackground network gates (frames list) = (number : ℕ) → number < length list → IsGivenFrame network gates (frame_at list number)

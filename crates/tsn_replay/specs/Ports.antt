@@ -12,8 +12,8 @@ use Rattle.tsn_replay.specs.Queue.{IsHead, frame_in, passage_of}
 -- the first instant from `from` on at which the head of the queue can start
 pub record IsScheduledNext (network : Network) (entries : List GateEntry) (frames : List Frame) (head : Option ℕ) (from end time : ℕ) : Type 0 where
   pub forward : from ≤ time
-  pub none : (place u : ℕ) → head ≡ Some place → from ≤ u → (frame_in frames place).ready ≤ u → u < time → u < end → ¬ IsOpenFor entries (length_of network (passage_of (frame_in frames place))) u
-  pub here : time < end → (place : ℕ) × (head ≡ Some place) × ((frame_in frames place).ready ≤ time) × IsOpenFor entries (length_of network (passage_of (frame_in frames place))) time
+  pub none : (number u : ℕ) → head ≡ Some number → from ≤ u → (frame_in frames number).ready ≤ u → u < time → u < end → ¬ IsOpenFor entries (length_of network (passage_of (frame_in frames number))) u
+  pub here : time < end → (number : ℕ) × (head ≡ Some number) × ((frame_in frames number).ready ≤ time) × IsOpenFor entries (length_of network (passage_of (frame_in frames number))) time
 
 -- the first instant from `from` on at which the background frame that waits can start
 pub record IsBackgroundNext (entries : List GateEntry) (waiting : Option Waiting) (from end time : ℕ) : Type 0 where
@@ -27,16 +27,16 @@ pub record IsPort (network : Network) (entries : List GateEntry) (frames : List 
   pub scheduled : IsScheduledNext network entries frames port.head from end port.scheduled
   pub background : IsBackgroundNext entries waiting from end port.background
 
--- the port at that place
+-- the port of that number
 unfoldable pub port_in : List Port → ℕ → Port
-port_in ports place = slice_index_or ports place (record { head = None; scheduled = 0; background = 0 })
+port_in ports number = slice_index_or ports number (record { head = None; scheduled = 0; background = 0 })
 
 -- when something starts on the port's link
 abbrev pub port_time : Port → ℕ
 port_time port = min port.scheduled port.background
 
 -- of all ports the one where something starts first, before the end
-pub record IsFirstPort (ports : List Port) (end place : ℕ) : Type 0 where
-  pub within : place < length ports
-  pub in_time : port_time (port_in ports place) < end
-  pub least : (other : ℕ) → other < length ports → port_time (port_in ports place) ≤ port_time (port_in ports other)
+pub record IsFirstPort (ports : List Port) (end number : ℕ) : Type 0 where
+  pub within : number < length ports
+  pub in_time : port_time (port_in ports number) < end
+  pub least : (other : ℕ) → other < length ports → port_time (port_in ports number) ≤ port_time (port_in ports other)

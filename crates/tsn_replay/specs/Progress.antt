@@ -5,7 +5,7 @@
 --     Setting, IsState        the whole state of a replay
 use Rattle.std.specs.Prelude.{◌≡◌, ℕ, ◌+◌, ◌*◌, ◌≤◌, ◌<◌, ◌⊎◌, ◌≢◌, ◌-◌, List, [], length, slice_index_or, max, sum_by, All, AllPairs, Option, Some, None}
 use Rattle.tsn_model.specs.Network.{Network, IsWellFormed, stream_count, hop_count, route_link}
-use Rattle.tsn_model.specs.Bridge.{LinkGates, BackgroundOpen, Passage, ScheduledStart, BackgroundStart, BridgeRun, WireUse, link_of, wire_uses, AreDisjoint, IsPassage, StartedAt, NotStartedBefore, IsReady, FitsAt, IsBlocked, IsTaken, IsHeld, Background, BackgroundFrame, frame_at, IsBefore, PlaceStartedBefore}
+use Rattle.tsn_model.specs.Bridge.{LinkGates, BackgroundOpen, Passage, ScheduledStart, BackgroundStart, BridgeRun, WireUse, link_of, wire_uses, AreDisjoint, IsPassage, StartedAt, NotStartedBefore, IsReady, FitsAt, IsBlocked, IsTaken, IsHeld, Background, BackgroundFrame, frame_at, IsBefore, FrameStartedBefore}
 use Rattle.tsn_replay.specs.declared.queue.Frame.{Frame}
 use Rattle.tsn_replay.specs.Queue.{passage_of, frame_in, free_on}
 use Rattle.tsn_model.specs.Timing.{hop_delay}
@@ -74,9 +74,9 @@ pub record IsFrame (network : Network) (offsets : List ℕ) (cycles : ℕ) (run 
 
 -- there is one frame for each stream and cycle
 pub record IsTracked (network : Network) (offsets : List ℕ) (cycles : ℕ) (run : BridgeRun) (frames : List Frame) : Type 0 where
-  pub each : (place : ℕ) → place < length frames → IsFrame network offsets cycles run (frame_in frames place)
+  pub each : (number : ℕ) → number < length frames → IsFrame network offsets cycles run (frame_in frames number)
   pub complete : (stream cycle : ℕ) → stream < stream_count network → cycle < cycles
-      → (place : ℕ) × (place < length frames) × ((frame_in frames place).stream ≡ stream) × ((frame_in frames place).cycle ≡ cycle)
+      → (number : ℕ) × (number < length frames) × ((frame_in frames number).stream ≡ stream) × ((frame_in frames number).cycle ≡ cycle)
   pub distinct : (a b : ℕ) → a < length frames → b < length frames → (frame_in frames a).stream ≡ (frame_in frames b).stream → (frame_in frames a).cycle ≡ (frame_in frames b).cycle → a ≡ b
 
 -- the frame once it has started at an instant
@@ -85,12 +85,12 @@ advanced network frame time = record frame { hop = frame.hop + 1; ready = time +
 
 -- a list's background up to instant `now`: each of its frames once, in line, from its wanted start on, and none waited that could start
 pub record IsListSoFar (network : Network) (gates : List LinkGates) (cycles : ℕ) (list : List BackgroundFrame) (free : ℕ → ℕ) (now : ℕ) (run : BridgeRun) : Type 0 where
-  pub listed : All (λ (begun : BackgroundStart). (begun.place < length list) × (begun.link ≡ (frame_at list begun.place).link) × (begun.octets ≡ (frame_at list begun.place).octets)) run.background
-  pub once : AllPairs (λ (a b : BackgroundStart). a.place ≢ b.place) run.background
-  pub wanted : All (λ (begun : BackgroundStart). (frame_at list begun.place).wanted ≤ begun.time) run.background
-  pub in_order : All (λ (begun : BackgroundStart). (earlier : ℕ) → IsBefore list earlier begun.place → PlaceStartedBefore run earlier begun.time) run.background
-  pub waits : (place t : ℕ) → place < length list → (frame_at list place).wanted ≤ t → t < cycles * network.cycle → (t < now) ⊎ (t < free (frame_at list place).link) → ¬ PlaceStartedBefore run place (t + 1)
-      → IsHeld network gates run (frame_at list place).link t ⊎ ((earlier : ℕ) × IsBefore list earlier place × ¬ PlaceStartedBefore run earlier (t + 1))
+  pub listed : All (λ (begun : BackgroundStart). (begun.number < length list) × (begun.link ≡ (frame_at list begun.number).link) × (begun.octets ≡ (frame_at list begun.number).octets)) run.background
+  pub once : AllPairs (λ (a b : BackgroundStart). a.number ≢ b.number) run.background
+  pub wanted : All (λ (begun : BackgroundStart). (frame_at list begun.number).wanted ≤ begun.time) run.background
+  pub in_order : All (λ (begun : BackgroundStart). (earlier : ℕ) → IsBefore list earlier begun.number → FrameStartedBefore run earlier begun.time) run.background
+  pub waits : (number t : ℕ) → number < length list → (frame_at list number).wanted ≤ t → t < cycles * network.cycle → (t < now) ⊎ (t < free (frame_at list number).link) → ¬ FrameStartedBefore run number (t + 1)
+      → IsHeld network gates run (frame_at list number).link t ⊎ ((earlier : ℕ) × IsBefore list earlier number × ¬ FrameStartedBefore run earlier (t + 1))
 
 -- the background so far is what was handed in, and on each link this frame waits next
 abbrev pub IsFedSoFar : Network → List LinkGates → ℕ → (ℕ → ℕ) → ℕ → Background → (ℕ → Option Waiting) → BridgeRun → Type 0
@@ -131,15 +131,15 @@ pub record IsUnderWay (setting : Setting) (state : State) : Type 0 where
   pub frees : All (λ time. time ≤ latest_free) state.free.items
   pub readies : All (λ (frame : Frame). frame.ready ≤ latest_instant) state.frames.items
 
--- this is the port of the list at that place
+-- this is the port of the list of that number
 abbrev pub IsPortAt : Setting → State → ℕ → Port → Type 0
-IsPortAt setting state place port = (d : LinkGates) → IsPort setting.network (slice_index_or setting.gates place d).entries state.frames.items (waiting_on state.feed (slice_index_or setting.gates place d).link)
-    (slice_index_or setting.gates place d).link (max (free_on state.free.items (slice_index_or setting.gates place d).link) state.time) state.end port
+IsPortAt setting state number port = (d : LinkGates) → IsPort setting.network (slice_index_or setting.gates number d).entries state.frames.items (waiting_on state.feed (slice_index_or setting.gates number d).link)
+    (slice_index_or setting.gates number d).link (max (free_on state.free.items (slice_index_or setting.gates number d).link) state.time) state.end port
 
 -- the ports are those of the lists
 pub record HasPorts (setting : Setting) (state : State) : Type 0 where
   pub count : length state.ports.items ≡ length setting.gates
-  pub each : (place : ℕ) → place < length setting.gates → IsPortAt setting state place (port_in state.ports.items place)
+  pub each : (number : ℕ) → number < length setting.gates → IsPortAt setting state number (port_in state.ports.items number)
 
 -- the state is under way
 pub record IsState (setting : Setting) (state : State) : Type 0 where

@@ -11,9 +11,9 @@ use Rattle.tsn_replay.specs.declared.feed.Waiting.{Waiting}
 unfoldable pub passage_of : Frame → Passage
 passage_of frame = record { stream = frame.stream; cycle = frame.cycle; hop = frame.hop }
 
--- the frame at that place of the list
+-- the frame of that number of the list
 unfoldable pub frame_in : List Frame → ℕ → Frame
-frame_in frames place = slice_index_or frames place (record { stream = 0; cycle = 0; hop = 0; ready = 0 })
+frame_in frames number = slice_index_or frames number (record { stream = 0; cycle = 0; hop = 0; ready = 0 })
 
 -- the frame waits for its start on the link
 pub record Waits (network : Network) (link : ℕ) (frame : Frame) : Type 0 where
@@ -26,9 +26,9 @@ Precedes a b = (a.ready < b.ready) ⊎ ((a.ready ≡ b.ready) × (a.stream ≤ b
 
 -- of the first so many frames, the one that is first in the link's queue, if one waits there
 abbrev pub IsFirstOf : Network → List Frame → ℕ → ℕ → Option ℕ → Type 0
-IsFirstOf network frames link count None = (place : ℕ) → place < count → ¬ Waits network link (frame_in frames place)
+IsFirstOf network frames link count None = (number : ℕ) → number < count → ¬ Waits network link (frame_in frames number)
 IsFirstOf network frames link count (Some head) = (head < count) × Waits network link (frame_in frames head)
-    × ((place : ℕ) → place < count → Waits network link (frame_in frames place) → Precedes (frame_in frames head) (frame_in frames place))
+    × ((number : ℕ) → number < count → Waits network link (frame_in frames number) → Precedes (frame_in frames head) (frame_in frames number))
 
 -- the first frame of the link's queue, if there is one
 abbrev pub IsHead : Network → List Frame → ℕ → Option ℕ → Type 0
@@ -38,9 +38,9 @@ IsHead network frames link head = IsFirstOf network frames link (length frames) 
 pub record IsSilent (network : Network) (gates : List LinkGates) (frames : List Frame) (link t : ℕ) : Type 0 where
   pub head : Option ℕ
   pub is_head : IsHead network frames link head
-  pub closed : (place : ℕ) → head ≡ Some place → (frame_in frames place).ready ≤ t → ¬ FitsAt network gates (passage_of (frame_in frames place)) t
+  pub closed : (number : ℕ) → head ≡ Some number → (frame_in frames number).ready ≤ t → ¬ FitsAt network gates (passage_of (frame_in frames number)) t
 
--- what starts next on a link, and when: the frame at a place of the list, or a background frame
+-- what starts next on a link, and when: a frame of the list by its number, or a background frame
 pub record Next : Type 0 where
   pub link : ℕ
   pub time : ℕ
@@ -48,8 +48,8 @@ pub record Next : Type 0 where
 
 -- what starts next can start: the head of a queue, or the background frame that waits where no scheduled one can
 abbrev pub CanStart : Network → List LinkGates → List Frame → (ℕ → Option Waiting) → Next → Option ℕ → Type 0
-CanStart network gates frames line next (Some place) = IsHead network frames next.link (Some place) × ((frame_in frames place).ready ≤ next.time)
-    × FitsAt network gates (passage_of (frame_in frames place)) next.time
+CanStart network gates frames line next (Some number) = IsHead network frames next.link (Some number) × ((frame_in frames number).ready ≤ next.time)
+    × FitsAt network gates (passage_of (frame_in frames number)) next.time
 CanStart network gates frames line next None = ((waiting : Waiting) × (line next.link ≡ Some waiting) × (waiting.wanted ≤ next.time))
     × BackgroundOpen gates next.link next.time × IsSilent network gates frames next.link next.time
 
@@ -73,8 +73,8 @@ pub record IsNextOn (network : Network) (gates : List LinkGates) (frames : List 
 -- nothing can start on any list's link from `now` until `next`, and there it can
 pub record IsNextOf (network : Network) (gates : List LinkGates) (frames : List Frame) (line : ℕ → Option Waiting) (free : List ℕ) (now end : ℕ) (next : Next) : Type 0 where
   pub forward : now ≤ next.time
-  pub idle : (t place : ℕ) (d : LinkGates) → now ≤ t → t < next.time → t < end → place < length gates → free_on free (slice_index_or gates place d).link ≤ t
-      → IsIdle network gates frames line (slice_index_or gates place d).link t
+  pub idle : (t number : ℕ) (d : LinkGates) → now ≤ t → t < next.time → t < end → number < length gates → free_on free (slice_index_or gates number d).link ≤ t
+      → IsIdle network gates frames line (slice_index_or gates number d).link t
   pub link : next.time < end → next.link < length network.links
   pub wire : next.time < end → free_on free next.link ≤ next.time
   pub can : next.time < end → CanStart network gates frames line next next.frame

@@ -38,14 +38,14 @@ pub record AreRows (network : Network) (offsets : List ℕ) (cycles : ℕ) (run 
   pub passages : map row_passage rows ≡ passages_of network cycles
   pub right : All (IsRow network offsets run) rows
 
--- where a passage stands in a table with sixteen places for each stream in each cycle
-unfoldable pub place_of : Network → Passage → ℕ
-place_of network passage = (passage.cycle * stream_count network + passage.stream) * 16 + passage.hop
+-- where a passage stands in a table with sixteen cells for each stream in each cycle
+unfoldable pub cell_of : Network → Passage → ℕ
+cell_of network passage = (passage.cycle * stream_count network + passage.stream) * 16 + passage.hop
 
 -- the table has the starts of the passages
 pub record IsTable (network : Network) (cycles : ℕ) (starts : List ScheduledStart) (table : List (Option ℕ)) : Type 0 where
   pub count : length table ≡ cycles * stream_count network * 16
-  pub has : (passage : Passage) (t : ℕ) → IsPassage network cycles passage → (slice_index_or table (place_of network passage) None ≡ Some t) ↔ Contains starts (record { passage = passage; time = t })
+  pub has : (passage : Passage) (t : ℕ) → IsPassage network cycles passage → (slice_index_or table (cell_of network passage) None ≡ Some t) ↔ Contains starts (record { passage = passage; time = t })
 
 -- the row of a passage, by the table
 unfoldable pub row_of : Network → List ℕ → List (Option ℕ) → Passage → Row
@@ -54,7 +54,7 @@ row_of network offsets table passage = record {
   cycle = passage.cycle;
   hop = passage.hop;
   planned = planned network offsets passage;
-  actual = slice_index_or table (place_of network passage) None;
+  actual = slice_index_or table (cell_of network passage) None;
 }
 
 -- the frame didn't start when it was planned to

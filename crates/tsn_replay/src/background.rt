@@ -28,7 +28,7 @@ pub enum Background {
     Nothing,
     /// One of 1522 octets, always, on each link with a gate control list.
     Greedy,
-    /// Those of a list: on each link in order of their wanted start, then of their place in the list.
+    /// Those of a list: on each link in order of their wanted start, then of their number in the list.
     Listed(Vec<BackgroundFrame>),
 }
 

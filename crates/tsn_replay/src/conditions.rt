@@ -68,8 +68,8 @@ fn is_listed(lists: &[GateList], link: usize) -> bool
 fn are_distinct(lists: &[GateList]) -> bool
     ensures { IsTrue result ↔ AllPairs (λ (a b : LinkGates). a.link ≢ b.link) lists.now }
 {
-    for place in 0..lists.len() {
-        if is_listed(&lists[..place], lists[place].link()) {
+    for number in 0..lists.len() {
+        if is_listed(&lists[..number], lists[number].link()) {
             return false;
         }
     }

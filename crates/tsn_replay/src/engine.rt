@@ -49,8 +49,8 @@ impl Replay<'_> {
         ensures fed { IfOk result (λ starts. IsFed self.now.network.now self.now.gates.now self.now.cycles (background_of self.now.background.now) starts) }
     {
         let mut state = self.begin(alloc)?;
-        while let Some(place) = first_port(&state.ports, state.end) {
-            self.step(&mut state, place)?;
+        while let Some(number) = first_port(&state.ports, state.end) {
+            self.step(&mut state, number)?;
         }
         Ok(state.starts)
     }
@@ -111,19 +111,19 @@ impl Replay<'_> {
     }
 
     /// What starts first of all starts.
-    fn step(&self, state: &mut State, place: usize) -> Result<(), AllocError>
+    fn step(&self, state: &mut State, number: usize) -> Result<(), AllocError>
         requires setting { IsSetting (setting_of self.now) }
         requires state { IsState (setting_of self.now) state.old }
-        requires first { IsFirstPort state.old.ports.items state.old.end place }
+        requires first { IsFirstPort state.old.ports.items state.old.end number }
         ensures state { IfOk result (λ _. IsState (setting_of self.now) state.new) }
         ensures falls { IfOk result (λ _. time_left state.new < time_left state.old) }
     {
-        let port = state.ports[place];
+        let port = state.ports[number];
         match port.head {
             Some(frame) if port.scheduled <= port.background => {
-                self.start(state, place, frame, port.scheduled)
+                self.start(state, number, frame, port.scheduled)
             }
-            _ => self.send(state, place, port),
+            _ => self.send(state, number, port),
         }
     }
 
@@ -131,20 +131,20 @@ impl Replay<'_> {
     fn start(
         &self,
         state: &mut State,
-        place: usize,
+        number: usize,
         waiting: usize,
         time: u64,
     ) -> Result<(), AllocError>
         requires setting { IsSetting (setting_of self.now) }
         requires state { IsState (setting_of self.now) state.old }
-        requires first { IsFirstPort state.old.ports.items state.old.end place }
-        requires head { (port_in state.old.ports.items place).head ≡ Some waiting }
-        requires time { (port_in state.old.ports.items place).scheduled ≡ time }
-        requires order { time ≤ (port_in state.old.ports.items place).background }
+        requires first { IsFirstPort state.old.ports.items state.old.end number }
+        requires head { (port_in state.old.ports.items number).head ≡ Some waiting }
+        requires time { (port_in state.old.ports.items number).scheduled ≡ time }
+        requires order { time ≤ (port_in state.old.ports.items number).background }
         ensures state { IfOk result (λ _. IsState (setting_of self.now) state.new) }
         ensures falls { IfOk result (λ _. time_left state.new < time_left state.old) }
     {
-        let link = self.gates[place].link();
+        let link = self.gates[number].link();
         let frame = state.frames[waiting];
         let moved = advance(self.network, &frame, time);
         state.starts.start(&frame, time)?;
@@ -161,32 +161,32 @@ impl Replay<'_> {
         requires state { IsUnderWay (setting_of self.now) state.old }
         requires stream { moved.now.stream < stream_count self.now.network.now }
         requires count { length state.old.ports.items ≡ length self.now.gates.now }
-        requires others { (place : ℕ) → place < length self.now.gates.now → ((d : LinkGates) → (slice_index_or self.now.gates.now place d).link ≡ link → ⊥)
-            → ((d : LinkGates) → Waits self.now.network.now (slice_index_or self.now.gates.now place d).link moved.now → ⊥)
-            → IsPortAt (setting_of self.now) state.old place (port_in state.old.ports.items place) }
+        requires others { (number : ℕ) → number < length self.now.gates.now → ((d : LinkGates) → (slice_index_or self.now.gates.now number d).link ≡ link → ⊥)
+            → ((d : LinkGates) → Waits self.now.network.now (slice_index_or self.now.gates.now number d).link moved.now → ⊥)
+            → IsPortAt (setting_of self.now) state.old number (port_in state.old.ports.items number) }
         ensures state { IsState (setting_of self.now) state.new }
         ensures end { state.new.end ≡ state.old.end }
         ensures free { state.new.free ≡ state.old.free }
     {
-        for place in 0..self.gates.len() {
-            let list = &self.gates[place];
+        for number in 0..self.gates.len() {
+            let list = &self.gates[number];
             if list.link() == link || waits(self.network, moved, list.link()) {
-                state.ports[place] = self.port(state, list);
+                state.ports[number] = self.port(state, list);
             }
         }
     }
 
     /// The background frame that waits starts on the link of a list.
-    fn send(&self, state: &mut State, place: usize, port: Port) -> Result<(), AllocError>
+    fn send(&self, state: &mut State, number: usize, port: Port) -> Result<(), AllocError>
         requires setting { IsSetting (setting_of self.now) }
         requires state { IsState (setting_of self.now) state.old }
-        requires first { IsFirstPort state.old.ports.items state.old.end place }
-        requires port { port_in state.old.ports.items place ≡ port }
+        requires first { IsFirstPort state.old.ports.items state.old.end number }
+        requires port { port_in state.old.ports.items number ≡ port }
         requires order { port.scheduled ≤ port.background → port.head ≡ None }
         ensures state { IfOk result (λ _. IsState (setting_of self.now) state.new) }
         ensures falls { IfOk result (λ _. time_left state.new < time_left state.old) }
     {
-        let list = &self.gates[place];
+        let list = &self.gates[number];
         let link = list.link();
         let Some(waiting) = state.feed.waiting(link) else {
             unreachable!()
@@ -203,7 +203,7 @@ impl Replay<'_> {
             frames: &state.frames,
             list,
         };
-        state.ports[place] = port.after_sent(queue, next, until, state.end);
+        state.ports[number] = port.after_sent(queue, next, until, state.end);
         Ok(())
     }
 }

@@ -60,12 +60,12 @@ impl Openings {
     }
 
     // The entry within which that instant of the cycle falls.
-    fn entry_at(&self, place: u64) -> usize
-        requires { place < cycle_of self.now.entries }
-        ensures { IsEntryAt self.now.entries place result }
+    fn entry_at(&self, phase: u64) -> usize
+        requires { phase < cycle_of self.now.entries }
+        ensures { IsEntryAt self.now.entries phase result }
     {
         let _ = &self.cycle;
-        self.ends.partition_point(|end| *end <= place)
+        self.ends.partition_point(|end| *end <= phase)
     }
 
     // The gates at an instant, and until when they stay so.
@@ -75,11 +75,11 @@ impl Openings {
         ensures near { result.until ≤ at + 1_000_000_000 }
         ensures octet { (u : ℕ) → at ≤ u → u < result.until → IsOctetAt self.now.entries u result.octet }
     {
-        let place = at % self.cycle;
-        let index = self.entry_at(place);
+        let phase = at % self.cycle;
+        let index = self.entry_at(phase);
         Span {
             octet: self.entries[index].octet,
-            until: at + (self.ends[index] - place),
+            until: at + (self.ends[index] - phase),
         }
     }
 

@@ -86,15 +86,15 @@ impl Port {
 /// The port where something starts first, if that is before the end.
 pub fn first_port(ports: &[Port], end: u64) -> Option<usize>
     ensures { MatchOption result
-        ((place : ℕ) → place < length ports.now → end ≤ port_time (port_in ports.now place))
-        (λ place. IsFirstPort ports.now end place) }
+        ((number : ℕ) → number < length ports.now → end ≤ port_time (port_in ports.now number))
+        (λ number. IsFirstPort ports.now end number) }
 {
     let mut first = None;
     let mut least = end;
-    for (place, port) in ports.iter().enumerate() {
+    for (number, port) in ports.iter().enumerate() {
         let time = port.time();
         if time < least {
-            first = Some(place);
+            first = Some(number);
             least = time;
         }
     }
@@ -111,7 +111,7 @@ fn scheduled_on(queue: LinkQueue<'_>, first: Option<usize>, from: u64, end: u64)
     ensures { IsScheduledNext queue.entry.network.now queue.entry.list.now.entries queue.entry.frames.now first from end result }
 {
     match first {
-        Some(place) => start_of(queue.network, &queue.frames[place], queue.list, from, end),
+        Some(number) => start_of(queue.network, &queue.frames[number], queue.list, from, end),
         None => from.max(end),
     }
 }

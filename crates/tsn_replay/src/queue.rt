@@ -85,11 +85,11 @@ pub fn head(network: &PlainNetwork, frames: &[Frame], link: usize) -> Option<usi
     ensures { IsHead network.now frames.now link result }
 {
     let mut first = None;
-    for (place, frame) in frames.iter().enumerate() {
+    for (number, frame) in frames.iter().enumerate() {
         if waits(network, frame, link) {
             first = match first {
                 Some(best) if !precedes(frame, &frames[best]) => Some(best),
-                _ => Some(place),
+                _ => Some(number),
             };
         }
     }

@@ -3,7 +3,7 @@ ghost use Rattle.std.specs.Prelude.{◌≡◌, ◌+◌, ◌*◌, ◌≤◌, ◌<
 ghost use Rattle.std.specs.List.{flat_map, range_with_len};
 ghost use Rattle.tsn_model.specs.Network.{stream_count, hop_count};
 ghost use Rattle.tsn_model.specs.Bridge.{Passage, ScheduledStart, StartedAt, IsPassage};
-ghost use Rattle.tsn_replay.specs.Rows.{stream_passages, cycle_passages, passages_of, place_of, row_of, IsTable, AreRows};
+ghost use Rattle.tsn_replay.specs.Rows.{stream_passages, cycle_passages, passages_of, cell_of, row_of, IsTable, AreRows};
 
 use crate::starts::{Started, Starts};
 use crate::trace::Row;
@@ -109,11 +109,11 @@ fn row(times: StartTimes<'_>, cycle: usize, stream: usize, hop: usize) -> Row
         planned: cycle as u64 * times.timing.cycle()
             + times.offsets[stream]
             + times.timing.start(stream, hop),
-        actual: times.table[place(times.timing, cycle, stream, hop)],
+        actual: times.table[cell(times.timing, cycle, stream, hop)],
     }
 }
 
-/// The starts by cycle, stream and hop, sixteen places for each stream in each cycle.
+/// The starts by cycle, stream and hop, sixteen cells for each stream in each cycle.
 fn table_of(
     alloc: Global,
     timing: &Timing,
@@ -130,19 +130,19 @@ fn table_of(
     let _limits = timing.cycle();
     let mut table = vec![in alloc; None; cycles * timing.streams() * 16]?;
     for started in starts {
-        let place = place(timing, started.cycle(), started.stream(), started.hop());
-        table[place] = Some(started.time());
+        let cell = cell(timing, started.cycle(), started.stream(), started.hop());
+        table[cell] = Some(started.time());
     }
     Ok(table)
 }
 
 /// Where a passage stands in the table.
-#[tactic(auto, unfolding(crate::specs::Rows::place_of))]
-fn place(timing: &Timing, cycle: usize, stream: usize, hop: usize) -> usize
+#[tactic(auto, unfolding(crate::specs::Rows::cell_of))]
+fn cell(timing: &Timing, cycle: usize, stream: usize, hop: usize) -> usize
     requires stream { stream < stream_count timing.now }
     requires hop { hop < hop_count timing.now stream }
     requires few { cycle < 16 }
-    ensures value { result ≡ place_of timing.now (record { stream = stream; cycle = cycle; hop = hop }) }
+    ensures value { result ≡ cell_of timing.now (record { stream = stream; cycle = cycle; hop = hop }) }
     ensures within { result < (cycle + 1) * stream_count timing.now * 16 }
 {
     let _most = timing.hops(stream);

@@ -31,7 +31,7 @@ pub struct Sent {
     link: usize,
     start: u64,
     octets: u64,
-    place: usize,
+    number: usize,
 }
 
 impl Model for Sent {
@@ -39,7 +39,7 @@ impl Model for Sent {
 
     ghost Value = { BackgroundStart };
 
-    ghost view = { λ s. record { link = s.link; time = s.start; octets = s.octets; place = s.place } };
+    ghost view = { λ s. record { link = s.link; time = s.start; octets = s.octets; number = s.number } };
 }
 
 impl Started {
@@ -98,11 +98,11 @@ impl Sent {
         self.octets
     }
 
-    /// The place in the list of frames that was handed in; 0 for a greedy background.
-    pub fn place(&self) -> usize
-        ensures { result ≡ self.now.place }
+    /// The number in the list of frames that was handed in; 0 for a greedy background.
+    pub fn number(&self) -> usize
+        ensures { result ≡ self.now.number }
     {
-        self.place
+        self.number
     }
 }
 
@@ -163,14 +163,14 @@ impl Starts {
     pub(crate) fn send(&mut self, waiting: Waiting, time: u64) -> Result<(), AllocError>
         ensures { IfOk result (λ _. self.new ≡ record self.old {
           background = self.old.background
-              ++ (record { link = waiting.link; time = time; octets = waiting.octets; place = waiting.place }) ∷ [];
+              ++ (record { link = waiting.link; time = time; octets = waiting.octets; number = waiting.number }) ∷ [];
         }) }
     {
         self.background.push(Sent {
             link: waiting.link,
             start: time,
             octets: waiting.octets,
-            place: waiting.place,
+            number: waiting.number,
         })?;
         Ok(())
     }

@@ -12,10 +12,10 @@ pub returns-in-Some : goal.returns-in-Some
 unfolding frame_in
 returns-in-Some c = record {
   forward = c.start_of.ensures.forward;
-  none = λ place u is since ready before in_time fits.
-      let same_some : Some place ≡ Some c.in-Some.place = sym is ∙ c.in-Some.is in
-      let same : place ≡ c.in-Some.place = cc same_some in
+  none = λ number u is since ready before in_time fits.
+      let same_some : Some number ≡ Some c.in-Some.number = sym is ∙ c.in-Some.is in
+      let same : number ≡ c.in-Some.number = cc same_some in
       c.start_of.ensures.none u since (subst (λ p. (frame_in c.args.queue.frames.now p).ready ≤ u) same ready) before in_time
       (subst (λ p. IsOpenFor c.args.queue.list.now.entries (length_of c.args.queue.network.now (passage_of (frame_in c.args.queue.frames.now p))) u) same fits);
-  here = λ in_time. (c.in-Some.place, c.in-Some.is, c.start_of.ensures.ready, c.start_of.ensures.here in_time);
+  here = λ in_time. (c.in-Some.number, c.in-Some.is, c.start_of.ensures.ready, c.start_of.ensures.here in_time);
 }

@@ -21,10 +21,10 @@ loop-stream-preserved c =
     record { index = index; stream = counted; cycle = cycle; hop = refl; ready = ap (λ n. c.loop-cycle.cycle * n + get_or c.args.offsets.now c.loop-stream.stream 0) value; early = omega arith } in
     record {
       count = ap length items ∙ (length-append c.loop-stream.frames.items (record { stream = c.loop-stream.stream; cycle = c.loop-cycle.cycle; hop = 0; ready = c.loop-cycle.cycle * c.cycle.result + get_or c.args.offsets.now c.loop-stream.stream 0 } ∷ []) ∙ omega arith);
-      fresh = λ place below. subst (λ frames. IsFresh c.args.network.now c.args.offsets.now c.args.cycles place (frame_in frames place)) (sym items)
+      fresh = λ number below. subst (λ frames. IsFresh c.args.network.now c.args.offsets.now c.args.cycles number (frame_in frames number)) (sym items)
           (frames_more (IsFresh c.args.network.now c.args.offsets.now c.args.cycles) c.loop-stream.frames.items
           (record { stream = c.loop-stream.stream; cycle = c.loop-cycle.cycle; hop = 0; ready = c.loop-cycle.cycle * c.cycle.result + get_or c.args.offsets.now c.loop-stream.stream 0 })
-          c.loop-stream.invariant.fresh last place (subst (λ frames. place < length frames) items below));
+          c.loop-stream.invariant.fresh last number (subst (λ frames. number < length frames) items below));
       last = c.loop-stream.invariant.last;
     }
 

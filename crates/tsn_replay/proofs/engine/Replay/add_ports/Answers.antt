@@ -22,8 +22,8 @@ loop-list-preserved c =
     record {
       under_way = under_way_ports (setting_of c.args.self.now) state c.push.new.self c.loop-list.invariant.under_way;
       count = ap length items ∙ (length-append state.ports.items (c.port-port.result ∷ []) ∙ omega arith);
-      each = λ place earlier. subst (λ ports. IsPortAt (setting_of c.args.self.now) state place (port_in ports place)) (sym items)
-          (port_more (IsPortAt (setting_of c.args.self.now) state) state.ports.items c.port-port.result c.loop-list.list-index counted c.loop-list.invariant.each here place earlier);
+      each = λ number earlier. subst (λ ports. IsPortAt (setting_of c.args.self.now) state number (port_in ports number)) (sym items)
+          (port_more (IsPortAt (setting_of c.args.self.now) state) state.ports.items c.port-port.result c.loop-list.list-index counted c.loop-list.invariant.each here number earlier);
       items = refl;
       last = refl;
     }

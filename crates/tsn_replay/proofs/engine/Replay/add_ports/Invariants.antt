@@ -7,7 +7,7 @@ abbrev pub invariant-loop-list : goal.invariant-loop-list
 invariant-loop-list l = record {
   under_way : IsUnderWay (setting_of l.self) l.state;
   count : length l.state.ports.items ≡ l.list-index;
-  each : (place : ℕ) → place < l.list-index → IsPortAt (setting_of l.self) l.state place (port_in l.state.ports.items place);
+  each : (number : ℕ) → number < l.list-index → IsPortAt (setting_of l.self) l.state number (port_in l.state.ports.items number);
   items : l.list-items ≡ l.self.gates.now;
   last : l.list-index-end ≡ length l.self.gates.now;
 }

@@ -17,9 +17,9 @@ overflow_add-until c =
     let can = c.requires.setting in
     let is = c.requires.state in
     let first = c.requires.first in
-    let on : link setting state can is c.args.place first ≡ c.link-link.result = sym (c.link-link.ensures ∙ link_is setting state can is c.args.place c.index-self-place.result (below setting state can is c.args.place first)) in
-    let waits : waiting_on state.feed (link setting state can is c.args.place first) ≡ Some c.in-Some.waiting = ap (waiting_on state.feed) on ∙ (sym c.waiting.ensures ∙ c.in-Some.is) in
-    let octets = (given setting state can is c.args.place first c.args.port c.requires.port c.requires.order c.in-Some.waiting waits).short in
+    let on : link setting state can is c.args.number first ≡ c.link-link.result = sym (c.link-link.ensures ∙ link_is setting state can is c.args.number c.index-self-number.result (below setting state can is c.args.number first)) in
+    let waits : waiting_on state.feed (link setting state can is c.args.number first) ≡ Some c.in-Some.waiting = ap (waiting_on state.feed) on ∙ (sym c.waiting.ensures ∙ c.in-Some.is) in
+    let octets = (given setting state can is c.args.number first c.args.port c.requires.port c.requires.order c.in-Some.waiting waits).short in
     omega arith
 
 pub overflow_mul-until : goal.overflow_mul-until
@@ -29,16 +29,16 @@ overflow_mul-until c =
     let can = c.requires.setting in
     let is = c.requires.state in
     let first = c.requires.first in
-    let on : link setting state can is c.args.place first ≡ c.link-link.result = sym (c.link-link.ensures ∙ link_is setting state can is c.args.place c.index-self-place.result (below setting state can is c.args.place first)) in
-    let waits : waiting_on state.feed (link setting state can is c.args.place first) ≡ Some c.in-Some.waiting = ap (waiting_on state.feed) on ∙ (sym c.waiting.ensures ∙ c.in-Some.is) in
-    let rate : c.rate.result ≡ (link_at c.args.self.now.network.now (link setting state can is c.args.place first)).r = c.rate.ensures.value ∙ ap (λ l. (link_at c.args.self.now.network.now l).r) (sym on) in
+    let on : link setting state can is c.args.number first ≡ c.link-link.result = sym (c.link-link.ensures ∙ link_is setting state can is c.args.number c.index-self-number.result (below setting state can is c.args.number first)) in
+    let waits : waiting_on state.feed (link setting state can is c.args.number first) ≡ Some c.in-Some.waiting = ap (waiting_on state.feed) on ∙ (sym c.waiting.ensures ∙ c.in-Some.is) in
+    let rate : c.rate.result ≡ (link_at c.args.self.now.network.now (link setting state can is c.args.number first)).r = c.rate.ensures.value ∙ ap (λ l. (link_at c.args.self.now.network.now l).r) (sym on) in
     let some = c.rate.ensures.some in
     let few = c.rate.ensures.limit in
-    let until_is : c.args.port.background + (c.in-Some.waiting.octets + 20) * c.rate.result ≡ c.args.port.background + (c.in-Some.waiting.octets + 20) * (link_at c.args.self.now.network.now (link setting state can is c.args.place first)).r =
+    let until_is : c.args.port.background + (c.in-Some.waiting.octets + 20) * c.rate.result ≡ c.args.port.background + (c.in-Some.waiting.octets + 20) * (link_at c.args.self.now.network.now (link setting state can is c.args.number first)).r =
     ap (λ r. c.args.port.background + (c.in-Some.waiting.octets + 20) * r) rate in
-    let short = until_short setting state can is c.args.place first c.args.port c.requires.port c.requires.order c.in-Some.waiting waits (c.args.port.background + (c.in-Some.waiting.octets + 20) * c.rate.result) until_is (omega arith) (omega arith) in
+    let short = until_short setting state can is c.args.number first c.args.port c.requires.port c.requires.order c.in-Some.waiting waits (c.args.port.background + (c.in-Some.waiting.octets + 20) * c.rate.result) until_is (omega arith) (omega arith) in
     let upto = short.1 in
-    let soon = send_in_time setting state can is c.args.place first c.args.port c.requires.port c.requires.order in
+    let soon = send_in_time setting state can is c.args.number first c.args.port c.requires.port c.requires.order in
     let end_is = is.under_way.end in
     let small = is.under_way.small in
     omega arith
@@ -50,16 +50,16 @@ overflow_add-until-2 c =
     let can = c.requires.setting in
     let is = c.requires.state in
     let first = c.requires.first in
-    let on : link setting state can is c.args.place first ≡ c.link-link.result = sym (c.link-link.ensures ∙ link_is setting state can is c.args.place c.index-self-place.result (below setting state can is c.args.place first)) in
-    let waits : waiting_on state.feed (link setting state can is c.args.place first) ≡ Some c.in-Some.waiting = ap (waiting_on state.feed) on ∙ (sym c.waiting.ensures ∙ c.in-Some.is) in
-    let rate : c.rate.result ≡ (link_at c.args.self.now.network.now (link setting state can is c.args.place first)).r = c.rate.ensures.value ∙ ap (λ l. (link_at c.args.self.now.network.now l).r) (sym on) in
+    let on : link setting state can is c.args.number first ≡ c.link-link.result = sym (c.link-link.ensures ∙ link_is setting state can is c.args.number c.index-self-number.result (below setting state can is c.args.number first)) in
+    let waits : waiting_on state.feed (link setting state can is c.args.number first) ≡ Some c.in-Some.waiting = ap (waiting_on state.feed) on ∙ (sym c.waiting.ensures ∙ c.in-Some.is) in
+    let rate : c.rate.result ≡ (link_at c.args.self.now.network.now (link setting state can is c.args.number first)).r = c.rate.ensures.value ∙ ap (λ l. (link_at c.args.self.now.network.now l).r) (sym on) in
     let some = c.rate.ensures.some in
     let few = c.rate.ensures.limit in
-    let until_is : c.args.port.background + (c.in-Some.waiting.octets + 20) * c.rate.result ≡ c.args.port.background + (c.in-Some.waiting.octets + 20) * (link_at c.args.self.now.network.now (link setting state can is c.args.place first)).r =
+    let until_is : c.args.port.background + (c.in-Some.waiting.octets + 20) * c.rate.result ≡ c.args.port.background + (c.in-Some.waiting.octets + 20) * (link_at c.args.self.now.network.now (link setting state can is c.args.number first)).r =
     ap (λ r. c.args.port.background + (c.in-Some.waiting.octets + 20) * r) rate in
-    let short = until_short setting state can is c.args.place first c.args.port c.requires.port c.requires.order c.in-Some.waiting waits (c.args.port.background + (c.in-Some.waiting.octets + 20) * c.rate.result) until_is (omega arith) (omega arith) in
+    let short = until_short setting state can is c.args.number first c.args.port c.requires.port c.requires.order c.in-Some.waiting waits (c.args.port.background + (c.in-Some.waiting.octets + 20) * c.rate.result) until_is (omega arith) (omega arith) in
     let upto = short.1 in
-    let soon = send_in_time setting state can is c.args.place first c.args.port c.requires.port c.requires.order in
+    let soon = send_in_time setting state can is c.args.number first c.args.port c.requires.port c.requires.order in
     let end_is = is.under_way.end in
     let small = is.under_way.small in
     omega arith
@@ -75,16 +75,16 @@ after_sent-requires-clause-wanted c frame at =
     let can = c.requires.setting in
     let is = c.requires.state in
     let first = c.requires.first in
-    let on : link setting state can is c.args.place first ≡ c.link-link.result = sym (c.link-link.ensures ∙ link_is setting state can is c.args.place c.index-self-place.result (below setting state can is c.args.place first)) in
-    let waits : waiting_on state.feed (link setting state can is c.args.place first) ≡ Some c.in-Some.waiting = ap (waiting_on state.feed) on ∙ (sym c.waiting.ensures ∙ c.in-Some.is) in
-    let rate : c.rate.result ≡ (link_at c.args.self.now.network.now (link setting state can is c.args.place first)).r = c.rate.ensures.value ∙ ap (λ l. (link_at c.args.self.now.network.now l).r) (sym on) in
+    let on : link setting state can is c.args.number first ≡ c.link-link.result = sym (c.link-link.ensures ∙ link_is setting state can is c.args.number c.index-self-number.result (below setting state can is c.args.number first)) in
+    let waits : waiting_on state.feed (link setting state can is c.args.number first) ≡ Some c.in-Some.waiting = ap (waiting_on state.feed) on ∙ (sym c.waiting.ensures ∙ c.in-Some.is) in
+    let rate : c.rate.result ≡ (link_at c.args.self.now.network.now (link setting state can is c.args.number first)).r = c.rate.ensures.value ∙ ap (λ l. (link_at c.args.self.now.network.now l).r) (sym on) in
     let some = c.rate.ensures.some in
     let few = c.rate.ensures.limit in
-    let until_is : c.args.port.background + (c.in-Some.waiting.octets + 20) * c.rate.result ≡ c.args.port.background + (c.in-Some.waiting.octets + 20) * (link_at c.args.self.now.network.now (link setting state can is c.args.place first)).r =
+    let until_is : c.args.port.background + (c.in-Some.waiting.octets + 20) * c.rate.result ≡ c.args.port.background + (c.in-Some.waiting.octets + 20) * (link_at c.args.self.now.network.now (link setting state can is c.args.number first)).r =
     ap (λ r. c.args.port.background + (c.in-Some.waiting.octets + 20) * r) rate in
     let follows = subst (λ l. IsSent setting.background (waiting_on state.feed l) (waiting_on c.sent.new.self l)) (sym on) (c.sent.ensures.sent setting.background (length setting.network.links) is.under_way.feed) in
-    let under_way = sent_under_way setting state can is c.args.place first c.args.port c.requires.port c.requires.order c.in-Some.waiting waits (c.args.port.background + (c.in-Some.waiting.octets + 20) * c.rate.result) until_is (omega arith) (omega arith) c.send.new.self c.in_ok-send.ensures c.sent.new.self (c.sent.ensures.feed setting.background (length setting.network.links) is.under_way.feed) (λ m differ. c.sent.ensures.other m (λ same. differ (same ∙ sym on))) follows (with_item state.free c.link-link.result (c.args.port.background + (c.in-Some.waiting.octets + 20) * c.rate.result)) (ap (λ l. slice_set state.free.items l (c.args.port.background + (c.in-Some.waiting.octets + 20) * c.rate.result)) (sym on)) in
-    let exists = can.lists.links c.args.place c.index-self-place.result (below setting state can is c.args.place first) in
+    let under_way = sent_under_way setting state can is c.args.number first c.args.port c.requires.port c.requires.order c.in-Some.waiting waits (c.args.port.background + (c.in-Some.waiting.octets + 20) * c.rate.result) until_is (omega arith) (omega arith) c.send.new.self c.in_ok-send.ensures c.sent.new.self (c.sent.ensures.feed setting.background (length setting.network.links) is.under_way.feed) (λ m differ. c.sent.ensures.other m (λ same. differ (same ∙ sym on))) follows (with_item state.free c.link-link.result (c.args.port.background + (c.in-Some.waiting.octets + 20) * c.rate.result)) (ap (λ l. slice_set state.free.items l (c.args.port.background + (c.in-Some.waiting.octets + 20) * c.rate.result)) (sym on)) in
+    let exists = can.lists.links c.args.number c.index-self-number.result (below setting state can is c.args.number first) in
     let here : c.link-link.result < length c.args.self.now.network.now.links = subst (λ n. n < length c.args.self.now.network.now.links) (sym c.link-link.ensures) exists in
     let held = given_on setting (record state { time = c.args.port.background; free = with_item state.free c.link-link.result (c.args.port.background + (c.in-Some.waiting.octets + 20) * c.rate.result); feed = c.sent.new.self; starts = c.send.new.self }) can under_way
     c.link-link.result here frame (sym c.waiting-next.ensures ∙ at) in
@@ -97,16 +97,16 @@ after_sent-requires-clause-from c =
     let can = c.requires.setting in
     let is = c.requires.state in
     let first = c.requires.first in
-    let on : link setting state can is c.args.place first ≡ c.link-link.result = sym (c.link-link.ensures ∙ link_is setting state can is c.args.place c.index-self-place.result (below setting state can is c.args.place first)) in
-    let waits : waiting_on state.feed (link setting state can is c.args.place first) ≡ Some c.in-Some.waiting = ap (waiting_on state.feed) on ∙ (sym c.waiting.ensures ∙ c.in-Some.is) in
-    let rate : c.rate.result ≡ (link_at c.args.self.now.network.now (link setting state can is c.args.place first)).r = c.rate.ensures.value ∙ ap (λ l. (link_at c.args.self.now.network.now l).r) (sym on) in
+    let on : link setting state can is c.args.number first ≡ c.link-link.result = sym (c.link-link.ensures ∙ link_is setting state can is c.args.number c.index-self-number.result (below setting state can is c.args.number first)) in
+    let waits : waiting_on state.feed (link setting state can is c.args.number first) ≡ Some c.in-Some.waiting = ap (waiting_on state.feed) on ∙ (sym c.waiting.ensures ∙ c.in-Some.is) in
+    let rate : c.rate.result ≡ (link_at c.args.self.now.network.now (link setting state can is c.args.number first)).r = c.rate.ensures.value ∙ ap (λ l. (link_at c.args.self.now.network.now l).r) (sym on) in
     let some = c.rate.ensures.some in
     let few = c.rate.ensures.limit in
-    let until_is : c.args.port.background + (c.in-Some.waiting.octets + 20) * c.rate.result ≡ c.args.port.background + (c.in-Some.waiting.octets + 20) * (link_at c.args.self.now.network.now (link setting state can is c.args.place first)).r =
+    let until_is : c.args.port.background + (c.in-Some.waiting.octets + 20) * c.rate.result ≡ c.args.port.background + (c.in-Some.waiting.octets + 20) * (link_at c.args.self.now.network.now (link setting state can is c.args.number first)).r =
     ap (λ r. c.args.port.background + (c.in-Some.waiting.octets + 20) * r) rate in
-    let short = until_short setting state can is c.args.place first c.args.port c.requires.port c.requires.order c.in-Some.waiting waits (c.args.port.background + (c.in-Some.waiting.octets + 20) * c.rate.result) until_is (omega arith) (omega arith) in
+    let short = until_short setting state can is c.args.number first c.args.port c.requires.port c.requires.order c.in-Some.waiting waits (c.args.port.background + (c.in-Some.waiting.octets + 20) * c.rate.result) until_is (omega arith) (omega arith) in
     let upto = short.1 in
-    let soon = send_in_time setting state can is c.args.place first c.args.port c.requires.port c.requires.order in
+    let soon = send_in_time setting state can is c.args.number first c.args.port c.requires.port c.requires.order in
     let end_is = is.under_way.end in
     let small = is.under_way.small in
     omega arith
@@ -118,16 +118,16 @@ after_sent-requires-clause-still c upto =
     let can = c.requires.setting in
     let is = c.requires.state in
     let first = c.requires.first in
-    let on : link setting state can is c.args.place first ≡ c.link-link.result = sym (c.link-link.ensures ∙ link_is setting state can is c.args.place c.index-self-place.result (below setting state can is c.args.place first)) in
-    let waits : waiting_on state.feed (link setting state can is c.args.place first) ≡ Some c.in-Some.waiting = ap (waiting_on state.feed) on ∙ (sym c.waiting.ensures ∙ c.in-Some.is) in
-    let rate : c.rate.result ≡ (link_at c.args.self.now.network.now (link setting state can is c.args.place first)).r = c.rate.ensures.value ∙ ap (λ l. (link_at c.args.self.now.network.now l).r) (sym on) in
+    let on : link setting state can is c.args.number first ≡ c.link-link.result = sym (c.link-link.ensures ∙ link_is setting state can is c.args.number c.index-self-number.result (below setting state can is c.args.number first)) in
+    let waits : waiting_on state.feed (link setting state can is c.args.number first) ≡ Some c.in-Some.waiting = ap (waiting_on state.feed) on ∙ (sym c.waiting.ensures ∙ c.in-Some.is) in
+    let rate : c.rate.result ≡ (link_at c.args.self.now.network.now (link setting state can is c.args.number first)).r = c.rate.ensures.value ∙ ap (λ l. (link_at c.args.self.now.network.now l).r) (sym on) in
     let some = c.rate.ensures.some in
     let few = c.rate.ensures.limit in
-    let until_is : c.args.port.background + (c.in-Some.waiting.octets + 20) * c.rate.result ≡ c.args.port.background + (c.in-Some.waiting.octets + 20) * (link_at c.args.self.now.network.now (link setting state can is c.args.place first)).r =
+    let until_is : c.args.port.background + (c.in-Some.waiting.octets + 20) * c.rate.result ≡ c.args.port.background + (c.in-Some.waiting.octets + 20) * (link_at c.args.self.now.network.now (link setting state can is c.args.number first)).r =
     ap (λ r. c.args.port.background + (c.in-Some.waiting.octets + 20) * r) rate in
-    subst (λ frames. IsScheduledNext c.args.self.now.network.now (get_or c.args.self.now.gates.now c.args.place c.index-self-place.result).entries frames c.args.port.head
+    subst (λ frames. IsScheduledNext c.args.self.now.network.now (get_or c.args.self.now.gates.now c.args.number c.index-self-number.result).entries frames c.args.port.head
     (c.args.port.background + (c.in-Some.waiting.octets + 20) * c.rate.result) c.args.state.now.end c.args.port.scheduled) (sym c.deref.ensures.value)
-    (send_still setting state can is c.args.place first c.args.port c.requires.port c.requires.order c.in-Some.waiting waits (c.args.port.background + (c.in-Some.waiting.octets + 20) * c.rate.result) until_is (omega arith) (omega arith) c.index-self-place.result upto)
+    (send_still setting state can is c.args.number first c.args.port c.requires.port c.requires.order c.in-Some.waiting waits (c.args.port.background + (c.in-Some.waiting.octets + 20) * c.rate.result) until_is (omega arith) (omega arith) c.index-self-number.result upto)
 
 pub returns-clause-state : goal.returns-clause-state
 returns-clause-state c =
@@ -136,24 +136,24 @@ returns-clause-state c =
     let can = c.requires.setting in
     let is = c.requires.state in
     let first = c.requires.first in
-    let on : link setting state can is c.args.place first ≡ c.link-link.result = sym (c.link-link.ensures ∙ link_is setting state can is c.args.place c.index-self-place.result (below setting state can is c.args.place first)) in
-    let waits : waiting_on state.feed (link setting state can is c.args.place first) ≡ Some c.in-Some.waiting = ap (waiting_on state.feed) on ∙ (sym c.waiting.ensures ∙ c.in-Some.is) in
-    let rate : c.rate.result ≡ (link_at c.args.self.now.network.now (link setting state can is c.args.place first)).r = c.rate.ensures.value ∙ ap (λ l. (link_at c.args.self.now.network.now l).r) (sym on) in
+    let on : link setting state can is c.args.number first ≡ c.link-link.result = sym (c.link-link.ensures ∙ link_is setting state can is c.args.number c.index-self-number.result (below setting state can is c.args.number first)) in
+    let waits : waiting_on state.feed (link setting state can is c.args.number first) ≡ Some c.in-Some.waiting = ap (waiting_on state.feed) on ∙ (sym c.waiting.ensures ∙ c.in-Some.is) in
+    let rate : c.rate.result ≡ (link_at c.args.self.now.network.now (link setting state can is c.args.number first)).r = c.rate.ensures.value ∙ ap (λ l. (link_at c.args.self.now.network.now l).r) (sym on) in
     let some = c.rate.ensures.some in
     let few = c.rate.ensures.limit in
-    let until_is : c.args.port.background + (c.in-Some.waiting.octets + 20) * c.rate.result ≡ c.args.port.background + (c.in-Some.waiting.octets + 20) * (link_at c.args.self.now.network.now (link setting state can is c.args.place first)).r =
+    let until_is : c.args.port.background + (c.in-Some.waiting.octets + 20) * c.rate.result ≡ c.args.port.background + (c.in-Some.waiting.octets + 20) * (link_at c.args.self.now.network.now (link setting state can is c.args.number first)).r =
     ap (λ r. c.args.port.background + (c.in-Some.waiting.octets + 20) * r) rate in
     let follows = subst (λ l. IsSent setting.background (waiting_on state.feed l) (waiting_on c.sent.new.self l)) (sym on) (c.sent.ensures.sent setting.background (length setting.network.links) is.under_way.feed) in
-    let item : (d : LinkGates) → get_or c.args.self.now.gates.now c.args.place c.index-self-place.result ≡ get_or c.args.self.now.gates.now c.args.place d =
-    λ d. get_or_default c.args.self.now.gates.now c.args.place c.index-self-place.result d (below setting state can is c.args.place first) in
+    let item : (d : LinkGates) → get_or c.args.self.now.gates.now c.args.number c.index-self-number.result ≡ get_or c.args.self.now.gates.now c.args.number d =
+    λ d. get_or_default c.args.self.now.gates.now c.args.number c.index-self-number.result d (below setting state can is c.args.number first) in
     let until = c.args.port.background + (c.in-Some.waiting.octets + 20) * c.rate.result in
-    let frames = subst (λ fs. IsPort c.args.self.now.network.now (get_or c.args.self.now.gates.now c.args.place c.index-self-place.result).entries fs c.waiting-next.result
-    (get_or c.args.self.now.gates.now c.args.place c.index-self-place.result).link until state.end c.after_sent.result) c.deref.ensures.value c.after_sent.ensures in
-    let next = subst (λ w. IsPort c.args.self.now.network.now (get_or c.args.self.now.gates.now c.args.place c.index-self-place.result).entries state.frames.items w
-    (get_or c.args.self.now.gates.now c.args.place c.index-self-place.result).link until state.end c.after_sent.result) (c.waiting-next.ensures ∙ ap (waiting_on c.sent.new.self) c.link-link.ensures) frames in
-    sent_state setting state can is c.args.place first c.args.port c.requires.port c.requires.order c.in-Some.waiting waits (c.args.port.background + (c.in-Some.waiting.octets + 20) * c.rate.result) until_is (omega arith) (omega arith) c.send.new.self c.in_ok-send.ensures c.sent.new.self (c.sent.ensures.feed setting.background (length setting.network.links) is.under_way.feed) (λ m differ. c.sent.ensures.other m (λ same. differ (same ∙ sym on))) follows (with_item state.free c.link-link.result (c.args.port.background + (c.in-Some.waiting.octets + 20) * c.rate.result)) (ap (λ l. slice_set state.free.items l (c.args.port.background + (c.in-Some.waiting.octets + 20) * c.rate.result)) (sym on))
+    let frames = subst (λ fs. IsPort c.args.self.now.network.now (get_or c.args.self.now.gates.now c.args.number c.index-self-number.result).entries fs c.waiting-next.result
+    (get_or c.args.self.now.gates.now c.args.number c.index-self-number.result).link until state.end c.after_sent.result) c.deref.ensures.value c.after_sent.ensures in
+    let next = subst (λ w. IsPort c.args.self.now.network.now (get_or c.args.self.now.gates.now c.args.number c.index-self-number.result).entries state.frames.items w
+    (get_or c.args.self.now.gates.now c.args.number c.index-self-number.result).link until state.end c.after_sent.result) (c.waiting-next.ensures ∙ ap (waiting_on c.sent.new.self) c.link-link.ensures) frames in
+    sent_state setting state can is c.args.number first c.args.port c.requires.port c.requires.order c.in-Some.waiting waits (c.args.port.background + (c.in-Some.waiting.octets + 20) * c.rate.result) until_is (omega arith) (omega arith) c.send.new.self c.in_ok-send.ensures c.sent.new.self (c.sent.ensures.feed setting.background (length setting.network.links) is.under_way.feed) (λ m differ. c.sent.ensures.other m (λ same. differ (same ∙ sym on))) follows (with_item state.free c.link-link.result (c.args.port.background + (c.in-Some.waiting.octets + 20) * c.rate.result)) (ap (λ l. slice_set state.free.items l (c.args.port.background + (c.in-Some.waiting.octets + 20) * c.rate.result)) (sym on))
     c.after_sent.result (λ d. subst (λ (g : LinkGates). IsPort c.args.self.now.network.now g.entries state.frames.items (waiting_on c.sent.new.self g.link) g.link until state.end c.after_sent.result) (item d) next)
-    (with_item state.ports c.args.place c.after_sent.result) refl
+    (with_item state.ports c.args.number c.after_sent.result) refl
 
 pub returns-clause-falls : goal.returns-clause-falls
 returns-clause-falls c =
@@ -162,12 +162,12 @@ returns-clause-falls c =
     let can = c.requires.setting in
     let is = c.requires.state in
     let first = c.requires.first in
-    let on : link setting state can is c.args.place first ≡ c.link-link.result = sym (c.link-link.ensures ∙ link_is setting state can is c.args.place c.index-self-place.result (below setting state can is c.args.place first)) in
-    let waits : waiting_on state.feed (link setting state can is c.args.place first) ≡ Some c.in-Some.waiting = ap (waiting_on state.feed) on ∙ (sym c.waiting.ensures ∙ c.in-Some.is) in
-    let rate : c.rate.result ≡ (link_at c.args.self.now.network.now (link setting state can is c.args.place first)).r = c.rate.ensures.value ∙ ap (λ l. (link_at c.args.self.now.network.now l).r) (sym on) in
+    let on : link setting state can is c.args.number first ≡ c.link-link.result = sym (c.link-link.ensures ∙ link_is setting state can is c.args.number c.index-self-number.result (below setting state can is c.args.number first)) in
+    let waits : waiting_on state.feed (link setting state can is c.args.number first) ≡ Some c.in-Some.waiting = ap (waiting_on state.feed) on ∙ (sym c.waiting.ensures ∙ c.in-Some.is) in
+    let rate : c.rate.result ≡ (link_at c.args.self.now.network.now (link setting state can is c.args.number first)).r = c.rate.ensures.value ∙ ap (λ l. (link_at c.args.self.now.network.now l).r) (sym on) in
     let some = c.rate.ensures.some in
     let few = c.rate.ensures.limit in
-    let until_is : c.args.port.background + (c.in-Some.waiting.octets + 20) * c.rate.result ≡ c.args.port.background + (c.in-Some.waiting.octets + 20) * (link_at c.args.self.now.network.now (link setting state can is c.args.place first)).r =
+    let until_is : c.args.port.background + (c.in-Some.waiting.octets + 20) * c.rate.result ≡ c.args.port.background + (c.in-Some.waiting.octets + 20) * (link_at c.args.self.now.network.now (link setting state can is c.args.number first)).r =
     ap (λ r. c.args.port.background + (c.in-Some.waiting.octets + 20) * r) rate in
     let follows = subst (λ l. IsSent setting.background (waiting_on state.feed l) (waiting_on c.sent.new.self l)) (sym on) (c.sent.ensures.sent setting.background (length setting.network.links) is.under_way.feed) in
-    sent_falls setting state can is c.args.place first c.args.port c.requires.port c.requires.order c.in-Some.waiting waits (c.args.port.background + (c.in-Some.waiting.octets + 20) * c.rate.result) until_is (omega arith) (omega arith) c.send.new.self c.in_ok-send.ensures c.sent.new.self (c.sent.ensures.feed setting.background (length setting.network.links) is.under_way.feed) (λ m differ. c.sent.ensures.other m (λ same. differ (same ∙ sym on))) follows (with_item state.free c.link-link.result (c.args.port.background + (c.in-Some.waiting.octets + 20) * c.rate.result)) (ap (λ l. slice_set state.free.items l (c.args.port.background + (c.in-Some.waiting.octets + 20) * c.rate.result)) (sym on))
+    sent_falls setting state can is c.args.number first c.args.port c.requires.port c.requires.order c.in-Some.waiting waits (c.args.port.background + (c.in-Some.waiting.octets + 20) * c.rate.result) until_is (omega arith) (omega arith) c.send.new.self c.in_ok-send.ensures c.sent.new.self (c.sent.ensures.feed setting.background (length setting.network.links) is.under_way.feed) (λ m differ. c.sent.ensures.other m (λ same. differ (same ∙ sym on))) follows (with_item state.free c.link-link.result (c.args.port.background + (c.in-Some.waiting.octets + 20) * c.rate.result)) (ap (λ l. slice_set state.free.items l (c.args.port.background + (c.in-Some.waiting.octets + 20) * c.rate.result)) (sym on))

@@ -16,8 +16,8 @@ advance-moved-requires-clause-stream c =
     let can = c.requires.setting in
     let is = c.requires.state in
     let first = c.requires.first in
-    let frame : c.index.result.now ≡ frame_in state.frames.items c.args.waiting = read_frame state.frames.items c.args.waiting c.index.result.now (waiting_below setting state can is c.args.place first c.args.waiting c.requires.head c.args.time c.requires.time c.requires.order) c.index.ensures in
-    subst (λ (f : Frame). f.stream < stream_count c.args.self.now.network.now) (sym frame) (stream_below setting state can is c.args.place first c.args.waiting c.requires.head c.args.time c.requires.time c.requires.order)
+    let frame : c.index.result.now ≡ frame_in state.frames.items c.args.waiting = read_frame state.frames.items c.args.waiting c.index.result.now (waiting_below setting state can is c.args.number first c.args.waiting c.requires.head c.args.time c.requires.time c.requires.order) c.index.ensures in
+    subst (λ (f : Frame). f.stream < stream_count c.args.self.now.network.now) (sym frame) (stream_below setting state can is c.args.number first c.args.waiting c.requires.head c.args.time c.requires.time c.requires.order)
 
 pub advance-moved-requires-clause-hop : goal.advance-moved-requires-clause-hop
 advance-moved-requires-clause-hop c =
@@ -26,8 +26,8 @@ advance-moved-requires-clause-hop c =
     let can = c.requires.setting in
     let is = c.requires.state in
     let first = c.requires.first in
-    let frame : c.index.result.now ≡ frame_in state.frames.items c.args.waiting = read_frame state.frames.items c.args.waiting c.index.result.now (waiting_below setting state can is c.args.place first c.args.waiting c.requires.head c.args.time c.requires.time c.requires.order) c.index.ensures in
-    subst (λ (f : Frame). f.hop < hop_count c.args.self.now.network.now f.stream) (sym frame) (waits_here setting state can is c.args.place first c.args.waiting c.requires.head c.args.time c.requires.time c.requires.order).waits
+    let frame : c.index.result.now ≡ frame_in state.frames.items c.args.waiting = read_frame state.frames.items c.args.waiting c.index.result.now (waiting_below setting state can is c.args.number first c.args.waiting c.requires.head c.args.time c.requires.time c.requires.order) c.index.ensures in
+    subst (λ (f : Frame). f.hop < hop_count c.args.self.now.network.now f.stream) (sym frame) (waits_here setting state can is c.args.number first c.args.waiting c.requires.head c.args.time c.requires.time c.requires.order).waits
 
 pub occupancy-requires-clause-stream : goal.occupancy-requires-clause-stream
 occupancy-requires-clause-stream c =
@@ -36,8 +36,8 @@ occupancy-requires-clause-stream c =
     let can = c.requires.setting in
     let is = c.requires.state in
     let first = c.requires.first in
-    let frame : c.index.result.now ≡ frame_in state.frames.items c.args.waiting = read_frame state.frames.items c.args.waiting c.index.result.now (waiting_below setting state can is c.args.place first c.args.waiting c.requires.head c.args.time c.requires.time c.requires.order) c.index.ensures in
-    subst (λ (f : Frame). f.stream < stream_count c.args.self.now.network.now) (sym frame) (stream_below setting state can is c.args.place first c.args.waiting c.requires.head c.args.time c.requires.time c.requires.order)
+    let frame : c.index.result.now ≡ frame_in state.frames.items c.args.waiting = read_frame state.frames.items c.args.waiting c.index.result.now (waiting_below setting state can is c.args.number first c.args.waiting c.requires.head c.args.time c.requires.time c.requires.order) c.index.ensures in
+    subst (λ (f : Frame). f.stream < stream_count c.args.self.now.network.now) (sym frame) (stream_below setting state can is c.args.number first c.args.waiting c.requires.head c.args.time c.requires.time c.requires.order)
 
 pub renew-requires-clause-state : goal.renew-requires-clause-state
 renew-requires-clause-state c =
@@ -46,11 +46,11 @@ renew-requires-clause-state c =
     let can = c.requires.setting in
     let is = c.requires.state in
     let first = c.requires.first in
-    let frame : c.index.result.now ≡ frame_in state.frames.items c.args.waiting = read_frame state.frames.items c.args.waiting c.index.result.now (waiting_below setting state can is c.args.place first c.args.waiting c.requires.head c.args.time c.requires.time c.requires.order) c.index.ensures in
-    let on : link setting state can is c.args.place first ≡ c.link-link.result = sym (c.link-link.ensures ∙ link_is setting state can is c.args.place c.index-self-place.result (below setting state can is c.args.place first)) in
-    let occupies : c.occupancy.result ≡ occupancy c.args.self.now.network.now c.index.result.now.stream (link setting state can is c.args.place first) =
+    let frame : c.index.result.now ≡ frame_in state.frames.items c.args.waiting = read_frame state.frames.items c.args.waiting c.index.result.now (waiting_below setting state can is c.args.number first c.args.waiting c.requires.head c.args.time c.requires.time c.requires.order) c.index.ensures in
+    let on : link setting state can is c.args.number first ≡ c.link-link.result = sym (c.link-link.ensures ∙ link_is setting state can is c.args.number c.index-self-number.result (below setting state can is c.args.number first)) in
+    let occupies : c.occupancy.result ≡ occupancy c.args.self.now.network.now c.index.result.now.stream (link setting state can is c.args.number first) =
     c.occupancy.ensures.value ∙ ap (occupancy c.args.self.now.network.now c.index.result.now.stream) (sym on) in
-    started_under_way setting state can is c.args.place first c.args.waiting c.requires.head c.args.time c.requires.time c.requires.order c.index.result.now frame c.occupancy.result occupies c.occupancy.ensures.some c.occupancy.ensures.bound c.advance-moved.result c.advance-moved.ensures.value c.advance-moved.ensures.ready c.start.new.self c.in_ok-start.ensures (with_item state.frames c.args.waiting c.advance-moved.result) refl (with_item state.free c.link-link.result (c.args.time + c.occupancy.result)) (ap (λ l. slice_set state.free.items l (c.args.time + c.occupancy.result)) (sym on))
+    started_under_way setting state can is c.args.number first c.args.waiting c.requires.head c.args.time c.requires.time c.requires.order c.index.result.now frame c.occupancy.result occupies c.occupancy.ensures.some c.occupancy.ensures.bound c.advance-moved.result c.advance-moved.ensures.value c.advance-moved.ensures.ready c.start.new.self c.in_ok-start.ensures (with_item state.frames c.args.waiting c.advance-moved.result) refl (with_item state.free c.link-link.result (c.args.time + c.occupancy.result)) (ap (λ l. slice_set state.free.items l (c.args.time + c.occupancy.result)) (sym on))
 
 pub renew-requires-clause-stream : goal.renew-requires-clause-stream
 renew-requires-clause-stream c =
@@ -59,9 +59,9 @@ renew-requires-clause-stream c =
     let can = c.requires.setting in
     let is = c.requires.state in
     let first = c.requires.first in
-    let frame : c.index.result.now ≡ frame_in state.frames.items c.args.waiting = read_frame state.frames.items c.args.waiting c.index.result.now (waiting_below setting state can is c.args.place first c.args.waiting c.requires.head c.args.time c.requires.time c.requires.order) c.index.ensures in
+    let frame : c.index.result.now ≡ frame_in state.frames.items c.args.waiting = read_frame state.frames.items c.args.waiting c.index.result.now (waiting_below setting state can is c.args.number first c.args.waiting c.requires.head c.args.time c.requires.time c.requires.order) c.index.ensures in
     let moved : c.advance-moved.result.stream ≡ c.index.result.now.stream = ap (λ (f : Frame). f.stream) c.advance-moved.ensures.value in
-    subst (λ n. n < stream_count c.args.self.now.network.now) (sym moved) (subst (λ (f : Frame). f.stream < stream_count c.args.self.now.network.now) (sym frame) (stream_below setting state can is c.args.place first c.args.waiting c.requires.head c.args.time c.requires.time c.requires.order))
+    subst (λ n. n < stream_count c.args.self.now.network.now) (sym moved) (subst (λ (f : Frame). f.stream < stream_count c.args.self.now.network.now) (sym frame) (stream_below setting state can is c.args.number first c.args.waiting c.requires.head c.args.time c.requires.time c.requires.order))
 
 pub renew-requires-clause-others : goal.renew-requires-clause-others
 renew-requires-clause-others c other other_below differs silent =
@@ -70,8 +70,8 @@ renew-requires-clause-others c other other_below differs silent =
     let can = c.requires.setting in
     let is = c.requires.state in
     let first = c.requires.first in
-    let frame : c.index.result.now ≡ frame_in state.frames.items c.args.waiting = read_frame state.frames.items c.args.waiting c.index.result.now (waiting_below setting state can is c.args.place first c.args.waiting c.requires.head c.args.time c.requires.time c.requires.order) c.index.ensures in
-    let on : link setting state can is c.args.place first ≡ c.link-link.result = sym (c.link-link.ensures ∙ link_is setting state can is c.args.place c.index-self-place.result (below setting state can is c.args.place first)) in
-    let occupies : c.occupancy.result ≡ occupancy c.args.self.now.network.now c.index.result.now.stream (link setting state can is c.args.place first) =
+    let frame : c.index.result.now ≡ frame_in state.frames.items c.args.waiting = read_frame state.frames.items c.args.waiting c.index.result.now (waiting_below setting state can is c.args.number first c.args.waiting c.requires.head c.args.time c.requires.time c.requires.order) c.index.ensures in
+    let on : link setting state can is c.args.number first ≡ c.link-link.result = sym (c.link-link.ensures ∙ link_is setting state can is c.args.number c.index-self-number.result (below setting state can is c.args.number first)) in
+    let occupies : c.occupancy.result ≡ occupancy c.args.self.now.network.now c.index.result.now.stream (link setting state can is c.args.number first) =
     c.occupancy.ensures.value ∙ ap (occupancy c.args.self.now.network.now c.index.result.now.stream) (sym on) in
-    started_others setting state can is c.args.place first c.args.waiting c.requires.head c.args.time c.requires.time c.requires.order c.index.result.now frame c.occupancy.result occupies c.occupancy.ensures.some c.occupancy.ensures.bound c.advance-moved.result c.advance-moved.ensures.value c.advance-moved.ensures.ready c.start.new.self c.in_ok-start.ensures (with_item state.frames c.args.waiting c.advance-moved.result) refl (with_item state.free c.link-link.result (c.args.time + c.occupancy.result)) (ap (λ l. slice_set state.free.items l (c.args.time + c.occupancy.result)) (sym on)) other other_below (λ d same. differs d (same ∙ on)) silent
+    started_others setting state can is c.args.number first c.args.waiting c.requires.head c.args.time c.requires.time c.requires.order c.index.result.now frame c.occupancy.result occupies c.occupancy.ensures.some c.occupancy.ensures.bound c.advance-moved.result c.advance-moved.ensures.value c.advance-moved.ensures.ready c.start.new.self c.in_ok-start.ensures (with_item state.frames c.args.waiting c.advance-moved.result) refl (with_item state.free c.link-link.result (c.args.time + c.occupancy.result)) (ap (λ l. slice_set state.free.items l (c.args.time + c.occupancy.result)) (sym on)) other other_below (λ d same. differs d (same ∙ on)) silent

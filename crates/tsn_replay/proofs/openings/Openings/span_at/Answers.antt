@@ -10,8 +10,8 @@ use Rattle.tsn_replay.specs.Openings.{AreEnds}
 use Rattle.tsn_replay.proofs.Spans.{cycle-pos, span_octet}
 use Rattle.tsn_replay.proofs.openings.Openings.span_at.Goals as goal
 
-pub nonzero_rem-place : goal.nonzero_rem-place
-nonzero_rem-place c =
+pub nonzero_rem-phase : goal.nonzero_rem-phase
+nonzero_rem-phase c =
     let pos = cycle-pos c.self.inside.entries.items c.self.invariant.0 in
     let size = c.self.invariant.1 in
     omega arith
@@ -64,7 +64,7 @@ returns-clause-octet c u since until =
     let item : c.index.result.now ≡ get_or c.args.self.now.entries c.entry_at-index.result c.index.result.now = c.index.ensures ∙ ap (λ es. get_or es c.entry_at-index.result c.index.result.now) entries in
     let more = cycle_of_more c.args.self.now.entries c.entry_at-index.result c.index.result.now at.within in
     let long : c.index.result.now.interval ≡ (get_or c.args.self.now.entries c.entry_at-index.result c.index.result.now).interval = ap (λ (e : GateEntry). e.interval) item in
-    let place : c.args.at % c.self.inside.cycle ≡ c.args.at % cycle_of c.args.self.now.entries = ap (λ n. c.args.at % n) size in
+    let phase : c.args.at % c.self.inside.cycle ≡ c.args.at % cycle_of c.args.self.now.entries = ap (λ n. c.args.at % n) size in
     let begun = at.begun in
     let not_ended = at.not_ended in
     span_octet c.args.self.now.entries c.entry_at-index.result c.index.result.now c.args.at u at.within item (omega arith) (omega arith) since (omega arith)
