@@ -32,10 +32,6 @@ stated_has_no_fault file problem fault (d, (top, utf8, parsed, is), clear, made)
 pub goes_on_after_network : (file : List ℕ) (problem : NamedNetwork) → States file problem → GoesOn CheckAnswers (file ∷ [])
 goes_on_after_network file problem stated output (fault, has, line) = stated_has_no_fault file problem fault stated has
 
--- to a network file and a plan file that are taken `check` answers nothing
-pub goes_on_after_plan : (network file : List ℕ) (plan : Plan) → plan_in file ≡ Ok plan → GoesOn CheckAnswers (network ∷ file ∷ [])
-goes_on_after_plan network file plan read output (states, (fault, refused, line)) = not_both (sym read ∙ refused)
-
 -- what a reader refused for another cause than memory is refused for that cause
 pub fault_is : {A : Type 0} (fault : FileFault) (expected : Result A FileFault) → FaultGiven fault expected → (fault ≡ Memory → false ≡ true) → expected ≡ Err fault
 fault_is NotJson expected given not_memory = given

@@ -182,11 +182,3 @@ pub last-le : (entries : List GateEntry) (n : ℕ) (last : GateEntry) → n ≡ 
 last-le entries n last long some is =
     let ends = ends_in entries last (omega arith) (is ∙ ap (λ m. get_or entries (m - 1) last) long) in
     omega (arith, ap cycle_of ends.is, cycle_of-push ends.front last)
-
--- one more entry keeps a timeline
-pub IsTimeline-more : (old new : List GateEntry) (end later octet : ℕ) → IsTimeline old end → end ≤ later → Appends old new (later - end) octet → IsTimeline new later
-IsTimeline-more old new end later octet timeline order more = record {
-  whole = let a = more.whole in let b = timeline.whole in omega arith;
-  positive = more.positive timeline.positive;
-  differ = more.differ timeline.differ;
-}

@@ -65,9 +65,6 @@ module _ (network : Network) (offsets : List ℕ) (link : ℕ) (windows : List W
     };
   }
 
-  pub unused-none : length windows ≡ 0 → ¬ IsUsed network link
-  unused-none none (i, uses) = let has = all.all_uses i uses in let inside = has.1 in omega arith
-
 some_entries : (entries : List GateEntry) → 1 ≤ cycle_of entries → 0 < length entries
 some_entries [] lasts = absurd (omega (arith, cycle_of-nil))
 some_entries (entry ∷ entries) lasts = omega arith
@@ -90,13 +87,6 @@ module _ (network : Network) (offsets : List ℕ) where
     pub each : All (λ list. (list.link < n) × IsListOf network offsets list.link list) lists
     pub all_used : (link : ℕ) → link < n → IsUsed network link → Any (λ list. list.link ≡ link) lists
     pub in_order : AllPairs (λ a b. a.link < b.link) lists
-
-  pub AreListsBelow-none : AreListsBelow 0 []
-  AreListsBelow-none = record {
-    each = All-nil (λ (list : LinkGates). (list.link < 0) × IsListOf network offsets list.link list);
-    all_used = λ link below. absurd (omega arith);
-    in_order = λ i j d order below. absurd (omega arith);
-  }
 
   pub AreListsBelow-skip : (n : ℕ) (lists : List LinkGates) → AreListsBelow n lists → ¬ IsUsed network n → AreListsBelow (n + 1) lists
   AreListsBelow-skip n lists below unused = record {

@@ -119,13 +119,6 @@ fills-append NodeRight (path ∷ paths) (node ∷ first) rest fills =
     let more = fills-append NodeRight (next_places (path ∷ paths) node) first rest fills.1 in
     ((fills.0, more.0), more.1)
 
-pub append-fills : (NodeRight : List Decision → Node → Type 0) (paths : List (List Decision)) (first rest : List Node) → AreRight NodeRight paths first → Fills NodeRight (places_from paths first) rest
-    → Fills NodeRight paths (first ++ rest)
-unfolding places_from
-append-fills NodeRight paths [] rest right fills = fills
-append-fills NodeRight [] (node ∷ first) rest right fills = absurd right
-append-fills NodeRight (path ∷ paths) (node ∷ first) rest right fills = (right.0, append-fills NodeRight (next_places (path ∷ paths) node) first rest right.1 fills)
-
 -- one more node that is right at the first open place
 pub places_from-snoc : (paths : List (List Decision)) (first : List Node) (node : Node) → places_from paths (first ++ node ∷ []) ≡ next_places (places_from paths first) node
 unfolding places_from
