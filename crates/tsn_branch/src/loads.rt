@@ -157,8 +157,8 @@ fn head(users: &[User], offsets: &[u64]) -> u64
 {
     let first = users[0];
     let mut least = offsets[first.stream] + first.start;
-    for place in 1..users.len() {
-        let user = users[place];
+    for index in 1..users.len() {
+        let user = users[index];
         least = least.min(offsets[user.stream] + user.start);
     }
     least

@@ -24,7 +24,7 @@ pub fn span_of(plan: &Plan) -> u64
     }
 }
 
-/// Whether each chain leads to the stream of its place.
+/// Whether each chain leads to the stream of its number.
 fn all_lead(timing: &Timing, path: &[Turn], chains: &[Chain]) -> Result<(), NodeFault>
     requires { AreTurns timing.now path.now }
     ensures { FindsChains timing.now (decisions path.now) chains.now result }

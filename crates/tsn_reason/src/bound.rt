@@ -17,7 +17,7 @@ struct Turn {
 
 /// The end of a path.
 #[derive(Clone, Copy)]
-struct Place<'a> {
+struct PathEnd<'a> {
     timing: &'a Timing,
     path: &'a [Turn],
 }
@@ -58,12 +58,12 @@ pub fn push_low_bound(
         return Ok(());
     };
     let path = path_to(alloc, shown.timing, nodes, number)?;
-    let place = Place {
+    let at = PathEnd {
         timing: shown.timing,
         path: path.as_slice(),
     };
     write!(text, "node {number}: ")?;
-    Ok(push_leaf(text, place, shown.plan, wanted_of(shown), node)?)
+    Ok(push_leaf(text, at, shown.plan, wanted_of(shown), node)?)
 }
 
 /// What a leaf that is no tie has to show.
@@ -85,33 +85,31 @@ fn wanted_of(shown: Shown<'_>) -> Wanted {
 
 fn push_leaf(
     text: &mut String,
-    place: Place<'_>,
+    at: PathEnd<'_>,
     plan: &Plan,
     wanted: Wanted,
     node: &Node,
 ) -> Result<(), AllocError> {
     match node {
-        Node::Late(stream, chain) => push_bound(text, late_bound(place, *stream, chain), wanted),
-        Node::Overrun(stream, chain) => push_overrun(text, place, *stream, chain),
-        Node::Cycle(chain) => push_cycle(text, place, chain),
-        Node::Load(_, _) | Node::Overload(_, _) => push_load_leaf(text, place, wanted, node),
-        Node::Tie(stream, chain, _) => { push_tie(text, late_bound(place, *stream, chain), plan) }
-        Node::TieLoad(link, entries, _) => {
-            push_tie(text, load_bound(place, *link, entries), plan)
-        }
+        Node::Late(stream, chain) => push_bound(text, late_bound(at, *stream, chain), wanted),
+        Node::Overrun(stream, chain) => push_overrun(text, at, *stream, chain),
+        Node::Cycle(chain) => push_cycle(text, at, chain),
+        Node::Load(_, _) | Node::Overload(_, _) => push_load_leaf(text, at, wanted, node),
+        Node::Tie(stream, chain, _) => { push_tie(text, late_bound(at, *stream, chain), plan) }
+        Node::TieLoad(link, entries, _) => { push_tie(text, load_bound(at, *link, entries), plan) }
         Node::Branch(_) => Ok(()),
     }
 }
 
 fn push_load_leaf(
     text: &mut String,
-    place: Place<'_>,
+    at: PathEnd<'_>,
     wanted: Wanted,
     node: &Node,
 ) -> Result<(), AllocError> {
     match node {
-        Node::Load(link, entries) => push_bound(text, load_bound(place, *link, entries), wanted),
-        Node::Overload(link, entries) => push_overload(text, place, *link, entries),
+        Node::Load(link, entries) => push_bound(text, load_bound(at, *link, entries), wanted),
+        Node::Overload(link, entries) => push_overload(text, at, *link, entries),
         _ => Ok(()),
     }
 }
@@ -127,18 +125,18 @@ fn push_bound(text: &mut String, bound: i64, wanted: Wanted) -> Result<(), Alloc
 
 fn push_overrun(
     text: &mut String,
-    place: Place<'_>,
+    at: PathEnd<'_>,
     stream: usize,
     chain: &Chain,
 ) -> Result<(), AllocError> {
-    if stream >= place.timing.streams() {
+    if stream >= at.timing.streams() {
         return Ok(());
     }
-    let sum = sum_to(place, stream, chain);
-    let end = sum.saturating_add(place.timing.span(stream) as i64);
-    let arrival = sum.saturating_add(place.timing.arrival(stream) as i64);
-    let cycle = place.timing.cycle();
-    let latest = place.timing.latest(stream);
+    let sum = sum_to(at, stream, chain);
+    let end = sum.saturating_add(at.timing.span(stream) as i64);
+    let arrival = sum.saturating_add(at.timing.arrival(stream) as i64);
+    let cycle = at.timing.cycle();
+    let latest = at.timing.latest(stream);
     write!(
         text,
         "the bound {end} of stream {stream}'s end isn't past the cycle's end at {cycle}, "
@@ -149,8 +147,8 @@ fn push_overrun(
     )
 }
 
-fn push_cycle(text: &mut String, place: Place<'_>, chain: &Chain) -> Result<(), AllocError> {
-    let sum = weights_of(place.path, chain);
+fn push_cycle(text: &mut String, at: PathEnd<'_>, chain: &Chain) -> Result<(), AllocError> {
+    let sum = weights_of(at.path, chain);
     write!(
         text,
         "the weights of its chain add up to {sum}, and have to be above 0"
@@ -159,13 +157,13 @@ fn push_cycle(text: &mut String, place: Place<'_>, chain: &Chain) -> Result<(), 
 
 fn push_overload(
     text: &mut String,
-    place: Place<'_>,
+    at: PathEnd<'_>,
     link: usize,
     entries: &Entries,
 ) -> Result<(), AllocError> {
-    let all = load_of(place, link, entries);
+    let all = load_of(at, link, entries);
     let end = all.head.saturating_add(all.work);
-    let cycle = place.timing.cycle();
+    let cycle = at.timing.cycle();
     write!(
         text,
         "the bound {end} of link {link}'s use isn't past the cycle's end at {cycle}"
@@ -191,41 +189,41 @@ fn push_tie(text: &mut String, bound: i64, plan: &Plan) -> Result<(), AllocError
 }
 
 /// The soonest arrival of a stream.
-fn late_bound(place: Place<'_>, stream: usize, chain: &Chain) -> i64 {
-    if stream >= place.timing.streams() {
+fn late_bound(at: PathEnd<'_>, stream: usize, chain: &Chain) -> i64 {
+    if stream >= at.timing.streams() {
         return 0;
     }
-    sum_to(place, stream, chain).saturating_add(place.timing.arrival(stream) as i64)
+    sum_to(at, stream, chain).saturating_add(at.timing.arrival(stream) as i64)
 }
 
 /// The soonest arrival of the last of some streams on a link.
-fn load_bound(place: Place<'_>, link: usize, entries: &Entries) -> i64 {
-    let all = load_of(place, link, entries);
+fn load_bound(at: PathEnd<'_>, link: usize, entries: &Entries) -> i64 {
+    let all = load_of(at, link, entries);
     all.head.saturating_add(all.work).saturating_add(all.tail)
 }
 
 /// What entries come to on their link.
-fn load_of(place: Place<'_>, link: usize, entries: &Entries) -> LinkLoad {
+fn load_of(at: PathEnd<'_>, link: usize, entries: &Entries) -> LinkLoad {
     let mut all = LinkLoad {
         head: i64::MAX,
         work: 0,
         tail: i64::MAX,
     };
     for entry in entries.list() {
-        all = with_entry(all, place, link, entry);
+        all = with_entry(all, at, link, entry);
     }
     all
 }
 
 /// What an entry and those before it come to on their link.
-fn with_entry(all: LinkLoad, place: Place<'_>, link: usize, entry: &(usize, Chain)) -> LinkLoad {
+fn with_entry(all: LinkLoad, at: PathEnd<'_>, link: usize, entry: &(usize, Chain)) -> LinkLoad {
     let stream = entry.0;
-    if stream >= place.timing.streams() {
+    if stream >= at.timing.streams() {
         return all;
     }
-    let (start, work) = times_on(place.timing, stream, link);
-    let head = sum_to(place, stream, &entry.1).saturating_add(start);
-    let tail = (place.timing.arrival(stream) as i64)
+    let (start, work) = times_on(at.timing, stream, link);
+    let head = sum_to(at, stream, &entry.1).saturating_add(start);
+    let tail = (at.timing.arrival(stream) as i64)
         .saturating_sub(start)
         .saturating_sub(work);
     LinkLoad {
@@ -236,15 +234,15 @@ fn with_entry(all: LinkLoad, place: Place<'_>, link: usize, entry: &(usize, Chai
 }
 
 /// The sum of a chain to a stream: the release of the stream where it begins, and its weights.
-fn sum_to(place: Place<'_>, stream: usize, chain: &Chain) -> i64 {
+fn sum_to(at: PathEnd<'_>, stream: usize, chain: &Chain) -> i64 {
     let start = match chain.depths().first() {
-        Some(depth) => from_at(place.path, *depth, stream),
+        Some(depth) => from_at(at.path, *depth, stream),
         None => stream,
     };
-    if start >= place.timing.streams() {
+    if start >= at.timing.streams() {
         return 0;
     }
-    (place.timing.release(start) as i64).saturating_add(weights_of(place.path, chain))
+    (at.timing.release(start) as i64).saturating_add(weights_of(at.path, chain))
 }
 
 /// Where the arc at a depth begins.

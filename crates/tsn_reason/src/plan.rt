@@ -52,7 +52,7 @@ fn push_plan_value(text: &mut String, value: &Value) -> Result<(), AllocError> {
     let Some(offsets) = elements_at(value, "offsets") else {
         return text.push_str("offsets has to be an array");
     };
-    if let Some(stream) = place_of_no_number(offsets) {
+    if let Some(stream) = stream_of_no_number(offsets) {
         return write!(text, "offset {stream} has to be a whole number");
     }
     if flowspan > MAX_TIME {
@@ -64,11 +64,11 @@ fn push_plan_value(text: &mut String, value: &Value) -> Result<(), AllocError> {
     push_large_offset(text, offsets)
 }
 
-/// The place of the first element that is no whole number.
-fn place_of_no_number(offsets: &[Value]) -> Option<usize> {
-    for (place, offset) in offsets.iter().enumerate() {
+/// The stream of the first element that is no whole number.
+fn stream_of_no_number(offsets: &[Value]) -> Option<usize> {
+    for (stream, offset) in offsets.iter().enumerate() {
         if offset.as_u64().is_none() {
-            return Some(place);
+            return Some(stream);
         }
     }
     None
@@ -76,12 +76,12 @@ fn place_of_no_number(offsets: &[Value]) -> Option<usize> {
 
 /// Writes which offset is too large.
 fn push_large_offset(text: &mut String, offsets: &[Value]) -> Result<(), AllocError> {
-    for (place, offset) in offsets.iter().enumerate() {
+    for (stream, offset) in offsets.iter().enumerate() {
         if let Some(number) = offset.as_u64() {
             if number > MAX_TIME {
                 return write!(
                     text,
-                    "offset {place} is {number}, and may be at most {MAX_TIME}"
+                    "offset {stream} is {number}, and may be at most {MAX_TIME}"
                 );
             }
         }

@@ -7,9 +7,9 @@ use std::alloc::AllocError;
 use std::fmt::Write;
 use toml::Value;
 
-/// The name at a place of a route; the empty one past its end.
-fn name_in(route: &[Value], place: usize) -> &str {
-    match route.get(place) {
+/// The name at an index of a route; the empty one past its end.
+fn name_in(route: &[Value], index: usize) -> &str {
+    match route.get(index) {
         Some(value) => value.as_str().unwrap_or(""),
         None => "",
     }
@@ -66,18 +66,18 @@ fn push_route(text: &mut String, does: &str, name: &str, behind: &str) -> Result
 
 /// The first name that stands twice.
 fn repeated(route: &[Value]) -> Option<&str> {
-    for place in 0..route.len() {
-        let name = name_in(route, place);
-        if stands_before(route, place, name) {
+    for index in 0..route.len() {
+        let name = name_in(route, index);
+        if stands_before(route, index, name) {
             return Some(name);
         }
     }
     None
 }
 
-/// Whether a name stands before a place.
-fn stands_before(route: &[Value], place: usize, name: &str) -> bool {
-    for before in 0..place {
+/// Whether a name stands before an index.
+fn stands_before(route: &[Value], index: usize, name: &str) -> bool {
+    for before in 0..index {
         if name_in(route, before) == name {
             return true;
         }
@@ -87,8 +87,8 @@ fn stands_before(route: &[Value], place: usize, name: &str) -> bool {
 
 /// The first name inside a route that is no bridge's.
 fn station_inside<'a>(nodes: &[Value], route: &'a [Value]) -> &'a str {
-    for place in 1..route.len() {
-        let name = name_in(route, place);
+    for index in 1..route.len() {
+        let name = name_in(route, index);
         if !names_kind(nodes, name, "bridge") {
             return name;
         }
@@ -100,9 +100,9 @@ fn station_inside<'a>(nodes: &[Value], route: &'a [Value]) -> &'a str {
 pub fn push_no_link(text: &mut String, top: &Value, stream: &Value) -> Result<(), AllocError> {
     let cables = elements_at(top, "link");
     let route = elements_at(stream, "route");
-    for place in 1..route.len() {
-        let from = name_in(route, place.saturating_sub(1));
-        let to = name_in(route, place);
+    for index in 1..route.len() {
+        let from = name_in(route, index.saturating_sub(1));
+        let to = name_in(route, index);
         if joined_by(cables, from, to).is_none() {
             return push_gap(text, from, to);
         }

@@ -32,10 +32,10 @@ impl OpenNodes {
     pub fn deal<B: Bag>(self, bags: &mut [B])
         requires { 0 < length bags.old }
     {
-        let mut place = self.nodes.len();
+        let mut number = self.nodes.len();
         for node in self.nodes {
-            place -= 1;
-            let bag = place % bags.len();
+            number -= 1;
+            let bag = number % bags.len();
             let _ = bags[bag].push(node);
         }
     }

@@ -7,7 +7,7 @@ use crate::worker::Member;
 use std::alloc::{AllocError, Global};
 use tsn_share::{Named, Teller};
 
-/// Gives each teller a bag. Its number is its place among them.
+/// Gives each teller a bag, and its number in the list.
 pub fn team_of<K: Named, B: Bag>(
     alloc: Global,
     tellers: Vec<Teller<K>>,

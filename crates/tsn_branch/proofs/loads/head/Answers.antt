@@ -6,9 +6,9 @@ use Rattle.tsn_branch.proofs.loads.head.Goals as goal
 no_user : User
 no_user = record { stream = 0; start = 0 }
 
-pub loop-place-init : goal.loop-place-init
+pub loop-index-init : goal.loop-index-init
 unfolding no_user
-loop-place-init c =
+loop-index-init c =
     let first = c.requires.users 0 no_user c.requires.some_user in
     let small = c.requires.small (get_or c.args.users.now 0 no_user).stream 0 first.counted in
     record {
@@ -16,14 +16,14 @@ loop-place-init c =
       early = omega (arith, first.early);
     }
 
-pub loop-place-preserved : goal.loop-place-preserved
+pub loop-index-preserved : goal.loop-index-preserved
 unfolding no_user
-loop-place-preserved c =
-    let below = c.loop-place-test.true in
-    let some = c.loop-place.auto.place in
+loop-index-preserved c =
+    let below = c.loop-index-test.true in
+    let some = c.loop-index.auto.index in
     let is = c.min-least.ensures in
-    let early = c.loop-place.invariant.early in
+    let early = c.loop-index.invariant.early in
     record {
-      least_so_far = ap pos is ∙ head_more c.args.offsets.now c.args.users.now c.loop-place.place no_user c.loop-place.least (omega arith) below c.loop-place.invariant.least_so_far;
+      least_so_far = ap pos is ∙ head_more c.args.offsets.now c.args.users.now c.loop-index.index no_user c.loop-index.least (omega arith) below c.loop-index.invariant.least_so_far;
       early = omega arith;
     }

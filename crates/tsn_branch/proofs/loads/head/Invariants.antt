@@ -2,8 +2,8 @@ use Rattle.std.proofs.Common.{◌≡◌, ◌≤◌, pos, take}
 use Rattle.tsn_branch.specs.Loads.{head_in}
 use Rattle.tsn_branch.proofs.loads.head.Given as goal
 
-abbrev pub invariant-loop-place : goal.invariant-loop-place
-invariant-loop-place l = record {
-  least_so_far : pos l.least ≡ head_in l.offsets (take l.place l.users);
+abbrev pub invariant-loop-index : goal.invariant-loop-index
+invariant-loop-index l = record {
+  least_so_far : pos l.least ≡ head_in l.offsets (take l.index l.users);
   early : l.least ≤ 1051584000;
 }

@@ -3,6 +3,6 @@ use Rattle.tsn_worker.proofs.start.OpenNodes.deal.Given as goal
 
 abbrev pub invariant-loop-node : goal.invariant-loop-node
 invariant-loop-node g l = record {
-  left : l.place ≡ length l.node-iterator.rest.items;
+  left : l.number ≡ length l.node-iterator.rest.items;
   some : 0 < length l.bags;
 }
