@@ -2,13 +2,13 @@
 use Rattle.std.proofs.Common.{◌≡◌, ◌≢◌, ℕ, suc, ◌+◌, ◌-◌, ◌≤◌, ◌<◌, List, [], ◌∷◌, ◌++◌, length, get_or, set, All, nat_lt, refl, sym, ap, ◌∙◌, subst, arith, inl, inr}
 use Rattle.std.proofs.lemmas.List.{length-append, set-get_or}
 use Rattle.std.proofs.lemmas.List.Sums.{sum_by-cons, sum_by_push}
-use Rattle.std.proofs.lemmas.List.Elements.{All-nil, All-cons, All-append, All-head, All-tail}
+use Rattle.std.proofs.lemmas.List.Elements.{All-nil, All-cons, All-append, All-contains, All-head, All-tail, Contains-push}
 use Rattle.std.proofs.lemmas.Bool.{cases_lt, cond-true, cond-false, lt-ltb, le-ltb}
 use Rattle.std.proofs.Math.Seq.{set-append_seam, get_or-append_seam}
 use Rattle.std.proofs.Math.ListN.{get_or-append}
 use Rattle.tsn_model.specs.declared.GateEntry.{GateEntry}
 use Rattle.tsn_model.specs.Gates.{cycle_of}
-use Rattle.tsn_gate.specs.Entries.{octet_at, Appends, IsTimeline, NeighboursDiffer}
+use Rattle.tsn_gate.specs.Entries.{octet_at, Appends, NeighboursDiffer}
 
 -- ---- how long entries last
 
@@ -103,10 +103,6 @@ All-front : {X : Type 0} (P : X → Type 0) (xs : List X) (x : X) → All P (xs 
 All-front P [] x all = All-nil P
 All-front P (y ∷ xs) x all = All-cons P y xs (All-head P y (xs ++ x ∷ []) all) (All-front P xs x (All-tail P y (xs ++ x ∷ []) all))
 
-All-end : {X : Type 0} (P : X → Type 0) (xs : List X) (x : X) → All P (xs ++ x ∷ []) → P x
-All-end P [] x all = All-head P x [] all
-All-end P (y ∷ xs) x all = All-end P xs x (All-tail P y (xs ++ x ∷ []) all)
-
 -- a last entry that is lengthened
 lengthened : GateEntry → ℕ → GateEntry
 lengthened entry interval = record { interval = entry.interval + interval; octet = entry.octet }
@@ -124,7 +120,7 @@ Appends-lengthen_front front last interval =
       ];
       shown = λ t low high. octet_at-push front longer [] t (omega arith) (omega arith);
       positive = λ all. All-append (λ (e : GateEntry). 1 ≤ e.interval) front (longer ∷ []) (All-front (λ (e : GateEntry). 1 ≤ e.interval) front last all)
-          (All-cons (λ (e : GateEntry). 1 ≤ e.interval) longer [] (let one : 1 ≤ last.interval = All-end (λ (e : GateEntry). 1 ≤ e.interval) front last all in omega arith) (All-nil (λ (e : GateEntry). 1 ≤ e.interval)));
+          (All-cons (λ (e : GateEntry). 1 ≤ e.interval) longer [] (let one : 1 ≤ last.interval = All-contains (λ (e : GateEntry). 1 ≤ e.interval) (front ++ last ∷ []) last all (Contains-push front last) in omega arith) (All-nil (λ (e : GateEntry). 1 ≤ e.interval)));
       differ = λ differ. NeighboursDiffer-push front longer (NeighboursDiffer-front front last differ) (NeighboursDiffer-last front last differ);
     }
 

@@ -1,8 +1,8 @@
 use Rattle.std.proofs.Common.{Ok, length, pos, ap, arith}
+use Rattle.std.proofs.lemmas.List.Elements.{All-contains, Contains-push}
 use Rattle.tsn_diff.specs.Labels.{labelling_of}
 use Rattle.tsn_diff.specs.Spread.{all_arcs}
 use Rattle.tsn_diff.specs.Limits.{IsArcAmong}
-use Rattle.tsn_diff.proofs.Listings.{All-last}
 use Rattle.tsn_diff.proofs.Forests.{HasSteps-from_forest}
 use Rattle.tsn_diff.proofs.Solutions.{Refutes-from_closes, Refutes-same}
 use Rattle.tsn_diff.proofs.stack.put_in.Goals as goal
@@ -38,7 +38,7 @@ returns-in-Some-clause-closed g c =
 
 pub push-requires : goal.push-requires
 push-requires g c =
-    let ends = All-last (IsArcAmong (length g.base.labels.offsets)) g.base.arcs g.base.arc c.requires.0.among in
+    let ends = All-contains (IsArcAmong (length g.base.labels.offsets)) (all_arcs g.base) g.base.arc c.requires.0.among (Contains-push g.base.arcs g.base.arc) in
     let from = rw c.requires.0.arc_is at ends.from_below in
     omega (arith, from, c.requires.0.listed.count)
 
