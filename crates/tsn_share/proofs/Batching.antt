@@ -5,7 +5,6 @@ use Rattle.std.proofs.lemmas.List.{append_assoc, append-nil, take-map}
 use Rattle.tsn_model.specs.Network.{Network}
 use Rattle.tsn_model.specs.declared.Decision.{Decision}
 use Rattle.tsn_model.specs.Search.{Outcome, Event, Settlement, tally_of}
-use Rattle.tsn_search_laws.specs.Gathering.{tally_with}
 use Rattle.tsn_search_laws.proofs.Gathering.{tally-this, tally-another}
 use Rattle.tsn_branch.specs.Outcome.{outcome_of}
 use Rattle.tsn_incumbent.specs.Halves.{Half, Tally, half}

@@ -1,5 +1,5 @@
 -- What a teller keeps to when it settles.
-use Rattle.std.proofs.Common.{◌≡◌, ℕ, ◌≤◌, min, sym, ap, subst, arith, false, refl, List, [], ◌∷◌, take, All, Result, Ok, Err}
+use Rattle.std.proofs.Common.{◌≡◌, ℕ, ◌≤◌, min, sym, subst, arith, false, refl, List, [], ◌∷◌, take, All, Result, Ok, Err}
 use Rattle.std.specs.Prelude.{OnOk, OnErr, IfErr}
 use Rattle.std.proofs.lemmas.List.Elements.{All-head, All-tail, All-take}
 use Rattle.tsn_model.specs.Network.{Network}

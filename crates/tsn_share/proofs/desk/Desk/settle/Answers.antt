@@ -1,8 +1,8 @@
-use Rattle.std.proofs.Common.{◌≡◌, ◌<◌, List, length, rules, sym, ap, ap₂, ◌∙◌, subst, false, true, arith, refl}
+use Rattle.std.proofs.Common.{◌≡◌, ◌<◌, length, rules, ap, ◌∙◌, subst, false, true, arith}
 use Rattle.std.specs.Prelude.{OnErr}
 use Rattle.tsn_model.specs.Network.{Network}
 use Rattle.tsn_model.specs.Search.{Settlement, tally_of}
-use Rattle.tsn_incumbent.specs.Halves.{Tally, half}
+use Rattle.tsn_incumbent.specs.Halves.{half}
 use Rattle.tsn_book.specs.Event.{event_of}
 use Rattle.tsn_book.specs.Book.{Progress}
 use Rattle.tsn_share.proofs.Desks.{halves_answer, share_settled, share_refused}

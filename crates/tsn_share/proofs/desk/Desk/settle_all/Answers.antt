@@ -1,14 +1,12 @@
-use Rattle.std.proofs.Common.{◌≡◌, ◌<◌, List, map, take, drop, length, rules, sym, ap, ap₂, ◌∙◌, subst, false, true, arith, refl}
+use Rattle.std.proofs.Common.{◌≡◌, ◌<◌, List, map, take, drop, length, rules, sym, ap, ap₂, ◌∙◌, subst, false, true, arith}
 use Rattle.std.proofs.lemmas.List.{take-map}
 use Rattle.tsn_model.specs.Network.{Network}
 use Rattle.tsn_model.specs.Search.{Settlement, tally_of}
 use Rattle.tsn_branch.specs.Outcome.{outcome_of}
 use Rattle.tsn_incumbent.specs.Halves.{Tally, half}
-use Rattle.tsn_book.specs.Book.{Progress}
 use Rattle.tsn_share.specs.Desk.{Halved}
 use Rattle.tsn_share.specs.Teller.{tally_with_all}
 use Rattle.tsn_book.specs.Event.{event_of}
-use Rattle.tsn_book.specs.Below.{settlements_by}
 use Rattle.tsn_share.proofs.Batching.{outcomes_of, tally-own, halves_batch, outcomes_given, taken, history_taken, share_all, share_some}
 use Rattle.tsn_share.proofs.desk.Desk.settle_all.Goals as goal
 
