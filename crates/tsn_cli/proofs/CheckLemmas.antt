@@ -5,11 +5,9 @@ use Rattle.tsn_net.specs.File.{States, HasFault}
 use Rattle.tsn_net.specs.declared.fault.NetFault.{NetFault}
 use Rattle.tsn_net.specs.Problem.{NamedNetwork}
 use Rattle.tsn_net.specs.Conditions.{fault_of}
-use Rattle.tsn_cert.specs.declared.plan.Plan.{Plan}
 use Rattle.tsn_cert.specs.declared.fault.FileFault.{FileFault}
 use Rattle.tsn_cert.specs.declared.fault.FileFault.TheVariants.{NotJson, WrongShape, NumberTooLarge, Memory}
 use Rattle.tsn_cert.specs.Fault.{FaultGiven}
-use Rattle.tsn_cert.specs.Plan.{plan_in}
 use Rattle.tsn_cli.specs.Run.{GoesOn}
 use Rattle.tsn_cli.specs.Check.{CheckAnswers}
 

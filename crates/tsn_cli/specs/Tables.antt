@@ -3,7 +3,7 @@
 --     ShowsLists, ShowsReplay, ShowsTable      the table of a plan
 --     RejectsPlan                              a plan that has none
 --     TableAnswers, GatesAnswers, ReplayAnswers, ChartAnswers    the answer to the files read so far
-use Rattle.std.specs.Prelude.{◌≡◌, ◌⊎◌, ℕ, ◌≤◌, List, [], ◌∷◌, ◌++◌, Bool, true, false, codes, Ok}
+use Rattle.std.specs.Prelude.{◌≡◌, ◌⊎◌, ℕ, ◌≤◌, List, [], ◌∷◌, ◌++◌, Bool, codes, Ok}
 use Rattle.std.specs.List.{flat_map}
 use Rattle.tsn_model.specs.Network.{Network}
 use Rattle.tsn_model.specs.Schedule.{IsValid, flowspan}
