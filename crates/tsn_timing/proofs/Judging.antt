@@ -1,9 +1,8 @@
 -- The least link on which two streams overlap, hop by hop.
-use Rattle.std.proofs.Common.{◌≡◌, ◌≤◌, ◌<◌, ℕ, ◌+◌, min, List, Option, Some, None, MatchOption, sym, subst, ◌∙◌, arith, inl, inr}
-use Rattle.std.proofs.lemmas.Bool.{cases_lt}
+use Rattle.std.proofs.Common.{◌≡◌, ◌≤◌, ◌<◌, ℕ, List, Option, Some, None, MatchOption, sym, subst, ◌∙◌, arith, inl, inr}
 use Rattle.tsn_model.specs.declared.Triple.{Triple}
-use Rattle.tsn_model.specs.Network.{Network, stream_count, hop_count, route_link}
-use Rattle.tsn_model.specs.Schedule.{AreApart, IsFirstOverlap}
+use Rattle.tsn_model.specs.Network.{Network, hop_count, route_link}
+use Rattle.tsn_model.specs.Schedule.{IsFirstOverlap}
 use Rattle.tsn_model.specs.PlainWords.{IsOverlap}
 use Rattle.tsn_timing.specs.Judgement.{IsOverlapOf, ArePairApart, IsLeastOverlap, HasNoOverlap, IsFirstOverlapOf}
 use Rattle.tsn_model.proofs.Routes.{use_of}
