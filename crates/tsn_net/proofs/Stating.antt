@@ -1,17 +1,15 @@
 -- A file states one problem alone.
-use Rattle.std.proofs.Common.{◌≡◌, ℕ, List, Some, sym, ap, ◌∙◌}
+use Rattle.std.proofs.Common.{◌≡◌, ℕ, List, sym, ap, ◌∙◌}
+use Rattle.std.proofs.lemmas.Option.{same_Some}
 use Rattle.toml.specs.Data.{Members, table}
 use Rattle.tsn_net.specs.Document.{Document, document_of}
 use Rattle.tsn_net.specs.Problem.{NamedNetwork, problem_of}
 use Rattle.tsn_net.specs.File.{Spells, States}
 
-some_once : {X : Type 0} {x y : X} → Some x ≡ Some y → x ≡ y
-some_once same = cc
-
 -- it is the text of one document alone
 spelled_once : (file : List ℕ) (d e : Document) → Spells file d → Spells file e → d ≡ e
 spelled_once file d e first second =
-    let tops = some_once (sym first.2 ∙ second.2) in
+    let tops = same_Some _ _ (sym first.2 ∙ second.2) in
     first.3 ∙ ap (λ (top : Members). document_of (table top)) tops ∙ sym second.3
 
 pub stated_once : (file : List ℕ) (problem other : NamedNetwork) → States file problem → States file other → problem ≡ other
