@@ -1,7 +1,7 @@
 use Rattle.std.proofs.Common.{◌≡◌, ◌≢◌, ℕ, zero, suc, ◌+◌, ◌-◌, ◌<◌, ◌==◌, cond, List, [], ◌∷◌, ◌++◌, length, get_or, set, take, All, Vec, Global, refl, sym, ap, ◌∙◌, ⊎_elim, arith, append-nil, append_assoc, length-append, eqb-true, get_or-set_same, get_or-set_other}
 use Rattle.std.proofs.lemmas.Bool.{cases_eq, eq-eqb, ne_eqb}
 use Rattle.std.proofs.lemmas.List.{get_or_at, length_push, take_at}
-use Rattle.std.proofs.lemmas.List.Elements.{All-nil, All-cons, All-head, All-tail, All-take}
+use Rattle.std.proofs.lemmas.List.Elements.{All-nil, All-cons, All-head, All-tail}
 use Rattle.tsn_model.specs.Arcs.{arc_at}
 use Rattle.tsn_model.specs.declared.Arc.{Arc}
 use Rattle.tsn_diff.specs.declared.listing.Indexed.{Indexed}
@@ -17,10 +17,6 @@ take_front xs y = take_at xs (y ∷ []) _ (omega (arith, length_push xs y))
 -- lists that are one with their last elements are one without
 pub front_same : {X : Type 0} (xs ys : List X) (x y : X) → xs ++ x ∷ [] ≡ ys ++ y ∷ [] → xs ≡ ys
 front_same {X} xs ys x y is = sym (take_front xs x) ∙ ap (λ (zs : List X). take (length zs - 1) zs) is ∙ take_front ys y
-
--- what holds of each element holds of each but the last
-pub All-front : {X : Type 0} (P : X → Type 0) (xs : List X) (y : X) → All P (xs ++ y ∷ []) → All P xs
-All-front P xs y all = rw (← take_at xs (y ∷ []) (length xs) refl) (All-take P (length xs) (xs ++ y ∷ []) all)
 
 -- the arcs that leave a stream, with one more arc
 leaving_from-push : (index : ℕ) (arcs : List Arc) (arc : Arc) (stream : ℕ) → leaving_from index (arcs ++ arc ∷ []) stream ≡ leaving_from index arcs stream ++ cond (arc.from == stream) (record { index = index + length arcs; arc = arc } ∷ []) []

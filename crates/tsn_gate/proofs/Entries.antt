@@ -1,8 +1,8 @@
 -- Entries of a gate control list, one more of them, and the octets that they show.
-use Rattle.std.proofs.Common.{◌≡◌, ◌≢◌, ℕ, suc, ◌+◌, ◌-◌, ◌≤◌, ◌<◌, List, [], ◌∷◌, ◌++◌, length, get_or, set, All, nat_lt, refl, sym, ap, ◌∙◌, subst, arith, inl, inr}
+use Rattle.std.proofs.Common.{◌≡◌, ◌≢◌, ℕ, suc, ◌+◌, ◌-◌, ◌≤◌, ◌<◌, List, [], ◌∷◌, ◌++◌, length, get_or, set, All, Some, nat_lt, refl, sym, ap, ◌∙◌, subst, arith, inl, inr}
 use Rattle.std.proofs.lemmas.List.{length-append, set-get_or}
 use Rattle.std.proofs.lemmas.List.Sums.{sum_by-cons, sum_by_push}
-use Rattle.std.proofs.lemmas.List.Elements.{All-nil, All-cons, All-append, All-contains, All-head, All-tail, Contains-push}
+use Rattle.std.proofs.lemmas.List.Elements.{All-nil, All-cons, All-append, All-pop}
 use Rattle.std.proofs.lemmas.Bool.{cases_lt, cond-true, cond-false, lt-ltb, le-ltb}
 use Rattle.std.proofs.Math.Seq.{set-append_seam, get_or-append_seam}
 use Rattle.std.proofs.Math.ListN.{get_or-append}
@@ -99,10 +99,6 @@ Appends-push old entry lasts other = record {
   differ = λ differ. NeighboursDiffer-push old entry differ other;
 }
 
-All-front : {X : Type 0} (P : X → Type 0) (xs : List X) (x : X) → All P (xs ++ x ∷ []) → All P xs
-All-front P [] x all = All-nil P
-All-front P (y ∷ xs) x all = All-cons P y xs (All-head P y (xs ++ x ∷ []) all) (All-front P xs x (All-tail P y (xs ++ x ∷ []) all))
-
 -- a last entry that is lengthened
 lengthened : GateEntry → ℕ → GateEntry
 lengthened entry interval = record { interval = entry.interval + interval; octet = entry.octet }
@@ -119,8 +115,10 @@ Appends-lengthen_front front last interval =
         | inr late ↦ octet_at-push front longer [] t late (omega arith) ∙ sym (octet_at-push front last [] t late (omega arith))
       ];
       shown = λ t low high. octet_at-push front longer [] t (omega arith) (omega arith);
-      positive = λ all. All-append (λ (e : GateEntry). 1 ≤ e.interval) front (longer ∷ []) (All-front (λ (e : GateEntry). 1 ≤ e.interval) front last all)
-          (All-cons (λ (e : GateEntry). 1 ≤ e.interval) longer [] (let one : 1 ≤ last.interval = All-contains (λ (e : GateEntry). 1 ≤ e.interval) (front ++ last ∷ []) last all (Contains-push front last) in omega arith) (All-nil (λ (e : GateEntry). 1 ≤ e.interval)));
+      positive = λ all.
+          let kept = All-pop (λ (e : GateEntry). 1 ≤ e.interval) (front ++ last ∷ []) front (Some last) refl all in
+          let one : 1 ≤ last.interval = kept.1 in
+          All-append (λ (e : GateEntry). 1 ≤ e.interval) front (longer ∷ []) kept.0 (All-cons (λ (e : GateEntry). 1 ≤ e.interval) longer [] (omega arith) (All-nil (λ (e : GateEntry). 1 ≤ e.interval)));
       differ = λ differ. NeighboursDiffer-push front longer (NeighboursDiffer-front front last differ) (NeighboursDiffer-last front last differ);
     }
 
