@@ -1,8 +1,8 @@
 #!/usr/bin/env bash
 # Runs the built program on files and streams that fail, or that have to be left alone, where the system has to help: pipes
 # that nobody writes to, a full device, a pipe that is closed, streams that are closed, a file that may not be read. Each case
-# says which status it expects, which standard output, and which line on standard error. The gate doesn't run it; what it can
-# make itself is in crates/tsn_file_rows.
+# says which status it expects, which standard output, and which line on standard error. The gate doesn't run it; what needs no
+# help of the system is in bench/real-files.
 #
 #     bench/files.sh [PROGRAM]
 set -u
