@@ -69,11 +69,11 @@ pub record Race : Type 0 where
   pub network : Network
   pub tellers : ℕ
 
--- a seat at the word, with what its tellers have seen and posted
-pub record Place : Type 0 where
+-- what a seat at the word holds: what its tellers have seen and posted, each by its number
+pub record Seated : Type 0 where
   pub race : Race
   pub standings : List Standing
 
 -- the seat holds each teller's number
-abbrev pub HoldsAll : Place → Type 0
-HoldsAll place = (number : ℕ) → number < place.race.tellers → times number place.standings ≡ 1
+abbrev pub HoldsAll : Seated → Type 0
+HoldsAll seat = (number : ℕ) → number < seat.race.tellers → times number seat.standings ≡ 1

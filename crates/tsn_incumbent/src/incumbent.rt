@@ -3,7 +3,7 @@ ghost use Rattle.std.specs.Prelude.{◌≡◌, ◌<◌, length, map, IfOk};
 ghost use Rattle.tsn_timing.specs.Solution.{IsSolved};
 ghost use Rattle.tsn_incumbent.specs.Flowspans.{IsIncumbent, no_flowspan};
 ghost use Rattle.tsn_model.specs.Search.{least_or_none};
-ghost use Rattle.tsn_incumbent.specs.Standings.{fresh_from, observed, posted, times, alone, without, merged, IsAtMostKnown, Race, Place, HoldsAll};
+ghost use Rattle.tsn_incumbent.specs.Standings.{fresh_from, observed, posted, times, alone, without, merged, IsAtMostKnown, Race, Seated, HoldsAll};
 
 use crate::view::{
     Closes, Course, LeastPosted, Numbered, Observes, Posts, TakesOut, Together, View,
@@ -40,9 +40,9 @@ pub struct Seat {
 
 impl Model for Seat {
     ghost use Rattle.std.specs.Prelude.{◌≡◌, ◌<◌, [], length};
-    ghost use Rattle.tsn_incumbent.specs.Standings.{Place};
+    ghost use Rattle.tsn_incumbent.specs.Standings.{Seated};
 
-    ghost Value = { Place };
+    ghost Value = { Seated };
 
     ghost view = { λ s. record { race = record { table = s.seat.table_id; network = s.seat.me.0.timing; tellers = s.seat.me.0.tellers }; standings = s.seat.me.0.standings } };
 

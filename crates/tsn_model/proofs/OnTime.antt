@@ -128,16 +128,16 @@ module _ (network : Network) (formed : IsWellFormed network) (i : ℕ) (counted 
 
 module _ (network : Network) (formed : IsWellFormed network) (offsets : List ℕ) (valid : IsValid network offsets) (gates : List LinkGates) (has : HasWantedGates network offsets gates)
     (cycles : ℕ) (run : BridgeRun) (is : IsBridgeRun network offsets gates cycles run) where
-  -- a passage's place in the cycle
-  abbrev place_of : Passage → ℕ
-  place_of p = offset_of offsets p.stream + start network p.stream p.hop
+  -- when a passage starts, counted from its cycle's start
+  abbrev phase_of : Passage → ℕ
+  phase_of p = offset_of offsets p.stream + start network p.stream p.hop
 
-  planned_is : (p : Passage) → planned network offsets p ≡ p.cycle * network.cycle + place_of p
+  planned_is : (p : Passage) → planned network offsets p ≡ p.cycle * network.cycle + phase_of p
   unfolding planned
   planned_is p = omega arith
 
   -- its window ends within the cycle, and isn't empty
-  window_ends : (p : Passage) → IsPassage network cycles p → place_of p + length_of network p ≤ network.cycle
+  window_ends : (p : Passage) → IsPassage network cycles p → phase_of p + length_of network p ≤ network.cycle
   unfolding length_of link_of hop_end
   window_ends p passage = let ended = valid.ended p.stream p.hop passage.stream passage.hop in omega (arith, ended)
 
@@ -150,7 +150,7 @@ module _ (network : Network) (formed : IsWellFormed network) (offsets : List ℕ
   uses p passage = hop_uses network formed p.stream passage.stream p.hop passage.hop
 
   -- an instant of its window, in the cycle
-  occupies : (p : Passage) → IsPassage network cycles p → (w : ℕ) → place_of p ≤ w → w < place_of p + length_of network p → Occupies network offsets p.stream (link_of network p) w
+  occupies : (p : Passage) → IsPassage network cycles p → (w : ℕ) → phase_of p ≤ w → w < phase_of p + length_of network p → Occupies network offsets p.stream (link_of network p) w
   unfolding length_of link_of
   occupies p passage w begun ends =
       let at = hop_start network formed p.stream passage.stream p.hop passage.hop in

@@ -6,7 +6,7 @@ use Rattle.tsn_model.specs.Network.{Network}
 use Rattle.tsn_model.specs.Certificate.{beyond}
 use Rattle.tsn_model.specs.Search.{tally_of, settled_by, pruned_bounds, solved_bounds, least_or_none}
 use Rattle.tsn_incumbent.specs.Flowspans.{no_flowspan}
-use Rattle.tsn_incumbent.specs.Standings.{Place, fresh, fresh_from, times, alone, without}
+use Rattle.tsn_incumbent.specs.Standings.{Seated, fresh, fresh_from, times, alone, without}
 use Rattle.tsn_incumbent.specs.declared.view.Standing.{Standing}
 use Rattle.atomic_table.specs.Seated.{TableId}
 use Rattle.tsn_incumbent.specs.Halves.{Half, half, halves_from}
@@ -41,19 +41,19 @@ module _ (c number : ℕ) where
   first_alone count = let it : eqb number number ≡ true = eq-eqb number number refl in rw it (ap (λ ps. fresh c number ∷ ps) (absent_alone (suc number) count (omega arith)))
 
 -- what is said of the rest of the seats, where more than one number is left
-pub record Cut (names : Names) (number tellers : ℕ) (place : Place) : Type 0 where
-  pub once : times number place.standings ≡ 1
-  pub another : 0 < length (without number place.standings)
-  pub one : alone number place.standings ≡ (rest_of names number 1).standings
-  pub more : without number place.standings ≡ (rest_of names (number + 1) (tellers - (number + 1))).standings
+pub record Cut (names : Names) (number tellers : ℕ) (seat : Seated) : Type 0 where
+  pub once : times number seat.standings ≡ 1
+  pub another : 0 < length (without number seat.standings)
+  pub one : alone number seat.standings ≡ (rest_of names number 1).standings
+  pub more : without number seat.standings ≡ (rest_of names (number + 1) (tellers - (number + 1))).standings
 
-pub cuts : (names : Names) (number tellers : ℕ) (place : Place) → place ≡ rest_of names number (tellers - number) → number + 1 < tellers → Cut names number tellers place
-cuts names number tellers place is low =
+pub cuts : (names : Names) (number tellers : ℕ) (seat : Seated) → seat ≡ rest_of names number (tellers - number) → number + 1 < tellers → Cut names number tellers seat
+cuts names number tellers seat is low =
     let c = no_flowspan names.race.network in
     let left : tellers - number ≡ suc (suc (tellers - (number + 2))) = omega arith in
     let after : tellers - (number + 1) ≡ suc (tellers - (number + 2)) = omega arith in
     let next : number + 1 ≡ suc number = omega arith in
-    let stands : place.standings ≡ fresh_from c number (suc (suc (tellers - (number + 2)))) = ap (λ (p : Place). p.standings) is ∙ ap (fresh_from c number) left in
+    let stands : seat.standings ≡ fresh_from c number (suc (suc (tellers - (number + 2)))) = ap (λ (p : Seated). p.standings) is ∙ ap (fresh_from c number) left in
     let rest = first_without c number (suc (tellers - (number + 2))) in
     record {
       once = rw stands (first_times c number (suc (tellers - (number + 2))));
@@ -127,10 +127,10 @@ unfolding beyond
 past_all network = omega arith
 
 -- a teller with no event keeps what a teller has to keep
-pub fresh_keeps : (names : Names) (number : ℕ) (place : Place) (share : Half) → number < names.race.tellers → place ≡ rest_of names number 1 → share ≡ half names.halves number false (no_event names.race.network) → Keeps names number place share
-fresh_keeps names number place share within seat is =
-    let P : Place × Half → Type 0 = λ x. Keeps names number x.0 x.1 in
-    subst P (λ i. (sym seat i, sym is i))
+pub fresh_keeps : (names : Names) (number : ℕ) (seat : Seated) (share : Half) → number < names.race.tellers → seat ≡ rest_of names number 1 → share ≡ half names.halves number false (no_event names.race.network) → Keeps names number seat share
+fresh_keeps names number seat share within sits is =
+    let P : Seated × Half → Type 0 = λ x. Keeps names number x.0 x.1 in
+    subst P (λ i. (sym sits i, sym is i))
     record { sits = refl; shares = refl; numbered = refl; within = within; pruned = past_all names.race.network; solved = omega arith }
 
 -- the halves that lie behind the lock at first

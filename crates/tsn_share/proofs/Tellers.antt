@@ -7,7 +7,7 @@ use Rattle.tsn_model.specs.Certificate.{beyond}
 use Rattle.tsn_model.specs.Search.{Outcome, split, solved, pruned, tied, refuted}
 use Rattle.tsn_model.specs.Core.{IsAboveSeen}
 use Rattle.tsn_search_laws.specs.Gathering.{tally_with}
-use Rattle.tsn_incumbent.specs.Standings.{Place, posted}
+use Rattle.tsn_incumbent.specs.Standings.{Seated, posted}
 use Rattle.tsn_incumbent.specs.Halves.{Half, Tally, half}
 use Rattle.tsn_share.specs.Names.{Names}
 use Rattle.tsn_share.specs.Teller.{head_of, Keeps, IsSolvedBy, tally_with_all}
@@ -34,24 +34,24 @@ solved_after posted tally (pruned bound leaf) high = high
 solved_after posted tally (tied bound leaf chains) high = high
 solved_after posted tally (refuted leaf) high = high
 
-pub keeps_settled : (names : Names) (number : ℕ) (place : Place) (share : Half) (outcome : Outcome) (new : Half) → Keeps names number place share → IsAboveSeen names.race.network (head_of place.standings).seen outcome
-    → new ≡ half names.halves number false (tally_with share.tally outcome) → Keeps names number place new
-keeps_settled names number place share outcome new keeps above is =
-    subst (Keeps names number place) (sym is)
+pub keeps_settled : (names : Names) (number : ℕ) (seat : Seated) (share : Half) (outcome : Outcome) (new : Half) → Keeps names number seat share → IsAboveSeen names.race.network (head_of seat.standings).seen outcome
+    → new ≡ half names.halves number false (tally_with share.tally outcome) → Keeps names number seat new
+keeps_settled names number seat share outcome new keeps above is =
+    subst (Keeps names number seat) (sym is)
     (record {
       sits = keeps.sits;
       shares = refl;
       numbered = keeps.numbered;
       within = keeps.within;
-      pruned = low_after names.race.network (head_of place.standings).seen share.tally outcome keeps.pruned above;
-      solved = solved_after (head_of place.standings).posted share.tally outcome keeps.solved;
+      pruned = low_after names.race.network (head_of seat.standings).seen share.tally outcome keeps.pruned above;
+      solved = solved_after (head_of seat.standings).posted share.tally outcome keeps.solved;
     })
 
 -- the event was settled, or the share is as it was
-pub keeps_answer : {X E : Type 0} (P : Type 0) (names : Names) (number : ℕ) (place : Place) (share : Half) (outcome : Outcome) (new : Half) → Keeps names number place share → IsAboveSeen names.race.network (head_of place.standings).seen outcome
-    → (answer : Result X E) → OnOk answer (new ≡ half names.halves number false (tally_with share.tally outcome)) → OnErr answer (P × (new ≡ share)) → Keeps names number place new
-keeps_answer P names number place share outcome new keeps above (Ok x) ok err = keeps_settled names number place share outcome new keeps above ok
-keeps_answer P names number place share outcome new keeps above (Err e) ok err = subst (Keeps names number place) (sym err.1) keeps
+pub keeps_answer : {X E : Type 0} (P : Type 0) (names : Names) (number : ℕ) (seat : Seated) (share : Half) (outcome : Outcome) (new : Half) → Keeps names number seat share → IsAboveSeen names.race.network (head_of seat.standings).seen outcome
+    → (answer : Result X E) → OnOk answer (new ≡ half names.halves number false (tally_with share.tally outcome)) → OnErr answer (P × (new ≡ share)) → Keeps names number seat new
+keeps_answer P names number seat share outcome new keeps above (Ok x) ok err = keeps_settled names number seat share outcome new keeps above ok
+keeps_answer P names number seat share outcome new keeps above (Err e) ok err = subst (Keeps names number seat) (sym err.1) keeps
 
 -- nor do several events
 low_after_all : (network : Network) (seen : ℕ) (tally : Tally) (outcomes : List Outcome) → beyond network seen ≤ tally.1 → All (IsAboveSeen network seen) outcomes → beyond network seen ≤ (tally_with_all tally outcomes).1
@@ -63,26 +63,26 @@ solved_after_all : (posted : ℕ) (tally : Tally) (outcomes : List Outcome) → 
 solved_after_all posted tally [] high = high
 solved_after_all posted tally (outcome ∷ outcomes) high = solved_after_all posted (tally_with tally outcome) outcomes (solved_after posted tally outcome high)
 
-module _ (names : Names) (number : ℕ) (place : Place) (share new : Half) (keeps : Keeps names number place share) where
-  keeps_settled_all : (outcomes : List Outcome) → All (IsAboveSeen names.race.network (head_of place.standings).seen) outcomes → new ≡ half names.halves number false (tally_with_all share.tally outcomes) → Keeps names number place new
+module _ (names : Names) (number : ℕ) (seat : Seated) (share new : Half) (keeps : Keeps names number seat share) where
+  keeps_settled_all : (outcomes : List Outcome) → All (IsAboveSeen names.race.network (head_of seat.standings).seen) outcomes → new ≡ half names.halves number false (tally_with_all share.tally outcomes) → Keeps names number seat new
   keeps_settled_all outcomes above is =
-      subst (Keeps names number place) (sym is)
+      subst (Keeps names number seat) (sym is)
       (record {
         sits = keeps.sits;
         shares = refl;
         numbered = keeps.numbered;
         within = keeps.within;
-        pruned = low_after_all names.race.network (head_of place.standings).seen share.tally outcomes keeps.pruned above;
-        solved = solved_after_all (head_of place.standings).posted share.tally outcomes keeps.solved;
+        pruned = low_after_all names.race.network (head_of seat.standings).seen share.tally outcomes keeps.pruned above;
+        solved = solved_after_all (head_of seat.standings).posted share.tally outcomes keeps.solved;
       })
 
   -- all events were settled, or as many as a refusal counts
-  pub keeps_taken : {U E : Type 0} (answer : Result U E) (count : E → ℕ) (A C : E → Type 0) (outcomes : List Outcome) → All (IsAboveSeen names.race.network (head_of place.standings).seen) outcomes
+  pub keeps_taken : {U E : Type 0} (answer : Result U E) (count : E → ℕ) (A C : E → Type 0) (outcomes : List Outcome) → All (IsAboveSeen names.race.network (head_of seat.standings).seen) outcomes
       → OnOk answer (new ≡ half names.halves number false (tally_with_all share.tally outcomes))
       → IfErr answer (λ e. A e × (new ≡ half names.halves number false (tally_with_all share.tally (take (count e) outcomes))) × C e)
-      → Keeps names number place new
+      → Keeps names number seat new
   keeps_taken (Ok u) count A C outcomes above all some = keeps_settled_all outcomes above all
-  keeps_taken (Err e) count A C outcomes above all some = keeps_settled_all (take (count e) outcomes) (All-take (IsAboveSeen names.race.network (head_of place.standings).seen) (count e) outcomes above) some.1
+  keeps_taken (Err e) count A C outcomes above all some = keeps_settled_all (take (count e) outcomes) (All-take (IsAboveSeen names.race.network (head_of seat.standings).seen) (count e) outcomes above) some.1
 
 -- a solved leaf prunes by nothing, and is the least that its teller solved where it is no more than that was
 pub above_solved : (network : Network) (seen flowspan : ℕ) (outcome : Outcome) → IsSolvedBy flowspan outcome → IsAboveSeen network seen outcome

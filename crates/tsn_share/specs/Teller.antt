@@ -10,7 +10,7 @@ use Rattle.tsn_model.specs.Certificate.{beyond}
 use Rattle.tsn_model.specs.Search.{Outcome, split, solved, pruned, tied, refuted}
 use Rattle.tsn_search_laws.specs.Gathering.{tally_with}
 use Rattle.tsn_incumbent.specs.Flowspans.{no_flowspan}
-use Rattle.tsn_incumbent.specs.Standings.{Place, fresh, fresh_from}
+use Rattle.tsn_incumbent.specs.Standings.{Seated, fresh, fresh_from}
 use Rattle.tsn_incumbent.specs.Halves.{Tally, Half, half}
 use Rattle.tsn_incumbent.specs.declared.view.Standing.{Standing}
 use Rattle.tsn_share.specs.Names.{Names}
@@ -29,7 +29,7 @@ head_of [] = nothing
 head_of (p ∷ ps) = p
 
 -- the seat and the half are those of one number of this search; the least bound pruned is worse than what was seen, and the least flowspan solved is at most what was posted
-pub record Keeps (names : Names) (number : ℕ) (seat : Place) (share : Half) : Type 0 where
+pub record Keeps (names : Names) (number : ℕ) (seat : Seated) (share : Half) : Type 0 where
   pub sits : seat ≡ record { race = names.race; standings = head_of seat.standings ∷ [] }
   pub shares : share ≡ half names.halves number false share.tally
   pub numbered : (head_of seat.standings).number ≡ number
@@ -81,7 +81,7 @@ abbrev pub no_event : Network → Tally
 no_event network = (0, no_flowspan network, no_flowspan network)
 
 -- the seat of count numbers from first on, with nothing seen or posted
-abbrev pub rest_of : Names → ℕ → ℕ → Place
+abbrev pub rest_of : Names → ℕ → ℕ → Seated
 rest_of names first count = record { race = names.race; standings = fresh_from (no_flowspan names.race.network) first count }
 
 abbrev pub fresh_teller : Network → ℕ → Known
