@@ -5,6 +5,8 @@
 #[cfg(test)]
 mod networks;
 #[cfg(test)]
+mod steps;
+#[cfg(test)]
 mod threads;
 #[cfg(test)]
 mod word;

@@ -1,9 +1,9 @@
 //! Two threads observe and post on one word.
-ghost use Rattle.std.specs.Prelude.{◌≡◌, ◌∷◌, [], ℕ, ◌<◌, length, slice_index_or, All, IfSome};
+ghost use Rattle.std.specs.Prelude.{◌≡◌, ◌∷◌, [], ℕ, ◌<◌, length, slice_index_or, All, IfOk, IfSome};
 ghost use Rattle.tsn_timing.specs.Solution.{IsSolved};
 ghost use Rattle.tsn_tests_threads.specs.Numbers.{numbers_of};
 
-use crate::networks::{solved, two_streams};
+use crate::steps::{Begun, begin};
 use std::test::*;
 use std::thread;
 use std::thread::Threads;
@@ -73,6 +73,26 @@ fn run<R: Threads + Sync>(rt: &R, incumbent: &Incumbent, turns: &mut [Turn])
     );
 }
 
+/// Both turns, each in a thread of its own.
+fn take_both<R: Threads + Sync + AllocGlobal>(
+    rt: &R,
+    incumbent: &Incumbent,
+    zero: Turn,
+    one: Turn,
+) -> Result<(Turn, Turn), Fail>
+    requires races { (zero.seat.race ≡ incumbent.now) × (one.seat.race ≡ incumbent.now) }
+    requires solved { IsSolved incumbent.now.network zero.schedule × IsSolved incumbent.now.network one.schedule }
+    ensures races { IfOk result (λ r. (r.0.seat.race ≡ incumbent.now) × (r.1.seat.race ≡ incumbent.now)) }
+    ensures numbers { IfOk result (λ r. (numbers_of r.0.seat.standings ≡ numbers_of zero.seat.standings) × (numbers_of r.1.seat.standings ≡ numbers_of one.seat.standings)) }
+{
+    let mut turns = [zero, one];
+    run(rt, incumbent, &mut turns);
+    match two_of(Vec::from_array(rt.alloc(), turns)?) {
+        Some(both) => Ok(both),
+        None => Err(Fail::from("turns are lost")),
+    }
+}
+
 /// The seat after a turn, and whether what it saw rose.
 fn end(turn: Turn) -> (Seat, bool)
     ensures { result.0 ≡ turn.seat }
@@ -101,7 +121,7 @@ fn two_of(turns: Vec<Turn>) -> Option<(Turn, Turn)>
 }
 
 /// The word in the end.
-fn close_both(incumbent: Incumbent, zero: Seat, one: Seat) -> u64
+pub fn close_both(incumbent: Incumbent, zero: Seat, one: Seat) -> u64
     requires tellers { incumbent.tellers ≡ 2 }
     requires races { (zero.race ≡ incumbent) × (one.race ≡ incumbent) }
     requires numbers { (numbers_of zero.standings ≡ 0 ∷ []) × (numbers_of one.standings ≡ 1 ∷ []) }
@@ -112,32 +132,27 @@ fn close_both(incumbent: Incumbent, zero: Seat, one: Seat) -> u64
 
 #[test]
 fn two_threads_post(rt: HostRuntime) -> Result<(), Fail> {
-    let alloc = rt.alloc();
-    let timing = two_streams(alloc)?;
-    let (incumbent, both) = Incumbent::new(alloc, &timing, 2)?;
-    let (zero, one) = incumbent.split(both, 1);
-    let best = solved(&timing, vec![in alloc; 0, 672]?)?;
-    let later = solved(&timing, vec![in alloc; 0, 1_344]?)?;
-    let mut turns = [
-        Turn {
-            seat: zero,
-            schedule: later,
-            rose: false,
-        },
-        Turn {
-            seat: one,
-            schedule: best,
-            rose: false,
-        },
-    ];
-    run(&rt, &incumbent, &mut turns);
-    let Some((zero, one)) = two_of(Vec::from_array(alloc, turns)?) else {
-        return Err(Fail::from("turns are lost"));
+    let Begun {
+        incumbent,
+        zero,
+        one,
+        best,
+        later,
+    } = begin(rt.alloc())?;
+    let zero = Turn {
+        seat: zero,
+        schedule: later,
+        rose: false,
     };
+    let one = Turn {
+        seat: one,
+        schedule: best,
+        rose: false,
+    };
+    let (zero, one) = take_both(&rt, &incumbent, zero, one)?;
     let (zero, first) = end(zero);
     let (one, second) = end(one);
-    assert!(rt; !first);
-    assert!(rt; !second);
+    assert!(rt; !first && !second);
     assert_eq!(rt; close_both(incumbent, zero, one), 2_924);
     Ok(())
 }

@@ -1,40 +1,57 @@
 //! The shared word, with its seats called in turn.
-use crate::networks::{solved, two_streams};
+use crate::networks::two_streams;
+use crate::steps::{Begun, begin, posts, sees};
+use crate::threads::close_both;
+use std::process::Abort;
 use std::test::*;
 use tsn_incumbent::Incumbent;
+use tsn_timing::Solved;
 
 #[test]
 fn two_tellers_post_in_turn(rt: HostRuntime) -> Result<(), Fail> {
-    let alloc = rt.alloc();
-    let timing = two_streams(alloc)?;
-    let (incumbent, both) = Incumbent::new(alloc, &timing, 2)?;
-    let (mut zero, mut one) = incumbent.split(both, 1);
-    assert_eq!(rt; incumbent.observe(&mut zero), 1_000_001);
-    let best = solved(&timing, vec![in alloc; 0, 672]?)?.copy()?;
-    assert_eq!(rt; best.flowspan(), 2_924);
-    assert_eq!(rt; best.valid().offsets(), [0, 672].as_slice());
-    assert_eq!(rt; incumbent.post(&mut zero, &best), 1_000_001);
-    assert_eq!(rt; incumbent.observe(&mut one), 2_924);
-    let later = solved(&timing, vec![in alloc; 0, 1_344]?)?;
-    assert_eq!(rt; later.flowspan(), 3_596);
-    assert_eq!(rt; incumbent.post(&mut one, &later), 2_924);
-    assert_eq!(rt; incumbent.observe(&mut zero), 2_924);
-    let all = incumbent.join(zero, one);
-    assert_eq!(rt; incumbent.close(all), 2_924);
+    let Begun {
+        incumbent,
+        mut zero,
+        mut one,
+        best,
+        later,
+    } = begin(rt.alloc())?;
+    sees(&rt, &incumbent, &mut zero, 1_000_001);
+    posts(&rt, &incumbent, &mut zero, &best, 1_000_001);
+    sees(&rt, &incumbent, &mut one, 2_924);
+    posts(&rt, &incumbent, &mut one, &later, 2_924);
+    sees(&rt, &incumbent, &mut zero, 2_924);
+    assert_eq!(rt; close_both(incumbent, zero, one), 2_924);
     Ok(())
+}
+
+#[test]
+fn schedules_say_what_they_are(rt: HostRuntime) -> Result<(), Fail> {
+    let begun = begin(rt.alloc())?;
+    is_said(&rt, &begun.best.copy()?, 672, 2_924);
+    is_said(&rt, &begun.later, 1_344, 3_596);
+    Ok(())
+}
+
+/// The offset of the second stream, and the flowspan.
+fn is_said(rt: &impl Abort, schedule: &Solved, offset: u64, flowspan: u64) {
+    assert_eq!(rt; schedule.flowspan(), flowspan);
+    assert_eq!(rt; schedule.valid().offsets(), [0, offset].as_slice());
 }
 
 /// A load whose value is thrown away would keep what was seen at first.
 #[test]
 fn each_load_sees_the_word(rt: HostRuntime) -> Result<(), Fail> {
-    let alloc = rt.alloc();
-    let timing = two_streams(alloc)?;
-    let (incumbent, both) = Incumbent::new(alloc, &timing, 2)?;
-    let (mut zero, mut one) = incumbent.split(both, 1);
-    assert_eq!(rt; incumbent.observe(&mut one), 1_000_001);
-    let later = solved(&timing, vec![in alloc; 0, 1_344]?)?;
-    assert_eq!(rt; incumbent.post(&mut zero, &later), 1_000_001);
-    assert_eq!(rt; incumbent.observe(&mut one), 3_596);
+    let Begun {
+        incumbent,
+        mut zero,
+        mut one,
+        best: _,
+        later,
+    } = begin(rt.alloc())?;
+    sees(&rt, &incumbent, &mut one, 1_000_001);
+    posts(&rt, &incumbent, &mut zero, &later, 1_000_001);
+    sees(&rt, &incumbent, &mut one, 3_596);
     Ok(())
 }
 
