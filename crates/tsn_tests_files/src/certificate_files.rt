@@ -1,4 +1,6 @@
 //! Plans and certificates: what their files say, how they are made, and how they are printed.
+ghost use Rattle.std.specs.Prelude.{◌≡◌, IfOk, length};
+
 use std::alloc::Global;
 use std::process::Abort;
 use std::test::Fail;
@@ -23,28 +25,66 @@ fn prints_cert(rt: &impl Abort, alloc: Global, file: &str) -> Result<(), Fail> {
     Ok(())
 }
 
-#[test]
-fn plans_say_their_offsets(rt: HostRuntime) -> Result<(), Fail> {
-    let alloc = rt.alloc();
-    match plan_from_json(alloc, TWO_OFFSETS.as_bytes())? {
+// The plan is printed so.
+fn prints_plan(rt: &impl Abort, alloc: Global, plan: &Plan, file: &str) -> Result<(), Fail> {
+    let text = plan_to_json(alloc, plan)?;
+    assert_eq!(rt; text.as_str(), file);
+    Ok(())
+}
+
+// A certificate of these nodes is printed so.
+fn prints_nodes(
+    rt: &impl Abort,
+    alloc: Global,
+    format: Format,
+    target: u64,
+    nodes: Vec<Node>,
+    file: &str,
+) -> Result<(), Fail> {
+    let cert = Cert {
+        format,
+        target,
+        nodes: Nodes::of(nodes),
+    };
+    let text = cert_to_json(alloc, &cert);
+    drop(cert);
+    assert_eq!(rt; text?.as_str(), file);
+    Ok(())
+}
+
+fn says_offsets(rt: &impl Abort, plan: Plan) {
+    match plan {
         Plan::Schedule { flowspan, offsets } => {
             assert_eq!(rt; flowspan, 2924);
             assert!(rt; offsets.list() == [0, 672].as_slice());
             assert_eq!(rt; offsets.into_list().len(), 2);
         }
-        Plan::None => assert!(rt; false, "a schedule was read as none"),
+        Plan::None => panic!(rt; "a schedule was read as none"),
     }
-    match plan_from_json(alloc, NO_PLAN.as_bytes())? {
-        Plan::Schedule { .. } => assert!(rt; false, "none was read as a schedule"),
+}
+
+fn says_none(rt: &impl Abort, plan: &Plan) {
+    match plan {
+        Plan::Schedule { .. } => panic!(rt; "none was read as a schedule"),
         Plan::None => {}
     }
+}
+
+#[test]
+fn plans_say_their_offsets(rt: HostRuntime) -> Result<(), Fail> {
+    says_offsets(&rt, plan_from_json(rt.alloc(), TWO_OFFSETS.as_bytes())?);
+    says_none(&rt, &plan_from_json(rt.alloc(), NO_PLAN.as_bytes())?);
+    Ok(())
+}
+
+#[test]
+fn plans_are_printed(rt: HostRuntime) -> Result<(), Fail> {
     let made = Plan::Schedule {
         flowspan: 2924,
-        offsets: Offsets::of(vec![in alloc; 0, 672]?),
+        offsets: Offsets::of(vec![in rt.alloc(); 0, 672]?),
     };
-    assert_eq!(rt; plan_to_json(alloc, &made)?.as_str(), TWO_OFFSETS);
-    assert_eq!(rt; plan_to_json(alloc, &Plan::None)?.as_str(), NO_PLAN);
-    Ok(())
+    prints_plan(&rt, rt.alloc(), &made, TWO_OFFSETS)?;
+    prints_plan(&rt, rt.alloc(), &Plan::None, NO_PLAN)
 }
 
 #[test]
@@ -75,111 +115,134 @@ fn certificates_are_read_and_printed(rt: HostRuntime) -> Result<(), Fail> {
 
 #[test]
 fn certificates_say_their_nodes(rt: HostRuntime) -> Result<(), Fail> {
-    let alloc = rt.alloc();
     let file =
         " {\"target\":9,\"nodes\":[[\"branch\",0,1,4],[\"late\",1,[0]],[\"overrun\",2,[0,1]],[\"cycle\",[3]]],\"format\":1,\"target\":2924}";
-    let cert = cert_from_json(alloc, file.as_bytes())?;
+    let cert = cert_from_json(rt.alloc(), file.as_bytes())?;
     assert_eq!(rt; cert.target, 2924);
-    match cert.nodes.list() {
-        [
-            Node::Branch(triple),
-            Node::Late(late, first),
-            Node::Overrun(overrun, second),
-            Node::Cycle(closed),
-        ] => {
-            let written = Triple {
-                left: 0,
-                right: 1,
-                link: 4,
-            };
-            assert!(rt; *triple == written);
-            assert!(rt; *late == 1 && first.depths() == [0].as_slice());
-            assert!(rt; *overrun == 2 && second.depths() == [0, 1].as_slice());
-            assert!(rt; closed.depths() == [3].as_slice());
-        }
-        _ => assert!(rt; false, "other nodes were read"),
-    }
-    assert_eq!(rt; cert.nodes.into_list().len(), 4);
+    are_said(&rt, cert.nodes);
     Ok(())
+}
+
+fn are_said(rt: &impl Abort, nodes: Nodes) {
+    match nodes.list() {
+        [branch, late, overrun, closed] => {
+            is_branch(rt, branch);
+            is_late(rt, late);
+            is_overrun(rt, overrun);
+            is_cycle(rt, closed);
+        }
+        _ => panic!(rt; "other nodes were read"),
+    }
+    assert_eq!(rt; nodes.into_list().len(), 4);
+}
+
+fn is_branch(rt: &impl Abort, node: &Node) {
+    let written = Triple {
+        left: 0,
+        right: 1,
+        link: 4,
+    };
+    match node {
+        Node::Branch(triple) => assert!(rt; *triple == written),
+        _ => panic!(rt; "no branch was read"),
+    }
+}
+
+fn is_late(rt: &impl Abort, node: &Node) {
+    match node {
+        Node::Late(stream, chain) => {
+            assert!(rt; *stream == 1 && chain.depths() == [0].as_slice())
+        }
+        _ => panic!(rt; "no late leaf was read"),
+    }
+}
+
+fn is_overrun(rt: &impl Abort, node: &Node) {
+    match node {
+        Node::Overrun(stream, chain) => {
+            assert!(rt; *stream == 2 && chain.depths() == [0, 1].as_slice())
+        }
+        _ => panic!(rt; "no overrun leaf was read"),
+    }
+}
+
+fn is_cycle(rt: &impl Abort, node: &Node) {
+    match node {
+        Node::Cycle(chain) => assert!(rt; chain.depths() == [3].as_slice()),
+        _ => panic!(rt; "no cycle leaf was read"),
+    }
+}
+
+// The branch of the two streams' tree, and its leaves.
+fn two_streams(alloc: Global) -> Result<Vec<Node>, Fail> {
+    let branch = Node::Branch(Triple {
+        left: 0,
+        right: 1,
+        link: 4,
+    });
+    let left = Node::Late(1, Chain::of(alloc, &[0])?);
+    let right = Node::Late(0, Chain::of(alloc, &[0])?);
+    Ok(vec![in alloc; branch, left, right]?)
 }
 
 #[test]
 fn certificates_are_made(rt: HostRuntime) -> Result<(), Fail> {
-    let alloc = rt.alloc();
-    let mut nodes = Vec::new(alloc);
-    nodes.push(Node::Branch(Triple {
-        left: 0,
-        right: 1,
-        link: 4,
-    }))?;
-    nodes.push(Node::Late(1, Chain::of(alloc, &[0])?))?;
-    nodes.push(Node::Late(0, Chain::of(alloc, &[0])?))?;
-    let cert = Cert {
-        format: Format::One,
-        target: 2924,
-        nodes: Nodes::of(nodes),
-    };
-    assert_eq!(rt; cert_to_json(alloc, &cert)?.as_str(), TWO_STREAMS);
-    let depths = [5usize; 128];
-    assert!(rt; Chain::of(alloc, &depths)?.depths() == depths.as_slice());
-    assert_eq!(rt; Chain::of(alloc, &[])?.depths().len(), 0);
-    Ok(())
+    let nodes = two_streams(rt.alloc())?;
+    prints_nodes(&rt, rt.alloc(), Format::One, 2924, nodes, TWO_STREAMS)
 }
 
 #[test]
-fn entries_are_made_and_given_back(rt: HostRuntime) -> Result<(), Fail> {
-    let alloc = rt.alloc();
-    let mut list = Vec::new(alloc);
-    list.push((3, Chain::of(alloc, &[])?))?;
-    list.push((5, Chain::of(alloc, &[1, 0])?))?;
-    assert_eq!(rt; list.len(), 2);
-    let entries = Entries::of(list);
+fn chains_have_up_to_128_depths(rt: HostRuntime) -> Result<(), Fail> {
+    let depths = [5usize; 128];
+    assert!(rt; Chain::of(rt.alloc(), &depths)?.depths() == depths.as_slice());
+    assert_eq!(rt; Chain::of(rt.alloc(), &[])?.depths().len(), 0);
+    Ok(())
+}
+
+fn two_entries(alloc: Global) -> Result<Vec<(usize, Chain)>, Fail>
+    ensures { IfOk result (λ list. length list.items ≡ 2) }
+{
+    let none = Chain::of(alloc, &[])?;
+    let two = Chain::of(alloc, &[1, 0])?;
+    Ok(vec![in alloc; (3, none), (5, two)]?)
+}
+
+fn are_given(rt: &impl Abort, entries: &Entries) {
     match entries.list() {
         [(first, none), (second, two)] => {
             assert!(rt; *first == 3 && none.depths().is_empty());
             assert!(rt; *second == 5 && two.depths() == [1, 0].as_slice());
         }
-        _ => assert!(rt; false, "other entries were made"),
+        _ => panic!(rt; "other entries were made"),
     }
+}
+
+#[test]
+fn entries_are_made_and_given_back(rt: HostRuntime) -> Result<(), Fail> {
+    let entries = Entries::of(two_entries(rt.alloc())?);
+    are_given(&rt, &entries);
     let list = entries.into_list();
     assert_eq!(rt; list.len(), 2);
-    let mut nodes = Vec::new(alloc);
-    nodes.push(Node::Load(7, Entries::of(list)))?;
-    let cert = Cert {
-        format: Format::One,
-        target: 9,
-        nodes: Nodes::of(nodes),
-    };
-    assert_eq!(rt;
-        cert_to_json(alloc, &cert)?.as_str(),
-        "{\"format\":1,\"nodes\":[[\"load\",7,[[3,[]],[5,[1,0]]]]],\"target\":9}\n"
-    );
-    Ok(())
+    let file = "{\"format\":1,\"nodes\":[[\"load\",7,[[3,[]],[5,[1,0]]]]],\"target\":9}\n";
+    let nodes = vec![in rt.alloc(); Node::Load(7, Entries::of(list))]?;
+    prints_nodes(&rt, rt.alloc(), Format::One, 9, nodes, file)
+}
+
+fn two_chains(alloc: Global) -> Result<Vec<Chain>, Fail>
+    ensures { IfOk result (λ list. length list.items ≡ 2) }
+{
+    let none = Chain::of(alloc, &[])?;
+    let two = Chain::of(alloc, &[2, 0])?;
+    Ok(vec![in alloc; none, two]?)
 }
 
 #[test]
 fn chains_are_made_and_given_back(rt: HostRuntime) -> Result<(), Fail> {
-    let alloc = rt.alloc();
-    let mut list = Vec::new(alloc);
-    list.push(Chain::of(alloc, &[])?)?;
-    list.push(Chain::of(alloc, &[2, 0])?)?;
-    let chains = Chains::of(list);
+    let chains = Chains::of(two_chains(rt.alloc())?);
     assert_eq!(rt; chains.list().len(), 2);
-    let mut nodes = Vec::new(alloc);
-    let tie = Node::Tie(
-        1,
-        Chain::of(alloc, &[2, 0])?,
-        Chains::of(chains.into_list()),
-    );
-    nodes.push(tie)?;
-    let cert = Cert {
-        format: Format::Two,
-        target: 9,
-        nodes: Nodes::of(nodes),
-    };
-    assert_eq!(rt;
-        cert_to_json(alloc, &cert)?.as_str(),
-        "{\"format\":2,\"nodes\":[[\"tie\",1,[2,0],[[],[2,0]]]],\"target\":9}\n"
-    );
-    Ok(())
+    let chain = Chain::of(rt.alloc(), &[2, 0])?;
+    let tie = Node::Tie(1, chain, Chains::of(chains.into_list()));
+    let file = "{\"format\":2,\"nodes\":[[\"tie\",1,[2,0],[[],[2,0]]]],\"target\":9}\n";
+    let nodes = vec![in rt.alloc(); tie]?;
+    prints_nodes(&rt, rt.alloc(), Format::Two, 9, nodes, file)
 }

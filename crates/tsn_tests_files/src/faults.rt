@@ -1,11 +1,13 @@
 //! The numbers of faults, and the check of a plan alone.
 
 use crate::network::NET;
+use std::alloc::Global;
+use std::process::Abort;
 use std::test::Fail;
 use tsn_cert::{FileFault, plan_from_json};
 use tsn_check::{CheckFault, check_plan};
 use tsn_net::read_problem;
-use tsn_timing::Timing;
+use tsn_timing::{Timing, Valid};
 
 #[test]
 fn faults_of_files_have_numbers(rt: HostRuntime) {
@@ -34,12 +36,40 @@ fn faults_of_the_check_have_numbers(rt: HostRuntime) {
     }
 }
 
+/// The network of the two streams.
+fn two_streams(alloc: Global) -> Result<Timing, Fail> {
+    let problem = read_problem(alloc, NET.as_bytes())?;
+    let timing = Timing::of(alloc, &problem);
+    drop(problem);
+    Ok(timing?)
+}
+
+/// What the check of a plan alone says of its file.
+fn checked(alloc: Global, timing: &Timing, file: &str) -> Result<Result<Valid, CheckFault>, Fail> {
+    let plan = plan_from_json(alloc, file.as_bytes())?;
+    let found = check_plan(alloc, timing, &plan);
+    drop(plan);
+    Ok(found)
+}
+
+fn is_refused(rt: &impl Abort, found: Result<Valid, CheckFault>, fault: CheckFault) {
+    match found {
+        Ok(_) => panic!(rt; "it is taken"),
+        Err(found) => assert_eq!(rt; found, fault),
+    }
+}
+
+fn is_taken(rt: &impl Abort, found: Result<Valid, CheckFault>) {
+    match found {
+        Ok(valid) => assert!(rt; valid.offsets() == [0, 672].as_slice()),
+        Err(_) => panic!(rt; "it is refused"),
+    }
+}
+
 #[test]
 fn plans_alone_are_checked(rt: HostRuntime) -> Result<(), Fail> {
-    let alloc = rt.alloc();
-    let problem = read_problem(alloc, NET.as_bytes())?;
-    let timing = Timing::of(alloc, &problem)?;
-    for (text, fault) in [
+    let timing = two_streams(rt.alloc())?;
+    for (file, fault) in [
         (
             "{\"flowspan\":null,\"offsets\":null}",
             CheckFault::PlanInvalid,
@@ -57,15 +87,15 @@ fn plans_alone_are_checked(rt: HostRuntime) -> Result<(), Fail> {
             CheckFault::FlowspanWrong,
         ),
     ] {
-        let plan = plan_from_json(alloc, text.as_bytes())?;
-        match check_plan(alloc, &timing, &plan) {
-            Ok(_) => assert!(rt; false, "{text} is taken"),
-            Err(found) => assert_eq!(rt; found, fault, "{text}"),
-        }
+        is_refused(&rt, checked(rt.alloc(), &timing, file)?, fault);
     }
-    let text = "{\"flowspan\":2924,\"offsets\":[0,672]}";
-    let plan = plan_from_json(alloc, text.as_bytes())?;
-    let valid = check_plan(alloc, &timing, &plan)?;
-    assert!(rt; valid.offsets() == [0, 672].as_slice());
+    is_taken(
+        &rt,
+        checked(
+            rt.alloc(),
+            &timing,
+            "{\"flowspan\":2924,\"offsets\":[0,672]}",
+        )?,
+    );
     Ok(())
 }
