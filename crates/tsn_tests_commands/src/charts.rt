@@ -23,6 +23,20 @@ fn chart_to<R: Abort>(rt: &R, alloc: Global, until: u64) -> Vec<u8>
     sink.bytes
 }
 
+/// Each part stands in the picture.
+fn has_each(rt: &impl Abort, picture: &str, parts: &[&str]) {
+    for part in parts {
+        assert!(rt; picture.contains(*part), "{part}");
+    }
+}
+
+/// No part stands in the picture.
+fn has_none(rt: &impl Abort, picture: &str, parts: &[&str]) {
+    for part in parts {
+        assert!(rt; !picture.contains(*part), "{part}");
+    }
+}
+
 /// The rows, the frames, the gates and the flowspan stand in the picture, in units of a tenth of a pixel: 6000 ns are 12000
 /// units wide.
 #[test]
@@ -31,13 +45,16 @@ fn draws_two_streams(rt: HostRuntime) -> Result<(), Fail> {
     let text = from_utf8(bytes.as_slice()).map_err(|_| "no text")?;
     assert!(&rt; text.starts_with("<svg xmlns=\"http://www.w3.org/2000/svg\" "));
     assert!(&rt; text.ends_with("</svg>\n"));
-    assert!(&rt; text.contains("2 streams, flowspan 2.924 &#181;s, cycle 1000 &#181;s"));
-    assert!(&rt; text.contains("link 4: S to C"));
-    assert!(&rt; text.contains("<title>one: 0 to 672 ns</title><rect x=\"2000\" "));
-    assert!(&rt; text.contains("<title>two: 2298 to 2970 ns</title><rect x=\"6596\" "));
-    assert!(&rt; text.contains("gates 00: 0 to 1626 ns"));
-    assert!(&rt; text.contains("gates 7F: 2970 to 989290 ns"));
-    assert!(&rt; text.contains("flowspan 2.924 &#181;s</text>"));
+    let parts = [
+        "2 streams, flowspan 2.924 &#181;s, cycle 1000 &#181;s",
+        "link 4: S to C",
+        "<title>one: 0 to 672 ns</title><rect x=\"2000\" ",
+        "<title>two: 2298 to 2970 ns</title><rect x=\"6596\" ",
+        "gates 00: 0 to 1626 ns",
+        "gates 7F: 2970 to 989290 ns",
+        "flowspan 2.924 &#181;s</text>",
+    ];
+    has_each(&rt, text, &parts);
     Ok(())
 }
 
@@ -46,9 +63,12 @@ fn draws_two_streams(rt: HostRuntime) -> Result<(), Fail> {
 fn ends_where_it_is_asked_to(rt: HostRuntime) -> Result<(), Fail> {
     let bytes = chart_to(&rt, rt.alloc(), 2298);
     let text = from_utf8(bytes.as_slice()).map_err(|_| "no text")?;
-    assert!(&rt; text.contains("one: 1626 to 2298 ns"));
-    assert!(&rt; !text.contains("two: 2298 to 2970 ns"));
-    assert!(&rt; !text.contains("gates 7F: 2970"));
-    assert!(&rt; !text.contains("stroke=\"#c00000\""));
+    has_each(&rt, text, &["one: 1626 to 2298 ns"]);
+    let parts = [
+        "two: 2298 to 2970 ns",
+        "gates 7F: 2970",
+        "stroke=\"#c00000\"",
+    ];
+    has_none(&rt, text, &parts);
     Ok(())
 }

@@ -1,25 +1,31 @@
 //! Reading a source whole, up to a limit.
 
+ghost use Rattle.std.specs.Prelude.{◌<◌, ◌≤◌};
+
+use std::process::Abort;
 use tsn_cli::device::{PIECE, ReadFault, read_all};
 use tsn_cli::memory::{EndlessSource, MemorySource, NEVER};
 
+/// The bytes are read whole, in such pieces, where they fit into the limit.
+fn reads(rt: &(impl Abort + AllocGlobal), bytes: &[u8], piece: usize, limit: usize, fits: bool)
+    requires some { 0 < piece }
+    requires few { limit ≤ 1000 }
+{
+    let mut source = MemorySource::new(bytes, piece, NEVER);
+    match read_all(rt.alloc(), &mut source, limit) {
+        Ok(read) => assert!(rt; fits && read.as_slice() == bytes, "{limit}"),
+        Err(fault) => assert!(rt; !fits && fault == ReadFault::TooLong, "{limit}"),
+    }
+}
+
 #[test]
 fn reads_up_to_a_limit(rt: HostRuntime) {
-    let file = b"twelve bytes";
     for piece in [1, 5, 4096] {
         for (limit, fits) in [(0, false), (11, false), (12, true), (13, true)] {
-            let mut source = MemorySource::new(file, piece, NEVER);
-            match read_all(rt.alloc(), &mut source, limit) {
-                Ok(bytes) => assert!(rt; fits && bytes.as_slice() == file.as_slice(), "{limit}"),
-                Err(fault) => assert!(rt; !fits && fault == ReadFault::TooLong, "{limit}"),
-            }
+            reads(&rt, b"twelve bytes", piece, limit, fits);
         }
     }
-    let mut empty = MemorySource::new(b"", 1, NEVER);
-    match read_all(rt.alloc(), &mut empty, 0) {
-        Ok(bytes) => assert!(rt; bytes.is_empty()),
-        Err(fault) => assert!(rt; false, "{fault}"),
-    }
+    reads(&rt, b"", 1, 0, true);
 }
 
 #[test]
