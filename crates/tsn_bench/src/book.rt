@@ -32,8 +32,24 @@ pub fn measure<R: Clock + Print + Eprint + AllocGlobal>(
     let Some((shared, mut book)) = begun(rt.alloc(), network, events) else {
         return Ok(false);
     };
-    let settling = settle_all(rt, &mut book, shared.triples(), events.min(MOST))?;
-    let asking = ask(rt, &book)?;
+    let told = tell(rt, &mut book, shared.triples(), events.min(MOST));
+    drop(book);
+    drop(shared);
+    told
+}
+
+/// Measures both on a book, and tells what was found.
+fn tell<R: Clock + Print + Eprint + AllocGlobal>(
+    rt: &R,
+    book: &mut Book,
+    triples: &[Triple],
+    events: usize,
+) -> io::Result<bool>
+    requires one { 0 < book.old.tellers }
+    requires few { events ≤ MOST }
+{
+    let settling = settle_all(rt, book, triples, events)?;
+    let asking = ask(rt, book)?;
     println!(rt; "book {} events {} open", book.count(), book.open_count())?;
     eprintln!(rt; "{settling} {asking}")?;
     Ok(true)
@@ -43,10 +59,24 @@ pub fn measure<R: Clock + Print + Eprint + AllocGlobal>(
 fn begun(alloc: Global, network: &[u8], events: usize) -> Option<(Conflicts, Book)>
     ensures { IfSome result (λ begun. 0 < begun.1.tellers) }
 {
+    let timing = timing_of(alloc, network)?;
+    let begun = begun_at(alloc, &timing, events);
+    drop(timing);
+    begun
+}
+
+fn timing_of(alloc: Global, network: &[u8]) -> Option<Timing> {
     let problem = read_problem(alloc, network).ok()?;
-    let timing = Timing::of(alloc, &problem).ok()?;
-    let shared = conflicts(alloc, &timing).ok()?;
-    let book = Book::new(alloc, &timing, 1, events).ok()?;
+    let timing = Timing::of(alloc, &problem).ok();
+    drop(problem);
+    timing
+}
+
+fn begun_at(alloc: Global, timing: &Timing, events: usize) -> Option<(Conflicts, Book)>
+    ensures { IfSome result (λ begun. 0 < begun.1.tellers) }
+{
+    let shared = conflicts(alloc, timing).ok()?;
+    let book = Book::new(alloc, timing, 1, events).ok()?;
     Some((shared, book))
 }
 
