@@ -9,7 +9,7 @@ ghost use Rattle.tsn_branch.specs.Ends.{AreEnds, OthersFit, EndedBefore};
 use tsn_timing::Timing;
 
 /// When the streams are done by a list of offsets.
-#[derive(Clone, Copy, Debug)]
+#[derive(Clone, Copy)]
 pub enum Ends {
     /// This stream is the first that isn't done within the cycle, or arrives after its latest instant.
     Overrun(usize),

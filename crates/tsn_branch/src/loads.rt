@@ -11,14 +11,14 @@ use tsn_model::bounds::{MAX_OCCUPANCY, MAX_SPAN, MAX_START, MAX_WORK};
 use tsn_timing::Timing;
 
 /// A stream on a link, and when its frame starts there, in nanoseconds from its offset.
-#[derive(Clone, Copy, Debug)]
+#[derive(Clone, Copy)]
 pub struct User {
     pub stream: usize,
     pub start: u64,
 }
 
 /// A link that several streams use, with what doesn't depend on their offsets, in nanoseconds.
-#[derive(Debug, Drop)]
+#[derive(Drop)]
 pub struct LinkTable {
     pub link: usize,
     /// The streams, in order.
@@ -31,7 +31,7 @@ pub struct LinkTable {
 }
 
 /// The links that two or more streams use, as far as they don't depend on offsets.
-#[derive(Debug, Drop)]
+#[derive(Drop)]
 pub struct Loads {
     tables: Vec<LinkTable>,
 }
@@ -46,7 +46,7 @@ impl Model for Loads {
 }
 
 /// The first link that is loaded, by its index among those that are shared.
-#[derive(Clone, Copy, Debug)]
+#[derive(Clone, Copy)]
 pub enum FirstLoad {
     /// Its streams are busy on it behind the cycle.
     Overload(usize),
@@ -55,7 +55,7 @@ pub enum FirstLoad {
 }
 
 /// How the links are loaded at a node.
-#[derive(Clone, Copy, Debug)]
+#[derive(Clone, Copy)]
 pub enum Loading {
     /// Some are for the target, this one first.
     Closed(FirstLoad),

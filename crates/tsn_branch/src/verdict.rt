@@ -3,7 +3,7 @@
 use crate::outcome::Look;
 
 /// What a node that is to be split has, by the least offsets of its path.
-#[derive(Clone, Copy, Debug)]
+#[derive(Clone, Copy)]
 pub struct SplitPoint {
     /// The number of the first violated triple among the conflicts.
     pub triple: usize,

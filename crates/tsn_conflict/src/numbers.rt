@@ -7,7 +7,7 @@ use std::alloc::{AllocError, Global};
 use tsn_model::Triple;
 
 /// The numbers of the triples that have a stream, ascending.
-#[derive(Debug, Drop)]
+#[derive(Drop)]
 pub struct Numbers {
     pub numbers: Vec<usize>,
 }

@@ -13,7 +13,7 @@ pub const GREATEST_OFFSET: u64 = 1_000_000_000;
 
 /// The two streams of a triple, which overlap exactly where the gap of their offsets is above the one bound and below the
 /// other.
-#[derive(Clone, Copy, Debug)]
+#[derive(Clone, Copy)]
 pub struct Pair {
     pub left: u32,
     pub right: u32,

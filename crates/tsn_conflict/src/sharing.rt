@@ -17,7 +17,7 @@ use tsn_model::bounds::{MAX_OCCUPANCY, MAX_START};
 use tsn_model::{Arc, Side, Triple};
 
 /// The triples of two streams and a link that both use, with when each stream is on each link.
-#[derive(Debug, Drop)]
+#[derive(Drop)]
 pub struct Conflicts {
     pub(crate) rows: Vec<Row>,
     pub(crate) triples: Vec<Triple>,

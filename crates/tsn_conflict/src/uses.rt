@@ -10,14 +10,14 @@ use tsn_timing::Timing;
 
 /// When a stream's frame starts on a link, counted from the offset, and how long it occupies it. Where the stream
 /// doesn't use the link, it occupies it for no time.
-#[derive(Clone, Copy, Debug)]
+#[derive(Clone, Copy)]
 pub struct Use {
     pub start: u64,
     pub occupancy: u64,
 }
 
 /// A stream's use of each link.
-#[derive(Debug, Drop)]
+#[derive(Drop)]
 pub struct Row {
     pub uses: Vec<Use>,
 }

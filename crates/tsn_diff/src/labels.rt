@@ -9,21 +9,21 @@ use std::alloc::{AllocError, Global};
 use tsn_model::Arc;
 
 /// The last arc of a stream's chain: its index in the list of arcs, and the stream where it begins.
-#[derive(Clone, Copy, Debug, PartialEq, Eq)]
+#[derive(Clone, Copy, PartialEq, Eq)]
 pub struct Step {
     pub index: usize,
     pub from: usize,
 }
 
 /// For each stream the offset that it was raised to, and the last arc of the chain that raised it.
-#[derive(Debug, Drop)]
+#[derive(Drop)]
 pub struct Labels {
     pub offsets: Vec<u64>,
     pub last: Vec<Option<Step>>,
 }
 
 /// What correcting the labels by one arc, or by all of them in turn, came to.
-#[derive(Clone, Copy, Debug)]
+#[derive(Clone, Copy)]
 pub enum Progress {
     /// The arcs are met, and no label changed.
     Steady,

@@ -6,14 +6,14 @@ use std::alloc::{AllocError, Global};
 use tsn_model::Arc;
 
 /// An arc, and its index in the list of arcs.
-#[derive(Clone, Copy, Debug)]
+#[derive(Clone, Copy)]
 pub struct Indexed {
     pub index: usize,
     pub arc: Arc,
 }
 
 /// What is kept of arcs beside the list of them: a mark for each arc, and the arcs by the stream where each begins.
-#[derive(Debug, Drop)]
+#[derive(Drop)]
 pub struct Listing {
     pub marks: Vec<usize>,
     pub leaving: Vec<Vec<Indexed>>,

@@ -21,19 +21,19 @@ pub const MAX_WEIGHT: i64 = 100_000_000;
 pub const MAX_RELEASE: u64 = 1_000_000_000;
 
 /// Streams, and the release of each: the least offset that it may have before any arc is taken into account.
-#[derive(Debug, Drop)]
+#[derive(Drop)]
 pub struct Net {
     releases: Releases,
 }
 
-#[derive(Debug, Drop)]
+#[derive(Drop)]
 enum Releases {
     Zero(usize),
     Listed(Vec<u64>),
 }
 
 /// What a system of arcs comes to.
-#[derive(Debug, Drop)]
+#[derive(Drop)]
 pub enum Outcome {
     /// The least offsets that meet every arc.
     Least(Least),
@@ -42,7 +42,7 @@ pub enum Outcome {
 }
 
 /// The least offsets of streams of some releases that meet a list of arcs, with the chains that show them.
-#[derive(Debug, Drop)]
+#[derive(Drop)]
 pub struct Least {
     pub(crate) net: Net,
     pub(crate) arcs: Vec<Arc>,

@@ -15,7 +15,7 @@ use std::alloc::{AllocError, Global};
 use tsn_model::Arc;
 
 /// How a stream stands while one more arc is taken into account.
-#[derive(Clone, Copy, Debug)]
+#[derive(Clone, Copy)]
 pub enum Standing {
     /// Not raised so far.
     Calm,
@@ -28,7 +28,7 @@ pub enum Standing {
 }
 
 /// What is kept of the raises: how to take them back, and, while one more arc is taken into account, the streams whose arcs wait to be looked at.
-#[derive(Debug, Drop)]
+#[derive(Drop)]
 pub struct Wave {
     pub trail: Trail,
     pub queue: Vec<usize>,

@@ -16,7 +16,7 @@ use std::marker::Model;
 use tsn_model::{Arc, NoMemory};
 
 /// Arcs put in one after another and taken out again, the last one first, with the least offsets that meet them.
-#[derive(Debug, Drop)]
+#[derive(Drop)]
 pub struct ArcStack {
     least: Least,
     listing: Listing,

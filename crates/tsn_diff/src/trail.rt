@@ -6,7 +6,7 @@ use crate::labels::{Labels, Step};
 use std::alloc::AllocError;
 
 /// The label that a stream had before it was raised.
-#[derive(Clone, Copy, Debug)]
+#[derive(Clone, Copy)]
 pub struct Former {
     pub stream: usize,
     pub offset: u64,
@@ -14,7 +14,7 @@ pub struct Former {
 }
 
 /// The streams that were raised, the last one last, and the label that each had before.
-#[derive(Debug, Drop)]
+#[derive(Drop)]
 pub struct Trail {
     pub streams: Vec<usize>,
     pub formers: Vec<Former>,

@@ -21,7 +21,7 @@ pub struct LinkQueue<'a> {
 }
 
 /// The first frame of a link's queue, and when it and the background frame that waits can start.
-#[derive(Clone, Copy, Debug)]
+#[derive(Clone, Copy)]
 pub struct Port {
     pub head: Option<usize>,
     pub scheduled: u64,

@@ -10,7 +10,7 @@ use std::alloc::{AllocError, Global};
 use tsn_model::plain::PlainNetwork;
 
 /// A stream's frame in a cycle: the hop on which it starts next, and from when on it may.
-#[derive(Clone, Copy, Debug)]
+#[derive(Clone, Copy)]
 pub struct Frame {
     pub stream: usize,
     pub cycle: usize,
