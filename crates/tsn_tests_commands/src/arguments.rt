@@ -4,7 +4,7 @@ use crate::inputs::NETWORK;
 use std::process::Abort;
 use tsn_cli::memory::{MemorySink, MemorySource, NEVER};
 use tsn_cli::valid_run;
-use tsn_words::{WordsFault, words_from};
+use tsn_words::{Words, WordsFault, words_from};
 
 /// The run ends with this line and status 6.
 fn rejects<R: Abort + AllocGlobal>(rt: &R, offsets: &[u64], line: &str) {
@@ -32,4 +32,18 @@ fn refuses_no_word_at_all(rt: HostRuntime) {
         Err(fault) => assert!(rt; false, "{fault}"),
         Ok(_) => assert!(rt; false, "no word is taken"),
     }
+}
+
+/// How many settlements the words allow a plan.
+fn steps_of(words: &Result<Words<'_>, WordsFault>) -> Option<usize> {
+    match words {
+        Ok(Words::Plan(words)) => Some(words.steps),
+        _ => None,
+    }
+}
+
+#[test]
+fn a_plan_takes_a_million_steps_by_default(rt: HostRuntime) {
+    let words = words_from(rt.alloc(), &["tsn", "plan", "net"]);
+    assert!(rt; steps_of(&words) == Some(1_000_000));
 }
