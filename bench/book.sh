@@ -7,8 +7,8 @@ root=$(cd "$(dirname "$0")/.." && pwd)
 work=$(mktemp -d)
 trap 'rm -rf "$work"' EXIT
 net=$root/bench/networks/star.toml
-(cd "$root/crates/tsn_bench" && rt run -- book 1 "$net" >"$work/log" 2>&1) || { cat "$work/log" >&2; exit 1; }
-program=$root/crates/tsn_bench/out/tsn_bench
+(cd "$root/crates/tsn_calls" && rt run -- book 1 "$net" >"$work/log" 2>&1) || { cat "$work/log" >&2; exit 1; }
+program=$root/crates/tsn_calls/out/tsn_calls
 
 echo ' events  settle/s  ns each  first_open/s  ns each  memory MB'
 for events in 1000 100000 1000000; do

@@ -6,8 +6,8 @@ root=$(cd "$(dirname "$0")/.." && pwd)
 work=$(mktemp -d)
 trap 'rm -rf "$work"' EXIT
 rustc -O -o "$work/plain" "$root/bench/least/plain.rs"
-(cd "$root/crates/tsn_bench" && rt run -- least 8 1 >"$work/log" 2>&1) || { cat "$work/log" >&2; exit 1; }
-proved=$root/crates/tsn_bench/out/tsn_bench
+(cd "$root/crates/tsn_calls" && rt run -- least 8 1 >"$work/log" 2>&1) || { cat "$work/log" >&2; exit 1; }
+proved=$root/crates/tsn_calls/out/tsn_calls
 
 # the least of five times, in nanoseconds
 best() {

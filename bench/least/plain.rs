@@ -1,5 +1,5 @@
 //! The algorithm of `tsn_diff` in plain Rust, without proofs: least offsets under arcs by label correcting, with the last
-//! arc of each stream's chain, and a walk along that chain before a stream is raised. Prints what `tsn_bench least` prints.
+//! arc of each stream's chain, and a walk along that chain before a stream is raised. Prints what `tsn_calls least` prints.
 
 use std::time::Instant;
 

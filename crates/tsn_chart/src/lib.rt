@@ -6,7 +6,7 @@ mod key;
 pub mod picture;
 mod rows;
 mod scale;
-mod words;
+pub mod words;
 
 pub use picture::chart;
 pub use tsn_model::NoMemory;

@@ -1,4 +1,4 @@
-//! Texts of the picture.
+//! Texts of a picture: names, instants in microseconds, and colours.
 
 use std::alloc::AllocError;
 use std::fmt::Write;
@@ -7,7 +7,7 @@ use std::fmt::Write;
 const LETTER: u64 = 62;
 
 /// How many letters of that height have room.
-pub fn letters_in(width: u64, font: u64) -> usize {
+pub(crate) fn letters_in(width: u64, font: u64) -> usize {
     let letter = (font.min(1000) * LETTER / 100).max(1);
     (width.min(100_000) / letter) as usize
 }
@@ -85,38 +85,8 @@ pub fn write_microseconds(text: &mut String, instant: u64) -> Result<(), AllocEr
 }
 
 /// The colour of a stream: neighbours have hues that are far apart.
-pub fn write_colour(text: &mut String, stream: usize) -> Result<(), AllocError> {
+pub(crate) fn write_colour(text: &mut String, stream: usize) -> Result<(), AllocError> {
     let hue = stream % 360 * 137 % 360;
     let lightness = 42 + stream % 3 * 9;
     write!(text, "hsl({hue},65%,{lightness}%)")
-}
-
-#[cfg(test)]
-mod tests {
-    use super::*;
-    use std::test::Fail;
-
-    #[test]
-    fn names_are_cut_and_escaped(rt: HostRuntime) -> Result<(), Fail> {
-        let mut text = String::new(rt.alloc());
-        write_name(&mut text, "four", 4)?;
-        write_name(&mut text, " and five", 5)?;
-        write_whole(&mut text, " <a&b>\"'\n\u{1}\u{e9}")?;
-        assert_eq!(&rt;
-            text.as_str(),
-            "four and&#8230; &lt;a&amp;b&gt;&quot;&#39; &#65533;\u{e9}"
-        );
-        Ok(())
-    }
-
-    #[test]
-    fn instants_have_few_decimals(rt: HostRuntime) -> Result<(), Fail> {
-        let mut text = String::new(rt.alloc());
-        for instant in [0, 1, 10, 100, 1000, 2924, 2050, 2500, 1_000_000_000] {
-            write_microseconds(&mut text, instant)?;
-            text.push(' ')?;
-        }
-        assert_eq!(&rt; text.as_str(), "0 0.001 0.01 0.1 1 2.924 2.05 2.5 1000000 ");
-        Ok(())
-    }
 }

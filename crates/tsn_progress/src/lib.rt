@@ -2,7 +2,5 @@
 #![tactic(auto)]
 
 pub mod progress;
-#[cfg(test)]
-mod tests;
 
 pub use progress::Progress;

@@ -1,20 +1,10 @@
-//! Tests of conflicts, of looks at nodes of a search, and of its book. A crate with tests is proved twice, so
-//! they stand apart.
+//! Tests of the search: looks at nodes and the book of a search, the planner over gates and bags that misbehave, and what is told
+//! of its progress. A crate with tests is proved twice, so they stand apart.
 #![tactic(auto)]
 
 #[cfg(test)]
-mod answers;
-#[cfg(test)]
-mod book;
-#[cfg(test)]
-mod branch;
-#[cfg(test)]
-mod networks;
-#[cfg(test)]
 mod nodes;
 #[cfg(test)]
-mod rows;
+mod progress;
 #[cfg(test)]
-mod shared_links;
-#[cfg(test)]
-mod shared_search;
+mod workers;

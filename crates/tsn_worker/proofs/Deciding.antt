@@ -17,7 +17,7 @@ use Rattle.tsn_check.specs.Faults.{IsOptimalPlan, IsFirstPlan, IsPlanRight, leaf
 use Rattle.tsn_timing.specs.Solution.{Solution, IsSolved}
 use Rattle.tsn_worker.specs.Answer.{Shows, IsStopped}
 use Rattle.tsn_book.specs.Book.{Progress, IsLawful, SpellsAccepted}
-use Rattle.tsn_worker.specs.Search.{IsSearchOf}
+use Rattle.tsn_search.specs.Search.{IsSearchOf}
 
 -- a certificate of format 2 for what is kept, of the tree of the whole history
 pub record IsTreeOf (network : Network) (history : List Settlement) (cert : Cert) : Type 0 where

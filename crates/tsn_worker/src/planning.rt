@@ -6,16 +6,9 @@ ghost use Rattle.tsn_conflict.specs.Kept.{AreConflictsOf};
 ghost use Rattle.tsn_branch.specs.Loads.{AreLoadsOf};
 ghost use Rattle.tsn_cert.specs.declared.plan.Plan.TheVariants.{Schedule};
 ghost use Rattle.tsn_worker.specs.Answer.{IsAnswer};
-ghost use Rattle.tsn_worker.specs.Search.{IsSearchOf};
+ghost use Rattle.tsn_search.specs.Search.{IsSearchOf};
 
 use crate::answer::Answer;
-use crate::bag::{Bag, DequeBag};
-use crate::context::Setting;
-use crate::gate::Gate;
-use crate::prepared::Prepared;
-use crate::rest::settle_rest;
-use crate::search::settle_open;
-use crate::threads::search;
 use std::alloc::Global;
 use std::marker::Brand;
 use std::sync::Wait;
@@ -24,6 +17,10 @@ use tsn_book::Book;
 use tsn_cert::{Offsets, Plan};
 use tsn_model::NoMemory;
 use tsn_net::Problem;
+use tsn_search::rest::settle_rest;
+use tsn_search::search::settle_open;
+use tsn_search::threads::search;
+use tsn_search::{Bag, DequeBag, Gate, Prepared, Setting};
 use tsn_share::Parts;
 use tsn_timing::{Solved, Timing};
 

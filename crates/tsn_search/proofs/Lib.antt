@@ -1,0 +1,3 @@
+mod Settling
+pub mod Batching
+pub mod Teams

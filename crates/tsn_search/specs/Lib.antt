@@ -1,0 +1,4 @@
+pub mod Search
+pub mod Below
+pub mod Team
+pub mod Context

@@ -1,0 +1,91 @@
+//! What the caller settles before the workers start.
+ghost use Rattle.std.specs.Prelude.{◌≡◌, ◌<◌, ◌≤◌, length};
+ghost use Rattle.tsn_share.specs.Teller.{IsEven};
+ghost use Rattle.tsn_search.specs.Context.{AreTablesOf};
+
+use crate::bag::Bag;
+use crate::batch::Turn;
+use crate::below::Below;
+use crate::context::Context;
+use crate::gate::Gate;
+use crate::settler::Settler;
+use std::alloc::Global;
+use std::sync::Wait;
+use tsn_branch::{NoMemory, Node};
+use tsn_share::Named;
+
+/// The nodes that are open, the first in preorder last.
+#[derive(Drop)]
+pub struct OpenNodes {
+    nodes: Vec<Node>,
+}
+
+impl OpenNodes {
+    /// None.
+    pub fn none(alloc: Global) -> OpenNodes {
+        OpenNodes {
+            nodes: Vec::new(alloc),
+        }
+    }
+
+    /// Gives node n in preorder to the bag n mod the number of bags, the first one last.
+    pub fn deal<B: Bag>(self, bags: &mut [B])
+        requires { 0 < length bags.old }
+    {
+        let mut number = self.nodes.len();
+        for node in self.nodes {
+            number -= 1;
+            let bag = number % bags.len();
+            let _ = bags[bag].push(node);
+        }
+    }
+}
+
+impl Bag for OpenNodes {
+    fn push(&mut self, node: Node) -> Result<(), Node> {
+        match self.nodes.push(node) {
+            Ok(()) => Ok(()),
+            Err(refused) => Err(refused.value),
+        }
+    }
+
+    fn pop(&mut self) -> Option<Node> {
+        self.nodes.pop()
+    }
+
+    fn steal(&mut self) -> Option<Node> {
+        None
+    }
+}
+
+/// Settles first open nodes, each by itself, until so many are open, or none, or the book takes no more; then tells which are
+/// open. The error says that there was no memory to begin.
+pub fn settle_first<K: Named, G: Gate>(
+    rt: &impl Wait,
+    context: &Context<'_, K, G>,
+    enough: usize,
+    caller: &mut Settler<K>,
+) -> Result<OpenNodes, NoMemory>
+    requires tables { AreTablesOf K.names.race.network context.now.tables }
+    requires even { IsEven caller.old.teller }
+    ensures even { IsEven caller.new.teller }
+    ensures number { caller.new.teller.standing.number ≡ caller.old.teller.standing.number }
+{
+    let mut below = Below::root(context.alloc, context.tables.timing)?;
+    let mut open_nodes = OpenNodes::none(context.alloc);
+    for _ in 0..u64::MAX {
+        if below.has_open(enough) {
+            break;
+        }
+        match below.settle_next(rt, context, caller, 1) {
+            Turn::GoesOn => {}
+            Turn::Ends => break,
+            Turn::Finished | Turn::LooksAgain => {
+                drop(below);
+                return Ok(open_nodes);
+            }
+        }
+    }
+    below.leave(&mut open_nodes);
+    Ok(open_nodes)
+}

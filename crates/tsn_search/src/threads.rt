@@ -1,0 +1,123 @@
+//! A search by several workers, each in a thread of its own.
+ghost use Rattle.std.specs.Prelude.{◌≡◌, ℕ, ◌+◌, ◌<◌, ◌≤◌, length, All, IfOk, slice_index_or};
+ghost use Rattle.tsn_share.specs.Names.{IsBookOf};
+ghost use Rattle.tsn_share.specs.Teller.{IsEven, tellers_from};
+ghost use Rattle.tsn_search.specs.Context.{AreTablesOf};
+ghost use Rattle.tsn_search.specs.Team.{AreBack};
+
+use crate::bag::Bag;
+use crate::board::Board;
+use crate::context::{Context, Setting};
+use crate::gate::Gate;
+use crate::settler::Settler;
+use crate::start::settle_first;
+use crate::team::{team_of, tellers_of};
+use crate::worker::{Member, work};
+use std::sync::Wait;
+use std::thread;
+use std::thread::Threads;
+use tsn_book::Book;
+use tsn_branch::NoMemory;
+use tsn_share::{Named, Parts, Teller, gather};
+
+/// The caller begins, the workers go on, one a bag, and what all have settled is gathered. The error says that there was no
+/// memory for the caller.
+pub fn search<K: Named + Send + Sync, R: Threads + Wait + Sync, G: Gate + Sync, B: Bag + Send>(
+    rt: &R,
+    setting: &Setting<'_, G>,
+    bags: Vec<B>,
+    parts: Parts,
+) -> Result<Book, NoMemory>
+    requires names { parts ≡ K.names }
+    requires tables { AreTablesOf K.names.race.network setting.now.tables }
+    requires tellers { K.names.race.tellers ≡ length bags.items + 1 }
+    requires some { 1 ≤ length bags.items }
+    ensures book { IfOk result (IsBookOf K.names) }
+{
+    let (shared, tellers) = parts.share::<K>(setting.alloc)?;
+    let board = Board::new(bags.len());
+    let context = Context {
+        alloc: setting.alloc,
+        tables: setting.tables,
+        gate: setting.gate,
+        shared: &shared,
+        board: &board,
+    };
+    let back = settle_all(rt, &context, bags, tellers);
+    drop(context);
+    drop(board);
+    match back {
+        Ok(tellers) => {
+            let (_, book) = gather(shared, tellers);
+            Ok(book)
+        }
+        Err(fault) => {
+            drop(shared);
+            Err(fault)
+        }
+    }
+}
+
+// The caller, who is the last of the tellers, settles the first nodes, and the workers the others. All tellers come back.
+fn settle_all<K: Named + Send + Sync, R: Threads + Wait + Sync, G: Gate + Sync, B: Bag + Send>(
+    rt: &R,
+    context: &Context<'_, K, G>,
+    bags: Vec<B>,
+    tellers: Vec<Teller<K>>,
+) -> Result<Vec<Teller<K>>, NoMemory>
+    requires tables { AreTablesOf K.names.race.network context.now.tables }
+    requires fresh { tellers.items ≡ tellers_from K.names 0 K.names.race.tellers }
+    requires tellers { K.names.race.tellers ≡ length bags.items + 1 }
+    requires some { 1 ≤ length bags.items }
+    ensures { IfOk result (λ back. AreBack K.names.race.tellers back.items) }
+{
+    let mut bags = bags;
+    let mut tellers = tellers;
+    let Some(last) = tellers.pop() else {
+        unreachable!();
+    };
+    let workers = bags.len();
+    let mut caller = Settler::new(workers, last);
+    let open_nodes = match settle_first(rt, context, workers, &mut caller) {
+        Ok(open_nodes) => open_nodes,
+        Err(fault) => {
+            drop(caller);
+            return Err(fault);
+        }
+    };
+    open_nodes.deal(bags.as_mut_slice());
+    let mut members = match team_of(context.alloc, tellers, bags) {
+        Ok(members) => members,
+        Err(_) => {
+            drop(caller);
+            return Err(NoMemory);
+        }
+    };
+    run(rt, context, members.as_mut_slice());
+    Ok(tellers_of(context.alloc, members, caller.into_teller())?)
+}
+
+// Runs each worker in a thread of its own, or one after another where no thread can be made. Each teller is left even.
+fn run<K: Named + Send + Sync, B: Bag + Send, G: Gate + Sync, R: Threads + Wait + Sync>(
+    rt: &R,
+    context: &Context<'_, K, G>,
+    members: &mut [Member<K, B>],
+)
+    requires tables { AreTablesOf K.names.race.network context.now.tables }
+    requires some { 0 < length members.old }
+    requires even { All (λ member. IsEven member.settler.teller) members.old }
+    ensures even { All (λ member. IsEven member.settler.teller) members.new }
+    ensures numbers { (k : ℕ) (d : _) → k < length members.old
+        → (slice_index_or members.new k d).settler.teller.standing.number ≡ (slice_index_or members.old k d).settler.teller.standing.number }
+{
+    let threads = members.len();
+    thread::for_each_mut(
+        rt,
+        members,
+        threads,
+        &|_number: usize, member: &mut Member<K, B>|
+            requires { AreTablesOf K.names.race.network context.now.tables × IsEven member.old.settler.teller }
+            ensures { IsEven member.new.settler.teller × (member.new.settler.teller.standing.number ≡ member.old.settler.teller.standing.number) }
+        { work(rt, context, member) },
+    );
+}

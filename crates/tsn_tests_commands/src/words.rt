@@ -1,0 +1,28 @@
+//! Texts of pictures, of names too that no network file can have.
+
+use std::test::Fail;
+use tsn_chart::words::{write_microseconds, write_name, write_whole};
+
+#[test]
+fn names_are_cut_and_escaped(rt: HostRuntime) -> Result<(), Fail> {
+    let mut text = String::new(rt.alloc());
+    write_name(&mut text, "four", 4)?;
+    write_name(&mut text, " and five", 5)?;
+    write_whole(&mut text, " <a&b>\"'\n\u{1}\u{e9}")?;
+    assert_eq!(&rt;
+        text.as_str(),
+        "four and&#8230; &lt;a&amp;b&gt;&quot;&#39; &#65533;\u{e9}"
+    );
+    Ok(())
+}
+
+#[test]
+fn instants_have_few_decimals(rt: HostRuntime) -> Result<(), Fail> {
+    let mut text = String::new(rt.alloc());
+    for instant in [0, 1, 10, 100, 1000, 2924, 2050, 2500, 1_000_000_000] {
+        write_microseconds(&mut text, instant)?;
+        text.push(' ')?;
+    }
+    assert_eq!(&rt; text.as_str(), "0 0.001 0.01 0.1 1 2.924 2.05 2.5 1000000 ");
+    Ok(())
+}

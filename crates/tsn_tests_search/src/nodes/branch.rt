@@ -1,0 +1,171 @@
+//! What looks at nodes find, in words.
+
+use crate::nodes::answers::expect_rows;
+use crate::nodes::networks::{LINE, LOOP, ONE, TWO};
+use crate::nodes::nodes::{looked, node_at};
+use crate::nodes::rows::cut;
+use std::process::Abort;
+use std::test::*;
+use tsn_branch::outcome::{Leaf, Look};
+use tsn_branch::{Node, Triple, fits};
+use tsn_cert::Chains;
+use tsn_conflict::conflicts;
+use tsn_timing::{Solved, Timing};
+
+fn look_text<R: Abort + AllocGlobal>(rt: &R, look: &Look) -> String {
+    match look {
+        Look::Split(triple) => split_text(rt, *triple),
+        Look::Solved {
+            solved,
+            leaf,
+            chains,
+        } => solved_text(rt, solved, leaf, chains),
+        Look::Tied {
+            bound,
+            leaf,
+            chains,
+        } => tied_text(rt, *bound, leaf, chains),
+        Look::Pruned { bound, leaf } => pruned_text(rt, *bound, leaf),
+        Look::Refuted(leaf) => refuted_text(rt, leaf),
+    }
+}
+
+fn split_text<R: Abort + AllocGlobal>(rt: &R, triple: Triple) -> String {
+    let Triple { left, right, link } = triple;
+    format!(in rt.alloc(); "split {left} {right} {link}").expect(rt, "memory")
+}
+
+fn solved_text<R: Abort + AllocGlobal>(
+    rt: &R,
+    solved: &Solved,
+    leaf: &Leaf,
+    chains: &Chains,
+) -> String {
+    let (offsets, bound) = (solved.valid().offsets(), solved.flowspan());
+    format!(in rt.alloc(); "solved {offsets:?} {bound} {leaf:?} {chains:?}").expect(rt, "memory")
+}
+
+fn tied_text<R: Abort + AllocGlobal>(rt: &R, bound: u64, leaf: &Leaf, chains: &Chains) -> String {
+    format!(in rt.alloc(); "tied {bound} {leaf:?} {chains:?}").expect(rt, "memory")
+}
+
+fn pruned_text<R: Abort + AllocGlobal>(rt: &R, bound: u64, leaf: &Leaf) -> String {
+    format!(in rt.alloc(); "pruned {bound} {leaf:?}").expect(rt, "memory")
+}
+
+fn refuted_text<R: Abort + AllocGlobal>(rt: &R, leaf: &Leaf) -> String {
+    format!(in rt.alloc(); "refuted {leaf:?}").expect(rt, "memory")
+}
+
+/// What a look finds, as at `Left 4: 2925 beside 0 672`.
+pub fn told_look<R: Abort + AllocGlobal>(rt: &R, timing: &Timing, asked: &str) -> String {
+    let (path, asked) = cut(rt, asked, ": ");
+    let node = node_at(rt, path);
+    let look = looked(rt, timing, &node, asked);
+    let text = look_text(rt, &look);
+    drop(look);
+    text
+}
+
+fn fits_in<R: Abort + AllocGlobal>(rt: &R, timing: &Timing, node: &Node) -> bool {
+    let shared = conflicts(rt.alloc(), timing).expect(rt, "memory");
+    let fitting = fits(&shared, node);
+    drop(shared);
+    fitting
+}
+
+/// Whether a node fits the search.
+pub fn told_fitting<R: Abort + AllocGlobal>(rt: &R, timing: &Timing, path: &str) -> String {
+    let node = node_at(rt, path);
+    let fitting = fits_in(rt, timing, &node);
+    format!(in rt.alloc(); "{fitting}").expect(rt, "memory")
+}
+
+const FIRST_LOOKS: &str = "\
+1000000, look root: 1000001 = split 0 1 4
+1000000, look root: 2252 = pruned 2252 Late(0, Chain { depths: [] })
+1000000, look Left 4: 1000001 = solved [0, 672] 2924 Late(1, Chain { depths: [0] }) Chains { list: [Chain { depths: [] }, Chain { depths: [0] }] }
+1000000, look Left 4: 2925 = solved [0, 672] 2924 Late(1, Chain { depths: [0] }) Chains { list: [Chain { depths: [] }, Chain { depths: [0] }] }
+1000000, look Left 4: 2924 = pruned 2924 Late(1, Chain { depths: [0] })
+1000000, look Right 4: 2924 = pruned 2924 Late(0, Chain { depths: [0] })";
+
+#[test]
+fn splits_solves_and_prunes(rt: HostRuntime) {
+    expect_rows(&rt, TWO, FIRST_LOOKS);
+}
+
+/// The chains of a tie go up to the first stream at which the lists differ, and else to the last stream.
+const TIES: &str = "\
+1000000, look root: 2925 beside 0 672 = split 0 1 4
+1000000, look Right 4: 2925 beside 0 672 = tied 2924 Late(0, Chain { depths: [0] }) Chains { list: [Chain { depths: [0] }] }
+1000000, look Left 4: 2925 beside 0 672 = tied 2924 Late(1, Chain { depths: [0] }) Chains { list: [Chain { depths: [] }, Chain { depths: [0] }] }
+1000000, look Left 4: 2925 beside 672 0 = solved [0, 672] 2924 Late(1, Chain { depths: [0] }) Chains { list: [Chain { depths: [] }, Chain { depths: [0] }] }";
+
+#[test]
+fn ties_with_the_best_schedule(rt: HostRuntime) {
+    expect_rows(&rt, TWO, TIES);
+}
+
+/// Both streams start on link 4 at 1626, occupy it for 1344 ns together, and arrive 46 ns before their occupancy ends. An overload
+/// goes before a load, and a flowspan that is the target before both.
+const LOADS: &str = "\
+1000000, look root: 2925 = split 0 1 4
+1000000, look root: 2924 = pruned 2924 Load(4, Entries { list: [(0, Chain { depths: [] }), (1, Chain { depths: [] })] })
+1000000, look root: 2253 = pruned 2924 Load(4, Entries { list: [(0, Chain { depths: [] }), (1, Chain { depths: [] })] })
+2970, look root: 2971 = split 0 1 4
+2970, look root: 2924 = pruned 2924 Load(4, Entries { list: [(0, Chain { depths: [] }), (1, Chain { depths: [] })] })
+2969, look root: 2970 = refuted Overload(4, Entries { list: [(0, Chain { depths: [] }), (1, Chain { depths: [] })] })
+2969, look root: 2924 = refuted Overload(4, Entries { list: [(0, Chain { depths: [] }), (1, Chain { depths: [] })] })
+2969, look root: 2252 = pruned 2252 Late(0, Chain { depths: [] })";
+
+#[test]
+fn loads_of_shared_links_prune_and_refute(rt: HostRuntime) {
+    expect_rows(&rt, TWO, LOADS);
+}
+
+/// On link 4 both streams are busy from 576 to 1920, and on link 6 from 1152 to 2496; either asks for a flowspan of 2400. A load
+/// of the first link goes before an overload of the second one.
+const LOADED_LINKS: &str = "\
+2496, look root: 2400 = pruned 2400 Load(4, Entries { list: [(0, Chain { depths: [] }), (1, Chain { depths: [] })] })
+2496, look root: 2401 = split 0 1 4
+2495, look root: 2401 = refuted Overload(6, Entries { list: [(0, Chain { depths: [] }), (1, Chain { depths: [] })] })
+2495, look root: 2400 = pruned 2400 Load(4, Entries { list: [(0, Chain { depths: [] }), (1, Chain { depths: [] })] })
+1919, look root: 2400 = refuted Overload(4, Entries { list: [(0, Chain { depths: [] }), (1, Chain { depths: [] })] })";
+
+#[test]
+fn the_first_loaded_link_is_taken(rt: HostRuntime) {
+    expect_rows(&rt, LINE, LOADED_LINKS);
+}
+
+/// An overrun goes before a flowspan that is the target.
+const SPANS: &str = "\
+2297, look root: 2298 = refuted Overrun(0, Chain { depths: [] })
+2297, look root: 2252 = refuted Overrun(0, Chain { depths: [] })
+2298, look root: 2299 = solved [0] 2252 Late(0, Chain { depths: [] }) Chains { list: [Chain { depths: [] }] }";
+
+#[test]
+fn spans_end_within_the_cycle(rt: HostRuntime) {
+    expect_rows(&rt, ONE, SPANS);
+}
+
+/// Of the first node the arcs weigh 672 and 2016: from stream 1 to 0, and back. Of the second they weigh 672 and -672, and a sum of 0
+/// refutes nothing.
+const CYCLES: &str = "\
+1000000, look Right 4;Left 12: 1000001 = refuted Cycle(Chain { depths: [0, 1] })
+1000000, look Left 4;Right 12: 1000001 = solved [0, 672] 3648 Late(0, Chain { depths: [] }) Chains { list: [Chain { depths: [] }, Chain { depths: [0] }] }
+1000000, look Left 4;Right 12: 3648 = pruned 3648 Late(0, Chain { depths: [] })";
+
+#[test]
+fn cycles_of_positive_sum_refute(rt: HostRuntime) {
+    expect_rows(&rt, LOOP, CYCLES);
+}
+
+/// One of the two streams alone uses link 2.
+const NODES: &str = "\
+1000000, fits Left 4 = true
+1000000, fits Left 4;Left 2 = false";
+
+#[test]
+fn strange_nodes_dont_fit(rt: HostRuntime) {
+    expect_rows(&rt, TWO, NODES);
+}

@@ -1,0 +1,130 @@
+//! The nodes of these tests, and what looks find there. What calls a look does nothing else: all that its contract says
+//! would stand in the way of each further proof. What has many fields goes to `drop`, here and in the other modules, so that
+//! how it is let go is no part of a test's own proof.
+ghost use Rattle.std.specs.Prelude.{IfSome, option_copied};
+ghost use Rattle.tsn_timing.specs.Solution.{IsSolved};
+ghost use Rattle.tsn_branch.specs.Outcome.{outcome_of};
+ghost use Rattle.tsn_branch.specs.Look.{HasProof};
+
+use crate::nodes::rows::{cut, number, numbers, place};
+use std::process::Abort;
+use tsn_book::Event;
+use tsn_branch::outcome::Look;
+use tsn_branch::{Node, Side, Triple, fits, look};
+use tsn_conflict::conflicts;
+use tsn_timing::{Solved, Timing};
+
+/// Which of the first two streams goes first on a link.
+pub fn first_two(link: usize) -> Triple {
+    Triple {
+        left: 0,
+        right: 1,
+        link,
+    }
+}
+
+pub fn side_of(rt: &impl Abort, name: &str) -> Side {
+    match name {
+        "Left" => Side::Left,
+        "Right" => Side::Right,
+        _ => panic!(rt; "no side"),
+    }
+}
+
+/// The node one decision below, on which of the first two streams goes first on a link.
+fn below(rt: &impl Abort, node: &Node, link: usize, side: Side) -> Node {
+    let triple = first_two(link);
+    assert!(rt; node.path().iter().all(|decision| decision.triple != triple));
+    node.child(triple, side).expect(rt, "memory")
+}
+
+/// The node one turn below, as `Left 4`.
+fn turned(rt: &impl Abort, node: &Node, turn: &str) -> Node {
+    let (side, link) = cut(rt, turn, " ");
+    below(rt, node, place(rt, link), side_of(rt, side))
+}
+
+/// The node of a path, as `root` or `Left 4;Right 12`.
+pub fn node_at<R: Abort + AllocGlobal>(rt: &R, path: &str) -> Node {
+    let mut node = Node::root(rt.alloc());
+    for turn in path.split(';') {
+        if turn != "root" {
+            node = turned(rt, &node, turn);
+        }
+    }
+    node
+}
+
+/// A schedule of these offsets.
+fn schedule<R: Abort + AllocGlobal>(rt: &R, timing: &Timing, offsets: Vec<u64>) -> Solved
+    ensures { IsSolved timing.now result }
+{
+    match timing.valid(offsets) {
+        Ok(valid) => Solved::of(timing, valid),
+        Err(_) => panic!(rt; "the offsets are no schedule"),
+    }
+}
+
+/// What a look at a node finds, with a best schedule or none.
+fn look_at<R: Abort + AllocGlobal>(
+    rt: &R,
+    timing: &Timing,
+    node: &Node,
+    target: u64,
+    best: Option<&Solved>,
+) -> Look
+    requires { IfSome (option_copied best) (IsSolved timing.now) }
+    ensures { HasProof timing.now node.now (outcome_of result) }
+{
+    let shared = conflicts(rt.alloc(), timing).expect(rt, "memory");
+    assert!(rt; fits(&shared, node));
+    let found = look(rt.alloc(), timing, &shared, node, target, best).expect(rt, "memory");
+    drop(shared);
+    found
+}
+
+/// What a look at a node finds beside the schedule of these offsets.
+fn look_beside<R: Abort + AllocGlobal>(
+    rt: &R,
+    timing: &Timing,
+    node: &Node,
+    target: u64,
+    offsets: &str,
+) -> Look
+    ensures { HasProof timing.now node.now (outcome_of result) }
+{
+    let best = schedule(rt, timing, numbers(rt, offsets));
+    let found = look_at(rt, timing, node, target, Some(&best));
+    drop(best);
+    found
+}
+
+/// What a look at a node finds, as below the target `2925`, or below `2925 beside 0 672`.
+pub fn looked<R: Abort + AllocGlobal>(rt: &R, timing: &Timing, node: &Node, asked: &str) -> Look
+    ensures { HasProof timing.now node.now (outcome_of result) }
+{
+    match asked.split_once(" beside ") {
+        Some((target, offsets)) => look_beside(rt, timing, node, number(rt, target), offsets),
+        None => look_at(rt, timing, node, number(rt, asked), None),
+    }
+}
+
+/// What is found at a node: a split as `split 4`, or what a look finds.
+fn found<R: Abort + AllocGlobal>(rt: &R, timing: &Timing, node: &Node, asked: &str) -> Look
+    ensures { HasProof timing.now node.now (outcome_of result) }
+{
+    match asked.strip_prefix("split ") {
+        Some(link) => Look::Split(first_two(place(rt, link))),
+        None => looked(rt, timing, node, asked),
+    }
+}
+
+/// A node with what is found there, as `Left 4: split 12` or `Left 4: 2925 beside 0 672`.
+pub fn event_of<R: Abort + AllocGlobal>(rt: &R, timing: &Timing, asked: &str) -> Event
+    ensures { HasProof timing.now result.node (outcome_of result.look) }
+{
+    let (path, asked) = cut(rt, asked, ": ");
+    let node = node_at(rt, path);
+    let look = found(rt, timing, &node, asked);
+    Event { node, look }
+}

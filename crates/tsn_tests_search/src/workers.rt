@@ -1,0 +1,10 @@
+//! The planner by several workers: over gates that watch, hold or stop them, and over bags that lose, double, refuse or make up
+//! nodes.
+
+mod alone;
+mod bags;
+mod gates;
+mod hostile;
+mod networks;
+mod planner;
+mod workers;

@@ -1,0 +1,91 @@
+//! Workers that meet, begin, share and settle by batches.
+
+use crate::workers::bags::stacks;
+use crate::workers::gates::{CountingGate, MeetingGate};
+use crate::workers::networks::{TEN, TWO};
+use crate::workers::planner::{expect, planned};
+use std::alloc::Global;
+use std::test::*;
+use tsn_branch::{NoMemory, Node, Side, Triple};
+use tsn_worker::{Bag, DequeBag};
+
+/// A worker that waits for the other one meets it only where each has a thread of its own.
+#[test]
+fn two_tellers_meet(rt: HostRuntime) -> Result<(), Fail> {
+    let alloc = rt.alloc();
+    let gate = MeetingGate::new(rt);
+    let bags = DequeBag::make(alloc, 2)?;
+    let found = planned(&rt, alloc, TWO, &gate, bags)?;
+    assert!(rt; gate.has_brought_together());
+    expect(&rt, &found, 2_924);
+    Ok(())
+}
+
+/// The caller settles one node less than there are workers, and leaves the others to them.
+#[test]
+fn caller_only_starts(rt: HostRuntime) -> Result<(), Fail> {
+    let alloc = rt.alloc();
+    for (workers, before) in [(2, 1), (4, 3)] {
+        let gate = CountingGate::new(workers);
+        let found = planned(&rt, alloc, TEN, &gate, stacks(alloc, workers)?)?;
+        assert_eq!(rt; gate.before(), before, "of {workers} workers");
+        assert_eq!(rt; gate.behind(), 0, "of {workers} workers");
+        expect(&rt, &found, 8_300);
+    }
+    Ok(())
+}
+
+/// A worker that passes the gate for each node would pass it as often as nodes are settled.
+#[test]
+fn a_batch_passes_the_gate_once(rt: HostRuntime) -> Result<(), Fail> {
+    let alloc = rt.alloc();
+    let gate = CountingGate::new(2);
+    let bags = DequeBag::make(alloc, 2)?;
+    let found = planned(&rt, alloc, TEN, &gate, bags)?;
+    expect(&rt, &found, 8_300);
+    let passes = gate
+        .before()
+        .saturating_add(gate.by_workers())
+        .saturating_add(gate.behind());
+    assert!(rt; 0 < passes);
+    assert!(rt;
+        passes < found.settled as u64,
+        "{passes} of {}",
+        found.settled
+    );
+    Ok(())
+}
+
+/// A node by the link of its one decision.
+fn node_on(alloc: Global, link: usize) -> Result<Node, NoMemory> {
+    let root = Node::root(alloc);
+    root.child(
+        Triple {
+            left: 0,
+            right: 1,
+            link,
+        },
+        Side::Left,
+    )
+}
+
+fn link_of(node: Option<Node>) -> Option<usize> {
+    let node = node?;
+    let first = node.path().first()?;
+    Some(first.triple.link)
+}
+
+#[test]
+fn the_owner_takes_the_last_and_a_thief_the_first(rt: HostRuntime) -> Result<(), Fail> {
+    let alloc = rt.alloc();
+    let mut bags = DequeBag::make(alloc, 2)?;
+    let mut thief = bags.pop().ok_or("no second bag")?;
+    let mut owner = bags.pop().ok_or("no first bag")?;
+    for link in 1..4 {
+        let pushed = owner.push(node_on(alloc, link)?);
+        assert!(rt; pushed.is_ok());
+    }
+    assert_eq!(rt; link_of(owner.pop()), Some(3));
+    assert_eq!(rt; link_of(thief.steal()), Some(1));
+    Ok(())
+}

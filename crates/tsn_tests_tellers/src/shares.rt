@@ -1,0 +1,8 @@
+//! Tellers that share a book. What has many fields goes to `drop`, so that how it is let go is no part of a test's own proof.
+
+mod batches;
+mod ends;
+mod networks;
+mod settling;
+mod shares;
+mod steps;
