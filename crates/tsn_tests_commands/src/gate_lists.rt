@@ -5,7 +5,8 @@ use std::alloc::Global;
 use std::process::Abort;
 use std::test::Fail;
 use tsn_gate::{GateEntry, GateFault, GateList};
-use tsn_net::read_problem;
+use tsn_model::NoMemory;
+use tsn_net::{Problem, read_problem};
 
 fn entry(interval: u64, octet: u8) -> GateEntry {
     GateEntry { interval, octet }
@@ -73,12 +74,28 @@ fn tells_gates_at_each_instant(rt: HostRuntime) -> Result<(), Fail> {
     Ok(())
 }
 
+fn table_of(
+    rt: &impl Abort,
+    alloc: Global,
+    list: &GateList,
+    problem: &Problem,
+) -> Result<String, NoMemory> {
+    assert!(rt; list.link() < problem.links());
+    list.to_text(alloc, problem)
+}
+
+/// The list's table in the network.
+fn table_by(rt: &impl Abort, alloc: Global, list: &GateList) -> Result<String, Fail> {
+    let problem = read_problem(alloc, NETWORK.as_bytes())?;
+    let table = table_of(rt, alloc, list, &problem);
+    drop(problem);
+    Ok(table?)
+}
+
 #[test]
 fn prints_entries(rt: HostRuntime) -> Result<(), Fail> {
     let list = three(rt.alloc())?;
-    let problem = read_problem(rt.alloc(), NETWORK.as_bytes()).map_err(|_| "no network")?;
-    assert!(&rt; list.link() < problem.links());
-    let table = list.to_text(rt.alloc(), &problem)?;
+    let table = table_by(&rt, rt.alloc(), &list)?;
     assert_eq!(&rt; table.as_str(), "link 4 S C 3\n0A 5\n0A 5\n80 1\n");
     Ok(())
 }

@@ -19,6 +19,10 @@ mod inputs;
 #[cfg(test)]
 mod offsets;
 #[cfg(test)]
+mod problems;
+#[cfg(test)]
 mod replays;
+#[cfg(test)]
+mod texts;
 #[cfg(test)]
 mod words;

@@ -17,10 +17,17 @@ const TWO_OFFSETS: &str = "{\"flowspan\":2924,\"offsets\":[0,672]}\n";
 
 const NO_PLAN: &str = "{\"flowspan\":null,\"offsets\":null}\n";
 
+// The certificate file as it is printed.
+fn printed(alloc: Global, file: &str) -> Result<String, Fail> {
+    let cert = cert_from_json(alloc, file.as_bytes())?;
+    let text = cert_to_json(alloc, &cert);
+    drop(cert);
+    Ok(text?)
+}
+
 // The certificate file is read, and printed as it stands.
 fn prints_cert(rt: &impl Abort, alloc: Global, file: &str) -> Result<(), Fail> {
-    let cert = cert_from_json(alloc, file.as_bytes())?;
-    let text = cert_to_json(alloc, &cert)?;
+    let text = printed(alloc, file)?;
     assert_eq!(rt; text.as_str(), file, "{file}");
     Ok(())
 }
@@ -173,16 +180,20 @@ fn is_cycle(rt: &impl Abort, node: &Node) {
     }
 }
 
+fn late(alloc: Global, stream: usize) -> Result<Node, Fail> {
+    Ok(Node::Late(stream, Chain::of(alloc, &[0])?))
+}
+
 // The branch of the two streams' tree, and its leaves.
 fn two_streams(alloc: Global) -> Result<Vec<Node>, Fail> {
-    let branch = Node::Branch(Triple {
+    let left = late(alloc, 1)?;
+    let right = late(alloc, 0)?;
+    let branch = Triple {
         left: 0,
         right: 1,
         link: 4,
-    });
-    let left = Node::Late(1, Chain::of(alloc, &[0])?);
-    let right = Node::Late(0, Chain::of(alloc, &[0])?);
-    Ok(vec![in alloc; branch, left, right]?)
+    };
+    Ok(vec![in alloc; Node::Branch(branch), left, right]?)
 }
 
 #[test]

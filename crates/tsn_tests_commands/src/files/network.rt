@@ -1,5 +1,7 @@
 //! What the reading calls say of a network file, and how faults are printed.
 
+ghost use Rattle.std.specs.Prelude.{◌<◌};
+
 use std::process::Abort;
 use std::test::Fail;
 use tsn_model::Link;
@@ -34,14 +36,15 @@ const STREAMS: [&str; 2] = ["one", "two"];
 
 const ROUTES: [[usize; 2]; 2] = [[0, 4], [2, 4]];
 
-/// Each reading call says what the file of two streams says.
-fn is_two_streams(rt: &impl Abort, problem: &Problem) {
-    assert_eq!(rt; problem.cycle(), 1_000_000);
+fn has_nodes(rt: &impl Abort, problem: &Problem) {
     assert_eq!(rt; problem.nodes(), 4);
     for node in 0..4 {
         assert_eq!(rt; problem.node_name(node), NAMES[node]);
         assert_eq!(rt; problem.proc(node), PROCS[node]);
     }
+}
+
+fn has_links(rt: &impl Abort, problem: &Problem) {
     assert_eq!(rt; problem.links(), 6);
     for link in 0..6 {
         let (from, to) = ENDS[link];
@@ -53,16 +56,33 @@ fn is_two_streams(rt: &impl Abort, problem: &Problem) {
         };
         assert_eq!(rt; problem.link(link), expected);
     }
+}
+
+fn has_streams(rt: &impl Abort, problem: &Problem) {
     assert_eq!(rt; problem.streams(), 2);
     for stream in 0..2 {
         assert_eq!(rt; problem.stream_name(stream), STREAMS[stream]);
         assert_eq!(rt; problem.octets(stream), 64);
-        let hops = problem.hops(stream);
-        assert_eq!(rt; hops, 2);
-        for hop in 0..2 {
-            assert_eq!(rt; problem.route_link(stream, hop), ROUTES[stream][hop]);
-        }
+        has_route(rt, problem, stream);
     }
+}
+
+fn has_route(rt: &impl Abort, problem: &Problem, stream: usize)
+    requires { stream < 2 }
+{
+    assert!(rt; stream < problem.streams());
+    assert_eq!(rt; problem.hops(stream), 2);
+    for hop in 0..2 {
+        assert_eq!(rt; problem.route_link(stream, hop), ROUTES[stream][hop]);
+    }
+}
+
+/// Each reading call says what the file of two streams says.
+fn is_two_streams(rt: &impl Abort, problem: &Problem) {
+    assert_eq!(rt; problem.cycle(), 1_000_000);
+    has_nodes(rt, problem);
+    has_links(rt, problem);
+    has_streams(rt, problem);
 }
 
 #[test]

@@ -1,5 +1,6 @@
 //! Arcs as text.
 
+use crate::texts::{parted, place};
 use std::alloc::Global;
 use std::test::Fail;
 use tsn_model::Arc;
@@ -10,9 +11,9 @@ pub fn arc(from: usize, to: usize, weight: i64) -> Arc {
 
 /// An arc by its two streams and its weight.
 pub fn arc_of(text: &str) -> Result<Arc, Fail> {
-    let (from, rest) = text.split_once(' ').ok_or("no stream")?;
-    let (to, weight) = rest.split_once(' ').ok_or("no weight")?;
-    Ok(arc(from.parse()?, to.parse()?, weight.parse()?))
+    let (from, rest) = parted(text)?;
+    let (to, weight) = parted(rest)?;
+    Ok(arc(place(from)?, place(to)?, weight.parse()?))
 }
 
 /// The arcs of a text, between commas.

@@ -1,10 +1,11 @@
 //! The times of streams, and agreement with the plain program.
 
+use crate::problems::problem_of;
 use std::alloc::{AllocError, Global};
 use std::process::Abort;
 use std::test::Fail;
 use tsn_model::{Link, NoMemory};
-use tsn_net::{Problem, read_problem};
+use tsn_net::Problem;
 use tsn_timing::Timing;
 
 /// Stations A, B and C, and a bridge.
@@ -29,6 +30,14 @@ const SLOW: &str = "link = [
     {a = 'A', b = 'S', mbps = 1000, prop = 50},
     {a = 'B', b = 'S', mbps = 1000, prop = 50},
     {a = 'S', b = 'C', mbps = 100, prop = 50},
+]
+";
+
+/// The same with 10 Mb/s on the first one, where a frame is still being sent when it has arrived.
+const SLOW_FIRST: &str = "link = [
+    {a = 'A', b = 'S', mbps = 10, prop = 50},
+    {a = 'B', b = 'S', mbps = 1000, prop = 50},
+    {a = 'S', b = 'C', mbps = 1000, prop = 50},
 ]
 ";
 
@@ -73,10 +82,10 @@ stream = [
 ]
 ";
 
-/// Two streams, the first from 700 on, the second to arrive by 3000.
+/// Two streams, the first from 700 on, the second to arrive by 8000.
 const TIMED: &str = "stream = [
     {name = 'one', octets = 64, route = ['A', 'S', 'C'], release = 700},
-    {name = 'two', octets = 64, route = ['B', 'S', 'C'], latest = 3000},
+    {name = 'two', octets = 64, route = ['B', 'S', 'C'], latest = 8000},
 ]
 ";
 
@@ -91,6 +100,8 @@ const TWO_FAST: Parts = [CYCLE, NODES, FAST, TWO];
 
 const TWO_SLOW: Parts = [CYCLE, NODES, SLOW, TWO];
 
+const ONE_SLOW_FIRST: Parts = [CYCLE, NODES, SLOW_FIRST, ONE];
+
 const LONG_FAST: Parts = [CYCLE, NODES, FAST, LONG];
 
 const LONG_SLOW: Parts = [CYCLE, NODES, SLOW, LONG];
@@ -99,27 +110,16 @@ const TIMED_FAST: Parts = [CYCLE, NODES, FAST, TIMED];
 
 const ROUND: Parts = [LOOP, "", "", ""];
 
-fn joined(alloc: Global, parts: &[&str]) -> Result<String, AllocError> {
-    let mut text = String::new(alloc);
-    for part in parts {
-        text.push_str(part)?;
-    }
-    Ok(text)
-}
-
-fn problem_of(alloc: Global, text: &str) -> Option<Problem> {
-    read_problem(alloc, text.as_bytes()).ok()
-}
-
 fn timing_by(alloc: Global, problem: &Problem) -> Result<Timing, NoMemory> {
     Timing::of(alloc, problem)
 }
 
 /// The timing of the network in these parts.
 fn timing_of(alloc: Global, parts: Parts) -> Result<Timing, Fail> {
-    let text = joined(alloc, &parts)?;
-    let problem = problem_of(alloc, text.as_str()).ok_or("the network is refused")?;
-    Ok(timing_by(alloc, &problem)?)
+    let problem = problem_of(alloc, &parts)?;
+    let timing = timing_by(alloc, &problem);
+    drop(problem);
+    Ok(timing?)
 }
 
 /// When a stream starts on its hops.
@@ -180,6 +180,7 @@ fn tells_times(rt: HostRuntime) -> Result<(), Fail> {
     expect_times(&rt, ONE_FAST, 0, &[0, 1626], (2252, 2298))?;
     expect_times(&rt, LONG_FAST, 1, &[0, 13290], (25580, 25626))?;
     expect_times(&rt, TWO_SLOW, 0, &[0, 1626], (7436, 8346))?;
+    expect_times(&rt, ONE_SLOW_FIRST, 0, &[0, 58650], (59276, 67200))?;
     expect_times(&rt, ROUND, 0, &[0, 576, 1152, 2496, 3072], (3648, 3744))?;
     expect_times(&rt, ROUND, 1, &[0, 576, 1152, 1728], (2304, 2400))
 }
@@ -231,14 +232,18 @@ fn expect_links(rt: &impl Abort, timing: &Timing) {
     assert!(rt; is_last_link(link_of(rt, timing, 4)));
 }
 
+/// Compares the link of each hop of a stream, and how long the stream occupies it.
+fn expect_hops(rt: &impl Abort, timing: &Timing, stream: usize, hops: [(usize, u64); 2]) {
+    assert!(rt; hops_of(rt, timing, stream) == 2);
+    assert_eq!(rt; hop_of(rt, timing, stream, 0), hops[0]);
+    assert_eq!(rt; hop_of(rt, timing, stream, 1), hops[1]);
+}
+
 #[test]
 fn tells_hops(rt: HostRuntime) -> Result<(), Fail> {
     let slow = timing_of(rt.alloc(), LONG_SLOW)?;
-    assert!(rt; hops_of(&rt, &slow, 0) == 2 && hops_of(&rt, &slow, 1) == 2);
-    assert_eq!(rt; hop_of(&rt, &slow, 0, 0), (0, 672));
-    assert_eq!(rt; hop_of(&rt, &slow, 0, 1), (4, 6720));
-    assert_eq!(rt; hop_of(&rt, &slow, 1, 0), (2, 12336));
-    assert_eq!(rt; hop_of(&rt, &slow, 1, 1), (4, 123_360));
+    expect_hops(&rt, &slow, 0, [(0, 672), (4, 6720)]);
+    expect_hops(&rt, &slow, 1, [(2, 12336), (4, 123_360)]);
     expect_links(&rt, &slow);
     Ok(())
 }
@@ -254,7 +259,7 @@ fn tells_releases_and_latest_instants(rt: HostRuntime) -> Result<(), Fail> {
     expect_counts(&rt, TIMED_FAST, 2)?;
     let timed = timing_of(rt.alloc(), TIMED_FAST)?;
     assert!(rt; has_limits(&rt, &timed, 0, 700, 1_000_000));
-    assert!(rt; has_limits(&rt, &timed, 1, 0, 3000));
+    assert!(rt; has_limits(&rt, &timed, 1, 0, 8000));
     Ok(())
 }
 

@@ -1,7 +1,7 @@
 //! Replays by gates that are open for all classes, and the order of what waits.
 
-use crate::replays::networks::{FAST, ONE, TWO, star_text};
-use crate::replays::playing::{expect_shown, given};
+use crate::replays::networks::{ONE_10000, ONE_40000, TWO_10000};
+use crate::replays::playing::{Lists, Stage, expect_shown, whole};
 use std::process::Abort;
 use std::test::Fail;
 
@@ -39,10 +39,12 @@ late 3
 
 #[test]
 fn a_frame_waits_for_the_wire_alone(rt: HostRuntime) -> Result<(), Fail> {
-    let network = star_text(rt.alloc(), "40000", FAST, ONE)?;
-    let lists = "0: FF 40000\n4: FF 40000";
-    let stage = given(rt.alloc(), network.as_str(), &[0], lists)?;
-    expect_shown(&rt, &stage, 2, "greedy", COMPETED)
+    let stage = Stage {
+        network: &ONE_40000,
+        offsets: &[0],
+        lists: Lists::Given(&["0: FF 40000", "4: FF 40000"]),
+    };
+    expect_shown(&rt, stage, whole(2, "greedy"), COMPETED)
 }
 
 /// Five frames wait, in this order: of 200, 64, 80, 105 and 100 octets. The third waits on link 0 from 100 on, where the
@@ -65,10 +67,12 @@ const LINE: &str = "4 100 200, 4 100 64, 0 100 80, 4 50 105, 4 100 100";
 
 #[test]
 fn frames_of_one_instant_go_in_line(rt: HostRuntime) -> Result<(), Fail> {
-    let network = star_text(rt.alloc(), "10000", FAST, ONE)?;
-    let lists = "0: FF 10000\n4: FF 10000";
-    let stage = given(rt.alloc(), network.as_str(), &[0], lists)?;
-    expect_shown(&rt, &stage, 1, LINE, IN_LINE)
+    let stage = Stage {
+        network: &ONE_10000,
+        offsets: &[0],
+        lists: Lists::Given(&["0: FF 10000", "4: FF 10000"]),
+    };
+    expect_shown(&rt, stage, whole(1, LINE), IN_LINE)
 }
 
 /// Both frames start on their first links at 672, and are ready on link 4 at 2298: the first stream goes first there.
@@ -96,18 +100,21 @@ late 3
 ";
 
 /// Replays the two streams by these lists, the second 672 ns behind the first.
-fn expect_queue<R: Abort + AllocGlobal>(rt: &R, lists: &str, answer: &str) -> Result<(), Fail> {
-    let network = star_text(rt.alloc(), "10000", FAST, TWO)?;
-    let stage = given(rt.alloc(), network.as_str(), &[0, 672], lists)?;
-    expect_shown(rt, &stage, 1, "", answer)
+fn expect_queue<R: Abort + AllocGlobal>(rt: &R, lists: &[&str], answer: &str) -> Result<(), Fail> {
+    let stage = Stage {
+        network: &TWO_10000,
+        offsets: &[0, 672],
+        lists: Lists::Given(lists),
+    };
+    expect_shown(rt, stage, whole(1, ""), answer)
 }
 
 #[test]
 fn streams_queue_by_readiness_then_by_number(rt: HostRuntime) -> Result<(), Fail> {
-    let early = "0: 00 672, FF 9328\n2: FF 10000\n4: FF 10000";
-    expect_queue(&rt, early, TIED)?;
-    let behind = "0: 00 673, FF 9327\n2: FF 10000\n4: 7F 5000, FF 5000";
-    expect_queue(&rt, behind, BEHIND)?;
-    let longer = "0: 00 672, FF 9328\n2: FF 10000\n4: 7F 5000, FF 5000";
-    expect_queue(&rt, longer, TIED_LONGER)
+    let early = ["0: 00 672, FF 9328", "2: FF 10000", "4: FF 10000"];
+    expect_queue(&rt, &early, TIED)?;
+    let behind = ["0: 00 673, FF 9327", "2: FF 10000", "4: 7F 5000, FF 5000"];
+    expect_queue(&rt, &behind, BEHIND)?;
+    let longer = ["0: 00 672, FF 9328", "2: FF 10000", "4: 7F 5000, FF 5000"];
+    expect_queue(&rt, &longer, TIED_LONGER)
 }

@@ -4,24 +4,58 @@ ghost use Rattle.std.specs.Prelude.{◌<◌, All, IfOk, IfSome, length};
 ghost use Rattle.tsn_model.specs.Schedule.{IsValid};
 ghost use Rattle.tsn_replay.specs.declared.trace.Row.{Row};
 
+use crate::problems::problem_of;
+use crate::texts::{number, parted, place};
 use std::alloc::{AllocError, Global};
 use std::process::Abort;
 use std::test::Fail;
 use tsn_gate::{GateEntry, GateList, gate_lists};
-use tsn_net::{Problem, read_problem};
+use tsn_net::Problem;
 use tsn_replay::{Background, BackgroundFrame, Sent, Trace, replay};
 use tsn_timing::{Timing, Valid};
 
-/// A network with the offsets of its streams and the lists of its gates.
-#[derive(Drop)]
-pub struct Stage {
-    pub problem: Problem,
-    pub offsets: Vec<u64>,
-    pub lists: Vec<GateList>,
+/// The parts of a network's file, with the offsets of its streams and the lists of its gates.
+#[derive(Clone, Copy)]
+pub struct Stage<'a> {
+    pub network: &'a [&'a str],
+    pub offsets: &'a [u64],
+    pub lists: Lists<'a>,
 }
 
-fn problem_of(alloc: Global, text: &str) -> Option<Problem> {
-    read_problem(alloc, text.as_bytes()).ok()
+/// Lists of gates, each on a line: a link, and then its entries, each as its octet and its interval.
+#[derive(Clone, Copy)]
+pub enum Lists<'a> {
+    /// These lists.
+    Given(&'a [&'a str]),
+    /// The lists that the network asks for, but this one for its link.
+    AskedBut(&'a str),
+    /// The lists that the network asks for.
+    Asked,
+}
+
+/// A replay of so many cycles with this background: empty, `greedy`, or frames, each as its link, its wanted start and its
+/// octets. What starts of it on these links, in turn, from one instant until another is shown.
+#[derive(Clone, Copy)]
+pub struct Play<'a> {
+    pub cycles: usize,
+    pub background: &'a str,
+    pub links: &'a [usize],
+    pub from: u64,
+    pub until: u64,
+}
+
+/// Every link of the networks of these tests.
+const LINKS: [usize; 12] = [0, 1, 2, 3, 4, 5, 6, 7, 8, 9, 10, 11];
+
+/// A replay whose background is shown whole.
+pub fn whole(cycles: usize, background: &str) -> Play<'_> {
+    Play {
+        cycles,
+        background,
+        links: &LINKS,
+        from: 0,
+        until: u64::MAX,
+    }
 }
 
 fn valid_of(alloc: Global, problem: &Problem, offsets: &[u64]) -> Option<Valid>
@@ -37,39 +71,41 @@ fn lists_for(alloc: Global, problem: &Problem, offsets: &[u64]) -> Option<Vec<Ga
     gate_lists(alloc, problem, &valid).ok()
 }
 
-/// The network of a file, with these lists.
-pub fn stage_of(
-    alloc: Global,
-    network: &str,
-    offsets: &[u64],
-    lists: Vec<GateList>,
-) -> Result<Stage, Fail> {
-    Ok(Stage {
-        problem: problem_of(alloc, network).ok_or("the network is refused")?,
-        offsets: Vec::from_slice(alloc, offsets)?,
-        lists,
-    })
+fn asked(alloc: Global, stage: Stage<'_>) -> Result<Vec<GateList>, Fail> {
+    let problem = problem_of(alloc, stage.network)?;
+    let lists = lists_for(alloc, &problem, stage.offsets);
+    drop(problem);
+    Ok(lists.ok_or("no lists")?)
 }
 
-/// The network of a file, with the lists that it asks for.
-pub fn asked(alloc: Global, network: &str, offsets: &[u64]) -> Result<Stage, Fail> {
-    let mut stage = stage_of(alloc, network, offsets, Vec::new(alloc))?;
-    stage.lists = lists_for(alloc, &stage.problem, offsets).ok_or("no lists")?;
-    Ok(stage)
-}
-
-/// The network of a file, with the lists of a text.
-pub fn given(alloc: Global, network: &str, offsets: &[u64], lists: &str) -> Result<Stage, Fail> {
-    stage_of(alloc, network, offsets, lists_of(alloc, lists)?)
-}
-
-/// The lists of a text: on each line a link, and then its entries, each as its octet and its interval.
-pub fn lists_of(alloc: Global, text: &str) -> Result<Vec<GateList>, Fail> {
+fn given(alloc: Global, lines: &[&str]) -> Result<Vec<GateList>, Fail> {
     let mut lists = Vec::new(alloc);
-    for line in text.lines() {
+    for line in lines {
         lists.push(list_of(alloc, line)?)?;
     }
     Ok(lists)
+}
+
+/// Takes the list of a link for another one.
+fn change(lists: &mut Vec<GateList>, list: GateList) -> Result<(), AllocError> {
+    let link = list.link();
+    lists.retain(|old| old.link() != link);
+    lists.push(list)?;
+    Ok(())
+}
+
+fn asked_but(alloc: Global, stage: Stage<'_>, line: &str) -> Result<Vec<GateList>, Fail> {
+    let mut lists = asked(alloc, stage)?;
+    change(&mut lists, list_of(alloc, line)?)?;
+    Ok(lists)
+}
+
+fn lists_of(alloc: Global, stage: Stage<'_>) -> Result<Vec<GateList>, Fail> {
+    match stage.lists {
+        Lists::Given(lines) => given(alloc, lines),
+        Lists::AskedBut(line) => asked_but(alloc, stage, line),
+        Lists::Asked => asked(alloc, stage),
+    }
 }
 
 /// The list of a line.
@@ -79,23 +115,26 @@ pub fn list_of(alloc: Global, line: &str) -> Result<GateList, Fail> {
     for entry in text.split(", ") {
         entries.push(entry_of(entry)?)?;
     }
-    Ok(gate_list(alloc, link.parse()?, &entries).ok_or("the list is refused")?)
+    Ok(gate_list(alloc, place(link)?, &entries).ok_or("the list is refused")?)
 }
 
 fn entry(octet: u8, interval: u64) -> GateEntry {
     GateEntry { interval, octet }
 }
 
-fn entry_of(text: &str) -> Result<GateEntry, Fail> {
-    let (octet, interval) = text.split_once(' ').ok_or("no interval")?;
-    Ok(entry(u8::from_str_radix(octet, 16)?, interval.parse()?))
+fn octet_of(text: &str) -> Result<u8, Fail> {
+    Ok(u8::from_str_radix(text, 16)?)
 }
 
-pub fn gate_list(alloc: Global, link: usize, entries: &[GateEntry]) -> Option<GateList> {
+fn entry_of(text: &str) -> Result<GateEntry, Fail> {
+    let (octet, interval) = parted(text)?;
+    Ok(entry(octet_of(octet)?, number(interval)?))
+}
+
+fn gate_list(alloc: Global, link: usize, entries: &[GateEntry]) -> Option<GateList> {
     GateList::new(alloc, link, entries).ok()
 }
 
-/// The background of a text: empty, `greedy`, or frames, each as its link, its wanted start and its octets.
 fn background_of(alloc: Global, text: &str) -> Result<Background, Fail> {
     match text {
         "" => Ok(Background::Nothing),
@@ -121,65 +160,39 @@ fn frame(link: usize, wanted: u64, octets: u64) -> BackgroundFrame {
 }
 
 fn frame_of(text: &str) -> Result<BackgroundFrame, Fail> {
-    let (link, rest) = text.split_once(' ').ok_or("no wanted start")?;
-    let (wanted, octets) = rest.split_once(' ').ok_or("no octets")?;
-    Ok(frame(link.parse()?, wanted.parse()?, octets.parse()?))
+    let (link, rest) = parted(text)?;
+    let (wanted, octets) = parted(rest)?;
+    Ok(frame(place(link)?, number(wanted)?, number(octets)?))
 }
 
 /// Replays so many cycles. The error is the fault's number; 0 where there is no such schedule, or number of cycles.
-fn played(alloc: Global, stage: &Stage, cycles: usize, background: &Background) -> Result<Trace, u8>
-    ensures { IfOk result (λ trace. All (λ (row : Row). row.stream < length stage.now.problem.stream_names) trace.rows) }
+fn played(
+    alloc: Global,
+    problem: &Problem,
+    offsets: &[u64],
+    lists: &[GateList],
+    cycles: usize,
+    background: &Background,
+) -> Result<Trace, u8>
+    ensures { IfOk result (λ trace. All (λ (row : Row). row.stream < length problem.now.stream_names) trace.rows) }
 {
-    let Some(valid) = valid_of(alloc, &stage.problem, &stage.offsets) else {
+    let Some(valid) = valid_of(alloc, problem, offsets) else {
         return Err(0);
     };
     if cycles < 1 || 16 < cycles {
         return Err(0);
     }
-    match replay(
-        alloc,
-        &stage.problem,
-        &valid,
-        &stage.lists,
-        cycles,
-        background,
-    ) {
+    match replay(alloc, problem, &valid, lists, cycles, background) {
         Ok(trace) => Ok(trace),
         Err(fault) => Err(fault.number()),
     }
 }
 
 /// A table, behind which what started in the background can be written.
-fn table_of(alloc: Global, stage: &Stage, trace: &Trace) -> Option<String>
-    requires { All (λ (row : Row). row.stream < length stage.now.problem.stream_names) trace.now.rows }
+fn table_of(alloc: Global, problem: &Problem, trace: &Trace) -> Option<String>
+    requires { All (λ (row : Row). row.stream < length problem.now.stream_names) trace.now.rows }
 {
-    trace.to_text(alloc, &stage.problem).ok()
-}
-
-/// What of the background is shown: what starts on a link from one instant until another.
-#[derive(Clone, Copy)]
-pub struct Window {
-    pub link: usize,
-    pub from: u64,
-    pub until: u64,
-}
-
-/// Writes the background frames of a window, each as its link, its start and its octets.
-fn write_background(
-    alloc: Global,
-    text: &mut String,
-    background: &[Sent],
-    window: Window,
-) -> Result<(), AllocError> {
-    for sent in background {
-        if sent.link() == window.link
-            && window.from <= sent.start()
-            && sent.start() < window.until
-        {
-            write_frame(alloc, text, sent)?;
-        }
-    }
-    Ok(())
+    trace.to_text(alloc, problem).ok()
 }
 
 fn write_frame(alloc: Global, text: &mut String, sent: &Sent) -> Result<(), AllocError> {
@@ -189,55 +202,94 @@ fn write_frame(alloc: Global, text: &mut String, sent: &Sent) -> Result<(), Allo
     text.push_str(format!(in alloc; "{link} {start} {octets}\n")?.as_str())
 }
 
-/// The table of a replay with what a window shows of the background, or its fault.
-pub fn shown(
+fn shows(play: Play<'_>, link: usize, sent: &Sent) -> bool {
+    sent.link() == link && play.from <= sent.start() && sent.start() < play.until
+}
+
+/// Writes what is shown of the background on a link, each frame as its link, its start and its octets.
+fn write_link(
     alloc: Global,
-    stage: &Stage,
-    cycles: usize,
-    background: &str,
-    windows: &[Window],
-) -> Result<String, Fail> {
-    let background = background_of(alloc, background)?;
-    match played(alloc, stage, cycles, &background) {
-        Ok(trace) => {
-            let mut text = table_of(alloc, stage, &trace).ok_or("no table")?;
-            for window in windows {
-                write_background(alloc, &mut text, trace.background(), *window)?;
-            }
-            Ok(text)
+    text: &mut String,
+    play: Play<'_>,
+    link: usize,
+    background: &[Sent],
+) -> Result<(), AllocError> {
+    for sent in background {
+        if shows(play, link, sent) {
+            write_frame(alloc, text, sent)?;
         }
-        Err(number) => Ok(format!(in alloc; "P{number}")?),
+    }
+    Ok(())
+}
+
+fn write_background(
+    alloc: Global,
+    text: &mut String,
+    play: Play<'_>,
+    background: &[Sent],
+) -> Result<(), AllocError> {
+    for link in play.links {
+        write_link(alloc, text, play, *link, background)?;
+    }
+    Ok(())
+}
+
+/// The table of a replay with what is shown of the background.
+fn trace_text(
+    alloc: Global,
+    problem: &Problem,
+    trace: &Trace,
+    play: Play<'_>,
+) -> Result<String, Fail>
+    requires { All (λ (row : Row). row.stream < length problem.now.stream_names) trace.now.rows }
+{
+    let mut text = table_of(alloc, problem, trace).ok_or("no table")?;
+    write_background(alloc, &mut text, play, trace.background())?;
+    Ok(text)
+}
+
+fn fault_text(alloc: Global, number: u8) -> Result<String, AllocError> {
+    format!(in alloc; "P{number}")
+}
+
+/// What a replay by these lists shows, or its fault.
+fn shown_by(
+    alloc: Global,
+    problem: &Problem,
+    offsets: &[u64],
+    lists: &[GateList],
+    play: Play<'_>,
+) -> Result<String, Fail> {
+    let background = background_of(alloc, play.background)?;
+    match played(alloc, problem, offsets, lists, play.cycles, &background) {
+        Ok(trace) => trace_text(alloc, problem, &trace, play),
+        Err(number) => Ok(fault_text(alloc, number)?),
     }
 }
 
-/// A window for each list, in turn, in which all shows.
-fn open_windows(alloc: Global, lists: &[GateList]) -> Result<Vec<Window>, Fail> {
-    let mut windows = Vec::new(alloc);
-    for list in lists {
-        windows.push(Window {
-            link: list.link(),
-            from: 0,
-            until: u64::MAX,
-        })?;
-    }
-    Ok(windows)
+/// What a replay shows, or its fault.
+fn shown(alloc: Global, stage: Stage<'_>, play: Play<'_>) -> Result<String, Fail> {
+    let lists = lists_of(alloc, stage)?;
+    let problem = problem_of(alloc, stage.network)?;
+    let text = shown_by(alloc, &problem, stage.offsets, &lists, play);
+    drop(problem);
+    drop(lists);
+    text
 }
 
-/// A replay of so many cycles shows this table, and this of the background on the link of each list.
+/// Compares the table of a replay and what is shown of the background, or the replay's fault.
 pub fn expect_shown<R: Abort + AllocGlobal>(
     rt: &R,
-    stage: &Stage,
-    cycles: usize,
-    background: &str,
+    stage: Stage<'_>,
+    play: Play<'_>,
     answer: &str,
 ) -> Result<(), Fail> {
-    let windows = open_windows(rt.alloc(), &stage.lists)?;
-    let text = shown(rt.alloc(), stage, cycles, background, &windows)?;
+    let text = shown(rt.alloc(), stage, play)?;
     expect_same(rt, text.as_str(), answer);
     Ok(())
 }
 
 /// Compares two texts.
-pub fn expect_same(rt: &impl Abort, found: &str, wanted: &str) {
+fn expect_same(rt: &impl Abort, found: &str, wanted: &str) {
     assert_eq!(rt; found, wanted);
 }

@@ -1,9 +1,7 @@
 //! Replays of streams whose routes run in a circle over links.
 
-use crate::replays::playing::{asked, expect_shown, list_of};
-use std::alloc::Global;
+use crate::replays::playing::{Lists, Stage, expect_shown, whole};
 use std::test::Fail;
-use tsn_gate::GateList;
 
 /// Three bridges in a ring, each with a station. Each stream goes two hops round the ring: link 6 (P to Q) feeds link 8
 /// (Q to R), which feeds link 10 (R to P), which feeds link 6.
@@ -100,23 +98,24 @@ three 2 3 26000 -
 late 18
 ";
 
+/// The ring, where each stream starts at 0.
+fn ring(lists: Lists<'_>) -> Stage<'_> {
+    Stage {
+        network: &[RING],
+        offsets: &[0, 0, 0],
+        lists,
+    }
+}
+
 /// A frame of 1522 octets would occupy a link for 12336 ns, longer than the cycle, so the guard lets none start.
 #[test]
 fn a_ring_is_on_time(rt: HostRuntime) -> Result<(), Fail> {
-    let stage = asked(rt.alloc(), RING, &[0, 0, 0])?;
-    expect_shown(&rt, &stage, 1, "greedy", ON_TIME)
+    expect_shown(&rt, ring(Lists::Asked), whole(1, "greedy"), ON_TIME)
 }
 
-/// Takes the list of link 6 for one that opens late.
-fn delay(alloc: Global, lists: &mut Vec<GateList>) -> Result<(), Fail> {
-    lists.retain(|list| list.link() != 6);
-    lists.push(list_of(alloc, "6: 00 2500, 80 7500")?)?;
-    Ok(())
-}
-
+/// The list of link 6 is taken for one that opens late.
 #[test]
 fn a_delay_goes_round_a_ring(rt: HostRuntime) -> Result<(), Fail> {
-    let mut stage = asked(rt.alloc(), RING, &[0, 0, 0])?;
-    delay(rt.alloc(), &mut stage.lists)?;
-    expect_shown(&rt, &stage, 3, "", DELAYED)
+    let late = Lists::AskedBut("6: 00 2500, 80 7500");
+    expect_shown(&rt, ring(late), whole(3, ""), DELAYED)
 }
