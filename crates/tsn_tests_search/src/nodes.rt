@@ -1,6 +1,7 @@
 //! Conflicts, looks at nodes of a search, and its book.
 
 mod answers;
+mod below;
 mod book;
 mod branch;
 mod networks;

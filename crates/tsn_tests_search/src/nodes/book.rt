@@ -149,11 +149,12 @@ fn expect_certified<R: Abort + AllocGlobal>(rt: &R, book: Book)
     expect_text(rt, text.as_str(), CERTIFICATE, "the certificate");
 }
 
-/// A whole search, where one leaf is refused before.
+/// A whole search, where one leaf of each side is refused before: the right side's bound is as little as what is kept.
 const FROM_THE_LEFT: &str = "\
 root: split 4 = Ok(())
 Left 4: 2924 = Err(NotMet(1000001))
 Left 4: 1000001 = Ok(())
+Right 4: 2924 = Err(NotMet(2924))
 Right 4: 2925 beside 0 672 = Ok(())";
 
 /// A whole search, whose right side is solved first. The left side isn't worse than what is kept then, so no tie may be settled

@@ -12,7 +12,7 @@ use tsn_cert::Chains;
 use tsn_conflict::conflicts;
 use tsn_timing::{Solved, Timing};
 
-fn look_text<R: Abort + AllocGlobal>(rt: &R, look: &Look) -> String {
+pub fn look_text<R: Abort + AllocGlobal>(rt: &R, look: &Look) -> String {
     match look {
         Look::Split(triple) => split_text(rt, *triple),
         Look::Solved {
@@ -160,9 +160,10 @@ fn cycles_of_positive_sum_refute(rt: HostRuntime) {
     expect_rows(&rt, LOOP, CYCLES);
 }
 
-/// One of the two streams alone uses link 2.
+/// The first of the two streams alone uses link 0, and the second alone link 2.
 const NODES: &str = "\
 1000000, fits Left 4 = true
+1000000, fits Left 4;Left 0 = false
 1000000, fits Left 4;Left 2 = false";
 
 #[test]

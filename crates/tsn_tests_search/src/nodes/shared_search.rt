@@ -2,7 +2,7 @@
 ghost use Rattle.std.specs.Prelude.{◌≡◌, All};
 ghost use Rattle.tsn_book.specs.Shared.{IsProved};
 
-use crate::nodes::networks::{TWO, timing_of};
+use crate::nodes::networks::{LONG, Network, TWO, timing_of};
 use crate::nodes::nodes::event_of;
 use crate::nodes::rows::{cut, expect_text, number, place};
 use std::process::Abort;
@@ -85,9 +85,9 @@ fn one_by_one<R: Abort + AllocGlobal>(rt: &R, core: &mut Core, timing: &Timing, 
     }
 }
 
-/// A search by so many tellers, which isn't quiet before the steps of these rows.
-fn expect_replies<R: Abort + AllocGlobal>(rt: &R, tellers: usize, rows: &str) {
-    let timing = timing_of(rt, TWO, "1000000");
+/// A search of a network by so many tellers, which isn't quiet before the steps of these rows.
+fn expect_replies<R: Abort + AllocGlobal>(rt: &R, network: Network, tellers: usize, rows: &str) {
+    let timing = timing_of(rt, network, "1000000");
     let mut core = core_of(rt, &timing, tellers);
     assert!(rt; !is_quiet(&core));
     one_by_one(rt, &mut core, &timing, rows);
@@ -97,7 +97,43 @@ fn expect_replies<R: Abort + AllocGlobal>(rt: &R, tellers: usize, rows: &str) {
 
 #[test]
 fn steps_are_answered_one_by_one(rt: HostRuntime) {
-    expect_replies(&rt, 2, SEARCH);
+    expect_replies(&rt, TWO, 2, SEARCH);
+}
+
+/// Nothing is open behind the second leaf, but it is quiet only when both tellers have posted what they solved.
+const FIRST_POSTS_FIRST: &str = "\
+0, root: split 4 = Settled false
+0, Left 4: 1000001 = Settled false
+1, Right 4: 1000001 = Settled false
+0, post 2924 = Found(1000001) false
+1, post 2924 = Found(2924) true";
+
+const SECOND_POSTS_FIRST: &str = "\
+0, root: split 4 = Settled false
+0, Left 4: 1000001 = Settled false
+1, Right 4: 1000001 = Settled false
+1, post 2924 = Found(1000001) false
+0, post 2924 = Found(2924) true";
+
+#[test]
+fn it_is_quiet_when_all_have_posted(rt: HostRuntime) {
+    expect_replies(&rt, TWO, 2, FIRST_POSTS_FIRST);
+    expect_replies(&rt, TWO, 2, SECOND_POSTS_FIRST);
+}
+
+/// Where the long frame goes first, the other one arrives at 24000 + 2252. The second teller may prune by that once it has seen
+/// the flowspan of the other side.
+const WORSE_SIDE: &str = "\
+0, root: split 4 = Settled false
+0, Left 4: 1000001 = Settled false
+0, post 25580 = Found(1000001) false
+1, Right 4: 25581 = NotAllowed false
+1, observe = Found(25580) false
+1, Right 4: 25581 = Settled true";
+
+#[test]
+fn what_is_seen_is_pruned_by(rt: HostRuntime) {
+    expect_replies(&rt, LONG, 2, WORSE_SIDE);
 }
 
 /// Adds a step.
@@ -159,5 +195,5 @@ const NOT_ALLOWED: &str = "\
 
 #[test]
 fn what_isnt_allowed_comes_before_refusals(rt: HostRuntime) {
-    expect_replies(&rt, 1, NOT_ALLOWED);
+    expect_replies(&rt, TWO, 1, NOT_ALLOWED);
 }
