@@ -108,6 +108,18 @@ impl Conflicts {
         self.meeting_from(offsets, start)
     }
 
+    /// Whether the two streams of the triple of a number overlap on its link, for an offset of each stream, at most
+    /// 1,000,000,000 ns.
+    pub fn is_violated(&self, offsets: &[u64], number: usize) -> bool
+        requires count { length offsets.now ≡ length self.now.uses }
+        requires small { All (λ offset. offset ≤ 1_000_000_000) offsets.now }
+        requires number { number < length self.now.triples }
+        ensures { (network : Network) → AreConflictsOf network self.now
+            → (IsTrue result ↔ Overlaps network offsets.now (triple_at self.now.triples number)) }
+    {
+        self.meets(offsets, number)
+    }
+
     /// The arc of stream `first` before stream `second` on a link that both use.
     fn arc_between(&self, first: usize, second: usize, link: usize) -> Arc
         requires first { (network : Network) → AreConflictsOf network self.now → UsesLink network first link }
