@@ -70,7 +70,7 @@ module _ (network : Network) (link : ℕ) where
   unused_same n none = kept_same (λ i. is_some (hop_on network i link)) n (ap is_some none)
 
   -- none yet
-  pub link_empty : (new : SharedLink) → new.link ≡ link → new.users ≡ [] → new.work ≡ 0 → new.tail ≡ pos 0 → new ≡ link_with network link (users_upto network link 0)
+  pub link_empty : (new : SharedLink) → new.link ≡ link → new.users ≡ [] → new.work ≡ 0 → new.tail ≡ pos 0 → new ≡ link_with network link []
   unfolding link_with least
   link_empty new same users work tail = λ k. record { link = same k; users = users k; work = work k; tail = tail k }
 
@@ -157,17 +157,17 @@ module _ (network : Network) (formed : IsWellFormed network) (link : ℕ) where
       let few = formed.few_streams in
       omega (arith, few, length-filter-le (λ i. is_some (hop_on network i link)) (range_with_len 0 (stream_count network)), length-range_with_len 0 (stream_count network))
 
-  start_on-le : (i : ℕ) → UsesLink network i link → start_on network i link ≤ 51584000
+  pub start_on-le : (i : ℕ) → UsesLink network i link → start_on network i link ≤ 51584000
   start_on-le i uses =
       let used = use_of network i link uses in
       let same = used.same_start in
       let short = start-le network formed i used.hop (UsesLink-counted network i link uses) in
       omega arith
 
-  occupies-le : (i : ℕ) → UsesLink network i link → occupancy network i link ≤ 1233600
+  pub occupies-le : (i : ℕ) → UsesLink network i link → occupancy network i link ≤ 1233600
   occupies-le i uses = occupancy-le network formed i link (UsesLink-counted network i link uses) (UsesLink-exists network i link formed uses)
 
-  arrival-le : (i : ℕ) → UsesLink network i link → arrival network i ≤ 60000000
+  pub arrival-le : (i : ℕ) → UsesLink network i link → arrival network i ≤ 60000000
   unfolding arrival
   arrival-le i uses =
       let counted = UsesLink-counted network i link uses in
@@ -187,21 +187,33 @@ module _ (network : Network) (formed : IsWellFormed network) (link : ℕ) where
       omega arith
 
   -- the bounds of a tail
-  record IsShortTail (tail : ℤ) : Type 0 where
-    low : pos 0 ≤ℤ (tail +ℤ pos 60000000)
-    high : tail ≤ℤ pos 60000000
+  pub record IsShortTail (tail : ℤ) : Type 0 where
+    pub low : pos 0 ≤ℤ (tail +ℤ pos 60000000)
+    pub high : tail ≤ℤ pos 60000000
+
+  -- the least tail of some of the link's streams
+  pub tail-bounds : (streams : List ℕ) → All (λ i. UsesLink network i link) streams → 0 < length streams
+      → IsShortTail (least (map (λ i. pos (arrival network i) -ℤ pos (start_on network i link + occupancy network i link)) streams))
+  tail-bounds streams used some =
+      let tail : ℕ → ℤ = λ i. pos (arrival network i) -ℤ pos (start_on network i link + occupancy network i link) in
+      least_of_some IsShortTail (map tail streams) (omega (arith, length-map streams tail))
+      (All-map IsShortTail tail streams (λ k d below.
+      let uses = used k d below in
+      let begins = start_on-le (get_or streams k d) uses in
+      let works = occupies-le (get_or streams k d) uses in
+      let ends = arrival-le (get_or streams k d) uses in
+      record { low = omega (arith, ints); high = omega (arith, ints) }))
 
   tail_on-bounds : 0 < length (users_of network link) → IsShortTail (tail_on network link)
   unfolding tail_on
-  tail_on-bounds some =
-      let tail : ℕ → ℤ = λ i. pos (arrival network i) -ℤ pos (start_on network i link + occupancy network i link) in
-      least_of_some IsShortTail (map tail (users_of network link)) (omega (arith, length-map (users_of network link) tail))
-      (All-map IsShortTail tail (users_of network link) (λ k d below.
-      let uses = users_use k d below in
-      let begins = start_on-le (get_or (users_of network link) k d) uses in
-      let works = occupies-le (get_or (users_of network link) k d) uses in
-      let ends = arrival-le (get_or (users_of network link) k d) uses in
-      record { low = omega (arith, ints); high = omega (arith, ints) }))
+  tail_on-bounds some = tail-bounds (users_of network link) users_use some
+
+  -- some of the link's streams don't occupy it for long
+  pub work-le : (streams : List ℕ) → All (λ i. UsesLink network i link) streams → length streams ≤ 128 → sum_by (λ i. occupancy network i link) streams ≤ 157900800
+  work-le streams used few =
+      let each : All (λ i. occupancy network i link ≤ 1233600) streams = λ k d below. occupies-le (get_or streams k d) (used k d below) in
+      let whole = sum_by-le (λ i. occupancy network i link) 1233600 streams each in
+      omega arith
 
   pub tail_on-low : 0 < length (users_of network link) → pos 0 ≤ℤ (tail_on network link +ℤ pos 60000000)
   tail_on-low some = (tail_on-bounds some).low

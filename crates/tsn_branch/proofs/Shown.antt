@@ -21,6 +21,7 @@ use Rattle.tsn_diff.specs.Answers.{Solves}
 use Rattle.tsn_branch.specs.declared.loads.User.{User}
 use Rattle.tsn_branch.specs.Loads.{user_on, entry_by}
 use Rattle.tsn_branch.specs.Releases.{releases_of}
+use Rattle.tsn_branch.specs.Guided.{AreOn}
 use Rattle.tsn_branch.proofs.Leasts.{IsShownBy-from}
 
 users_differ : (network : Network) (link : ℕ) → AllPairs (λ i j. i ≢ j) (users_of network link)
@@ -37,19 +38,24 @@ module _ (network : Network) (path : List Decision) (offsets : List ℕ) (link :
   stream_of : Entry → ℕ
   stream_of entry = entry.stream
 
-  pub entries_shown : (entries : List Entry) → ShowsLink network path offsets link entries → AreEntries network path link entries
+  -- some of the link's streams, each once, with chains of the path
+  pub part_entries : (streams : List ℕ) (entries : List Entry) → AreOn network link streams → map (λ entry. entry.stream) entries ≡ streams
+      → All (λ entry. IsShownBy network path offsets entry.stream entry.chain) entries → AreEntries network path link entries
   unfolding stream_of
-  entries_shown entries shows =
-      let streams = map stream_of entries in
-      let differ : AllPairs (λ i j. i ≢ j) streams = subst (AllPairs (λ i j. i ≢ j)) (sym shows.streams) (users_differ network link) in
-      let used : All (λ i. UsesLink network i link) streams = subst (All (λ i. UsesLink network i link)) (sym shows.streams) (users_use network link) in
+  part_entries streams entries on same chains =
+      let theirs = map stream_of entries in
+      let differ : AllPairs (λ i j. i ≢ j) theirs = subst (AllPairs (λ i j. i ≢ j)) (sym same) on.different in
+      let used : All (λ i. UsesLink network i link) theirs = subst (All (λ i. UsesLink network i link)) (sym same) on.used in
       record {
         different = λ i j d order below same.
             differ i j d.stream order (omega (arith, length-map entries stream_of))
             (get_or-map stream_of entries i d d.stream (omega arith) ∙ same ∙ sym (get_or-map stream_of entries j d d.stream below));
         on_link = All-unmap (λ i. UsesLink network i link) stream_of entries used;
-        chains = λ k d below. (shows.chains k d below).leads;
+        chains = λ k d below. (chains k d below).leads;
       }
+
+  pub entries_shown : (entries : List Entry) → ShowsLink network path offsets link entries → AreEntries network path link entries
+  entries_shown entries shows = part_entries (users_of network link) entries (record { different = users_differ network link; used = users_use network link }) shows.streams shows.chains
 
   heads : (entries : List Entry) → All (λ entry. IsShownBy network path offsets entry.stream entry.chain) entries
       → map (head_of network path link) entries ≡ map (λ i. pos (offset_of offsets i + start_on network i link)) (map stream_of entries)
@@ -87,11 +93,37 @@ module _ (network : Network) (path : List Decision) (offsets : List ℕ) (link :
       let tail = ap least (tails entries ∙ ap (map (λ i. pos (arrival network i) -ℤ pos (start_on network i link + occupancy network i link))) shows.streams) in
       λ k. busy_shown entries shows k +ℤ tail k
 
+-- how long some of a link's streams keep it busy
+module _ (network : Network) (path : List Decision) (offsets : List ℕ) (link : ℕ) (streams : List ℕ) (entries : List Entry) (same : map (λ (entry : Entry). entry.stream) entries ≡ streams)
+    (chains : All (λ (entry : Entry). IsShownBy network path offsets entry.stream entry.chain) entries) where
+  pub part_busy : busy_until network path link entries ≡ least (map (λ i. pos (offset_of offsets i + start_on network i link)) streams) +ℤ pos (sum_by (λ i. occupancy network i link) streams)
+  unfolding busy_until stream_of
+  part_busy =
+      let head = ap least (heads network path offsets link entries chains ∙ ap (map (λ i. pos (offset_of offsets i + start_on network i link))) same) in
+      let work = works network path offsets link entries ∙ ap (sum_by (λ i. occupancy network i link)) same in
+      λ k. head k +ℤ pos (work k)
+
+  pub part_load : load_bound network path link entries
+      ≡ least (map (λ i. pos (offset_of offsets i + start_on network i link)) streams) +ℤ pos (sum_by (λ i. occupancy network i link) streams)
+      +ℤ least (map (λ i. pos (arrival network i) -ℤ pos (start_on network i link + occupancy network i link)) streams)
+  unfolding load_bound stream_of
+  part_load =
+      let tail = ap least (tails network path offsets link entries ∙ ap (map (λ i. pos (arrival network i) -ℤ pos (start_on network i link + occupancy network i link))) same) in
+      λ k. part_busy k +ℤ tail k
+
 -- the streams of a link with the chains of the least offsets show it
 module _ (network : Network) (path : List Decision) (lowest : LeastOffsets) (solves : Solves (releases_of network) (arcs_of network path) lowest) (link : ℕ) where
-  streams_back : (streams : List ℕ) → map (λ (entry : Entry). entry.stream) (map (entry_by lowest) (map (user_on network link) streams)) ≡ streams
+  pub streams_back : (streams : List ℕ) → map (λ (entry : Entry). entry.stream) (map (entry_by lowest) (map (user_on network link) streams)) ≡ streams
   streams_back [] = refl
   streams_back (i ∷ streams) = ap (λ is. i ∷ is) (streams_back streams)
+
+  -- streams that use the link, each with the chain of its least offset
+  pub chains_back : (streams : List ℕ) → All (λ i. UsesLink network i link) streams
+      → All (λ (entry : Entry). IsShownBy network path lowest.offsets entry.stream entry.chain) (map (entry_by lowest) (map (user_on network link) streams))
+  chains_back streams used =
+      All-map (λ (entry : Entry). IsShownBy network path lowest.offsets entry.stream entry.chain) (entry_by lowest) (map (user_on network link) streams)
+      (All-map (λ (user : User). IsShownBy network path lowest.offsets user.stream (chain_of lowest user.stream)) (user_on network link) streams
+      (λ k d below. IsShownBy-from network path lowest solves (get_or streams k d) (UsesLink-counted network (get_or streams k d) link (used k d below))))
 
   pub shown_by : (found : ℕ) (users : List User) (entries : List Entry) → found ≡ link → users ≡ map (user_on network link) (users_of network link) → entries ≡ map (entry_by lowest) users
       → ShowsLink network path lowest.offsets found entries
@@ -101,8 +133,6 @@ module _ (network : Network) (path : List Decision) (lowest : LeastOffsets) (sol
         streams = ap (map (λ (entry : Entry). entry.stream)) whole ∙ streams_back (users_of network link);
         chains =
             subst (All (λ (entry : Entry). IsShownBy network path lowest.offsets entry.stream entry.chain)) (sym whole)
-            (All-map (λ (entry : Entry). IsShownBy network path lowest.offsets entry.stream entry.chain) (entry_by lowest) (map (user_on network link) (users_of network link))
-            (All-map (λ (user : User). IsShownBy network path lowest.offsets user.stream (chain_of lowest user.stream)) (user_on network link) (users_of network link)
-            (λ k d below. IsShownBy-from network path lowest solves (get_or (users_of network link) k d) (UsesLink-counted network (get_or (users_of network link) k d) link (users_use network link k d below)))));
+            (chains_back (users_of network link) (users_use network link));
       } in
       subst (λ l. ShowsLink network path lowest.offsets l entries) (sym same) shows

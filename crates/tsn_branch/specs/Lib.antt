@@ -9,3 +9,4 @@ pub mod Least
 pub mod Chains
 pub mod Ends
 pub mod Descent
+pub mod Guided

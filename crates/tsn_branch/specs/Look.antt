@@ -185,6 +185,14 @@ PrunesFrom target (pruned bound leaf) = target ≤ bound
 PrunesFrom target (tied bound leaf chains) = Unit {0}
 PrunesFrom target (refuted leaf) = Unit {0}
 
+-- a solved bound is below the target
+abbrev pub SolvesBelow : ℕ → Outcome → Type 0
+SolvesBelow target (split triple) = Unit {0}
+SolvesBelow target (solved offsets bound leaf chains) = bound < target
+SolvesBelow target (pruned bound leaf) = Unit {0}
+SolvesBelow target (tied bound leaf chains) = Unit {0}
+SolvesBelow target (refuted leaf) = Unit {0}
+
 -- a tied bound is at least the flowspan of the best schedule, and the chains show that no schedule on the path comes before that
 abbrev pub TiesWith : Network → List Decision → Option Solution → Outcome → Type 0
 TiesWith network path best (split triple) = Unit {0}

@@ -362,7 +362,7 @@ fn entries_at(
 }
 
 /// Streams, each with the chain that shows its least offset.
-fn entries_of(alloc: Global, least: &Least, users: &[User]) -> Result<Entries, NoMemory>
+pub fn entries_of(alloc: Global, least: &Least, users: &[User]) -> Result<Entries, NoMemory>
     requires some_user { 1 ≤ length users.now }
     requires few_users { length users.now ≤ 128 }
     requires streams { All (λ user. user.stream < length least.now.offsets) users.now }

@@ -11,12 +11,16 @@ ghost use Rattle.tsn_branch.specs.Least.{IsLeastAbove, ComesWithSplit};
 
 mod arcs;
 mod chains;
+mod crowds;
 pub mod descent;
+pub mod guidance;
+mod guided;
 mod instants;
 mod judge;
 mod loads;
 pub mod node;
 pub mod outcome;
+mod parts;
 mod tables;
 mod verdict;
 
@@ -25,6 +29,7 @@ use crate::judge::judge;
 use crate::outcome::Look;
 pub use arcs::fits;
 pub use descent::Descent;
+pub use guidance::Guidance;
 pub use loads::Loads;
 pub use node::Node;
 pub use outcome::Leaf;
@@ -33,6 +38,7 @@ pub use tables::{Aim, Tables};
 use tsn_conflict::sharing::Conflicts;
 pub use tsn_diff::Least;
 pub use tsn_model::{Decision, NoMemory, Side, Triple};
+pub use tsn_outlook::Guide;
 use tsn_timing::{Solved, Timing};
 
 /// Looks at a node: the first of these cases that holds.

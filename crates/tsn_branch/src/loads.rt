@@ -1,9 +1,11 @@
 //! The links that several streams share, and how busy they are by a list of offsets.
-ghost use Rattle.std.specs.Prelude.{◌≡◌, ◌≤◌, ◌<◌, ◌+◌, ◌*◌, ◌+ℤ◌, ◌≤ℤ◌, pos, map, length, All, IsTrue, ◌↔◌, IfOk, OnOk, MatchOption};
-ghost use Rattle.tsn_model.specs.Network.{stream_count};
+ghost use Rattle.std.specs.Prelude.{◌≡◌, ◌≤◌, ◌<◌, ◌+◌, ◌*◌, ◌+ℤ◌, ◌≤ℤ◌, ℕ, pos, List, [], ◌∷◌, ◌++◌, map, length, All, Some, IsTrue, ◌↔◌, IfOk, OnOk, MatchOption};
+ghost use Rattle.tsn_model.specs.Network.{Network, stream_count};
+ghost use Rattle.tsn_model.specs.Timing.{hop_on};
 ghost use Rattle.tsn_branch.specs.Links.{shared_links, IsUnloaded};
 ghost use Rattle.tsn_branch.specs.Loads.{AreLoadsOf, IsFirstLoad, IsLoading, Reaches, IsCalm, IsEarly, head_in, link_in, link_with, shared_link, users_upto, shared_upto};
 
+use crate::crowds::{Crowd, crowds_of};
 use std::alloc::{AllocError, Global};
 use std::marker::Model;
 use tsn_model::NoMemory;
@@ -34,6 +36,7 @@ pub struct LinkTable {
 #[derive(Drop)]
 pub struct Loads {
     tables: Vec<LinkTable>,
+    crowds: Vec<Crowd>,
 }
 
 impl Model for Loads {
@@ -72,7 +75,8 @@ impl Loads {
         for link in 0..timing.links() {
             push_shared(alloc, &mut tables, timing, link)?;
         }
-        Ok(Loads { tables })
+        let crowds = crowds_of(alloc, timing, &tables)?;
+        Ok(Loads { tables, crowds })
     }
 
     /// The tables of the shared links, in order.
@@ -80,6 +84,11 @@ impl Loads {
         ensures { map link_in result.now ≡ self.now }
     {
         &self.tables
+    }
+
+    /// What is tried of the shared links.
+    pub(crate) fn crowds(&self) -> &[Crowd] {
+        &self.crowds
     }
 }
 
@@ -106,12 +115,7 @@ fn table_of(alloc: Global, timing: &Timing, link: usize) -> Result<LinkTable, Al
     requires { link < length timing.now.links }
     ensures { IfOk result (λ table. link_in table ≡ shared_link timing.now link) }
 {
-    let mut table = LinkTable {
-        link,
-        users: Vec::new(alloc),
-        work: 0,
-        tail: 0,
-    };
+    let mut table = LinkTable::none(alloc, link);
     for stream in 0..timing.streams() {
         table.take(timing, stream)?;
     }
@@ -119,6 +123,20 @@ fn table_of(alloc: Global, timing: &Timing, link: usize) -> Result<LinkTable, Al
 }
 
 impl LinkTable {
+    /// A link with none of its streams.
+    pub fn none(alloc: Global, link: usize) -> LinkTable
+        ensures link { result.link ≡ link }
+        ensures none { (network : Network) → link_in result ≡ link_with network link [] }
+        ensures work { result.work ≡ 0 }
+    {
+        LinkTable {
+            link,
+            users: Vec::new(alloc),
+            work: 0,
+            tail: 0,
+        }
+    }
+
     /// Takes the next stream in, if it uses the link.
     fn take(&mut self, timing: &Timing, stream: usize) -> Result<(), AllocError>
         requires stream { stream < stream_count timing.now }
@@ -132,6 +150,20 @@ impl LinkTable {
         let Some(hop) = timing.hop_on(stream, self.link) else {
             return Ok(());
         };
+        self.put(timing, stream, hop)
+    }
+
+    /// Puts in a stream that uses the link at this hop.
+    pub fn put(&mut self, timing: &Timing, stream: usize, hop: usize) -> Result<(), AllocError>
+        requires stream { stream < stream_count timing.now }
+        requires hop { hop_on timing.now stream self.old.link ≡ Some hop }
+        requires some { (streams : List ℕ) × (link_in self.old ≡ link_with timing.now self.old.link streams) }
+        requires short { self.old.work ≤ MAX_OCCUPANCY * 128 }
+        ensures put { OnOk result ((streams : List ℕ) → link_in self.old ≡ link_with timing.now self.old.link streams
+            → link_in self.new ≡ link_with timing.now self.old.link (streams ++ stream ∷ [])) }
+        ensures link { self.new.link ≡ self.old.link }
+        ensures short { OnOk result (self.new.work ≤ self.old.work + MAX_OCCUPANCY) }
+    {
         let start = timing.start(stream, hop);
         let work = timing.occ(stream, hop);
         let tail = timing.arrival(stream) as i64 - (start + work) as i64;
@@ -148,7 +180,7 @@ impl LinkTable {
 }
 
 /// The earliest instant at which one of the users starts by the offsets, in nanoseconds.
-fn head(users: &[User], offsets: &[u64]) -> u64
+pub fn head(users: &[User], offsets: &[u64]) -> u64
     requires some_user { 1 ≤ length users.now }
     requires users { All (IsEarly (length offsets.now)) users.now }
     requires small { All (λ offset. offset ≤ 1_000_000_000) offsets.now }

@@ -1,12 +1,12 @@
-use Rattle.std.proofs.Common.{◌≡◌, ◌+◌, refl, sym, subst, arith}
+use Rattle.std.proofs.Common.{◌≡◌, ◌+◌, sym, subst, arith}
 use Rattle.tsn_branch.specs.Loads.{link_in, link_with, users_upto}
-use Rattle.tsn_branch.proofs.Loading.{link_empty, link_whole, link_of}
+use Rattle.tsn_branch.proofs.Loading.{link_whole, link_of}
 use Rattle.tsn_branch.proofs.loads.table_of.Goals as goal
 
 pub loop-stream-init : goal.loop-stream-init
 loop-stream-init c = record {
-  same = refl;
-  upto = link_empty c.args.timing.now c.args.link _ refl c.new.ensures.items refl refl;
+  same = c.none-table.ensures.link;
+  upto = c.none-table.ensures.none c.args.timing.now;
   short = omega arith;
   end = c.streams-stream-end.ensures.value;
 }

@@ -9,7 +9,7 @@ use Rattle.tsn_branch.specs.Outcome.{outcome_of}
 use Rattle.tsn_branch.specs.Descent.{IsVerdict}
 use Rattle.tsn_branch.specs.Look.{IsRefutation, HasProof, SplitsUndecided, SplitsAmong, TiesWith}
 use Rattle.tsn_branch.proofs.Leasts.{IsRefutation-from}
-use Rattle.tsn_branch.proofs.Rights.{HasProof-from, SplitsUndecided-from, SplitsAmong-from, TiesWith-from}
+use Rattle.tsn_branch.proofs.Rights.{HasProof-from, SplitsUndecided-from, SplitsAmong-from, SolvesBelow-from, TiesWith-from}
 use Rattle.tsn_branch.proofs.Positions.{of_some}
 use Rattle.tsn_branch.proofs.descent.Descent.look.Goals as goal
 
@@ -39,6 +39,12 @@ returns-in-Ok-Closed-clause-proof c =
     let network = c.args.tables.timing.now in
     let found = subst (IsVerdict network c.lead.new.self.path c.args.aim.target (option_copied c.args.aim.best)) c.in-Ok-Closed.field-0-is c.in-Ok-Closed.ensures in
     subst (λ p. HasProof network p (outcome_of c.in-Ok-Closed.look)) c.lead.ensures.path (HasProof-from network c.lead.new.self.path c.args.aim.target (option_copied c.args.aim.best) (outcome_of c.in-Ok-Closed.look) found.1)
+
+pub returns-in-Ok-Closed-clause-below : goal.returns-in-Ok-Closed-clause-below
+returns-in-Ok-Closed-clause-below c =
+    let network = c.args.tables.timing.now in
+    let found = subst (IsVerdict network c.lead.new.self.path c.args.aim.target (option_copied c.args.aim.best)) c.in-Ok-Closed.field-0-is c.in-Ok-Closed.ensures in
+    SolvesBelow-from network c.lead.new.self.path c.args.aim.target (option_copied c.args.aim.best) (outcome_of c.in-Ok-Closed.look) found.1
 
 pub returns-in-Ok-Closed-clause-ties : goal.returns-in-Ok-Closed-clause-ties
 returns-in-Ok-Closed-clause-ties c =
