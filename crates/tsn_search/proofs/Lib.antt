@@ -1,3 +1,4 @@
 mod Settling
 pub mod Batching
 pub mod Teams
+pub mod Bounds

@@ -1,4 +1,4 @@
--- An open node of a search for a network fits its conflicts; and where a search goes on from a node that it settled.
+-- An open node of a search for a network fits its conflicts; and what is met.
 use Rattle.std.proofs.Common.{◌≡◌, ℕ, ◌+◌, ◌<◌, ◌≤◌, ◌⊎◌, inl, inr, List, [], ◌∷◌, ◌++◌, length, Contains, Option, Some, None, MatchOption, IsSomeAnd, slice_index_or, Bor, refl, sym, ap, ◌∙◌, subst, arith}
 use Rattle.std.specs.Prelude.{option_copied}
 use Rattle.std.proofs.Math.Nat.{eq-or-lt_of_le}
@@ -20,7 +20,6 @@ use Rattle.tsn_timing.specs.Solution.{Solution, IsSolved}
 use Rattle.tsn_branch.specs.Look.{PrunesFrom, TiesWith}
 use Rattle.tsn_branch.specs.Descent.{Closes}
 use Rattle.tsn_book.specs.Book.{IsMet}
-use Rattle.tsn_search.specs.Search.{HasChildren, IsAfterLeaf}
 
 -- an open node's path decides conflicts alone
 pub open_fits : (network : Network) (kept : Kept) → AreConflictsOf network kept → (history : List Settlement) → IsLegal network history → (path : List Decision) → Contains (open_paths history) path
@@ -55,42 +54,3 @@ pub lent_met : (network : Network) (history : List Settlement) (path : List Deci
     → PrunesFrom target outcome → TiesWith network path (option_copied lent) outcome → IsMet network history path outcome
 lent_met network history path target None outcome is kept flowspan prunes ties = look_met network history path target None outcome is kept flowspan prunes ties
 lent_met network history path target (Some solution) outcome is kept flowspan prunes ties = look_met network history path target (Some solution.now) outcome is kept flowspan prunes ties
-
--- ---- where a search goes on
-
-module _ (network : Network) (history now : List Settlement) (settlement : Settlement) (path : List Decision) (place : ℕ) (waiting : List ℕ) where
-  -- after a split its left child is next, and its right child waits
-  pub has_children : (triple : Triple) → now ≡ history ++ settlement ∷ [] → IsLegal network now → IsWalk history path place waiting → settlement.event.path ≡ path → settlement.event.outcome ≡ split triple
-      → HasChildren now (decided path triple Left) waiting
-  unfolding children_of
-  has_children triple is legal walk its_path its_outcome =
-      let made : ℕ = length (made_paths history) in
-      let two : length (children_of settlement.event.path settlement.event.outcome) ≡ 2 = ap (λ outcome. length (children_of settlement.event.path outcome)) its_outcome in
-      let more = ap length (made_paths-snoc history settlement) ∙ length-append (made_paths history) (children_of settlement.event.path settlement.event.outcome) in
-      record {
-        left = made;
-        last = ap (λ h. length (made_paths h)) is ∙ omega arith;
-        walk = subst (λ h. IsWalk h (decided path triple Left) made ((made + 1) ∷ waiting)) (sym is)
-            (walk_split network history settlement path place waiting triple made (subst (IsLegal network) is legal) walk its_path its_outcome refl);
-      }
-
-  no_children : (outcome : Outcome) → Closes outcome → children_of settlement.event.path outcome ≡ []
-  unfolding children_of
-  no_children (split triple) never = absurd never
-  no_children (solved offsets bound leaf chains) closes = refl
-  no_children (pruned bound leaf) closes = refl
-  no_children (tied bound leaf chains) closes = refl
-  no_children (refuted leaf) closes = refl
-
-  -- after a leaf what waits is next
-  pub after_leaf : now ≡ history ++ settlement ∷ [] → IsLegal network now → IsWalk history path place waiting → settlement.event.path ≡ path → Closes settlement.event.outcome → IsAfterLeaf now path waiting
-  after_leaf is legal walk its_path closes =
-      let here = subst (IsLegal network) is legal in
-      let none = no_children settlement.event.outcome closes in
-      record {
-        count = walk_waits history path place waiting walk;
-        none_open = λ nothing. subst (λ h. open_paths h ≡ []) (sym is) (walk_end network history settlement path place waiting here walk its_path none nothing);
-        goes_on = λ next next_place others first turned.
-            subst (λ h. IsWalk h next next_place others) (sym is)
-            (walk_leaf network history settlement path place next next_place others here (subst (IsWalk history path place) first walk) its_path none turned);
-      }

@@ -2,3 +2,4 @@ pub mod Search
 pub mod Below
 pub mod Team
 pub mod Context
+pub mod Bound

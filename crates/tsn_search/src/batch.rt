@@ -11,6 +11,7 @@ use crate::best::Incumbent;
 use crate::context::Context;
 use crate::gate::{Gate, News};
 use crate::news::{known, splits_among};
+use crate::rule::Rule;
 use crate::settler::Settler;
 use std::sync::Wait;
 use tsn_book::BookFault;
@@ -37,8 +38,9 @@ impl Below {
     pub fn settle_next<K: Named, G: Gate>(
         &mut self,
         rt: &impl Wait,
-        context: &Context<'_, K, G>,
+        context: &Context<'_, '_, K, G>,
         settler: &mut Settler<K>,
+        rule: &mut Rule<'_>,
         most: usize,
     ) -> Turn
         requires tables { AreTablesOf K.names.race.network context.now.tables }
@@ -61,7 +63,7 @@ impl Below {
         let best = settler.best.lent(self.untied);
         self.untied = false;
         let incumbent = Incumbent { seen, best };
-        let Ok(batch) = self.collect(context.alloc, tables, incumbent, most) else {
+        let Ok(batch) = self.collect(context.alloc, tables, rule, incumbent, most) else {
             return Turn::Ends;
         };
         let summary = Summary::of(&batch, seen);
@@ -104,7 +106,12 @@ impl Summary {
     }
 
     // Tells the gate and the board, where so many nodes, from the first on, were settled.
-    fn tell<K: Named, G: Gate>(&self, context: &Context<'_, K, G>, number: usize, accepted: usize) {
+    fn tell<K: Named, G: Gate>(
+        &self,
+        context: &Context<'_, '_, K, G>,
+        number: usize,
+        accepted: usize,
+    ) {
         if self.is_solved && accepted == self.nodes {
             context.board.find();
         }

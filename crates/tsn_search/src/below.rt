@@ -1,21 +1,24 @@
 //! What is open below a node, walked depth first and looked at by batches.
-ghost use Rattle.std.specs.Prelude.{◌≡◌, ◌≤◌, true, false, None, map, IfOk, IfSome, MatchBool, MatchOption, option_copied};
+ghost use Rattle.std.specs.Prelude.{◌≡◌, ◌≤◌, true, false, None, map, IfOk, IfSome, OnOk, MatchBool, MatchOption, option_copied};
 ghost use Rattle.tsn_timing.specs.Solution.{IsSolved};
 ghost use Rattle.tsn_conflict.specs.Kept.{AreConflictsOf};
 ghost use Rattle.tsn_branch.specs.Outcome.{outcome_of};
 ghost use Rattle.tsn_branch.specs.Loads.{AreLoadsOf};
+ghost use Rattle.tsn_model.specs.Certificate.{beyond};
+ghost use Rattle.tsn_model.specs.Search.{split};
 ghost use Rattle.tsn_branch.specs.Look.{PrunesFrom};
+ghost use Rattle.tsn_branch.specs.Descent.{Closes};
 ghost use Rattle.tsn_book.specs.Below.{next_path, path_after};
 ghost use Rattle.tsn_share.specs.Teller.{IsUnsolved};
 ghost use Rattle.tsn_search.specs.Below.{StandsAt, IsBelow, IsBatch, IsProved, HoldsSchedule, IsScheduleOf};
 
 use crate::bag::Bag;
 use crate::best::Incumbent;
-use crate::search::{beyond, split_of};
+use crate::rule::Rule;
 use std::alloc::Global;
 use tsn_book::Looks;
 use tsn_branch::outcome::Look;
-use tsn_branch::{Aim, Descent, NoMemory, Node, Side, Tables, fits};
+use tsn_branch::{Aim, Decision, Descent, Guide, NoMemory, Node, Side, Tables, Triple, fits};
 use tsn_conflict::sharing::Conflicts;
 use tsn_timing::{Solved, Timing};
 
@@ -115,6 +118,37 @@ impl Below {
         true
     }
 
+    /// Goes to the side of the last decision, which is to the left, that the guide keeps to, and gives the other one to the bag.
+    pub fn choose_side<B: Bag>(
+        &mut self,
+        alloc: Global,
+        tables: Tables<'_>,
+        guide: Guide<'_>,
+        bag: &mut B,
+    ) -> Result<(), NoMemory>
+        requires conflicts { AreConflictsOf tables.timing.now tables.conflicts.now }
+        requires below { IsBelow tables.timing.now tables.conflicts.now.triples self.old }
+        ensures { OnOk result (IsBelow tables.entry.timing.now tables.entry.conflicts.now.triples self.new) }
+    {
+        let depth = self.from.path().len().saturating_sub(1);
+        let Some(right) = self.from.other_side(depth)? else {
+            return Ok(());
+        };
+        if keeps_left(tables.conflicts, guide, self.from.path().last()) {
+            let _ = bag.push(right);
+            return Ok(());
+        }
+        let Ok(found) = Below::at(alloc, tables.timing, tables.conflicts, right) else {
+            return Err(NoMemory);
+        };
+        let Some(below) = found else {
+            return Ok(());
+        };
+        let _ = bag.push(self.from.copy()?);
+        *self = below;
+        Ok(())
+    }
+
     /// Whether so many nodes or more are open.
     pub fn has_open(&self, enough: usize) -> bool {
         let path = self.from.path();
@@ -166,6 +200,7 @@ impl Below {
         &mut self,
         alloc: Global,
         tables: Tables<'_>,
+        rule: &mut Rule<'_>,
         incumbent: Incumbent<'_>,
         most: usize,
     ) -> Result<Batch, NoMemory>
@@ -186,7 +221,7 @@ impl Below {
         };
         let mut looks = Looks::with_capacity(alloc, most)?;
         for _ in 0..most {
-            let found = look_on(alloc, tables, &mut self.descent, self.floor, aim)?;
+            let found = look_on(alloc, tables, rule, &mut self.descent, self.floor, aim)?;
             let last = found.is_last();
             looks.push(found.look)?;
             if last {
@@ -202,6 +237,25 @@ impl Below {
             solved: None,
             more: true,
         })
+    }
+}
+
+/// Whether the guide keeps to a decision to the left.
+fn keeps_left(conflicts: &Conflicts, guide: Guide<'_>, last: Option<&Decision>) -> bool {
+    let Some(decision) = last else {
+        return true;
+    };
+    let triple = decision.triple;
+    if !conflicts.has(triple) {
+        return true;
+    }
+    let raise = conflicts.arc(triple, Side::Left).weight;
+    match (
+        guide.offsets.get(triple.left),
+        guide.offsets.get(triple.right),
+    ) {
+        (Some(left), Some(right)) => left.saturating_add_signed(raise) <= *right,
+        _ => true,
     }
 }
 
@@ -226,6 +280,7 @@ fn descent_at(
 fn look_on(
     alloc: Global,
     tables: Tables<'_>,
+    rule: &mut Rule<'_>,
     descent: &mut Descent,
     floor: usize,
     aim: Aim<'_>,
@@ -240,7 +295,7 @@ fn look_on(
     ensures next { IfOk result (λ found. MatchBool found.more
         (StandsAt tables.entry.timing.now tables.entry.conflicts.now.triples (next_path descent.old.path (outcome_of found.look)) descent.new) (Unit {0})) }
 {
-    let look = descent.look(alloc, tables, aim)?;
+    let look = rule.look(alloc, tables, descent, aim)?;
     let solved = match schedule_of(&look) {
         Ok(solved) => solved,
         Err(fault) => {
@@ -279,4 +334,24 @@ fn schedule_of(look: &Look) -> Result<Option<Solved>, NoMemory>
         Look::Tied { .. } => Ok(None),
         Look::Refuted(_) => Ok(None),
     }
+}
+
+/// The triple of a split.
+pub fn split_of(look: &Look) -> Option<Triple>
+    ensures { MatchOption result (Closes (outcome_of look.now)) (λ triple. outcome_of look.now ≡ split triple) }
+{
+    match look {
+        Look::Split(triple) => Some(*triple),
+        Look::Solved { .. } => None,
+        Look::Pruned { .. } => None,
+        Look::Tied { .. } => None,
+        Look::Refuted(_) => None,
+    }
+}
+
+/// The least bound, in nanoseconds, by which a node may be pruned where this is the least flowspan solved.
+pub fn beyond(timing: &Timing, best: u64) -> u64
+    ensures { result ≡ beyond timing.now best }
+{
+    best.min(timing.cycle()) + 1
 }

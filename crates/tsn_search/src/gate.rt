@@ -1,4 +1,5 @@
 //! Where a planner can be held and watched.
+use tsn_hint::{HintNews, Watch};
 
 /// A gate that is passed before each settling, told what was settled, and asked whether a worker starts and goes on.
 pub trait Gate {
@@ -7,6 +8,15 @@ pub trait Gate {
 
     /// Hears what the teller of this number has settled since it was told last.
     fn hear(&self, _teller: usize, _news: News) {}
+
+    /// Hears what no schedule's flowspan is below, in nanoseconds.
+    fn hear_bound(&self, _bound: u64) {}
+
+    /// Hears that a phase begins.
+    fn begin(&self, _phase: Phase) {}
+
+    /// Hears how far the search for a hint has got.
+    fn hear_hint(&self, _news: HintNews) {}
 
     /// Whether the worker of this number starts. It is asked before the worker's first round; a worker that doesn't start does
     /// nothing.
@@ -17,6 +27,29 @@ pub trait Gate {
     /// Whether the worker of this number goes on. It is asked after each batch that the worker has settled.
     fn may_go_on(&self, _teller: usize) -> bool {
         true
+    }
+}
+
+/// What a planner is at.
+#[derive(Clone, Copy, Debug, PartialEq, Eq)]
+pub enum Phase {
+    /// The search in the order of the file.
+    File,
+    /// The search for a hint.
+    Hint,
+    /// The search along the hint.
+    Guided,
+}
+
+/// Hands what is heard of a hint to a gate.
+#[derive(Clone, Copy)]
+pub struct Watcher<'a, G> {
+    pub gate: &'a G,
+}
+
+impl<'a, G: Gate> Watch for Watcher<'a, G> {
+    fn hear_hint(&self, news: HintNews) {
+        self.gate.hear_hint(news);
     }
 }
 

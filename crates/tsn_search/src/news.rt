@@ -1,17 +1,7 @@
 //! What a gate is told.
-use crate::gate::News;
 use tsn_book::Looks;
 use tsn_branch::outcome::Look;
 use tsn_timing::Timing;
-
-/// The news of one node.
-pub fn news_of_one(timing: &Timing, is_split: bool, best: u64) -> News {
-    News {
-        nodes: 1,
-        splits: usize::from(is_split),
-        flowspan: known(timing, best),
-    }
-}
 
 /// A flowspan, where it is one and not what stands for none.
 pub fn known(timing: &Timing, best: u64) -> Option<u64> {

@@ -3,7 +3,7 @@ ghost use Rattle.std.specs.Prelude.{◌≡◌, IfOk};
 ghost use Rattle.tsn_conflict.specs.Kept.{AreConflictsOf};
 ghost use Rattle.tsn_branch.specs.Loads.{AreLoadsOf};
 
-use crate::context::Setting;
+use crate::context::{Order, Setting};
 use std::alloc::Global;
 use tsn_branch::{Loads, NoMemory, Tables};
 use tsn_conflict::conflicts;
@@ -52,7 +52,12 @@ impl Prepared {
     }
 
     /// What a search is given that reads it.
-    pub fn setting<'a, G>(&'a self, alloc: Global, gate: &'a G) -> Setting<'a, G>
+    pub fn setting<'a, 'h, G>(
+        &'a self,
+        alloc: Global,
+        order: Order<'h>,
+        gate: &'a G,
+    ) -> Setting<'a, 'h, G>
         ensures timing { result.tables.timing.now ≡ self.now.timing }
         ensures conflicts { result.tables.conflicts.now ≡ self.now.conflicts }
         ensures loads { result.tables.loads.now ≡ self.now.loads }
@@ -65,6 +70,7 @@ impl Prepared {
         Setting {
             alloc,
             tables,
+            order,
             gate,
         }
     }

@@ -1,221 +1,296 @@
-//! The search by one worker: depth first, a split's left child before its right one.
-ghost use Rattle.std.specs.Prelude.{◌≡◌, ◌<◌, ◌+◌, ◌∷◌, ◌++◌, [], ◌⊎◌, length, reverse, Contains, IfOk, OnOk, MatchBool, MatchOption};
-ghost use Rattle.tsn_model.specs.Network.{Network};
-ghost use Rattle.tsn_model.specs.declared.Side.TheVariants.{Left};
-ghost use Rattle.tsn_model.specs.Certificate.{decided, beyond};
-ghost use Rattle.tsn_model.specs.Search.{open_paths, made_paths, split};
-ghost use Rattle.tsn_search_laws.specs.Walk.{path_made, IsWalk};
-ghost use Rattle.tsn_conflict.specs.Kept.{AreConflictsOf};
+//! The search in a book of one's own: an open node is taken, and all that is open below it is settled, again and again.
+ghost use Rattle.std.specs.Prelude.{◌≡◌, ◌<◌, ◌≤◌, ◌+◌, ◌⊎◌, true, [], length, Contains, IfOk, OnOk, MatchBool};
+ghost use Rattle.tsn_model.specs.Search.{open_paths};
 ghost use Rattle.tsn_branch.specs.Outcome.{outcome_of};
-ghost use Rattle.tsn_branch.specs.Path.{IsUndecided};
-ghost use Rattle.tsn_branch.specs.Loads.{AreLoadsOf};
-ghost use Rattle.tsn_branch.specs.Look.{HasProof, SplitsUndecided, PrunesFrom};
-ghost use Rattle.tsn_branch.specs.Descent.{Stands, Splits, Closes};
-ghost use Rattle.tsn_book.specs.Book.{IsLawful, IsMet};
-ghost use Rattle.tsn_search.specs.Search.{IsSearchOf, IsSearching, HasChildren, IsAfterLeaf};
+ghost use Rattle.tsn_branch.specs.Look.{HasProof, SplitsUndecided};
+ghost use Rattle.tsn_book.specs.Book.{IsMet};
+ghost use Rattle.tsn_search.specs.Search.{IsSearchBy, IsFurther};
+ghost use Rattle.tsn_search.specs.Below.{IsBelow, IsBatch, outcomes_of};
+ghost use Rattle.tsn_book.specs.Below.{path_after};
 
-use crate::context::Setting;
-use crate::gate::Gate;
-use crate::news::{is_split, news_of_one};
-use tsn_book::{Book, BookFault};
-use tsn_branch::outcome::Look;
-use tsn_branch::{Aim, Decision, Descent};
-use tsn_model::{NoMemory, Triple};
-use tsn_timing::Timing;
+use crate::bag::Bag;
+use crate::below::{BATCH, Batch, Below, beyond};
+use crate::best::Incumbent;
+use crate::context::{Order, Setting};
+use crate::gate::{Gate, News};
+use crate::news::{is_split, known, splits_among};
+use crate::rule::Rule;
+use crate::start::OpenNodes;
+use tsn_book::{Book, BookFault, Event};
+use tsn_branch::{Guide, NoMemory, Node, look};
 
-/// A search that stands at the open node that is first in preorder.
+/// One who settles nodes in a book: by which number, and how many are settled in all, at most.
 #[derive(Drop)]
-struct Search {
-    book: Book,
-    descent: Descent,
-    // The node's place in the book, and those of the other open nodes, the next one last.
-    place: usize,
-    waiting: Vec<usize>,
+struct Course<'a, 'h, G> {
+    setting: &'a Setting<'a, 'h, G>,
+    teller: usize,
+    limit: usize,
 }
 
-/// Settles the first open node again and again, until none is open or the limit is met.
+/// Settles open nodes until none is open or the limit is met. The error says that there was no memory.
+///
+/// In a guided search for which nothing is settled yet the nodes on the way that the hint keeps to come first, and then what is
+/// open below those beside it, the nearest first. Else the first open node is taken, again and again.
 pub fn settle_open<G: Gate>(
-    setting: &Setting<'_, G>,
+    setting: &Setting<'_, '_, G>,
+    teller: usize,
     limit: usize,
     book: Book,
 ) -> Result<Book, NoMemory>
-    requires conflicts { AreConflictsOf setting.now.tables.timing.now setting.now.tables.conflicts.now }
-    requires loads { AreLoadsOf setting.now.tables.timing.now setting.now.tables.loads.now }
-    requires search { IsSearchOf setting.now.tables.timing.now limit book }
-    requires one_teller { book.tellers ≡ 1 }
-    requires fresh { book.history ≡ [] }
-    ensures search { IfOk result (IsSearchOf setting.now.tables.timing.now limit) }
+    requires search { IsSearchBy setting.now.tables teller limit book }
+    ensures further { IfOk result (IsFurther book) }
     ensures done { IfOk result (λ searched. (open_paths searched.history ≡ []) ⊎ (length searched.history ≡ limit)) }
 {
-    let descent = match Descent::root(setting.alloc, setting.tables.timing) {
-        Ok(descent) => descent,
+    let course = Course {
+        setting,
+        teller,
+        limit,
+    };
+    let mut book = book;
+    match settle_all(&course, &mut book) {
+        Ok(()) => Ok(book),
         Err(fault) => {
             drop(book);
-            return Err(fault);
-        }
-    };
-    let mut search = Search {
-        book,
-        descent,
-        place: 0,
-        waiting: Vec::new(setting.alloc),
-    };
-    match search.settle_all(setting, limit) {
-        Ok(()) => Ok(search.into_book()),
-        Err(fault) => {
-            drop(search);
             Err(fault)
         }
     }
 }
 
-impl Search {
-    // Settles nodes until none is open or the limit is met.
-    fn settle_all<G: Gate>(
-        &mut self,
-        setting: &Setting<'_, G>,
-        limit: usize,
-    ) -> Result<(), NoMemory>
-        requires conflicts { AreConflictsOf setting.now.tables.timing.now setting.now.tables.conflicts.now }
-        requires loads { AreLoadsOf setting.now.tables.timing.now setting.now.tables.loads.now }
-        requires searching { IsSearching setting.now.tables.timing.now limit self.old.book self.old.descent self.old.place self.old.waiting.items }
-        ensures search { OnOk result (IsSearchOf setting.now.tables.timing.now limit self.new.book) }
-        ensures done { OnOk result ((open_paths self.new.book.history ≡ []) ⊎ (length self.new.book.history ≡ limit)) }
-    {
-        'settlements: while self.book.count() < limit {
-            if !self.settle(setting, limit)? {
-                return Ok(());
-            }
-        }
-        Ok(())
-    }
-
-    fn into_book(self) -> Book
-        ensures { result ≡ self.book }
-    {
-        let Search {
-            book,
-            descent,
-            place: _,
-            waiting: _,
-        } = self;
-        drop(descent);
-        book
-    }
-
-    // Looks at the node and settles it. False where nothing is open then.
-    fn settle<G: Gate>(&mut self, setting: &Setting<'_, G>, limit: usize) -> Result<bool, NoMemory>
-        requires conflicts { AreConflictsOf setting.now.tables.timing.now setting.now.tables.conflicts.now }
-        requires loads { AreLoadsOf setting.now.tables.timing.now setting.now.tables.loads.now }
-        requires searching { IsSearching setting.now.tables.timing.now limit self.old.book self.old.descent self.old.place self.old.waiting.items }
-        requires some_left { length self.old.book.history < limit }
-        ensures searching { IfOk result (λ more. MatchBool more
-            (IsSearching setting.now.tables.timing.now limit self.new.book self.new.descent self.new.place self.new.waiting.items)
-            (IsSearchOf setting.now.tables.timing.now limit self.new.book × (open_paths self.new.book.history ≡ []))) }
-        ensures one { OnOk result (length self.new.book.history ≡ length self.old.book.history + 1) }
-    {
-        let tables = setting.tables;
-        let target = beyond(tables.timing, self.book.best());
-        let aim = Aim {
-            target,
-            best: self.book.kept(),
-        };
-        let look = self.descent.look(setting.alloc, tables, aim)?;
-        let split = split_of(&look);
-        let was_split = is_split(&look);
-        setting.gate.pass(0);
-        record(&mut self.book, self.place, self.descent.node().path(), look)?;
-        self.tell(tables.timing, setting.gate, was_split);
-        match split {
-            Some(triple) => {
-                self.go_down(triple)?;
-                Ok(true)
-            }
-            None => Ok(self.go_on()),
+// Settles open nodes until none is open or the limit is met.
+fn settle_all<G: Gate>(course: &Course<'_, '_, G>, book: &mut Book) -> Result<(), NoMemory>
+    requires search { IsSearchBy course.now.setting.now.tables course.now.teller course.now.limit book.old }
+    ensures further { IsFurther book.old book.new }
+    ensures done { OnOk result ((open_paths book.new.history ≡ []) ⊎ (length book.new.history ≡ course.now.limit)) }
+{
+    let setting = course.setting;
+    let mut rule = Rule::of(setting.alloc, setting.tables, setting.order)?;
+    let mut others = OpenNodes::none(setting.alloc);
+    if let Order::Guided(Some(guide)) = setting.order {
+        if book.count() == 0 {
+            dive(course, &mut rule, book, guide, &mut others)?;
         }
     }
-
-    // Tells the gate of the node that was settled.
-    fn tell<G: Gate>(&self, timing: &Timing, gate: &G, is_split: bool) {
-        gate.hear(0, news_of_one(timing, is_split, self.book.best()));
+    'settlements: while book.count() < course.limit {
+        if book.open_count() == 0 || !settle_more(course, &mut rule, book, &mut others)? {
+            break;
+        }
     }
+    drop(rule);
+    drop(others);
+    Ok(())
+}
 
-    // Goes down to the left child of the node, which was split last; the right child, at the last place, waits.
-    fn go_down(&mut self, triple: Triple) -> Result<(), NoMemory>
-        requires splits { (network : Network) × Splits network triple self.old.descent }
-        requires undecided { IsUndecided self.old.descent.path triple }
-        requires walk { HasChildren self.old.book.history (decided self.old.descent.path triple Left) (reverse self.old.waiting.items) }
-        ensures book { self.new.book ≡ self.old.book }
-        ensures stands { OnOk result ((network : Network) → Splits network triple self.old.descent → Stands network self.new.descent) }
-        ensures walk { OnOk result (IsWalk self.new.book.history self.new.descent.path self.new.place (reverse self.new.waiting.items)) }
-    {
-        if self.waiting.reserve(1).is_err() {
+// Settles the nodes on the way that the guide keeps to, and gives the other sides to the bag.
+fn dive<G: Gate>(
+    course: &Course<'_, '_, G>,
+    rule: &mut Rule<'_>,
+    book: &mut Book,
+    guide: Guide<'_>,
+    others: &mut OpenNodes,
+) -> Result<(), NoMemory>
+    requires search { IsSearchBy course.now.setting.now.tables course.now.teller course.now.limit book.old }
+    ensures further { IsFurther book.old book.new }
+{
+    let setting = course.setting;
+    let mut below = Below::root(setting.alloc, setting.tables.timing)?;
+    for _ in 0..u64::MAX {
+        let depth = below.from.path().len();
+        if !settle_batch(course, rule, book, &mut below, 1)? {
+            break;
+        }
+        if below.from.path().len() <= depth {
+            break;
+        }
+        below.choose_side(setting.alloc, setting.tables, guide, others)?;
+    }
+    drop(below);
+    Ok(())
+}
+
+// Takes an open node, and settles what is open below it, or the first open node alone where no way leads to that one. False
+// where nothing is open then.
+fn settle_more<G: Gate>(
+    course: &Course<'_, '_, G>,
+    rule: &mut Rule<'_>,
+    book: &mut Book,
+    others: &mut OpenNodes,
+) -> Result<bool, NoMemory>
+    requires search { IsSearchBy course.now.setting.now.tables course.now.teller course.now.limit book.old }
+    requires some_open { 0 < length (open_paths book.old.history) }
+    requires some_left { length book.old.history < course.now.limit }
+    ensures further { IsFurther book.old book.new }
+    ensures more { IfOk result (λ more. MatchBool more (length book.old.history < length book.new.history) (open_paths book.new.history ≡ [])) }
+{
+    let before = book.count();
+    let node = match others.pop() {
+        Some(node) => node,
+        None => first_open(course, book)?,
+    };
+    settle_under(course, rule, book, node)?;
+    if book.count() > before {
+        return Ok(true);
+    }
+    if book.open_count() == 0 {
+        return Ok(false);
+    }
+    settle_first_open(course, book)?;
+    Ok(true)
+}
+
+// The open node that is first in preorder.
+fn first_open<G: Gate>(course: &Course<'_, '_, G>, book: &Book) -> Result<Node, NoMemory>
+    requires some_open { 0 < length (open_paths book.now.history) }
+    ensures { IfOk result (Contains (open_paths book.now.history)) }
+{
+    let setting = course.setting;
+    let Some(node) = book.first_open(setting.alloc)? else {
+        unreachable!();
+    };
+    Ok(node)
+}
+
+// Settles what is open below a node, up to the limit.
+fn settle_under<G: Gate>(
+    course: &Course<'_, '_, G>,
+    rule: &mut Rule<'_>,
+    book: &mut Book,
+    node: Node,
+) -> Result<(), NoMemory>
+    requires search { IsSearchBy course.now.setting.now.tables course.now.teller course.now.limit book.old }
+    ensures further { IsFurther book.old book.new }
+{
+    let setting = course.setting;
+    let tables = setting.tables;
+    let mut below = match Below::at(setting.alloc, tables.timing, tables.conflicts, node) {
+        Ok(Some(below)) => below,
+        Ok(None) => return Ok(()),
+        Err(node) => {
+            drop(node);
             return Err(NoMemory);
         }
-        self.descent.down(triple)?;
-        let right = self.book.places() - 1;
-        self.waiting.push_reserved(right);
-        self.place = right - 1;
-        Ok(())
-    }
-
-    // Goes on to the next node that waits. False where none does.
-    fn go_on(&mut self) -> bool
-        requires after { IsAfterLeaf self.old.book.history self.old.descent.path (reverse self.old.waiting.items) }
-        ensures book { self.new.book ≡ self.old.book }
-        ensures stands { (network : Network) → Stands network self.old.descent → Stands network self.new.descent }
-        ensures walk { MatchBool result
-            (IsWalk self.new.book.history self.new.descent.path self.new.place (reverse self.new.waiting.items))
-            (open_paths self.new.book.history ≡ []) }
-    {
-        if !self.descent.next() {
-            return false;
+    };
+    for _ in 0..u64::MAX {
+        if !settle_batch(course, rule, book, &mut below, BATCH)? {
+            break;
         }
-        let Some(place) = self.waiting.pop() else {
-            unreachable!();
-        };
-        self.place = place;
-        true
+    }
+    drop(below);
+    Ok(())
+}
+
+// Looks at up to so many nodes where the walk stands, and settles them, once the gate was passed for each. False where the walk
+// doesn't go on.
+fn settle_batch<G: Gate>(
+    course: &Course<'_, '_, G>,
+    rule: &mut Rule<'_>,
+    book: &mut Book,
+    below: &mut Below,
+    most: usize,
+) -> Result<bool, NoMemory>
+    requires search { IsSearchBy course.now.setting.now.tables course.now.teller course.now.limit book.old }
+    requires below { IsBelow course.now.setting.now.tables.timing.now course.now.setting.now.tables.conflicts.now.triples below.old }
+    requires most { (1 ≤ most) × (most ≤ BATCH) }
+    ensures further { IsFurther book.old book.new }
+    ensures below { IfOk result (λ more. more ≡ true → IsBelow course.now.setting.now.tables.timing.now course.now.setting.now.tables.conflicts.now.triples below.new) }
+{
+    let setting = course.setting;
+    let count = book.count();
+    if count >= course.limit {
+        return Ok(false);
+    }
+    let incumbent = Incumbent {
+        seen: book.best(),
+        best: book.kept(),
+    };
+    let most = most.min(course.limit - count);
+    let batch = below.collect(setting.alloc, setting.tables, rule, incumbent, most)?;
+    for _node in 0..batch.looks.len() {
+        setting.gate.pass(course.teller);
+    }
+    record_batch(course, book, &mut below.from, batch)
+}
+
+// Settles what was found at the nodes of a walk. False where the walk doesn't go on.
+fn record_batch<G: Gate>(
+    course: &Course<'_, '_, G>,
+    book: &mut Book,
+    from: &mut Node,
+    batch: Batch,
+) -> Result<bool, NoMemory>
+    requires search { IsSearchBy course.now.setting.now.tables course.now.teller course.now.limit book.old }
+    requires batch { (seen : _) × IsBatch book.old.network seen from.old batch }
+    ensures further { IsFurther book.old book.new }
+    ensures goes_on { IfOk result (λ more. more ≡ true → (batch.more ≡ true) × (from.new ≡ path_after from.old (outcomes_of batch))) }
+{
+    let Batch {
+        looks,
+        solved,
+        more,
+    } = batch;
+    drop(solved);
+    let nodes = looks.len();
+    let splits = splits_among(&looks).count_ones() as usize;
+    match book.settle_below(course.teller, from, looks) {
+        Ok(()) => {
+            tell(course, book, nodes, splits);
+            Ok(more)
+        }
+        Err((_, BookFault::Memory)) => Err(NoMemory),
+        Err(_) => Ok(false),
     }
 }
 
-/// The triple of a split.
-pub fn split_of(look: &Look) -> Option<Triple>
-    ensures { MatchOption result (Closes (outcome_of look.now)) (λ triple. outcome_of look.now ≡ split triple) }
-{
-    match look {
-        Look::Split(triple) => Some(*triple),
-        Look::Solved { .. } => None,
-        Look::Pruned { .. } => None,
-        Look::Tied { .. } => None,
-        Look::Refuted(_) => None,
-    }
+// Tells the gate of nodes that were settled.
+fn tell<G: Gate>(course: &Course<'_, '_, G>, book: &Book, nodes: usize, splits: usize) {
+    let setting = course.setting;
+    let flowspan = known(setting.tables.timing, book.best());
+    let news = News {
+        nodes,
+        splits,
+        flowspan,
+    };
+    setting.gate.hear(course.teller, news);
 }
 
-/// The least bound, in nanoseconds, by which a node may be pruned where this is the least flowspan solved.
-pub fn beyond(timing: &Timing, best: u64) -> u64
-    ensures { result ≡ beyond timing.now best }
-{
-    best.min(timing.cycle()) + 1
-}
-
-/// Settles the open node at a place, as a look found it.
-fn record(book: &mut Book, place: usize, path: &[Decision], look: Look) -> Result<(), NoMemory>
-    requires teller { book.old.tellers ≡ 1 }
+// Settles the open node that is first in preorder, looked at by itself.
+fn settle_first_open<G: Gate>(course: &Course<'_, '_, G>, book: &mut Book) -> Result<(), NoMemory>
+    requires search { IsSearchBy course.now.setting.now.tables course.now.teller course.now.limit book.old }
+    requires some_open { 0 < length (open_paths book.old.history) }
     requires some_left { length book.old.history < book.old.limit }
-    requires place { place < length (made_paths book.old.history) }
-    requires path { path.now ≡ path_made book.old.history place }
-    requires node_open { Contains (open_paths book.old.history) (path_made book.old.history place) }
-    requires proof { HasProof book.old.network (path_made book.old.history place) (outcome_of look) }
-    requires undecided { SplitsUndecided book.old.network (path_made book.old.history place) (outcome_of look) }
-    requires met { IsMet book.old.network book.old.history (path_made book.old.history place) (outcome_of look) }
-    ensures settled { OnOk result (book.new ≡ record book.old {
-      history = book.old.history
-          ++ record { teller = 0; event = record { path = path_made book.old.history place; outcome = outcome_of look } } ∷ [];
-    }) }
-    ensures lawful { OnOk result (IsLawful book.new) }
+    ensures further { IsFurther book.old book.new }
+    ensures more { OnOk result (length book.new.history ≡ length book.old.history + 1) }
 {
-    match book.settle_at(0, place, path, look) {
+    let setting = course.setting;
+    let tables = setting.tables;
+    let node = first_open(course, book)?;
+    let target = beyond(tables.timing, book.best());
+    let look = look(
+        setting.alloc,
+        tables.timing,
+        tables.conflicts,
+        &node,
+        target,
+        book.kept(),
+    )?;
+    let splits = usize::from(is_split(&look));
+    setting.gate.pass(course.teller);
+    record(book, course.teller, Event { node, look })?;
+    tell(course, book, 1, splits);
+    Ok(())
+}
+
+// Settles an open node, as a look found it.
+fn record(book: &mut Book, teller: usize, event: Event) -> Result<(), NoMemory>
+    requires teller { teller < book.old.tellers }
+    requires some_left { length book.old.history < book.old.limit }
+    requires node_open { Contains (open_paths book.old.history) event.node }
+    requires proof { HasProof book.old.network event.node (outcome_of event.look) }
+    requires undecided { SplitsUndecided book.old.network event.node (outcome_of event.look) }
+    requires met { IsMet book.old.network book.old.history event.node (outcome_of event.look) }
+    ensures further { IsFurther book.old book.new }
+    ensures more { OnOk result (length book.new.history ≡ length book.old.history + 1) }
+{
+    match book.settle(teller, event) {
         Ok(()) => Ok(()),
         Err((fault, refused)) => {
             drop(refused);

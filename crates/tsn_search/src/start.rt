@@ -6,12 +6,13 @@ ghost use Rattle.tsn_search.specs.Context.{AreTablesOf};
 use crate::bag::Bag;
 use crate::batch::Turn;
 use crate::below::Below;
-use crate::context::Context;
+use crate::context::{Context, Order};
 use crate::gate::Gate;
+use crate::rule::Rule;
 use crate::settler::Settler;
 use std::alloc::Global;
 use std::sync::Wait;
-use tsn_branch::{NoMemory, Node};
+use tsn_branch::{Guide, NoMemory, Node};
 use tsn_share::Named;
 
 /// The nodes that are open, the first in preorder last.
@@ -58,11 +59,11 @@ impl Bag for OpenNodes {
     }
 }
 
-/// Settles first open nodes, each by itself, until so many are open, or none, or the book takes no more; then tells which are
-/// open. The error says that there was no memory to begin.
+/// Settles nodes, each by itself: those on the way that a guide keeps to, where there is one, or else first open ones until so many
+/// are open; then tells which are open. The error says that there was no memory to begin.
 pub fn settle_first<K: Named, G: Gate>(
     rt: &impl Wait,
-    context: &Context<'_, K, G>,
+    context: &Context<'_, '_, K, G>,
     enough: usize,
     caller: &mut Settler<K>,
 ) -> Result<OpenNodes, NoMemory>
@@ -71,13 +72,63 @@ pub fn settle_first<K: Named, G: Gate>(
     ensures even { IsEven caller.new.teller }
     ensures number { caller.new.teller.standing.number ≡ caller.old.teller.standing.number }
 {
+    match context.order {
+        Order::Guided(Some(guide)) => dive(rt, context, guide, caller),
+        Order::Guided(None) | Order::File => settle_until(rt, context, enough, caller),
+    }
+}
+
+// Settles the nodes on the way that the guide keeps to; the other sides are left open, the first of them first.
+fn dive<K: Named, G: Gate>(
+    rt: &impl Wait,
+    context: &Context<'_, '_, K, G>,
+    guide: Guide<'_>,
+    caller: &mut Settler<K>,
+) -> Result<OpenNodes, NoMemory>
+    requires tables { AreTablesOf K.names.race.network context.now.tables }
+    requires even { IsEven caller.old.teller }
+    ensures even { IsEven caller.new.teller }
+    ensures number { caller.new.teller.standing.number ≡ caller.old.teller.standing.number }
+{
+    let mut rule = Rule::of(context.alloc, context.tables, context.order)?;
+    let mut below = Below::root(context.alloc, context.tables.timing)?;
+    let mut open_nodes = OpenNodes::none(context.alloc);
+    for _ in 0..u64::MAX {
+        let depth = below.from.path().len();
+        match below.settle_next(rt, context, caller, &mut rule, 1) {
+            Turn::GoesOn => {}
+            Turn::Ends | Turn::Finished | Turn::LooksAgain => break,
+        }
+        if below.from.path().len() <= depth {
+            break;
+        }
+        below.choose_side(context.alloc, context.tables, guide, &mut open_nodes)?;
+    }
+    drop(below);
+    Ok(open_nodes)
+}
+
+// Settles first open nodes, each by itself, until so many are open, or none, or the book takes no more; then tells which are
+// open. The error says that there was no memory to begin.
+fn settle_until<K: Named, G: Gate>(
+    rt: &impl Wait,
+    context: &Context<'_, '_, K, G>,
+    enough: usize,
+    caller: &mut Settler<K>,
+) -> Result<OpenNodes, NoMemory>
+    requires tables { AreTablesOf K.names.race.network context.now.tables }
+    requires even { IsEven caller.old.teller }
+    ensures even { IsEven caller.new.teller }
+    ensures number { caller.new.teller.standing.number ≡ caller.old.teller.standing.number }
+{
+    let mut rule = Rule::of(context.alloc, context.tables, context.order)?;
     let mut below = Below::root(context.alloc, context.tables.timing)?;
     let mut open_nodes = OpenNodes::none(context.alloc);
     for _ in 0..u64::MAX {
         if below.has_open(enough) {
             break;
         }
-        match below.settle_next(rt, context, caller, 1) {
+        match below.settle_next(rt, context, caller, &mut rule, 1) {
             Turn::GoesOn => {}
             Turn::Ends => break,
             Turn::Finished | Turn::LooksAgain => {

@@ -24,7 +24,7 @@ use tsn_share::{Named, Parts, Teller, gather};
 /// memory for the caller.
 pub fn search<K: Named + Send + Sync, R: Threads + Wait + Sync, G: Gate + Sync, B: Bag + Send>(
     rt: &R,
-    setting: &Setting<'_, G>,
+    setting: &Setting<'_, '_, G>,
     bags: Vec<B>,
     parts: Parts,
 ) -> Result<Book, NoMemory>
@@ -39,6 +39,7 @@ pub fn search<K: Named + Send + Sync, R: Threads + Wait + Sync, G: Gate + Sync, 
     let context = Context {
         alloc: setting.alloc,
         tables: setting.tables,
+        order: setting.order,
         gate: setting.gate,
         shared: &shared,
         board: &board,
@@ -61,7 +62,7 @@ pub fn search<K: Named + Send + Sync, R: Threads + Wait + Sync, G: Gate + Sync, 
 // The caller, who is the last of the tellers, settles the first nodes, and the workers the others. All tellers come back.
 fn settle_all<K: Named + Send + Sync, R: Threads + Wait + Sync, G: Gate + Sync, B: Bag + Send>(
     rt: &R,
-    context: &Context<'_, K, G>,
+    context: &Context<'_, '_, K, G>,
     bags: Vec<B>,
     tellers: Vec<Teller<K>>,
 ) -> Result<Vec<Teller<K>>, NoMemory>
@@ -100,7 +101,7 @@ fn settle_all<K: Named + Send + Sync, R: Threads + Wait + Sync, G: Gate + Sync, 
 // Runs each worker in a thread of its own, or one after another where no thread can be made. Each teller is left even.
 fn run<K: Named + Send + Sync, B: Bag + Send, G: Gate + Sync, R: Threads + Wait + Sync>(
     rt: &R,
-    context: &Context<'_, K, G>,
+    context: &Context<'_, '_, K, G>,
     members: &mut [Member<K, B>],
 )
     requires tables { AreTablesOf K.names.race.network context.now.tables }

@@ -9,6 +9,7 @@ use crate::below::{BATCH, Below};
 use crate::board::Board;
 use crate::context::Context;
 use crate::gate::Gate;
+use crate::rule::Rule;
 use crate::settler::Settler;
 use std::sync::Wait;
 use std::thread;
@@ -33,7 +34,7 @@ pub struct Member<K: Named, B: Bag> {
 /// The board tells how long it is worth to wait for a node, and when the best schedule has to be copied anew.
 pub fn work<K: Named, B: Bag, G: Gate>(
     rt: &impl Wait,
-    context: &Context<'_, K, G>,
+    context: &Context<'_, '_, K, G>,
     member: &mut Member<K, B>,
 )
     requires tables { AreTablesOf K.names.race.network context.now.tables }
@@ -42,16 +43,34 @@ pub fn work<K: Named, B: Bag, G: Gate>(
     ensures number { member.new.settler.teller.standing.number ≡ member.old.settler.teller.standing.number }
 {
     if context.gate.may_start(member.settler.number) {
-        for _ in 0..u64::MAX {
-            let Some(node) = find(&mut member.bag, context.board) else {
-                break;
-            };
-            if !work_below(rt, context, member, node) {
-                break;
-            }
-        }
+        work_on(rt, context, member);
     }
     context.board.end();
+}
+
+// Works until no more nodes are found, or the worker ends, as it does for want of memory too.
+fn work_on<K: Named, B: Bag, G: Gate>(
+    rt: &impl Wait,
+    context: &Context<'_, '_, K, G>,
+    member: &mut Member<K, B>,
+)
+    requires tables { AreTablesOf K.names.race.network context.now.tables }
+    requires even { IsEven member.old.settler.teller }
+    ensures even { IsEven member.new.settler.teller }
+    ensures number { member.new.settler.teller.standing.number ≡ member.old.settler.teller.standing.number }
+{
+    let Ok(mut rule) = Rule::of(context.alloc, context.tables, context.order) else {
+        return;
+    };
+    for _ in 0..u64::MAX {
+        let Some(node) = find(&mut member.bag, context.board) else {
+            break;
+        };
+        if !work_below(rt, context, member, &mut rule, node) {
+            break;
+        }
+    }
+    drop(rule);
 }
 
 // A node of its own bag, or else of another's. None after so many rounds that found none.
@@ -97,8 +116,9 @@ fn next_node<B: Bag>(bag: &mut B) -> Option<Node> {
 // Settles what is open below a node, and shares it. What is left open is in the bag then. False where the worker ends.
 fn work_below<K: Named, B: Bag, G: Gate>(
     rt: &impl Wait,
-    context: &Context<'_, K, G>,
+    context: &Context<'_, '_, K, G>,
     member: &mut Member<K, B>,
+    rule: &mut Rule<'_>,
     node: Node,
 ) -> bool
     requires tables { AreTablesOf K.names.race.network context.now.tables }
@@ -116,7 +136,7 @@ fn work_below<K: Named, B: Bag, G: Gate>(
         }
     };
     for _ in 0..u64::MAX {
-        match below.settle_next(rt, context, &mut member.settler, BATCH) {
+        match below.settle_next(rt, context, &mut member.settler, rule, BATCH) {
             Turn::GoesOn => {}
             Turn::Ends => break,
             Turn::Finished | Turn::LooksAgain => {

@@ -7,5 +7,7 @@ pub mod laws;
 pub mod planning;
 
 pub use answer::Answer;
-pub use planning::{MAX_LIMIT, MAX_WORKERS, plan, plan_over};
-pub use tsn_search::{Bag, DequeBag, Gate, News, OpenGate};
+pub use planning::{
+    Effort, FILE_ORDER_LIMIT, MAX_LIMIT, MAX_WORKERS, Method, plan, plan_by, plan_over,
+};
+pub use tsn_search::{Bag, DequeBag, Gate, HintNews, News, OpenGate, Phase};

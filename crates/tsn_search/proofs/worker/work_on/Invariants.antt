@@ -1,6 +1,6 @@
 use Rattle.std.proofs.Common.{◌≡◌}
 use Rattle.tsn_share.specs.Teller.{IsEven}
-use Rattle.tsn_search.proofs.worker.work.Given as goal
+use Rattle.tsn_search.proofs.worker.work_on.Given as goal
 
 abbrev pub invariant-loop : goal.invariant-loop
 invariant-loop g l = record {

@@ -1,6 +1,6 @@
 use Rattle.std.proofs.Common.{arith}
 use Rattle.tsn_model.specs.Certificate.{beyond}
-use Rattle.tsn_search.proofs.search.beyond.Goals as goal
+use Rattle.tsn_search.proofs.below.beyond.Goals as goal
 
 pub returns : goal.returns
 unfolding beyond

@@ -1,5 +1,5 @@
 use Rattle.std.proofs.Common.{◌∙◌}
-use Rattle.tsn_search.proofs.start.settle_first.Goals as goal
+use Rattle.tsn_search.proofs.start.settle_until.Goals as goal
 
 pub loop-preserved : goal.loop-preserved
 loop-preserved g c = record {

@@ -1,5 +1,0 @@
-use Rattle.std.proofs.Common.{sym, ◌∙◌}
-use Rattle.tsn_worker.proofs.planning.plan_alone.Goals as goal
-
-pub returns : goal.returns
-returns g c = rw (sym (c.setting-setting.ensures.timing ∙ c.in_ok-prepared.ensures.timing)) c.answer_alone-answer.ensures
