@@ -9,7 +9,7 @@ use std::process::Abort;
 use std::test::*;
 use std::time::{Clock, Duration};
 use tsn_progress::Progress;
-use tsn_worker::{Gate, News};
+use tsn_worker::{Gate, HintNews, News, Phase};
 
 /// A clock, and a standard error that is kept.
 #[derive(Drop)]
@@ -89,13 +89,61 @@ fn a_line_is_told_about_once_a_second(rt: HostRuntime) {
     );
 }
 
+/// 3 nodes in the 600 ms between two looks at the clock.
 #[test]
 fn the_end_is_told(rt: HostRuntime) {
     let console = Console::new(rt.alloc());
     let progress = Progress::new(&console);
+    progress.hear(0, news(3, 1, Some(2_924)));
     progress.end();
     console.expect(
         &rt,
-        "tsn: in all: settled 0, open 1, best none, 0 nodes a second\n",
+        "tsn: in all: settled 3, open 0, best 2924 ns, 5 nodes a second\n",
     );
+}
+
+/// The clock is looked at as the phase of the hint begins, at 600 ms, and twice for the hint, at 1200 ms and 1800 ms: the first of
+/// these lines is due, the next one isn't.
+#[test]
+fn bounds_and_hints_are_told(rt: HostRuntime) {
+    let console = Console::new(rt.alloc());
+    let progress = Progress::new(&console);
+    progress.hear_bound(2_900);
+    progress.begin(Phase::Hint);
+    progress.hear_hint(HintNews {
+        flowspan: Some(2_924),
+        stream: Some(0),
+        streams: 2,
+    });
+    progress.hear_hint(HintNews {
+        flowspan: Some(2_924),
+        stream: Some(1),
+        streams: 2,
+    });
+    console.expect(
+        &rt,
+        "tsn: so far: hint, stream 1 of 2, best 2924 ns, bound 2900 ns, gap 24 ns\n",
+    );
+}
+
+/// A phase begins its count anew, at 600 ms: 256 nodes with 130 splits leave 261 - 256 open at 1200 ms, 600 ms later.
+#[test]
+fn a_phase_counts_for_itself(rt: HostRuntime) {
+    let console = Console::new(rt.alloc());
+    let progress = Progress::new(&console);
+    progress.hear(0, news(200, 100, Some(3_000)));
+    progress.begin(Phase::Guided);
+    progress.hear(0, news(256, 130, None));
+    console.expect(
+        &rt,
+        "tsn: so far: settled 256, open 5, best none, 426 nodes a second\n",
+    );
+}
+
+#[test]
+fn nothing_is_told_where_no_node_was_settled(rt: HostRuntime) {
+    let console = Console::new(rt.alloc());
+    let progress = Progress::new(&console);
+    progress.end();
+    console.expect(&rt, "");
 }

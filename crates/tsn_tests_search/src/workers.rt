@@ -5,6 +5,7 @@ mod alone;
 mod bags;
 mod gates;
 mod hostile;
+mod methods;
 mod networks;
 mod planner;
 mod workers;

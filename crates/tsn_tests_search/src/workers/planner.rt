@@ -59,7 +59,7 @@ fn is_accepted(alloc: Global, problem: &Problem, plan: &Plan, cert: &Cert) -> bo
     }
 }
 
-fn judge(alloc: Global, problem: &Problem, answer: Answer) -> Result<Outcome, Fail> {
+pub fn judge(alloc: Global, problem: &Problem, answer: Answer) -> Result<Outcome, Fail> {
     match answer {
         Answer::Optimal(plan, cert, settled) => Ok(Outcome {
             flowspan: flowspan_of(&plan)?,
