@@ -1,4 +1,4 @@
--- In a run by the gates of a valid schedule each scheduled frame starts on time.
+-- In a run by gates that keep those of a valid schedule each scheduled frame starts on time.
 use Rattle.std.proofs.Common.{◌≡◌, ◌≢◌, ℕ, zero, suc, ◌+◌, ◌-◌, ◌*◌, ◌%◌, ◌≤◌, ◌<◌, ◌⊎◌, List, [], ◌∷◌, map, length, get_or, Contains, IsBitSet, bit_and, refl, sym, ap, ◌∙◌, subst, arith, inl, inr, mul-le-mul, mul-pos, suc-mul, add-mul, ◌/◌, ◌==◌, nat_lt, is_some, Some, None, take, sum_by, lt-ltb, suc-ne-zero, eq-eqb, ne_eqb}
 use Rattle.std.proofs.Math.ListN.{get_or-map, length-map}
 use Rattle.std.proofs.lemmas.Nat.{mod-mul-add}
@@ -12,6 +12,7 @@ use Rattle.tsn_model.specs.Timing.{occupancy, transfer, hop_delay, start, hop_en
 use Rattle.tsn_model.specs.Schedule.{IsValid, offset_of, Occupies}
 use Rattle.tsn_model.specs.Gates.{IsOctetAt, InWindow, InGuard, IsWanted, guard_of}
 use Rattle.tsn_model.specs.Bridge.{LinkGates, BackgroundOpen, Passage, ScheduledStart, BackgroundStart, BridgeRun, WireUse, link_of, length_of, scheduled_use, background_use, wire_uses, IsPassage, StartedAt, NotStartedBefore, IsReady, FitsAt, IsQueuedBefore, IsBlocked, IsBridgeRun, HasWantedGates, planned, StartsOnTime}
+use Rattle.tsn_model.specs.Kept.{KeepsOctet, IsKept, KeepsWantedGates}
 use Rattle.tsn_model.proofs.Lists.{AllPairs-tail, Contains-cons_cases, Contains-nil, Contains-head, Contains-more, from_map}
 use Rattle.tsn_model.proofs.Routes.{rate-pos, occupancy-pos, start-more, start-zero}
 
@@ -124,9 +125,22 @@ module _ (network : Network) (formed : IsWellFormed network) (i : ℕ) (counted 
       let product : 0 < (octets_of network i + 8) * (link_at network (route_link network i k)).r = mul-pos (omega arith) rate in
       omega arith
 
+-- ---- the gates that a schedule asks for keep themselves
+
+keeps_itself : (octet : ℕ) → KeepsOctet octet octet
+keeps_itself octet = record { scheduled = λ is. is; others = λ is. is }
+
+pub wanted_kept : (network : Network) (offsets : List ℕ) (gates : List LinkGates) → HasWantedGates network offsets gates → KeepsWantedGates network offsets gates
+wanted_kept network offsets gates has = record {
+  kept = λ k d inside i t octet uses at. (octet, has.wanted k d inside i t octet uses at, keeps_itself octet);
+  listed = λ i link t uses.
+      let found = has.listed i link t uses in
+      (found.0, found.1, found.2, found.3, (found.4.0, (found.4.1.0, found.4.1.1, (found.4.1.0, found.4.1.2, keeps_itself found.4.1.0))));
+}
+
 -- ---- the run
 
-module _ (network : Network) (formed : IsWellFormed network) (offsets : List ℕ) (valid : IsValid network offsets) (gates : List LinkGates) (has : HasWantedGates network offsets gates)
+module _ (network : Network) (formed : IsWellFormed network) (offsets : List ℕ) (valid : IsValid network offsets) (gates : List LinkGates) (has : KeepsWantedGates network offsets gates)
     (cycles : ℕ) (run : BridgeRun) (is : IsBridgeRun network offsets gates cycles run) where
   -- when a passage starts, counted from its cycle's start
   abbrev phase_of : Passage → ℕ
@@ -220,11 +234,14 @@ module _ (network : Network) (formed : IsWellFormed network) (offsets : List ℕ
   open_in_window link u octet window (inr (inl (outside, guard, is_closed))) = absurd (outside window)
   open_in_window link u octet window (inr (inr (outside, free, is_background))) = absurd (outside window)
 
+  kept_open : (link u octet : ℕ) → InWindow network offsets link (u % network.cycle) → IsKept network offsets link (u % network.cycle) octet → IsBitSet octet 7
+  kept_open link u octet window kept = kept.2.scheduled (open_in_window link u kept.0 window kept.1)
+
   fits_planned : (p : Passage) → IsPassage network cycles p → FitsAt network gates p (planned network offsets p)
   fits_planned p passage u begun ends =
       let window = in_window p passage u begun ends in
       let listed = has.listed p.stream (link_of network p) u (uses p passage) in
-      (listed.0, listed.1, listed.2, listed.3, (listed.4.0, (listed.4.1.0, listed.4.1.1, open_in_window (link_of network p) u listed.4.1.0 window listed.4.1.2)))
+      (listed.0, listed.1, listed.2, listed.3, (listed.4.0, (listed.4.1.0, listed.4.1.1, kept_open (link_of network p) u listed.4.1.0 window listed.4.1.2)))
 
   -- ---- windows of one link
 
@@ -316,9 +333,9 @@ module _ (network : Network) (formed : IsWellFormed network) (offsets : List ℕ
       let guard = guarded_before p passage begun.time before (subst (λ l. planned network offsets p ≤ begun.time + guard_of network l) same_link near) in
       let item_link : (get_or gates opened.0 opened.1).link ≡ link_of network p = ap (λ (item : LinkGates). item.link) opened.3 ∙ (opened.4.0 ∙ same_link) in
       let used = subst (λ l. UsesLink network p.stream l) (sym item_link) (uses p passage) in
-      let wanted = has.wanted opened.0 opened.1 opened.2 p.stream begun.time opened.4.1.0 used (subst (λ (item : LinkGates). IsOctetAt item.entries begun.time opened.4.1.0) (sym opened.3) opened.4.1.1) in
-      let wanted_here = subst (λ l. IsWanted network offsets l (begun.time % network.cycle) opened.4.1.0) item_link wanted in
-      opened.4.1.2 (closed_in (link_of network p) (begun.time % network.cycle) opened.4.1.0 (inr guard) wanted_here)
+      let kept = has.kept opened.0 opened.1 opened.2 p.stream begun.time opened.4.1.0 used (subst (λ (item : LinkGates). IsOctetAt item.entries begun.time opened.4.1.0) (sym opened.3) opened.4.1.1) in
+      let kept_here = subst (λ l. IsKept network offsets l (begun.time % network.cycle) opened.4.1.0) item_link kept in
+      kept_here.2.others opened.4.1.2 (closed_in (link_of network p) (begun.time % network.cycle) kept_here.0 (inr guard) kept_here.1)
 
   -- ---- each passage starts when it is planned, by induction on that instant
 
