@@ -2,6 +2,7 @@ pub mod Entries
 pub mod Occupancies
 pub mod Sweeping
 pub mod Wanted
+pub mod Merging
 pub mod Playing
 pub mod Links
 pub mod Tables

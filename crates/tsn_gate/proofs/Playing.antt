@@ -32,6 +32,13 @@ split_at entries i entry inside is =
     let rest : drop i entries ≡ get_or entries i entry ∷ drop (i + 1) entries = rw add-one (drop-cons entries i entry inside) in
     sym (take-append-drop i entries) ∙ (ap (λ xs. take i entries ++ xs) rest ∙ ap (λ e. take i entries ++ e ∷ drop (i + 1) entries) (sym is))
 
+-- entry i's octet at its instants
+pub octet_at-entry : (entries : List GateEntry) (i : ℕ) (d : GateEntry) (t : ℕ) → i < length entries → cycle_of (take i entries) ≤ t → t < cycle_of (take i entries) + (get_or entries i d).interval
+    → octet_at entries t ≡ (get_or entries i d).octet
+octet_at-entry entries i d t inside low high =
+    let entry = get_or entries i d in
+    ap (λ xs. octet_at xs t) (split_at entries i entry inside (get_or_default entries i d entry inside)) ∙ octet_at-push (take i entries) entry (drop (i + 1) entries) t low high
+
 -- entry i stands at instant t
 pub IsOctetAt-entry : (entries : List GateEntry) (t i left : ℕ) (d : GateEntry) → i < length entries → cycle_of (take i entries) + left ≡ t % cycle_of entries → left < (get_or entries i d).interval
     → IsOctetAt entries t (get_or entries i d).octet

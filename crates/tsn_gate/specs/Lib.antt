@@ -1,6 +1,7 @@
 pub mod Entries
 pub mod Windows
 pub mod GateLists
+pub mod Merged
 pub mod Fault
 pub mod Table
 pub mod Taprio
