@@ -1,7 +1,8 @@
 //! The replay of cycles.
 ghost use Rattle.std.specs.Prelude.{◌≡◌, ◌≤◌, ◌<◌, ℕ, length, All, IfOk, IfErr};
 ghost use Rattle.tsn_model.specs.Schedule.{IsValid};
-ghost use Rattle.tsn_model.specs.Bridge.{BridgeRun, IsBridgeRun, IsFed, HasWantedGates, StartsOnTime};
+ghost use Rattle.tsn_model.specs.Bridge.{BridgeRun, IsBridgeRun, IsFed, StartsOnTime};
+ghost use Rattle.tsn_model.specs.Kept.{KeepsWantedGates};
 ghost use Rattle.tsn_replay.specs.Feeding.{background_of};
 ghost use Rattle.tsn_replay.specs.Faults.{NamesLinks, KeepsLimits, HasReplayFault};
 ghost use Rattle.tsn_replay.specs.Rows.{AreRows};
@@ -26,6 +27,8 @@ use tsn_timing::{Timing, Valid};
 /// free, and the scheduled class open for as long as the frame occupies the link. Where none can start, a background frame
 /// does, if one waits, the wire is free and a background class open. A frame that starts before the end may end after it.
 ///
+/// By lists that keep the gates that the schedule asks for, each scheduled frame starts when it is planned to.
+///
 /// # Errors
 ///
 /// `UnknownLink` where a list or a background frame is of no link, two lists are of one link, or a link that a stream uses
@@ -47,7 +50,7 @@ pub fn replay(
     ensures fed { IfOk result (λ trace. IsFed problem.now.network lists.now cycles (background_of background.now) trace.run) }
     ensures rows { IfOk result (λ trace. AreRows problem.now.network valid.now cycles trace.run trace.rows) }
     ensures named { IfOk result (λ trace. All (λ (row : Row). row.stream < length problem.now.stream_names) trace.rows) }
-    ensures on_time { IfOk result (λ _. HasWantedGates problem.now.network valid.now lists.now
+    ensures on_time { IfOk result (λ _. KeepsWantedGates problem.now.network valid.now lists.now
         → (count : ℕ) (run : BridgeRun) → IsBridgeRun problem.now.network valid.now lists.now count run → StartsOnTime problem.now.network valid.now count run) }
     ensures links { IfOk result (λ _. NamesLinks problem.now.network lists.now (background_of background.now)) }
     ensures limits { IfOk result (λ _. KeepsLimits problem.now.network lists.now cycles (background_of background.now)) }

@@ -30,4 +30,4 @@ returns-clause-named c =
     (rows_named c.in_ok-timing.timing _ c.args.cycles _ c.in_ok-rows.rows.items (length c.args.problem.now.stream_names) names c.in_ok-rows.ensures)
 
 pub returns-clause-on_time : goal.returns-clause-on_time
-returns-clause-on_time c wanted count run is = starts_on_time c.args.problem.now.network (subst IsWellFormed c.deref-2.ensures c.cycle-limits.ensures.well_formed) c.args.valid.now c.requires.valid c.args.lists.now wanted count run is
+returns-clause-on_time c kept count run is = starts_on_time c.args.problem.now.network (subst IsWellFormed c.deref-2.ensures c.cycle-limits.ensures.well_formed) c.args.valid.now c.requires.valid c.args.lists.now kept count run is
