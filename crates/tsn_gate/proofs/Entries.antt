@@ -1,5 +1,5 @@
 -- Entries of a gate control list, one more of them, and the octets that they show.
-use Rattle.std.proofs.Common.{◌≡◌, ◌≢◌, ℕ, suc, ◌+◌, ◌-◌, ◌≤◌, ◌<◌, List, [], ◌∷◌, ◌++◌, length, get_or, set, Some, nat_lt, refl, sym, ap, ◌∙◌, subst, arith, inl, inr}
+use Rattle.std.proofs.Common.{◌≡◌, ◌≢◌, ℕ, suc, ◌+◌, ◌-◌, ◌≤◌, ◌<◌, ◌⊎◌, List, [], ◌∷◌, ◌++◌, length, get_or, set, Some, nat_lt, refl, sym, ap, ◌∙◌, subst, arith, inl, inr}
 use Rattle.std.proofs.lemmas.List.{length-append, set-get_or}
 use Rattle.std.proofs.lemmas.List.Sums.{sum_by-cons, sum_by_push}
 use Rattle.std.proofs.lemmas.List.Elements.{All-nil, All-cons, All-append, All-pop}
@@ -7,8 +7,8 @@ use Rattle.std.proofs.lemmas.Bool.{cases_lt, cond-true, cond-false, lt-ltb, le-l
 use Rattle.std.proofs.Math.Seq.{set-append_seam, get_or-append_seam}
 use Rattle.std.proofs.Math.ListN.{get_or-append}
 use Rattle.tsn_model.specs.declared.GateEntry.{GateEntry}
-use Rattle.tsn_model.specs.Gates.{cycle_of}
-use Rattle.tsn_gate.specs.Entries.{octet_at, Appends, NeighboursDiffer}
+use Rattle.tsn_model.specs.Gates.{cycle_of, scheduled_octet}
+use Rattle.tsn_gate.specs.Entries.{octet_at, Appends, LastsLong, NeighboursDiffer}
 
 -- ---- how long entries last
 
@@ -90,6 +90,13 @@ NeighboursDiffer-last xs entry differ d some =
 
 -- ---- one more entry
 
+abbrev IsLong : ℕ → GateEntry → Type 0
+IsLong least entry = (entry.octet ≡ scheduled_octet) ⊎ (least ≤ entry.interval)
+
+longer_long : (least : ℕ) (entry : GateEntry) (interval : ℕ) → IsLong least entry → IsLong least (record { interval = entry.interval + interval; octet = entry.octet })
+longer_long least entry interval (inl scheduled) = inl scheduled
+longer_long least entry interval (inr lasts) = inr (omega arith)
+
 pub Appends-push : (old : List GateEntry) (entry : GateEntry) → 1 ≤ entry.interval → ((d : GateEntry) → 0 < length old → (get_or old (length old - 1) d).octet ≢ entry.octet) → Appends old (old ++ entry ∷ []) entry.interval entry.octet
 Appends-push old entry lasts other = record {
   whole = cycle_of-push old entry;
@@ -97,6 +104,7 @@ Appends-push old entry lasts other = record {
   shown = λ t low high. octet_at-push old entry [] t low high;
   positive = λ all. All-append (λ (e : GateEntry). 1 ≤ e.interval) old (entry ∷ []) all (All-cons (λ (e : GateEntry). 1 ≤ e.interval) entry [] lasts (All-nil (λ (e : GateEntry). 1 ≤ e.interval)));
   differ = λ differ. NeighboursDiffer-push old entry differ other;
+  long = λ least is all. All-append (IsLong least) old (entry ∷ []) all (All-cons (IsLong least) entry [] is (All-nil (IsLong least)));
 }
 
 -- a last entry that is lengthened
@@ -120,6 +128,9 @@ Appends-lengthen_front front last interval =
           let one : 1 ≤ last.interval = kept.1 in
           All-append (λ (e : GateEntry). 1 ≤ e.interval) front (longer ∷ []) kept.0 (All-cons (λ (e : GateEntry). 1 ≤ e.interval) longer [] (omega arith) (All-nil (λ (e : GateEntry). 1 ≤ e.interval)));
       differ = λ differ. NeighboursDiffer-push front longer (NeighboursDiffer-front front last differ) (NeighboursDiffer-last front last differ);
+      long = λ least is all.
+          let kept = All-pop (IsLong least) (front ++ last ∷ []) front (Some last) refl all in
+          All-append (IsLong least) front (longer ∷ []) kept.0 (All-cons (IsLong least) longer [] (longer_long least last interval kept.1) (All-nil (IsLong least)));
     }
 
 -- a list that ends in x
@@ -170,6 +181,12 @@ Appends-push_other old n last entry lasts long some is other =
 -- there is no entry yet
 pub Appends-push_first : (old : List GateEntry) (entry : GateEntry) → 1 ≤ entry.interval → length old ≡ 0 → Appends old (old ++ entry ∷ []) entry.interval entry.octet
 Appends-push_first old entry lasts none = Appends-push old entry lasts (λ d some. absurd (omega arith))
+
+-- what stands for some time stands long enough
+pub lasts_long : (least interval octet : ℕ) → 1 ≤ interval → LastsLong least interval octet → (octet ≡ scheduled_octet) ⊎ (least ≤ interval)
+lasts_long least interval octet some (inl scheduled) = inl scheduled
+lasts_long least interval octet some (inr (inl lasts)) = inr lasts
+lasts_long least interval octet some (inr (inr none)) = absurd (omega arith)
 
 -- the last entry is no longer than all of them
 pub last-le : (entries : List GateEntry) (n : ℕ) (last : GateEntry) → n ≡ length entries → 0 < n → last ≡ get_or entries (n - 1) last → last.interval ≤ cycle_of entries

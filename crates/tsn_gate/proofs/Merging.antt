@@ -81,8 +81,8 @@ IsGateList-merged wanted entries is timeline =
     }
 
 module _ (network : Network) (offsets : List ℕ) (formed : IsWellFormed network) where
-  pub IsKeptList-merged : (wanted list : LinkGates) → IsWantedList network offsets wanted → IsMerged wanted list → IsKeptList network offsets list
-  IsKeptList-merged wanted list is merged =
+  pub IsKeptList-merged : (least : ℕ) (wanted list : LinkGates) → IsWantedList network offsets wanted → IsMerged least wanted list → IsKeptList network offsets list
+  IsKeptList-merged least wanted list is merged =
       let whole : cycle_of list.entries ≡ network.cycle = merged.timeline.whole ∙ is.whole in record {
         kept = λ t octet below at.
             let some : 1 ≤ cycle_of wanted.entries = (let some_cycle = formed.some_cycle in let long = is.whole in omega arith) in
@@ -118,7 +118,7 @@ module _ (network : Network) (offsets : List ℕ) (formed : IsWellFormed network
 
   -- ---- the lists of all links
 
-  module _ (wanted lists : List LinkGates) (are : AreWantedLists network offsets wanted) (merged : AreMerged wanted lists) where
+  module _ (wanted lists : List LinkGates) (are : AreWantedLists network offsets wanted) (least : ℕ) (merged : AreMerged least wanted lists) where
     inside_wanted : (k : ℕ) → k < length lists → k < length wanted
     inside_wanted k below = let count = merged.count in omega arith
 
@@ -126,19 +126,23 @@ module _ (network : Network) (offsets : List ℕ) (formed : IsWellFormed network
     same_link k d below = (merged.each k d (inside_wanted k below)).same_link
 
     all_kept : All (IsKeptList network offsets) lists
-    all_kept k d below = IsKeptList-merged (get_or wanted k d) (get_or lists k d) (are.wanted k d (inside_wanted k below)) (merged.each k d (inside_wanted k below))
+    all_kept k d below = IsKeptList-merged least (get_or wanted k d) (get_or lists k d) (are.wanted k d (inside_wanted k below)) (merged.each k d (inside_wanted k below))
 
     all_listed : (link : ℕ) → IsUsed network link → Any (λ list. list.link ≡ link) lists
     all_listed link used =
         let has = are.all_used link used in
         let count = merged.count in
         let below : has.0 < length lists = (let inside = has.2 in omega arith) in
-        let d = has.1 in
-        (has.0, get_or lists has.0 d, below, get_or_default lists has.0 (get_or lists has.0 d) d below,
-        same_link has.0 d below ∙ (ap (λ (list : LinkGates). list.link) has.3 ∙ has.4))
+        let d = has.1 in (
+          has.0,
+          get_or lists has.0 d,
+          below,
+          get_or_default lists has.0 (get_or lists has.0 d) d below,
+          same_link has.0 d below ∙ (ap (λ (list : LinkGates). list.link) has.3 ∙ has.4),
+        )
 
-    pub AreMergedLists-merged : (least : ℕ) → (least ≡ 0 → ⊥) → AreMergedLists network offsets least lists
-    AreMergedLists-merged least some = record {
+    pub AreMergedLists-merged : (least ≡ 0 → ⊥) → AreMergedLists network offsets least lists
+    AreMergedLists-merged some = record {
       kept = all_kept;
       used = λ k d below. subst (IsUsed network) (sym (same_link k d below)) (are.used k d (inside_wanted k below));
       all_used = all_listed;
@@ -148,6 +152,7 @@ module _ (network : Network) (offsets : List ℕ) (formed : IsWellFormed network
           let second = same_link k d below in
           let ordered = are.in_order j k d order (inside_wanted k below) in
           omega arith;
+      long = λ k d below. (merged.each k d (inside_wanted k below)).long;
       exact = λ none. absurd (some none);
     }
 
@@ -160,13 +165,14 @@ module _ (network : Network) (offsets : List ℕ) (formed : IsWellFormed network
     whole = is.whole;
   }
 
-  pub AreMergedLists-wanted : (least : ℕ) (lists : List LinkGates) → AreWantedLists network offsets lists → AreMergedLists network offsets least lists
-  AreMergedLists-wanted least lists are = record {
+  pub AreMergedLists-wanted : (least : ℕ) → least ≡ 0 → (lists : List LinkGates) → AreWantedLists network offsets lists → AreMergedLists network offsets least lists
+  AreMergedLists-wanted least none lists are = record {
     kept = λ k d below. wanted_kept (get_or lists k d) (are.wanted k d below);
     used = are.used;
     all_used = are.all_used;
     in_order = are.in_order;
-    exact = λ none. are;
+    long = λ k d below j e within. inr (omega arith);
+    exact = λ _. are;
   }
 
   pub KeepsWantedGates-merged : (least : ℕ) (lists : List LinkGates) → AreMergedLists network offsets least lists → KeepsWantedGates network offsets lists

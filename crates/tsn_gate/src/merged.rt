@@ -1,10 +1,10 @@
 //! Lists with fewer and longer entries, which keep the gates that a schedule asks for.
-ghost use Rattle.std.specs.Prelude.{◌≡◌, ◌+◌, ◌^◌, ◌≤◌, ◌<◌, ℕ, length, slice_index_or, All, IfOk, OnOk};
+ghost use Rattle.std.specs.Prelude.{◌≡◌, ◌+◌, ◌-◌, ◌^◌, ◌≤◌, ◌<◌, ℕ, length, slice_index_or, All, IfOk, OnOk};
 ghost use Rattle.tsn_model.specs.declared.GateEntry.{GateEntry};
 ghost use Rattle.tsn_model.specs.Schedule.{IsValid};
 ghost use Rattle.tsn_model.specs.Gates.{cycle_of};
 ghost use Rattle.tsn_model.specs.Kept.{KeepsWantedGates};
-ghost use Rattle.tsn_gate.specs.Entries.{IsGateList, IsTimeline, KeepsOctets, octet_at};
+ghost use Rattle.tsn_gate.specs.Entries.{AllLong, LastsLong, IsGateList, IsTimeline, KeepsOctets, octet_at};
 ghost use Rattle.tsn_gate.specs.Merged.{IsRaised, Raises, IsPart, IsMerged, AreMerged, AreMergedLists, AreListsBy};
 
 use crate::list::GateList;
@@ -88,7 +88,7 @@ pub fn merged_lists(
 
 /// The lists, merged.
 fn merge_all(alloc: Global, lists: &[GateList], least: u64) -> Result<Vec<GateList>, AllocError>
-    ensures { IfOk result (λ merged. AreMerged lists.now merged.items) }
+    ensures { IfOk result (λ merged. AreMerged least lists.now merged.items) }
 {
     let mut merged = Vec::new(alloc);
     for list in lists {
@@ -99,7 +99,7 @@ fn merge_all(alloc: Global, lists: &[GateList], least: u64) -> Result<Vec<GateLi
 
 /// The list, merged.
 fn merge(alloc: Global, list: &GateList, least: u64) -> Result<GateList, AllocError>
-    ensures { IfOk result (IsMerged list.now) }
+    ensures { IfOk result (IsMerged least list.now) }
 {
     let entries = list.entries();
     let _lasts = list.cycle();
@@ -118,6 +118,7 @@ fn shown(
 ) -> Result<Vec<GateEntry>, AllocError>
     requires { cycle_of entries.now < 2 ^ 64 }
     ensures timeline { IfOk result (λ new. IsTimeline new.items (cycle_of entries.now)) }
+    ensures long { IfOk result (λ new. pass ≡ Pass.Lengthen → AllLong least new.items) }
     ensures raised { IfOk result (λ new. Raises entries.now new.items (cycle_of entries.now)) }
 {
     let mut timeline = Timeline::new(alloc);
@@ -134,18 +135,22 @@ fn show(timeline: &mut Timeline, entry: GateEntry, part: Part) -> Result<(), All
     requires part { IsPart entry part }
     ensures end { OnOk result (timeline.new.end ≡ timeline.old.end + entry.interval) }
     ensures before { OnOk result (KeepsOctets timeline.old.entries.items timeline.new.entries.items timeline.old.end) }
+    ensures long { OnOk result ((least : ℕ) → LastsLong least (part.until - part.from) part.octet
+        → AllLong least timeline.old.entries.items → AllLong least timeline.new.entries.items) }
     ensures raised { OnOk result ((t : ℕ) → timeline.old.end ≤ t → t < timeline.old.end + entry.interval → IsRaised entry.octet (octet_at timeline.new.entries.items t)) }
 {
     let start = timeline.end;
     timeline.extend(start + part.from, SCHEDULED)?;
     timeline.extend(start + part.until, part.octet)?;
-    timeline.extend(start + entry.interval, SCHEDULED)
+    timeline.extend(start + entry.interval, SCHEDULED)?;
+    Ok(())
 }
 
 /// The part that a pass leaves of an entry.
 fn part_of(entries: &[GateEntry], index: usize, pass: Pass, least: u64) -> Part
     requires { index < length entries.now }
-    ensures { (d : GateEntry) → IsPart (slice_index_or entries.now index d) result }
+    ensures part { (d : GateEntry) → IsPart (slice_index_or entries.now index d) result }
+    ensures long { pass ≡ Pass.Lengthen → LastsLong least (result.until - result.from) result.octet }
 {
     let entry = entries[index];
     match pass {
@@ -196,7 +201,8 @@ fn joined(entries: &[GateEntry], index: usize, least: u64) -> u8
 /// where that is too short.
 fn left(entries: &[GateEntry], index: usize, least: u64) -> Part
     requires { index < length entries.now }
-    ensures { (d : GateEntry) → IsPart (slice_index_or entries.now index d) result }
+    ensures part { (d : GateEntry) → IsPart (slice_index_or entries.now index d) result }
+    ensures long { LastsLong least (result.until - result.from) result.octet }
 {
     let entry = entries[index];
     let first = if index == 1 {

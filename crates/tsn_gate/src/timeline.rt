@@ -1,8 +1,8 @@
 //! Entries that are made from the cycle's start on.
 
-ghost use Rattle.std.specs.Prelude.{◌≡◌, ℕ, ◌+◌, ◌^◌, ◌≤◌, ◌<◌, OnOk, OnErr};
+ghost use Rattle.std.specs.Prelude.{◌≡◌, [], ℕ, ◌+◌, ◌-◌, ◌^◌, ◌≤◌, ◌<◌, OnOk, OnErr};
 ghost use Rattle.tsn_model.specs.Gates.{cycle_of};
-ghost use Rattle.tsn_gate.specs.Entries.{HasOctet, KeepsOctets, Appends, IsTimeline, octet_at};
+ghost use Rattle.tsn_gate.specs.Entries.{HasOctet, KeepsOctets, Appends, AllLong, LastsLong, IsTimeline, octet_at};
 ghost use Rattle.tsn_gate.specs.Windows.{IsGapOctet};
 
 use std::alloc::{AllocError, Global};
@@ -29,7 +29,8 @@ pub struct Timeline {
 impl Timeline {
     /// No entry yet.
     pub fn new(alloc: Global) -> Self
-        ensures { result.end ≡ 0 }
+        ensures end { result.end ≡ 0 }
+        ensures none { result.entries.items ≡ [] }
     {
         Timeline {
             entries: Vec::new(alloc),
@@ -43,6 +44,7 @@ impl Timeline {
         ensures end { OnOk result (self.new.end ≡ end) }
         ensures before { OnOk result (KeepsOctets self.old.entries.items self.new.entries.items self.old.end) }
         ensures shown { OnOk result (HasOctet self.new.entries.items self.old.end end octet) }
+        ensures long { OnOk result ((least : ℕ) → LastsLong least (end - self.old.end) octet → AllLong least self.old.entries.items → AllLong least self.new.entries.items) }
     {
         if self.end < end {
             append(

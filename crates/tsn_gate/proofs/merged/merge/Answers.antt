@@ -1,4 +1,4 @@
-use Rattle.std.proofs.Common.{sym, subst}
+use Rattle.std.proofs.Common.{refl, sym, subst}
 use Rattle.tsn_gate.specs.Merged.{IsMerged}
 use Rattle.tsn_gate.proofs.Merging.{Passed, passed_thrice, IsGateList-merged}
 use Rattle.tsn_gate.proofs.merged.merge.Goals as goal
@@ -17,4 +17,4 @@ returns c =
     c.entries-entries.ensures.entries c.deref.ensures.value c.deref-2.ensures.value
     (record { timeline = c.in_ok-closed.ensures.timeline; raised = c.in_ok-closed.ensures.raised }) (record { timeline = c.in_ok-joined.ensures.timeline; raised = c.in_ok-joined.ensures.raised })
     (record { timeline = c.in_ok-lengthened.ensures.timeline; raised = c.in_ok-lengthened.ensures.raised }) in
-    subst (IsMerged c.args.list.now) (sym c.of.ensures) (record { same_link = c.link.ensures; timeline = passed.timeline; raised = passed.raised })
+    subst (IsMerged c.args.least c.args.list.now) (sym c.of.ensures) (record { same_link = c.link.ensures; timeline = passed.timeline; raised = passed.raised; long = c.in_ok-lengthened.ensures.long refl })

@@ -4,4 +4,4 @@ use Rattle.tsn_gate.specs.Merged.{IsMerged}
 use Rattle.tsn_gate.proofs.merged.merge_all.Given as goal
 
 abbrev pub invariant-loop-list : goal.invariant-loop-list
-invariant-loop-list l = record { count : length l.merged.items ≡ l.list-index; each : (k : ℕ) (d : LinkGates) → k < l.list-index → IsMerged (get_or l.lists k d) (get_or l.merged.items k d) }
+invariant-loop-list l = record { count : length l.merged.items ≡ l.list-index; each : (k : ℕ) (d : LinkGates) → k < l.list-index → IsMerged l.least (get_or l.lists k d) (get_or l.merged.items k d) }
