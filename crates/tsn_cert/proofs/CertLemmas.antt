@@ -162,7 +162,7 @@ tie_no_float (positive_cycle chain) cs = refl
 tie_no_float (load link entries) cs = rw (no_float-items entry_value entry_no_float entries, no_float-items chain_value chain_no_float cs) refl
 tie_no_float (overload link entries) cs = refl
 
-node_no_float : (n : Node) → has_float (node_value n) ≡ false
+pub node_no_float : (n : Node) → has_float (node_value n) ≡ false
 node_no_float (split_node t) = refl
 node_no_float (leaf_node l) = leaf_no_float l
 node_no_float (tie_node l cs) = tie_no_float l cs

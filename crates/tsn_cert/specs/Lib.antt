@@ -4,3 +4,4 @@ pub mod Plan
 pub mod Entry
 pub mod Node
 pub mod Cert
+pub mod Text

@@ -565,7 +565,7 @@ fn nodes_value(alloc: Global, nodes: &[Node]) -> Result<Value, AllocError>
     Ok(Value::Array(items))
 }
 
-fn node_value(alloc: Global, node: &Node) -> Result<Value, AllocError>
+pub(crate) fn node_value(alloc: Global, node: &Node) -> Result<Value, AllocError>
     ensures value { IfOk result (λ v. view v ≡ node_value (tree_node node.now)) }
     ensures reads_back { OnOk result
         (node_of (node_value (tree_node node.now)) ≡ Some (tree_node node.now)) }

@@ -8,6 +8,7 @@ mod document;
 pub mod entries;
 pub mod fault;
 pub mod plan;
+pub mod text;
 
 pub use cert::{Cert, Format, Node, Nodes, cert_from_json, cert_to_json};
 pub use chain::Chain;
@@ -15,3 +16,4 @@ pub use chains::Chains;
 pub use entries::Entries;
 pub use fault::FileFault;
 pub use plan::{Offsets, Plan, plan_from_json, plan_to_json};
+pub use text::{cert_text_has_parts, head_to_json, node_to_json, tail_to_json};
