@@ -1,10 +1,12 @@
 -- The walk that spells a finished tree.
-use Rattle.std.proofs.Common.{◌≡◌, ◌≢◌, ℕ, ◌+◌, ◌<◌, List, [], ◌∷◌, ◌++◌, map, length, AllPairs, Contains, true, refl, sym, ap, ◌∙◌, subst, arith, append_assoc, Option, Some}
-use Rattle.std.specs.Prelude.{slice_get}
+use Rattle.std.proofs.Common.{◌≡◌, ◌≢◌, ℕ, ◌+◌, ◌<◌, List, [], ◌∷◌, ◌++◌, map, length, All, AllPairs, Contains, true, refl, sym, ap, ap₂, ◌∙◌, subst, arith, append_assoc, Option, Some}
+use Rattle.std.specs.Prelude.{slice_get, IsPermutation}
 use Rattle.std.specs.List.{slice_index_or}
 use Rattle.std.proofs.lemmas.Bool.{both_ways}
 use Rattle.std.proofs.lemmas.List.{append-nil, length-append, length-map, map-append, nil_from_length, get_or_default}
-use Rattle.std.proofs.lemmas.List.Elements.{All-contains, Contains-append_left, Contains-append_right}
+use Rattle.std.proofs.lemmas.List.Elements.{All-nil, All-cons, All-head, All-tail, All-weaker, All-contains, Contains-append_left, Contains-append_right}
+use Rattle.std.proofs.lemmas.List.Kept.{AllPairs-cons}
+use Rattle.std.proofs.lemmas.Option.{slice_get_within}
 use Rattle.std.proofs.lemmas.List.Sorted.{IsPermutation-sym, All-permutation, Contains-permutation, length_permutation}
 use Rattle.tsn_model.specs.declared.Triple.{Triple}
 use Rattle.tsn_model.specs.declared.Side.TheVariants.{Left, Right}
@@ -15,6 +17,8 @@ use Rattle.tsn_model.specs.Search.{Outcome, split, solved, pruned, tied, refuted
 use Rattle.tsn_model.proofs.Lists.{Contains-head, Contains-more, AllPairs-head, AllPairs-tail}
 use Rattle.tsn_timing.specs.Solution.{Solution}
 use Rattle.tsn_search_laws.specs.Order.{node_of}
+use Rattle.tsn_search_laws.specs.Laws.{AreAcceptedTree}
+use Rattle.tsn_search_laws.proofs.Lists.{AllPairs-nil}
 use Rattle.tsn_search_laws.proofs.Histories.{settled_at}
 use Rattle.tsn_search_laws.proofs.Growths.{Growth, open_place, leaf_place, branch_place, in_order, open_in, Stands, Backs, legal_growth, grown_tree, nil-left, nil-right}
 use Rattle.tsn_search_laws.proofs.Preorders.{SettledBefore, in_order_ordered, Precedes-irreflexive}
@@ -26,8 +30,8 @@ use Rattle.tsn_book.specs.declared.standings.Standing.{Standing}
 use Rattle.tsn_book.specs.declared.standings.Standing.TheVariants.{Open, Split, Leaf}
 use Rattle.tsn_book.specs.declared.log.Settled.{Settled}
 use Rattle.tsn_book.specs.Arena.{path_at, paths_of, history_of, IsEvent, IsPlaced, IsTree}
-use Rattle.tsn_book.specs.Book.{SpellsAccepted, planned, HasTie}
-use Rattle.tsn_book.specs.Spelling.{rest_of, IsGrown, Waits, settled_node, IsWalk}
+use Rattle.tsn_book.specs.Book.{SpellsAccepted, AreNodesOf, planned, IsPlanOf, HasTie}
+use Rattle.tsn_book.specs.Spelling.{rest_of, IsGrown, Waits, AreNumbers, IsWalk, IsOrder, numbered_node, left_nodes, IsSpelling}
 use Rattle.tsn_book.proofs.Places.{length-paths_of, event_among, same_settlement, root_place, leaf_is_no_split}
 use Rattle.tsn_book.proofs.Asking.{length-history_of}
 use Rattle.tsn_book.proofs.Bookkeeping.{stored_outcome}
@@ -86,10 +90,10 @@ headed path (branch_place settlement triple first second) stands closed = record
 -- ---- the walk
 
 -- the walk's first step
-pub walk_begins : (network : Network) (plan : Option (List ℕ)) (origins : List Origin) (standings : List Standing) (events : List Settled) → IsTree network origins standings events → open_paths (history_of origins events) ≡ []
-    → IsWalk network plan (paths_of origins) (history_of origins events) events events (0 ∷ []) []
+pub walk_begins : (network : Network) (origins : List Origin) (standings : List Standing) (events : List Settled) → IsTree network origins standings events → open_paths (history_of origins events) ≡ []
+    → IsWalk (paths_of origins) (history_of origins events) (0 ∷ []) []
 unfolding rest_of
-walk_begins network plan origins standings events tree finished =
+walk_begins network origins standings events tree finished =
     let of = legal_growth network (history_of origins events) tree.legal in
     let closed : open_in [] of.growth ≡ [] = nil_from_length (open_in [] of.growth) (of.as_many_open ∙ ap length finished) in
     let root = root_place network origins standings events tree in
@@ -109,33 +113,29 @@ walk_begins network plan origins standings events tree finished =
         tt,
       );
       parts = refl;
-      spelled = refl;
-      counted = refl;
-      kept = λ event settlement at found d. refl;
+      numbered = refl;
     }
 
--- what is still to be spelled was settled
-pub rest_among : (network : Network) (plan : Option (List ℕ)) (paths : List (List Decision)) (history : List Settlement) (initial events : List Settled) (stack : List ℕ) (nodes : List Node) → (walk : IsWalk network plan paths history initial events stack nodes)
-    → (settlement : Settlement) → Contains (rest_of walk.growths) settlement → Contains history settlement
-rest_among network plan paths history initial events stack nodes walk settlement found =
+-- what is still to be passed was settled
+rest_among : (paths : List (List Decision)) (history : List Settlement) (stack numbers : List ℕ) → (walk : IsWalk paths history stack numbers) → (settlement : Settlement) → Contains (rest_of walk.growths) settlement → Contains history settlement
+rest_among paths history stack numbers walk settlement found =
     Contains-permutation (in_order walk.whole) history settlement (IsPermutation-sym history (in_order walk.whole) walk.same)
     (subst (λ xs. Contains xs settlement) (sym walk.parts) (Contains-append_right walk.done (rest_of walk.growths) settlement found))
 
 -- the top of the stack
-pub record Top (network : Network) (plan : Option (List ℕ)) (paths : List (List Decision)) (history : List Settlement) (initial events : List Settled) (stack : List ℕ) (place : ℕ) (nodes : List Node) : Type 0 where
-  pub walk : IsWalk network plan paths history initial events (stack ++ place ∷ []) nodes
-  pub others : List Growth
-  pub growth : Growth
-  pub wait : Waits paths stack others
-  pub grown : IsGrown paths place growth
-  pub rest : rest_of walk.growths ≡ in_order growth ++ rest_of others
-  pub head : Headed (path_at paths place) growth
-  pub among : Contains history head.first
-  pub waiting : Contains (rest_of walk.growths) head.first
+record Top (paths : List (List Decision)) (history : List Settlement) (stack : List ℕ) (place : ℕ) (numbers : List ℕ) : Type 0 where
+  walk : IsWalk paths history (stack ++ place ∷ []) numbers
+  others : List Growth
+  growth : Growth
+  wait : Waits paths stack others
+  grown : IsGrown paths place growth
+  rest : rest_of walk.growths ≡ in_order growth ++ rest_of others
+  head : Headed (path_at paths place) growth
+  among : Contains history head.first
+  waiting : Contains (rest_of walk.growths) head.first
 
-pub top : (network : Network) (plan : Option (List ℕ)) (paths : List (List Decision)) (history : List Settlement) (initial events : List Settled) (stack : List ℕ) (place : ℕ) (nodes : List Node)
-    → IsWalk network plan paths history initial events (stack ++ place ∷ []) nodes → Top network plan paths history initial events stack place nodes
-top network plan paths history initial events stack place nodes walk =
+top : (paths : List (List Decision)) (history : List Settlement) (stack : List ℕ) (place : ℕ) (numbers : List ℕ) → IsWalk paths history (stack ++ place ∷ []) numbers → Top paths history stack place numbers
+top paths history stack place numbers walk =
     let last = last_waits paths stack place walk.growths walk.waits in
     let head = headed (path_at paths place) last.growth last.grown.stands last.grown.closed in
     let rest : rest_of walk.growths ≡ in_order last.growth ++ rest_of last.others = ap rest_of last.is ∙ rest_of-snoc last.others last.growth in
@@ -148,44 +148,42 @@ top network plan paths history initial events stack place nodes walk =
       grown = last.grown;
       rest = rest;
       head = head;
-      among = rest_among network plan paths history initial events (stack ++ place ∷ []) nodes walk head.first waiting;
+      among = rest_among paths history (stack ++ place ∷ []) numbers walk head.first waiting;
       waiting = waiting;
     }
 
--- there is room for one more node
-pub walk_room : (network : Network) (plan : Option (List ℕ)) (paths : List (List Decision)) (history : List Settlement) (initial events : List Settled) (stack : List ℕ) (place : ℕ) (nodes : List Node)
-    → IsWalk network plan paths history initial events (stack ++ place ∷ []) nodes → length nodes < length history
-walk_room network plan paths history initial events stack place nodes walk =
-    let at = top network plan paths history initial events stack place nodes walk in
+-- as many numbers as settlements
+numbers_counted : (history : List Settlement) (numbers : List ℕ) (settlements : List Settlement) → AreNumbers history numbers settlements → length numbers ≡ length settlements
+numbers_counted history numbers settlements numbered = sym (length-map numbers (slice_get history)) ∙ ap length numbered ∙ length-map settlements (λ s. Some s)
+
+-- there is room for one more number
+pub walk_room : (paths : List (List Decision)) (history : List Settlement) (stack : List ℕ) (place : ℕ) (numbers : List ℕ) → IsWalk paths history (stack ++ place ∷ []) numbers → length numbers < length history
+walk_room paths history stack place numbers walk =
+    let at = top paths history stack place numbers walk in
     let total : length (in_order at.walk.whole) ≡ length at.walk.done + length (rest_of at.walk.growths) = ap length at.walk.parts ∙ length-append at.walk.done (rest_of at.walk.growths) in
     let many = length_permutation history (in_order at.walk.whole) at.walk.same in
-    let so_far : length nodes ≡ length at.walk.done = ap length at.walk.spelled ∙ length-map at.walk.done (settled_node network plan) in
+    let so_far = numbers_counted history numbers at.walk.done at.walk.numbered in
     omega (arith, total, many, so_far, at.waiting.1)
 
 -- ---- steps
 
 -- an open place doesn't wait
-pub open_waits : (network : Network) (plan : Option (List ℕ)) (origins : List Origin) (standings : List Standing) (events : List Settled) → IsTree network origins standings events → (now : List Settled) (stack : List ℕ) (place : ℕ) (nodes : List Node)
-    → IsWalk network plan (paths_of origins) (history_of origins events) events now (stack ++ place ∷ []) nodes → IsPlaced (paths_of origins) (history_of origins events) place Open → ⊥
-open_waits network plan origins standings events tree now stack place nodes walk placed =
-    let at = top network plan (paths_of origins) (history_of origins events) events now stack place nodes walk in
-    both_ways (is_settled (history_of origins events) (path_at (paths_of origins) place)) placed
-    (subst (λ path. is_settled (history_of origins events) path ≡ true) at.head.at (settled_at (history_of origins events) at.head.first at.among))
+pub open_waits : (paths : List (List Decision)) (history : List Settlement) (stack : List ℕ) (place : ℕ) (numbers : List ℕ) → IsWalk paths history (stack ++ place ∷ []) numbers → IsPlaced paths history place Open → ⊥
+open_waits paths history stack place numbers walk placed =
+    let at = top paths history stack place numbers walk in
+    both_ways (is_settled history (path_at paths place)) placed (subst (λ path. is_settled history path ≡ true) at.head.at (settled_at history at.head.first at.among))
 
 -- a place that waits exists
-pub waits_within : (network : Network) (plan : Option (List ℕ)) (origins : List Origin) (standings : List Standing) (events : List Settled) → IsTree network origins standings events → (now : List Settled) (stack : List ℕ) (place : ℕ) (nodes : List Node)
-    → IsWalk network plan (paths_of origins) (history_of origins events) events now (stack ++ place ∷ []) nodes → place < length origins
-waits_within network plan origins standings events tree now stack place nodes walk =
-    let at = top network plan (paths_of origins) (history_of origins events) events now stack place nodes walk in
+pub waits_within : (origins : List Origin) (history : List Settlement) (stack : List ℕ) (place : ℕ) (numbers : List ℕ) → IsWalk (paths_of origins) history (stack ++ place ∷ []) numbers → place < length origins
+waits_within origins history stack place numbers walk =
+    let at = top (paths_of origins) history stack place numbers walk in
     omega (arith, at.grown.within, length-paths_of origins)
 
--- one more settlement is spelled
-pub advance : (network : Network) (plan : Option (List ℕ)) (paths : List (List Decision)) (history : List Settlement) (initial events : List Settled) (stack : List ℕ) (nodes : List Node) → (walk : IsWalk network plan paths history initial events stack nodes)
+-- one more settlement is passed
+advance : (paths : List (List Decision)) (history : List Settlement) (stack numbers : List ℕ) → (walk : IsWalk paths history stack numbers)
     → (settlement : Settlement) (growths : List Growth) → rest_of walk.growths ≡ settlement ∷ rest_of growths → (places : List ℕ) → Waits paths places growths
-    → (now : List Settled) → length now ≡ length events
-    → ((event : ℕ) (other : Settlement) → slice_get history event ≡ Some other → Contains (rest_of growths) other → (d : Settled) → slice_index_or now event d ≡ slice_index_or events event d)
-    → (node : Node) → node ≡ settled_node network plan settlement → IsWalk network plan paths history initial now places (nodes ++ node ∷ [])
-advance network plan paths history initial events stack nodes walk settlement growths rest places waits now as_many untouched node is =
+    → (number : ℕ) → slice_get history number ≡ Some settlement → IsWalk paths history places (numbers ++ number ∷ [])
+advance paths history stack numbers walk settlement growths rest places waits number there =
     record {
       whole = walk.whole;
       same = walk.same;
@@ -195,11 +193,9 @@ advance network plan paths history initial events stack nodes walk settlement gr
       growths = growths;
       waits = waits;
       parts = walk.parts ∙ ap (λ xs. walk.done ++ xs) rest ∙ sym (append_assoc walk.done (settlement ∷ []) (rest_of growths));
-      spelled = ap (λ ns. ns ++ node ∷ []) walk.spelled ∙ ap (λ n. map (settled_node network plan) walk.done ++ n ∷ []) is ∙ sym (map-append (settled_node network plan) walk.done (settlement ∷ []));
-      counted = as_many ∙ walk.counted;
-      kept = λ event other at found d.
-          untouched event other at found d
-          ∙ walk.kept event other at (subst (λ xs. Contains xs other) (sym rest) (Contains-more settlement (rest_of growths) other found)) d;
+      numbered = map-append (slice_get history) numbers (number ∷ [])
+          ∙ ap₂ (λ xs x. xs ++ x ∷ []) walk.numbered there
+          ∙ sym (map-append (λ (s : Settlement). Some s) walk.done (settlement ∷ []));
     }
 
 -- the settlement of a place, by its event
@@ -210,18 +206,18 @@ one_settlement network history legal path outcome event is settlement found at =
     same_settlement network history legal settlement stored found (event_among history stored event is.within is.there.1) at
 
 -- what has grown at a split
-record SplitParts (paths : List (List Decision)) (growth : Growth) (triple : Triple) (children : ℕ) : Type 0 where
+record SplitParts (paths : List (List Decision)) (history : List Settlement) (growth : Growth) (children event : ℕ) : Type 0 where
   settlement : Settlement
   first : Growth
   second : Growth
   is : in_order growth ≡ settlement ∷ (in_order first ++ in_order second)
-  outcome : settlement.event.outcome ≡ split triple
+  there : slice_get history event ≡ Some settlement
   left : IsGrown paths children first
   right : IsGrown paths (children + 1) second
 
 split_parts : (network : Network) (paths : List (List Decision)) (history : List Settlement) → IsLegal network history → (place : ℕ) (triple : Triple) (children event : ℕ) → IsPlaced paths history place (Split triple children event)
     → (growth : Growth) → Stands (path_at paths place) growth → open_in (path_at paths place) growth ≡ [] → ((settlement : Settlement) → Contains (in_order growth) settlement → Contains history settlement)
-    → SplitParts paths growth triple children
+    → SplitParts paths history growth children event
 unfolding in_order open_in children_of
 split_parts network paths history legal place triple children event placed open_place stands closed among = let clash : path_at paths place ∷ [] ≡ [] = closed in cc
 split_parts network paths history legal place triple children event placed (leaf_place settlement) stands closed among =
@@ -240,7 +236,7 @@ split_parts network paths history legal place triple children event placed (bran
       first = first;
       second = second;
       is = refl;
-      outcome = stands.1 ∙ ap split is;
+      there = placed.0.there.1 ∙ ap (λ s. Some s) (sym same);
       left = record {
         within = omega (arith, placed.1);
         stands = subst (λ p. Stands p first) (sym left) stands.2;
@@ -261,136 +257,210 @@ split_parts network paths history legal place triple children event placed (bran
     triple_of d (refuted leaf) = d
 
 -- what is at the top of the stack was settled
-top_among : (network : Network) (plan : Option (List ℕ)) (paths : List (List Decision)) (history : List Settlement) (initial events : List Settled) (stack : List ℕ) (place : ℕ) (nodes : List Node) → (at : Top network plan paths history initial events stack place nodes)
+top_among : (paths : List (List Decision)) (history : List Settlement) (stack : List ℕ) (place : ℕ) (numbers : List ℕ) → (at : Top paths history stack place numbers)
     → (settlement : Settlement) → Contains (in_order at.growth) settlement → Contains history settlement
-top_among network plan paths history initial events stack place nodes at settlement found =
-    rest_among network plan paths history initial events (stack ++ place ∷ []) nodes at.walk settlement
+top_among paths history stack place numbers at settlement found =
+    rest_among paths history (stack ++ place ∷ []) numbers at.walk settlement
     (subst (λ xs. Contains xs settlement) (sym at.rest) (Contains-append_left (in_order at.growth) (rest_of at.others) settlement found))
 
--- a split is spelled
-pub split_spelled : (network : Network) (plan : Option (List ℕ)) (origins : List Origin) (standings : List Standing) (events : List Settled) → IsTree network origins standings events → (now : List Settled) (stack : List ℕ) (place : ℕ) (nodes : List Node)
-    → IsWalk network plan (paths_of origins) (history_of origins events) events now (stack ++ place ∷ []) nodes → (triple : Triple) (children event : ℕ) → IsPlaced (paths_of origins) (history_of origins events) place (Split triple children event)
-    → IsWalk network plan (paths_of origins) (history_of origins events) events now ((stack ++ (children + 1) ∷ []) ++ children ∷ []) (nodes ++ split_node triple ∷ [])
-unfolding node_of
-split_spelled network plan origins standings events tree now stack place nodes walk triple children event placed =
-    let paths = paths_of origins in
-    let history = history_of origins events in
-    let at = top network plan paths history events now stack place nodes walk in
-    let parts = split_parts network paths history tree.legal place triple children event placed at.growth at.grown.stands at.grown.closed (top_among network plan paths history events now stack place nodes at) in
+-- a split is passed
+pub split_passed : (network : Network) (paths : List (List Decision)) (history : List Settlement) → IsLegal network history → (stack : List ℕ) (place : ℕ) (numbers : List ℕ) → IsWalk paths history (stack ++ place ∷ []) numbers
+    → (triple : Triple) (children event : ℕ) → IsPlaced paths history place (Split triple children event) → IsWalk paths history ((stack ++ (children + 1) ∷ []) ++ children ∷ []) (numbers ++ event ∷ [])
+split_passed network paths history legal stack place numbers walk triple children event placed =
+    let at = top paths history stack place numbers walk in
+    let parts = split_parts network paths history legal place triple children event placed at.growth at.grown.stands at.grown.closed (top_among paths history stack place numbers at) in
     let growths : List Growth = (at.others ++ parts.second ∷ []) ++ parts.first ∷ [] in
     let new_rest : rest_of growths ≡ in_order parts.first ++ (in_order parts.second ++ rest_of at.others) =
     rest_of-snoc (at.others ++ parts.second ∷ []) parts.first ∙ ap (λ xs. in_order parts.first ++ xs) (rest_of-snoc at.others parts.second) in
     let rest : rest_of at.walk.growths ≡ parts.settlement ∷ rest_of growths =
     at.rest ∙ ap (λ xs. xs ++ rest_of at.others) parts.is
     ∙ ap (λ xs. parts.settlement ∷ xs) (append_assoc (in_order parts.first) (in_order parts.second) (rest_of at.others) ∙ sym new_rest) in
-    advance network plan paths history events now (stack ++ place ∷ []) nodes at.walk parts.settlement growths rest ((stack ++ (children + 1) ∷ []) ++ children ∷ [])
+    advance paths history (stack ++ place ∷ []) numbers at.walk parts.settlement growths rest ((stack ++ (children + 1) ∷ []) ++ children ∷ [])
     (Waits-snoc paths (stack ++ (children + 1) ∷ []) (at.others ++ parts.second ∷ []) children parts.first (Waits-snoc paths stack at.others (children + 1) parts.second at.wait parts.right) parts.left)
-    now refl (λ event' other there found d. refl) (split_node triple) (ap (node_of network plan) (sym parts.outcome))
+    event parts.there
 
 -- what has grown at a leaf
-record LeafParts (history : List Settlement) (growth : Growth) (event : ℕ) (outcome : Outcome) : Type 0 where
+record LeafParts (history : List Settlement) (growth : Growth) (event : ℕ) : Type 0 where
   settlement : Settlement
   is : in_order growth ≡ settlement ∷ []
-  outcome_is : settlement.event.outcome ≡ outcome
   there : slice_get history event ≡ Some settlement
 
 leaf_parts : (network : Network) (paths : List (List Decision)) (history : List Settlement) → IsLegal network history → (place event : ℕ) → (placed : IsPlaced paths history place (Leaf event))
     → (growth : Growth) → Stands (path_at paths place) growth → open_in (path_at paths place) growth ≡ [] → ((settlement : Settlement) → Contains (in_order growth) settlement → Contains history settlement)
-    → LeafParts history growth event placed.0
+    → LeafParts history growth event
 unfolding in_order open_in
 leaf_parts network paths history legal place event placed open_place stands closed among = let clash : path_at paths place ∷ [] ≡ [] = closed in cc
 leaf_parts network paths history legal place event placed (leaf_place settlement) stands closed among =
     let same = one_settlement network history legal (path_at paths place) placed.0 event placed.1 settlement (among settlement (Contains-head settlement [])) stands.0 in
-    record { settlement = settlement; is = refl; outcome_is = ap (λ (s : Settlement). s.event.outcome) same; there = placed.1.there.1 ∙ ap (λ s. Some s) (sym same) }
+    record { settlement = settlement; is = refl; there = placed.1.there.1 ∙ ap (λ s. Some s) (sym same) }
 leaf_parts network paths history legal place event placed (branch_place settlement its first second) stands closed among =
     let same = one_settlement network history legal (path_at paths place) placed.0 event placed.1 settlement (among settlement (Contains-head settlement (in_order first ++ in_order second))) stands.0 in
     absurd (leaf_is_no_split (path_at paths place) placed.0 its placed.2 (sym (ap (λ (s : Settlement). s.event.outcome) same) ∙ stands.1))
 
--- what is spelled next isn't spelled again
-not_again : (network : Network) (plan : Option (List ℕ)) (paths : List (List Decision)) (history : List Settlement) (initial events : List Settled) (stack : List ℕ) (nodes : List Node) → (walk : IsWalk network plan paths history initial events stack nodes)
-    → (settlement : Settlement) (rest : List Settlement) → rest_of walk.growths ≡ settlement ∷ rest → Contains rest settlement → ⊥
-not_again network plan paths history initial events stack nodes walk settlement rest is again =
-    let ordered : AllPairs SettledBefore (walk.done ++ settlement ∷ rest) = subst (AllPairs SettledBefore) (walk.parts ∙ ap (λ xs. walk.done ++ xs) is) (in_order_ordered [] walk.whole walk.stands) in
-    Precedes-irreflexive settlement.event.path
-    (All-contains (SettledBefore settlement) rest settlement (AllPairs-head SettledBefore settlement rest (later walk.done (settlement ∷ rest) ordered)) again)
+-- a leaf is passed
+pub leaf_passed : (network : Network) (paths : List (List Decision)) (history : List Settlement) → IsLegal network history → (stack : List ℕ) (place : ℕ) (numbers : List ℕ) → IsWalk paths history (stack ++ place ∷ []) numbers
+    → (event : ℕ) → IsPlaced paths history place (Leaf event) → IsWalk paths history stack (numbers ++ event ∷ [])
+leaf_passed network paths history legal stack place numbers walk event placed =
+    let at = top paths history stack place numbers walk in
+    let parts = leaf_parts network paths history legal place event placed at.growth at.grown.stands at.grown.closed (top_among paths history stack place numbers at) in
+    advance paths history (stack ++ place ∷ []) numbers at.walk parts.settlement at.others (at.rest ∙ ap (λ xs. xs ++ rest_of at.others) parts.is) stack at.wait event parts.there
+
+-- ---- the walk's end
+
+pub walk_done : (network : Network) (paths : List (List Decision)) (history : List Settlement) → IsLegal network history → (numbers : List ℕ) → IsWalk paths history [] numbers → IsOrder network history numbers
+unfolding rest_of
+walk_done network paths history legal numbers walk =
+    let plan : Option (List ℕ) = kept_of network history in
+    let all : in_order walk.whole ≡ walk.done = walk.parts ∙ ap (λ growths. walk.done ++ rest_of growths) (none_wait paths walk.growths walk.waits) ∙ append-nil walk.done in
+    let backs = All-permutation (λ (s : Settlement). Backs network plan s.event.path s.event.outcome) history (in_order walk.whole) walk.same (history_backed network history legal) in
+    let of = grown_tree network plan [] walk.whole walk.stands walk.closed backs in
+    record {
+      ordered = walk.done;
+      same = subst (IsPermutation history) all walk.same;
+      in_order = subst (AllPairs SettledBefore) all (in_order_ordered [] walk.whole walk.stands);
+      accepted = subst (AreAcceptedTree network plan) all (of.tree, of.accepts, sym of.nodes);
+      numbered = walk.numbered;
+    }
+
+-- ---- the nodes of an order
+
+-- what a list of numbers reads is a list of settlements, one by one
+numbers_head : (history : List Settlement) (number : ℕ) (numbers : List ℕ) (settlement : Settlement) (settlements : List Settlement) → AreNumbers history (number ∷ numbers) (settlement ∷ settlements)
+    → (slice_get history number ≡ Some settlement) × AreNumbers history numbers settlements
+numbers_head history number numbers settlement settlements numbered = (heads numbered, tails numbered)
   where
-    later : (front back : List Settlement) → AllPairs SettledBefore (front ++ back) → AllPairs SettledBefore back
-    later [] back ordered = ordered
-    later (s ∷ front) back ordered = later front back (AllPairs-tail SettledBefore s (front ++ back) ordered)
+    heads : {X : Type 0} {a b : X} {as' bs : List X} → a ∷ as' ≡ b ∷ bs → a ≡ b
+    heads same = cc
 
--- a leaf's event
-pub leaf_within : (network : Network) (plan : Option (List ℕ)) (origins : List Origin) (standings : List Standing) (events : List Settled) → IsTree network origins standings events → (now : List Settled) (stack : List ℕ) (place : ℕ) (nodes : List Node)
-    → IsWalk network plan (paths_of origins) (history_of origins events) events now stack nodes → (event : ℕ) → IsPlaced (paths_of origins) (history_of origins events) place (Leaf event) → event < length now
-leaf_within network plan origins standings events tree now stack place nodes walk event placed =
-    omega (arith, placed.1.within, length-history_of origins events, walk.counted)
+    tails : {X : Type 0} {a b : X} {as' bs : List X} → a ∷ as' ≡ b ∷ bs → as' ≡ bs
+    tails same = cc
 
--- a leaf's event can be given its node
-pub leaf_tie : (network : Network) (plan : Option (List ℕ)) (origins : List Origin) (standings : List Standing) (events : List Settled) → IsTree network origins standings events → (before : List Settled) (stack : List ℕ) (place : ℕ) (nodes : List Node)
-    → IsWalk network plan (paths_of origins) (history_of origins events) events before (stack ++ place ∷ []) nodes → (event : ℕ) → IsPlaced (paths_of origins) (history_of origins events) place (Leaf event)
-    → (solution : Option Solution) → kept_of network (history_of origins events) ≡ planned solution → (d : Settled) → HasTie network solution (outcome_of (slice_index_or before event d).look)
-leaf_tie network plan origins standings events tree before stack place nodes walk event placed solution is d =
-    let paths = paths_of origins in
-    let history = history_of origins events in
-    let at = top network plan paths history events before stack place nodes walk in
-    let parts = leaf_parts network paths history tree.legal place event placed at.growth at.grown.stands at.grown.closed (top_among network plan paths history events before stack place nodes at) in
-    let rest : rest_of at.walk.growths ≡ parts.settlement ∷ rest_of at.others = at.rest ∙ ap (λ xs. xs ++ rest_of at.others) parts.is in
-    let waiting : Contains (rest_of at.walk.growths) parts.settlement = subst (λ xs. Contains xs parts.settlement) (sym rest) (Contains-head parts.settlement (rest_of at.others)) in
-    let among = rest_among network plan paths history events before (stack ++ place ∷ []) nodes at.walk parts.settlement waiting in
-    let read : Settled = slice_index_or events event d in
-    let within : event < length events = omega (arith, placed.1.within, length-history_of origins events) in
-    let stored = stored_outcome origins events event (path_at paths place) placed.0 placed.1 read (get_or_default events event d read within) in
-    let kept : slice_index_or before event d ≡ read = at.walk.kept event parts.settlement parts.there waiting d in
-    subst (HasTie network solution) (sym (ap (λ (e : Settled). outcome_of e.look) kept ∙ stored.1 ∙ sym parts.outcome_is))
-    (settled_tie network history tree.legal solution is parts.settlement among)
+-- each number is that of a settlement
+each_numbered : (P : ℕ → Type 0) (history : List Settlement) (numbers : List ℕ) (settlements : List Settlement) → AreNumbers history numbers settlements
+    → ((number : ℕ) (settlement : Settlement) → slice_get history number ≡ Some settlement → Contains settlements settlement → P number) → All P numbers
+each_numbered P history [] settlements numbered holds = All-nil P
+each_numbered P history (number ∷ numbers) [] numbered holds = let clash : map (slice_get history) (number ∷ numbers) ≡ [] = numbered in cc
+each_numbered P history (number ∷ numbers) (settlement ∷ settlements) numbered holds =
+    let parts = numbers_head history number numbers settlement settlements numbered in
+    All-cons P number numbers (holds number settlement parts.0 (Contains-head settlement settlements))
+    (each_numbered P history numbers settlements parts.1 (λ n s there found. holds n s there (Contains-more settlement settlements s found)))
 
--- a leaf is spelled
-pub leaf_spelled : (network : Network) (plan : Option (List ℕ)) (origins : List Origin) (standings : List Standing) (events : List Settled) → IsTree network origins standings events → (before : List Settled) (stack : List ℕ) (place : ℕ) (nodes : List Node)
-    → IsWalk network plan (paths_of origins) (history_of origins events) events before (stack ++ place ∷ []) nodes → (event : ℕ) → IsPlaced (paths_of origins) (history_of origins events) place (Leaf event)
-    → (now : List Settled) → length now ≡ length before → ((other : ℕ) → other ≢ event → (d : Settled) → slice_index_or now other d ≡ slice_index_or before other d)
-    → (node : Node) → ((d : Settled) → node ≡ node_of network plan (outcome_of (slice_index_or before event d).look))
-    → IsWalk network plan (paths_of origins) (history_of origins events) events now stack (nodes ++ node ∷ [])
-leaf_spelled network plan origins standings events tree before stack place nodes walk event placed now as_many others node is =
-    let paths = paths_of origins in
-    let history = history_of origins events in
-    let at = top network plan paths history events before stack place nodes walk in
-    let parts = leaf_parts network paths history tree.legal place event placed at.growth at.grown.stands at.grown.closed (top_among network plan paths history events before stack place nodes at) in
-    let rest : rest_of at.walk.growths ≡ parts.settlement ∷ rest_of at.others = at.rest ∙ ap (λ xs. xs ++ rest_of at.others) parts.is in
-    let waiting : Contains (rest_of at.walk.growths) parts.settlement = subst (λ xs. Contains xs parts.settlement) (sym rest) (Contains-head parts.settlement (rest_of at.others)) in
-    let none : Settled = record { teller = 0; place = 0; look = FoundSplit (record { left = 0; right = 0; link = 0 }) } in
-    let read : Settled = slice_index_or events event none in
-    let within : event < length events = omega (arith, placed.1.within, length-history_of origins events) in
-    let stored = stored_outcome origins events event (path_at paths place) placed.0 placed.1 read (get_or_default events event none read within) in
-    let kept : slice_index_or before event none ≡ read = at.walk.kept event parts.settlement parts.there waiting none in
-    advance network plan paths history events before (stack ++ place ∷ []) nodes at.walk parts.settlement at.others rest stack at.wait now as_many
-    (λ event' other there found d.
-    others event' (λ same.
-    let again : parts.settlement ≡ other = some_same parts.settlement other (sym parts.there ∙ ap (slice_get history) (sym same) ∙ there) in
-    not_again network plan paths history events before (stack ++ place ∷ []) nodes at.walk parts.settlement (rest_of at.others) rest (subst (Contains (rest_of at.others)) (sym again) found)) d)
-    node (is none ∙ ap (λ (e : Settled). node_of network plan (outcome_of e.look)) kept ∙ ap (node_of network plan) (stored.1 ∙ sym parts.outcome_is))
+-- no number stands there twice
+pub numbers_differ : (history : List Settlement) (numbers : List ℕ) (settlements : List Settlement) → AreNumbers history numbers settlements → AllPairs SettledBefore settlements → AllPairs ◌≢◌ numbers
+numbers_differ history [] settlements numbered ordered = AllPairs-nil ◌≢◌
+numbers_differ history (number ∷ numbers) [] numbered ordered = let clash : map (slice_get history) (number ∷ numbers) ≡ [] = numbered in cc
+numbers_differ history (number ∷ numbers) (settlement ∷ settlements) numbered ordered =
+    let parts = numbers_head history number numbers settlement settlements numbered in
+    let later = AllPairs-head SettledBefore settlement settlements ordered in
+    AllPairs-cons ◌≢◌ number numbers
+    (each_numbered (λ n. number ≢ n) history numbers settlements parts.1 (λ n s there found same.
+    let again : settlement ≡ s = some_same settlement s (sym parts.0 ∙ ap (slice_get history) same ∙ there) in
+    Precedes-irreflexive settlement.event.path
+    (subst (SettledBefore settlement) (sym again) (All-contains (SettledBefore settlement) settlements s later found))))
+    (numbers_differ history numbers settlements parts.1 (AllPairs-tail SettledBefore settlement settlements ordered))
   where
     some_same : (a b : Settlement) → Some a ≡ Some b → a ≡ b
     some_same a b same = cc
 
--- ---- the walk's end
+-- the outcome of an event, by its number
+numbered_outcome : (origins : List Origin) (events : List Settled) (number : ℕ) (settlement : Settlement) → slice_get (history_of origins events) number ≡ Some settlement → (d : Settled)
+    → outcome_of (slice_index_or events number d).look ≡ settlement.event.outcome
+numbered_outcome origins events number settlement there d =
+    let within : number < length (history_of origins events) = slice_get_within (history_of origins events) number settlement there in
+    let below : number < length events = omega (arith, within, length-history_of origins events) in
+    let is : IsEvent (history_of origins events) number settlement.event.path settlement.event.outcome = record { within = within; there = (settlement.teller, there) } in
+    let read : Settled = slice_index_or events number d in
+    (stored_outcome origins events number settlement.event.path settlement.event.outcome is read (get_or_default events number d read below)).1
 
-pub walk_done : (network : Network) (plan : Option (List ℕ)) (paths : List (List Decision)) (history : List Settlement) (initial events : List Settled) (nodes : List Node) → (walk : IsWalk network plan paths history initial events [] nodes) → in_order walk.whole ≡ walk.done
-unfolding rest_of
-walk_done network plan paths history initial events nodes walk =
-    walk.parts ∙ ap (λ growths. walk.done ++ rest_of growths) (none_wait paths walk.growths walk.waits) ∙ append-nil walk.done
+-- the nodes of these numbers
+pub nodes_numbered : (network : Network) (plan : Option Solution) (origins : List Origin) (events : List Settled) (numbers : List ℕ) (settlements : List Settlement) → AreNumbers (history_of origins events) numbers settlements
+    → left_nodes network plan events numbers ≡ map (λ (s : Settlement). node_of network (planned plan) s.event.outcome) settlements
+unfolding numbered_node
+nodes_numbered network plan origins events [] [] numbered = refl
+nodes_numbered network plan origins events [] (settlement ∷ settlements) numbered = let clash : [] ≡ map (λ (s : Settlement). Some s) (settlement ∷ settlements) = numbered in cc
+nodes_numbered network plan origins events (number ∷ numbers) [] numbered = let clash : map (slice_get (history_of origins events)) (number ∷ numbers) ≡ [] = numbered in cc
+nodes_numbered network plan origins events (number ∷ numbers) (settlement ∷ settlements) numbered =
+    let parts = numbers_head (history_of origins events) number numbers settlement settlements numbered in
+    ap₂ (λ n ns. node_of network (planned plan) n ∷ ns)
+    (numbered_outcome origins events number settlement parts.0 (record { teller = 0; place = 0; look = FoundSplit (record { left = 0; right = 0; link = 0 }) }))
+    (nodes_numbered network plan origins events numbers settlements parts.1)
 
-pub walk_counted : (network : Network) (plan : Option (List ℕ)) (paths : List (List Decision)) (history : List Settlement) (initial events : List Settled) (nodes : List Node) → IsWalk network plan paths history initial events [] nodes → length nodes ≡ length history
-walk_counted network plan paths history initial events nodes walk =
-    ap length walk.spelled ∙ length-map walk.done (settled_node network plan) ∙ ap length (sym (walk_done network plan paths history initial events nodes walk)) ∙ length_permutation history (in_order walk.whole) walk.same
-
-pub walk_accepted : (network : Network) (paths : List (List Decision)) (history : List Settlement) → IsLegal network history → (initial events : List Settled) (nodes : List Node)
-    → IsWalk network (kept_of network history) paths history initial events [] nodes → SpellsAccepted network (kept_of network history) nodes
-walk_accepted network paths history legal initial events nodes walk =
-    let plan : Option (List ℕ) = kept_of network history in
-    let backed = λ (s : Settlement). Backs network plan s.event.path s.event.outcome in
-    let backs = All-permutation backed history (in_order walk.whole) walk.same (history_backed network history legal) in
-    let tree = grown_tree network plan [] walk.whole walk.stands walk.closed backs in
+-- an order can be spelled
+pub order_spells : (network : Network) (origins : List Origin) (events : List Settled) → IsLegal network (history_of origins events) → (plan : Option Solution) → IsPlanOf network (history_of origins events) plan
+    → (numbers : List ℕ) → IsOrder network (history_of origins events) numbers → IsSpelling network plan events numbers
+order_spells network origins events legal plan is numbers order =
+    let history = history_of origins events in
     record {
-      tree = tree.tree;
-      spelled = walk.spelled ∙ ap (map (settled_node network plan)) (sym (walk_done network plan paths history initial events nodes walk)) ∙ sym tree.nodes;
-      accepted = tree.accepts;
+      planned = is.0;
+      within = each_numbered (λ n. n < length events) history numbers order.ordered order.numbered
+          (λ n s there found. omega (arith, slice_get_within history n s there, length-history_of origins events));
+      different = numbers_differ history numbers order.ordered order.numbered order.in_order;
+      ties = each_numbered (λ n. (d : Settled) → HasTie network plan (outcome_of (slice_index_or events n d).look)) history numbers order.ordered order.numbered
+          (λ n s there found d.
+          subst (HasTie network plan) (sym (numbered_outcome origins events n s there d))
+          (settled_tie network history legal plan is.1 s (event_among history s n (slice_get_within history n s there) there)));
     }
+
+-- and its nodes are those of the history
+order_are : (network : Network) (origins : List Origin) (events : List Settled) → (plan : Option Solution) → IsPlanOf network (history_of origins events) plan
+    → (numbers : List ℕ) → (order : IsOrder network (history_of origins events) numbers)
+    → left_nodes network plan events numbers ≡ map (λ (s : Settlement). node_of network (kept_of network (history_of origins events)) s.event.outcome) order.ordered
+order_are network origins events plan is numbers order =
+    nodes_numbered network plan origins events numbers order.ordered order.numbered ∙ ap (λ p. map (λ (s : Settlement). node_of network p s.event.outcome) order.ordered) (sym is.1)
+
+pub order_nodes : (network : Network) (origins : List Origin) (events : List Settled) → (plan : Option Solution) → IsPlanOf network (history_of origins events) plan
+    → (numbers : List ℕ) → IsOrder network (history_of origins events) numbers → AreNodesOf network (history_of origins events) (left_nodes network plan events numbers)
+order_nodes network origins events plan is numbers order = record { ordered = order.ordered; same = order.same; in_order = order.in_order; are = order_are network origins events plan is numbers order }
+
+pub order_accepted : (network : Network) (origins : List Origin) (events : List Settled) → (plan : Option Solution) → IsPlanOf network (history_of origins events) plan
+    → (numbers : List ℕ) → IsOrder network (history_of origins events) numbers → SpellsAccepted network (kept_of network (history_of origins events)) (left_nodes network plan events numbers)
+order_accepted network origins events plan is numbers order =
+    record { tree = order.accepted.0; spelled = order_are network origins events plan is numbers order ∙ order.accepted.2; accepted = order.accepted.1 }
+
+pub order_counted : (network : Network) (history : List Settlement) (plan : Option Solution) (events : List Settled) (numbers : List ℕ) → IsOrder network history numbers → length (left_nodes network plan events numbers) ≡ length history
+order_counted network history plan events numbers order =
+    length-map numbers (numbered_node network plan events) ∙ numbers_counted history numbers order.ordered order.numbered ∙ length_permutation history order.ordered order.same
+
+-- ---- one node more
+
+-- the nodes of other events are as they were
+pub nodes_untouched : (network : Network) (plan : Option Solution) (before after : List Settled) (numbers : List ℕ)
+    → All (λ other. (d : Settled) → slice_index_or after other d ≡ slice_index_or before other d) numbers → left_nodes network plan after numbers ≡ left_nodes network plan before numbers
+unfolding numbered_node
+nodes_untouched network plan before after [] same = refl
+nodes_untouched network plan before after (number ∷ numbers) same =
+    ap₂ (λ (e : Settled) ns. node_of network (planned plan) (outcome_of e.look) ∷ ns)
+    (All-head (λ other. (d : Settled) → slice_index_or after other d ≡ slice_index_or before other d) number numbers same (record { teller = 0; place = 0; look = FoundSplit (record { left = 0; right = 0; link = 0 }) }))
+    (nodes_untouched network plan before after numbers (All-tail (λ other. (d : Settled) → slice_index_or after other d ≡ slice_index_or before other d) number numbers same))
+
+-- the first event is taken out
+pub record Taken (before after : List Settled) (number : ℕ) : Type 0 where
+  pub counted : length after ≡ length before
+  pub others : (other : ℕ) → other ≢ number → (d : Settled) → slice_index_or after other d ≡ slice_index_or before other d
+
+module _ (network : Network) (plan : Option Solution) (before after : List Settled) (number : ℕ) (numbers : List ℕ) (known : IsSpelling network plan before (number ∷ numbers)) (taken : Taken before after number) where
+  others_same : All (λ other. (d : Settled) → slice_index_or after other d ≡ slice_index_or before other d) numbers
+  others_same =
+      All-weaker (λ other. number ≢ other) (λ other. (d : Settled) → slice_index_or after other d ≡ slice_index_or before other d) (λ other differ. taken.others other (λ same. differ (sym same)))
+      numbers (AllPairs-head ◌≢◌ number numbers known.different)
+
+  pub spelling_goes_on : IsSpelling network plan after numbers
+  spelling_goes_on =
+      let Tie : List Settled → ℕ → Type 0 = λ events n. (d : Settled) → HasTie network plan (outcome_of (slice_index_or events n d).look) in
+      record {
+        planned = known.planned;
+        within = All-weaker (λ n. n < length before) (λ n. n < length after) (λ n below. omega (arith, below, taken.counted)) numbers (All-tail (λ n. n < length before) number numbers known.within);
+        different = AllPairs-tail ◌≢◌ number numbers known.different;
+        ties = ties_stay numbers others_same (All-tail (Tie before) number numbers known.ties);
+      }
+    where
+      ties_stay : (ns : List ℕ) → All (λ other. (d : Settled) → slice_index_or after other d ≡ slice_index_or before other d) ns → All (λ n. (d : Settled) → HasTie network plan (outcome_of (slice_index_or before n d).look)) ns
+          → All (λ n. (d : Settled) → HasTie network plan (outcome_of (slice_index_or after n d).look)) ns
+      ties_stay ns same ties k e below d = subst (λ (s : Settled). HasTie network plan (outcome_of s.look)) (sym (same k e below d)) (ties k e below d)
+
+  pub nodes_go_on : (node : Node) → ((d : Settled) → node ≡ node_of network (planned plan) (outcome_of (slice_index_or before number d).look))
+      → left_nodes network plan before (number ∷ numbers) ≡ node ∷ left_nodes network plan after numbers
+  unfolding numbered_node
+  nodes_go_on node is =
+      ap₂ (λ n ns. n ∷ ns) (sym (is (record { teller = 0; place = 0; look = FoundSplit (record { left = 0; right = 0; link = 0 }) })))
+      (sym (nodes_untouched network plan before after numbers others_same))

@@ -1,5 +1,5 @@
 -- What a book knows, and why it refuses an event.
-use Rattle.std.specs.Prelude.{Bool, false, ◌≢◌, MatchOption, ◌||◌, ◌&&◌, nat_eq, ◌≡◌, ℕ, ◌<◌, ◌≤◌, ◌+◌, ◌-◌, ◌^◌, min, fold, List, [], length, All, Contains, Option, Some, None, nat_lt, if◌then◌else◌}
+use Rattle.std.specs.Prelude.{Bool, false, ◌≢◌, MatchOption, ◌||◌, ◌&&◌, nat_eq, ◌≡◌, ℕ, ◌<◌, ◌≤◌, ◌+◌, ◌-◌, ◌^◌, min, fold, List, [], length, map, All, AllPairs, Contains, IsPermutation, Option, Some, None, nat_lt, if◌then◌else◌}
 use Rattle.std.specs.List.{slice_index_or}
 use Rattle.tsn_model.specs.declared.Decision.{Decision}
 use Rattle.tsn_model.specs.Network.{Network, IsWellFormed}
@@ -8,6 +8,7 @@ use Rattle.tsn_model.specs.Certificate.{Leaf, beyond, HasBound, Tree, AcceptsFir
 use Rattle.tsn_model.specs.Arcs.{conflicts_of}
 use Rattle.tsn_model.specs.Search.{Outcome, split, solved, pruned, tied, refuted, Event, Settlement, open_paths, best_bound, kept_of, solved_bound, pruned_bound, tally_of, IsNoBetter, IsAllowed, IsLegal}
 use Rattle.tsn_timing.specs.Solution.{Solution, IsSolved}
+use Rattle.tsn_search_laws.specs.Order.{Precedes, node_of}
 use Rattle.tsn_search_laws.specs.Replies.{not_open, limit_met, not_conflict, already_decided, not_met, IsFirstRefusal}
 use Rattle.tsn_book.specs.Arena.{IsEvent, IsTree, AreClosed, history_of}
 use Rattle.tsn_book.specs.declared.standings.Origin.{Origin}
@@ -46,6 +47,13 @@ pub record SpellsAccepted (network : Network) (plan : Option (List ℕ)) (nodes 
   pub tree : Tree
   pub spelled : Spells nodes tree
   pub accepted : AcceptsFirst network plan [] tree
+
+-- the nodes are those of the settlements, in the order of their paths, for what is kept
+pub record AreNodesOf (network : Network) (history : List Settlement) (nodes : List Node) : Type 0 where
+  pub ordered : List Settlement
+  pub same : IsPermutation history ordered
+  pub in_order : AllPairs (λ (a b : Settlement). Precedes a.event.path b.event.path) ordered
+  pub are : nodes ≡ map (λ (settlement : Settlement). node_of network (kept_of network history) settlement.event.outcome) ordered
 
 -- the offsets of a plan
 abbrev pub planned : Option Solution → Option (List ℕ)

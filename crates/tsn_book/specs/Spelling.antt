@@ -1,13 +1,21 @@
--- The walk that spells a finished tree: what is spelled, and what the places that wait are still to give.
-use Rattle.std.specs.Prelude.{◌≡◌, ℕ, ◌<◌, List, [], ◌∷◌, ◌++◌, map, length, Contains, IsPermutation, Option, Some, slice_get}
+-- The certificate of a finished tree: the order of its events, and the nodes that are left to give.
+--     IsWalk                     the walk that finds the order: what was passed, and what waits
+--     IsOrder                    the numbers of the events, in the order of their paths
+--     left_nodes, IsSpelling     the nodes of events that are left to give, and what is known of these
+use Rattle.std.specs.Prelude.{◌≡◌, ◌≢◌, ℕ, ◌<◌, List, [], ◌∷◌, ◌++◌, map, length, All, AllPairs, IsPermutation, Option, Some, slice_get}
 use Rattle.std.specs.List.{slice_index_or}
 use Rattle.tsn_model.specs.declared.Decision.{Decision}
 use Rattle.tsn_model.specs.Network.{Network}
 use Rattle.tsn_model.specs.Certificate.{Node}
-use Rattle.tsn_model.specs.Search.{Settlement}
-use Rattle.tsn_search_laws.specs.Order.{node_of}
+use Rattle.tsn_model.specs.Search.{Settlement, kept_of}
+use Rattle.tsn_search_laws.specs.Order.{Precedes, node_of}
+use Rattle.tsn_search_laws.specs.Laws.{AreAcceptedTree}
 use Rattle.tsn_search_laws.proofs.Growths.{Growth, in_order, open_in, Stands}
+use Rattle.tsn_timing.specs.Solution.{Solution}
+use Rattle.tsn_branch.specs.Outcome.{outcome_of}
+use Rattle.tsn_branch.specs.declared.outcome.Look.TheVariants.{Split}
 use Rattle.tsn_book.specs.Arena.{path_at}
+use Rattle.tsn_book.specs.Book.{planned, IsPlan, HasTie}
 use Rattle.tsn_book.specs.declared.log.Settled.{Settled}
 
 -- what the places that wait are to give, the last one first
@@ -27,12 +35,12 @@ Waits paths [] (growth ∷ growths) = ⊥
 Waits paths (place ∷ places) [] = ⊥
 Waits paths (place ∷ places) (growth ∷ growths) = IsGrown paths place growth × Waits paths places growths
 
--- the node of a settlement
-abbrev pub settled_node : Network → Option (List ℕ) → Settlement → Node
-settled_node network plan settlement = node_of network plan settlement.event.outcome
+-- each number is that of its settlement
+abbrev pub AreNumbers : List Settlement → List ℕ → List Settlement → Type 0
+AreNumbers history numbers settlements = map (slice_get history) numbers ≡ map Some settlements
 
--- the nodes so far are those of the first settlements in preorder; those of the others are still as they were
-pub record IsWalk (network : Network) (plan : Option (List ℕ)) (paths : List (List Decision)) (history : List Settlement) (initial events : List Settled) (stack : List ℕ) (nodes : List Node) : Type 0 where
+-- the numbers so far are those of the first settlements in preorder
+pub record IsWalk (paths : List (List Decision)) (history : List Settlement) (stack numbers : List ℕ) : Type 0 where
   pub whole : Growth
   pub same : IsPermutation history (in_order whole)
   pub stands : Stands [] whole
@@ -41,7 +49,29 @@ pub record IsWalk (network : Network) (plan : Option (List ℕ)) (paths : List (
   pub growths : List Growth
   pub waits : Waits paths stack growths
   pub parts : in_order whole ≡ done ++ rest_of growths
-  pub spelled : nodes ≡ map (settled_node network plan) done
-  pub counted : length events ≡ length initial
-  pub kept : (event : ℕ) (settlement : Settlement) → slice_get history event ≡ Some settlement → Contains (rest_of growths) settlement
-      → (d : Settled) → slice_index_or events event d ≡ slice_index_or initial event d
+  pub numbered : AreNumbers history numbers done
+
+-- the numbers are those of all settlements, in the order of their paths, and these are an accepted tree
+pub record IsOrder (network : Network) (history : List Settlement) (numbers : List ℕ) : Type 0 where
+  pub ordered : List Settlement
+  pub same : IsPermutation history ordered
+  pub in_order : AllPairs (λ (a b : Settlement). Precedes a.event.path b.event.path) ordered
+  pub accepted : AreAcceptedTree network (kept_of network history) ordered
+  pub numbered : AreNumbers history numbers ordered
+
+-- ---- nodes
+
+-- the node of the event of that number
+unfoldable pub numbered_node : Network → Option Solution → List Settled → ℕ → Node
+numbered_node network plan events number =
+    node_of network (planned plan) (outcome_of (slice_index_or events number (record { teller = 0; place = 0; look = Split (record { left = 0; right = 0; link = 0 }) })).look)
+
+abbrev pub left_nodes : Network → Option Solution → List Settled → List ℕ → List Node
+left_nodes network plan events numbers = map (numbered_node network plan events) numbers
+
+-- the numbers are different ones of events that can be given their nodes
+pub record IsSpelling (network : Network) (plan : Option Solution) (events : List Settled) (numbers : List ℕ) : Type 0 where
+  pub planned : IsPlan network plan
+  pub within : All (λ number. number < length events) numbers
+  pub different : AllPairs ◌≢◌ numbers
+  pub ties : All (λ number. (d : Settled) → HasTie network plan (outcome_of (slice_index_or events number d).look)) numbers

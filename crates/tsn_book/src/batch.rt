@@ -53,7 +53,8 @@ impl Book {
     /// goes along, and stands where the walk goes on. It ends at the first node that may not be settled: a refusal tells how
     /// many were settled, and why the next one wasn't, where the node stands then.
     ///
-    /// Each look has to be right as for `settle_at`. Only the first node's path is walked, and what was found isn't moved.
+    /// Each look has to be right as for `settle`, and a split has to be on a conflict that the path doesn't decide: a look at
+    /// the node gives such. Only the first node's path is walked, and what was found isn't moved.
     pub fn settle_below(
         &mut self,
         teller: usize,

@@ -8,7 +8,7 @@ ghost use Rattle.tsn_branch.specs.Look.{HasProof, SplitsUndecided};
 ghost use Rattle.tsn_book.specs.Event.{event_of};
 ghost use Rattle.tsn_search_laws.specs.Laws.{IsBelowBounds};
 ghost use Rattle.tsn_search_laws.specs.Walk.{path_made, IsPlaceOf};
-ghost use Rattle.tsn_book.specs.Book.{Progress, IsLawful, IsFault, SpellsAccepted};
+ghost use Rattle.tsn_book.specs.Book.{Progress, IsLawful, IsFault, SpellsAccepted, AreNodesOf};
 ghost use Rattle.tsn_book.specs.Solving.{IsSolvedBy};
 
 use crate::arena::{Bounds, Stop, Tree};
@@ -16,6 +16,7 @@ use crate::event::Event;
 use crate::fault::BookFault;
 use crate::ledger::Ledger;
 use crate::log::{Log, Settled};
+use crate::spelling::Spelling;
 use std::alloc::{AllocError, Global};
 use std::marker::Model;
 use tsn_branch::outcome::Look;
@@ -101,49 +102,6 @@ impl Book {
         }
     }
 
-    /// Settles the node at a place, where it may be; else the first reason why not, with what was found. A refusal changes
-    /// nothing. The node's path isn't walked.
-    ///
-    /// What was found has to be right as for `settle`, and a split has to be on a conflict that the path doesn't decide: a
-    /// look at the node gives such.
-    pub fn settle_at(
-        &mut self,
-        teller: usize,
-        place: usize,
-        path: &[Decision],
-        look: Look,
-    ) -> Result<(), (BookFault, Look)>
-        requires teller { teller < self.old.tellers }
-        requires place { place < length (made_paths self.old.history) }
-        requires proof { HasProof self.old.network (path_made self.old.history place) (outcome_of look) }
-        requires path { path.now ≡ path_made self.old.history place }
-        requires undecided { SplitsUndecided self.old.network (path_made self.old.history place) (outcome_of look) }
-        ensures ok { OnOk result (self.new ≡ record self.old {
-          history = self.old.history
-              ++ record { teller = teller; event = record { path = path_made self.old.history place; outcome = outcome_of look } } ∷ [];
-        }) }
-        ensures lawful { OnOk result (IsLawful self.new) }
-        ensures network { self.new.network ≡ self.old.network }
-        ensures tellers { self.new.tellers ≡ self.old.tellers }
-        ensures limit { self.new.limit ≡ self.old.limit }
-        ensures refused { OnErr result (self.new ≡ self.old) }
-        ensures fault { IfErr result (λ refusal. IsFault self.old.network self.old.limit self.old.history
-            (record { path = path_made self.old.history place; outcome = outcome_of look }) refusal.0) }
-        ensures returned { IfErr result (λ refusal. refusal.1 ≡ look) }
-    {
-        let admitted = self
-            .ledger
-            .tree
-            .admit_at(self.ledger.bounds, place, path, &look);
-        if let Err(fault) = admitted {
-            return Err((fault, look));
-        }
-        match self.enter(teller, place, look) {
-            Ok(()) => Ok(()),
-            Err(look) => Err((BookFault::Memory, look)),
-        }
-    }
-
     // The first reason why what was found at a place isn't settled where there is no memory for it.
     pub(crate) fn fault_at(&self, place: usize, path: &[Decision], look: &Look) -> BookFault
         requires place { place < length (made_paths self.now.history) }
@@ -201,15 +159,6 @@ impl Book {
         self.ledger.tree.events.put(look);
         self.ledger.record(teller, place);
         Ok(())
-    }
-
-    /// How many places there are: the root's is 0, and each split makes two more, its Left child's and then its Right
-    /// child's.
-    pub fn places(&self) -> usize
-        ensures places { result ≡ length (made_paths self.now.history) }
-        ensures lawful { IsLawful self.now }
-    {
-        self.ledger.tree.places.len()
     }
 
     /// How many events were settled.
@@ -288,12 +237,23 @@ impl Book {
         ensures format { IfOk result (λ cert. cert.format ≡ Format.Two) }
         ensures target { IfOk result (λ cert. cert.target ≡ best_bound self.network self.history) }
         ensures accepted { IfOk result (λ cert. SpellsAccepted self.network (kept_of self.network self.history) cert.nodes) }
+        ensures nodes { IfOk result (λ cert. AreNodesOf self.network self.history cert.nodes) }
         ensures counted { IfOk result (λ cert. length cert.nodes ≡ length self.history) }
     {
-        let Book { mut ledger } = self;
-        let cert = ledger.take_cert();
-        drop(ledger);
-        cert
+        self.into_spelling()?.into_cert()
+    }
+
+    /// The same certificate, whose nodes are given one at a time. The error says that there was no memory.
+    pub fn into_spelling(self) -> Result<Spelling, NoMemory>
+        requires finished { open_paths self.history ≡ [] }
+        ensures format { IfOk result (λ cert. cert.format ≡ Format.Two) }
+        ensures target { IfOk result (λ cert. cert.target ≡ best_bound self.network self.history) }
+        ensures accepted { IfOk result (λ cert. SpellsAccepted self.network (kept_of self.network self.history) cert.nodes) }
+        ensures nodes { IfOk result (λ cert. AreNodesOf self.network self.history cert.nodes) }
+        ensures counted { IfOk result (λ cert. length cert.nodes ≡ length self.history) }
+    {
+        let Book { ledger } = self;
+        ledger.into_spelling()
     }
 }
 

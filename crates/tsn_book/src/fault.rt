@@ -22,8 +22,10 @@ pub enum BookFault {
     /// A growth was refused.
     #[error("no memory")]
     Memory,
-    /// The pruned leaf's bound is below this number: the least flowspan solved, or one more than the cycle where none is.
-    #[error("the bound is below {0}")]
+    /// The pruned or tied leaf isn't shown to be no better than what is kept, whose flowspan in nanoseconds this is, or one
+    /// more than the cycle where nothing is: a pruned bound up to it, though not of one more than the cycle; or a tie of a
+    /// lesser bound, or of that bound whose chains don't show that the kept schedule comes first.
+    #[error("the leaf isn't shown to be no better than {0}")]
     NotMet(u64),
 }
 

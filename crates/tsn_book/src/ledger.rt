@@ -9,7 +9,7 @@ ghost use Rattle.tsn_branch.specs.declared.outcome.Look.{Look};
 ghost use Rattle.tsn_branch.specs.Outcome.{outcome_of};
 ghost use Rattle.tsn_branch.specs.Look.{HasProof, SplitsUndecided};
 ghost use Rattle.tsn_book.specs.Arena.{HasRoom, settled_in};
-ghost use Rattle.tsn_book.specs.Book.{IsFault, IsPlanOf, SpellsAccepted, child_count, is_better, kept_after, tally_after};
+ghost use Rattle.tsn_book.specs.Book.{IsFault, IsPlanOf, SpellsAccepted, AreNodesOf, child_count, is_better, kept_after, tally_after};
 ghost use Rattle.tsn_book.specs.Below.{events_below, path_after, next_path, after_leaf, IsFaultAt};
 ghost use Rattle.tsn_book.specs.Log.{next_of};
 ghost use Rattle.tsn_book.specs.Ledger.{IsLedger, progress_of, next_outcome, with_one, with_all};
@@ -17,10 +17,9 @@ ghost use Rattle.tsn_book.specs.Ledger.{IsLedger, progress_of, next_outcome, wit
 use crate::arena::{Bounds, Tree, split_of};
 use crate::book::Tally;
 use crate::fault::BookFault;
-use crate::spelling::nodes_of;
+use crate::spelling::{Spelling, order_of};
 use tsn_branch::outcome::Look;
 use tsn_branch::{Decision, NoMemory, Node, Side, Triple};
-use tsn_cert::{Cert, Format, Nodes};
 use tsn_timing::Solved;
 
 /// The tree of a search, and what is known of it all.
@@ -250,29 +249,26 @@ impl Ledger {
         self.tree.admit_at(self.bounds, place, path, look)
     }
 
-    /// The certificate of a finished search. What the leaves' events found is taken out of the tree.
-    pub fn take_cert(&mut self) -> Result<Cert, NoMemory>
-        requires agrees { IsLedger self.old }
-        requires finished { open_paths (settled_in self.old.tree) ≡ [] }
+    /// The certificate of a finished search.
+    pub fn into_spelling(self) -> Result<Spelling, NoMemory>
+        requires agrees { IsLedger self }
+        requires finished { open_paths (settled_in self.tree) ≡ [] }
         ensures format { IfOk result (λ cert. cert.format ≡ Format.Two) }
-        ensures target { IfOk result (λ cert. cert.target ≡ best_bound self.old.tree.network (settled_in self.old.tree)) }
+        ensures target { IfOk result (λ cert. cert.target ≡ best_bound self.tree.network (settled_in self.tree)) }
         ensures accepted { IfOk result (λ cert.
-            SpellsAccepted self.old.tree.network (kept_of self.old.tree.network (settled_in self.old.tree)) cert.nodes) }
-        ensures counted { IfOk result (λ cert. length cert.nodes ≡ length (settled_in self.old.tree)) }
+            SpellsAccepted self.tree.network (kept_of self.tree.network (settled_in self.tree)) cert.nodes) }
+        ensures nodes { IfOk result (λ cert. AreNodesOf self.tree.network (settled_in self.tree) cert.nodes) }
+        ensures counted { IfOk result (λ cert. length cert.nodes ≡ length (settled_in self.tree)) }
     {
         let plan = self.plan()?;
-        let nodes = nodes_of(
-            &self.tree.network,
-            &self.tree.places,
-            &mut self.tree.events,
-            plan.as_ref(),
-        );
-        drop(plan);
-        Ok(Cert {
-            format: Format::Two,
-            target: self.bounds.best,
-            nodes: Nodes::of(nodes?),
-        })
+        let order = order_of(*self.tree.events.allocator(), &self.tree)?;
+        let Ledger { tree, bounds, .. } = self;
+        let Tree {
+            network,
+            events,
+            ..
+        } = tree;
+        Ok(Spelling::of(network, events, plan, bounds.best, order))
     }
 
     // A copy of the schedule that is kept.

@@ -10,7 +10,7 @@ mod ledger;
 mod log;
 pub mod looks;
 pub mod shared;
-mod spelling;
+pub mod spelling;
 mod standings;
 mod ties;
 
@@ -19,3 +19,4 @@ pub use event::Event;
 pub use fault::BookFault;
 pub use looks::Looks;
 pub use shared::{Core, Reply, Step};
+pub use spelling::Spelling;

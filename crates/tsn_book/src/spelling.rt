@@ -1,61 +1,166 @@
-//! The nodes of a finished tree, in preorder.
-ghost use Rattle.std.specs.Prelude.{◌≡◌, ◌≢◌, ◌<◌, ◌≤◌, ◌^◌, [], take, ℕ, List, length, Option, map, IfOk, option_copied, slice_index_or};
+//! The certificate of a finished tree, whose nodes are given one at a time.
+ghost use Rattle.std.specs.Prelude.{◌≡◌, ◌≢◌, ◌<◌, ◌≤◌, ◌^◌, ◌∷◌, [], take, ℕ, List, length, Option, map, IfOk, MatchOption, option_copied, slice_index_or};
 ghost use Rattle.tsn_cert.specs.Node.{tree_node};
-ghost use Rattle.tsn_model.specs.Search.{open_paths, kept_of};
+ghost use Rattle.tsn_model.specs.Search.{open_paths};
 ghost use Rattle.tsn_search_laws.specs.Order.{node_of};
 ghost use Rattle.tsn_model.specs.Schedule.{common};
 ghost use Rattle.tsn_model.specs.Certificate.{HasBound, tie_node};
 ghost use Rattle.tsn_branch.specs.Leaf.{leaf_of};
 ghost use Rattle.tsn_branch.specs.Outcome.{outcome_of};
-ghost use Rattle.tsn_book.specs.Arena.{IsTree, history_of};
-ghost use Rattle.tsn_book.specs.Book.{SpellsAccepted, planned, IsPlan, IsPlanOf, HasTie};
+ghost use Rattle.tsn_book.specs.Arena.{IsArena, settled_in};
+ghost use Rattle.tsn_book.specs.Book.{planned, IsPlan, HasTie};
+ghost use Rattle.tsn_book.specs.Spelling.{IsOrder, IsSpelling, left_nodes};
 ghost use Rattle.tsn_book.specs.declared.log.Settled.{Settled};
+ghost use Rattle.tsn_cert.specs.declared.cert.Format.TheVariants.{Two};
 
+use crate::arena::Tree;
 use crate::log::Log;
-use crate::standings::{Places, Standing};
-use std::alloc::AllocError;
+use crate::standings::Standing;
+use std::alloc::{AllocError, Global};
+use std::marker::Model;
+use tsn_branch::NoMemory;
 use tsn_branch::outcome::{Leaf, Look};
-use tsn_cert::{Chain, Chains, Node};
+use tsn_cert::{Cert, Chain, Chains, Format, Node, Nodes};
 use tsn_timing::{Solved, Timing};
 
-/// The nodes of a tree in which nothing is open, in format 2 for what is kept: a split's node stands before those of its Left
-/// child, and these before those of its Right child. What the leaves' events found is taken out of the log.
-pub fn nodes_of(
-    network: &Timing,
-    places: &Places,
-    events: &mut Log,
-    plan: Option<&Solved>,
-) -> Result<Vec<Node>, AllocError>
-    requires tree { IsTree network.now places.now.origins places.now.standings events.old.items }
-    requires plan { IsPlanOf network.now (history_of places.now.origins events.old.items) (option_copied plan) }
-    requires finished { open_paths (history_of places.now.origins events.old.items) ≡ [] }
-    ensures accepted { IfOk result (λ nodes.
-        SpellsAccepted network.now (kept_of network.now (history_of places.now.origins events.old.items)) (map tree_node nodes.items)) }
-    ensures counted { IfOk result (λ nodes. length nodes.items ≡ length (history_of places.now.origins events.old.items)) }
+/// A certificate of format 2, whose nodes are given one at a time: a split's node before those of its Left child, and these
+/// before those of its Right child.
+#[derive(Drop)]
+pub struct Spelling {
+    network: Timing,
+    events: Log,
+    plan: Option<Solved>,
+    target: u64,
+    // The numbers of the events in the order of their nodes, and how many of them were given.
+    order: Vec<usize>,
+    given: usize,
+}
+
+impl Model for Spelling {
+    ghost use Rattle.std.specs.Prelude.{drop};
+    ghost use Rattle.tsn_cert.specs.declared.cert.Cert.{Cert};
+    ghost use Rattle.tsn_cert.specs.declared.cert.Format.TheVariants.{Two};
+    ghost use Rattle.tsn_book.specs.Spelling.{IsSpelling, left_nodes};
+
+    ghost Value = { Cert };
+
+    ghost view = { λ s. record {
+      format = Two;
+      target = s.target;
+      nodes = left_nodes s.network s.plan s.events.items (drop s.given s.order.items);
+    } };
+
+    ghost invariant = { λ s. IsSpelling s.network s.plan s.events.items (drop s.given s.order.items) };
+}
+
+impl Spelling {
+    // The nodes of events in an order.
+    pub(crate) fn of(
+        network: Timing,
+        events: Log,
+        plan: Option<Solved>,
+        target: u64,
+        order: Vec<usize>,
+    ) -> Spelling
+        requires { IsSpelling network plan events.items order.items }
+        ensures { result ≡ record { format = Two; target = target; nodes = left_nodes network plan events.items order.items } }
+    {
+        Spelling {
+            network,
+            events,
+            plan,
+            target,
+            order,
+            given: 0,
+        }
+    }
+
+    /// The certificate's format.
+    pub fn format(&self) -> Format
+        ensures { result ≡ self.now.format }
+    {
+        // Whatever is left, the format is this one.
+        let _ = &self.target;
+        Format::Two
+    }
+
+    /// The certificate's target, in nanoseconds.
+    pub fn target(&self) -> u64
+        ensures { result ≡ self.now.target }
+    {
+        self.target
+    }
+
+    /// The next node, or none where all were given. The memory of what was settled there is given back with it.
+    pub fn next(&mut self) -> Option<Node>
+        ensures node { MatchOption result (self.old.nodes ≡ []) (λ node. self.old.nodes ≡ tree_node node ∷ self.new.nodes) }
+        ensures none { result ≡ None → self.new ≡ self.old }
+        ensures format { self.new.format ≡ self.old.format }
+        ensures target { self.new.target ≡ self.old.target }
+    {
+        if self.given >= self.order.len() {
+            return None;
+        }
+        let number = self.order[self.given];
+        self.given += 1;
+        let plan = self.plan.as_ref();
+        Some(take_node(&self.network, &mut self.events, number, plan))
+    }
+
+    /// The certificate of the nodes that are left. The error says that there was no memory.
+    pub fn into_cert(self) -> Result<Cert, NoMemory>
+        ensures { IfOk result (λ cert. cert ≡ self) }
+    {
+        let mut spelling = self;
+        let target = spelling.target;
+        let nodes = Nodes::of(spelling.rest()?);
+        Ok(Cert {
+            format: Format::Two,
+            target,
+            nodes,
+        })
+    }
+
+    // The nodes that are left.
+    fn rest(&mut self) -> Result<Vec<Node>, AllocError>
+        ensures { IfOk result (λ nodes. map tree_node nodes.items ≡ self.old.nodes) }
+    {
+        let mut nodes = Vec::with_capacity(*self.order.allocator(), self.order.len())?;
+        while let Some(node) = self.next() {
+            nodes.push(node)?;
+        }
+        Ok(nodes)
+    }
+}
+
+// The numbers of the events of a tree in which nothing is open, in the order of their paths.
+pub(crate) fn order_of(alloc: Global, tree: &Tree) -> Result<Vec<usize>, AllocError>
+    requires tree { IsArena tree.now }
+    requires finished { open_paths (settled_in tree.now) ≡ [] }
+    ensures { IfOk result (λ order. IsOrder tree.now.network (settled_in tree.now) order.items) }
 {
-    let alloc = *events.allocator();
-    let mut nodes = Vec::with_capacity(alloc, events.len())?;
+    let mut order = Vec::with_capacity(alloc, tree.events.len())?;
     let mut stack = vec![in alloc; 0]?;
     while let Some(place) = stack.pop() {
-        let standing = places.standing(place);
+        let standing = tree.places.standing(place);
         match standing {
             Standing::Open => unreachable!(),
             Standing::Split {
-                triple,
                 children,
+                event,
                 ..
             } => {
                 stack.push(children + 1)?;
                 stack.push(children)?;
-                nodes.push(Node::Branch(triple))?;
+                order.push(event)?;
             }
-            Standing::Leaf(event) => nodes.push(take_node(network, events, event, plan))?,
+            Standing::Leaf(event) => order.push(event)?,
         }
     }
-    Ok(nodes)
+    Ok(order)
 }
 
-/// Takes the node of an event out.
+// Takes the node of an event out.
 fn take_node(network: &Timing, events: &mut Log, event: usize, plan: Option<&Solved>) -> Node
     requires within { event < length events.old.items }
     requires plan { IsPlan network.now (option_copied plan) }
@@ -68,7 +173,7 @@ fn take_node(network: &Timing, events: &mut Log, event: usize, plan: Option<&Sol
     node_from(network, events.take(event), plan)
 }
 
-/// The node of what a look found.
+// The node of what a look found.
 fn node_from(network: &Timing, look: Look, plan: Option<&Solved>) -> Node
     requires plan { IsPlan network.now (option_copied plan) }
     requires tie { HasTie network.now (option_copied plan) (outcome_of look) }

@@ -1,0 +1,31 @@
+use Rattle.tsn_book.specs.Arena.{settled_in}
+use Rattle.tsn_book.specs.Spelling.{left_nodes}
+use Rattle.tsn_book.specs.Book.{AreNodesOf, SpellsAccepted}
+use Rattle.std.proofs.Common.{◌≡◌, sym, ap, ◌∙◌, subst, length, List}
+use Rattle.tsn_model.specs.Certificate.{Node}
+use Rattle.tsn_model.specs.Search.{kept_of}
+use Rattle.tsn_cert.specs.declared.cert.Cert.{Cert}
+use Rattle.tsn_book.proofs.Preorder.{order_spells, order_nodes, order_accepted, order_counted}
+use Rattle.tsn_book.proofs.ledger.Ledger.into_spelling.Goals as goal
+
+pub of-requires : goal.of-requires
+of-requires c =
+    let tree = c.args.self.tree in
+    order_spells tree.network tree.places.origins tree.events.items c.requires.agrees.tree.legal _ c.in_ok-plan.ensures _ c.in_ok-order.ensures
+
+pub returns-clause-accepted : goal.returns-clause-accepted
+returns-clause-accepted c =
+    let tree = c.args.self.tree in
+    subst (λ (cert : Cert). SpellsAccepted tree.network (kept_of tree.network (settled_in tree)) cert.nodes) (sym c.of.ensures)
+    (order_accepted tree.network tree.places.origins tree.events.items _ c.in_ok-plan.ensures _ c.in_ok-order.ensures)
+
+pub returns-clause-nodes : goal.returns-clause-nodes
+returns-clause-nodes c =
+    let tree = c.args.self.tree in
+    subst (λ (cert : Cert). AreNodesOf tree.network (settled_in tree) cert.nodes) (sym c.of.ensures)
+    (order_nodes tree.network tree.places.origins tree.events.items _ c.in_ok-plan.ensures _ c.in_ok-order.ensures)
+
+pub returns-clause-counted : goal.returns-clause-counted
+returns-clause-counted c =
+    let tree = c.args.self.tree in
+    ap (λ (cert : Cert). length cert.nodes) c.of.ensures ∙ order_counted tree.network (settled_in tree) _ tree.events.items _ c.in_ok-order.ensures
