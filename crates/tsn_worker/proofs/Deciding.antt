@@ -1,10 +1,10 @@
 -- What a search shows that has left nothing open, and one that was stopped.
-use Rattle.std.proofs.Common.{◌≡◌, ℕ, ◌+◌, ◌-◌, ◌^◌, ◌≤◌, ◌<◌, ◌⊎◌, inl, inr, List, [], ◌∷◌, length, Option, Some, None, MatchOption, Contains, sym, ap, ◌∙◌, subst, arith}
+use Rattle.std.proofs.Common.{◌≡◌, ℕ, ◌+◌, ◌-◌, ◌^◌, ◌≤◌, ◌<◌, ◌⊎◌, inl, inr, List, [], ◌∷◌, length, Option, Some, None, MatchOption, Contains, refl, sym, ap, ◌∙◌, subst, arith}
 use Rattle.tsn_model.specs.Network.{Network, IsWellFormed}
 use Rattle.tsn_model.specs.Schedule.{IsValid, flowspan, target_of, IsFirst, HasNoSchedule}
 use Rattle.tsn_model.specs.Arcs.{conflicts_of}
 use Rattle.tsn_model.specs.Certificate.{AcceptsBy, AcceptsFirst, IsNodeShown}
-use Rattle.tsn_model.specs.Search.{Settlement, open_paths, best_bound, kept_of, solved_bounds, IsLegal}
+use Rattle.tsn_model.specs.Search.{open_paths, best_bound, kept_of, solved_bounds, IsLegal}
 use Rattle.tsn_model.proofs.Lists.{Contains-head}
 use Rattle.tsn_search_laws.proofs.Kept.{kept_valid, kept_target}
 use Rattle.tsn_search_laws.proofs.Finished.{finished_plan}
@@ -13,52 +13,92 @@ use Rattle.tsn_cert.specs.declared.plan.Plan.TheVariants as plan
 use Rattle.tsn_cert.specs.declared.cert.Cert.{Cert}
 use Rattle.tsn_cert.specs.declared.cert.Format.{Format}
 use Rattle.tsn_cert.specs.declared.cert.Format.TheVariants.{Two}
-use Rattle.tsn_check.specs.Faults.{IsOptimalPlan, IsFirstPlan, IsPlanRight, leaf_target, tie_plan, offsets_in}
-use Rattle.tsn_timing.specs.Solution.{Solution, IsSolved}
-use Rattle.tsn_worker.specs.Answer.{Shows, IsStopped}
-use Rattle.tsn_book.specs.Book.{Progress, IsLawful, SpellsAccepted}
+use Rattle.tsn_check.specs.Faults.{IsPlanRight, leaf_target, tie_plan, offsets_in}
+use Rattle.tsn_worker.specs.Answer.{Shows, IsStopped, IsFinished, IsFoundPlan, IsCertOf, IsAnswer, IsFound, HasNoneOpen, plan_kept, answer_for}
+use Rattle.tsn_worker.specs.declared.found.Found.{Found}
+use Rattle.tsn_worker.specs.declared.found.Found.TheVariants as found
+use Rattle.tsn_book.specs.Book.{Progress, IsLawful}
 use Rattle.tsn_search.specs.Search.{IsSearchOf}
 
--- a certificate of format 2 for what is kept, of the tree of the whole history
-pub record IsTreeOf (network : Network) (history : List Settlement) (cert : Cert) : Type 0 where
-  pub of_format_two : cert.format ≡ Two
-  pub same_target : cert.target ≡ best_bound network history
-  pub tree : SpellsAccepted network (kept_of network history) cert.nodes
-  pub counted : length cert.nodes ≡ length history
+found_plan : (network : Network) (kept : Option (List ℕ)) → MatchOption kept (HasNoSchedule network) (IsFirst network) → IsFoundPlan network (plan_kept network kept)
+found_plan network None nothing = nothing
+found_plan network (Some offsets) first = ((first.optimal, refl), (first, refl))
 
-module _ (network : Network) (formed : IsWellFormed network) (limit : ℕ) (history : List Settlement) (legal : IsLegal network history) (within : length history ≤ limit) (none_open : open_paths history ≡ []) (cert : Cert) (of : IsTreeOf network history cert) where
-  shown : (count : ℕ) → count ≡ length history → (plan : Plan) → kept_of network history ≡ offsets_in plan → IsPlanRight network plan → Shows network limit plan cert count
-  shown count counted plan is right =
-      let found = of.tree in
-      let target = of.same_target ∙ sym (kept_target network history legal) ∙ ap (target_of network) is in
-      let Accepted : Format → ℕ → Type 0 = λ format least. AcceptsBy (IsNodeShown network (leaf_target network format least) (tie_plan format (offsets_in plan))) [] found.tree in
-      record {
-        certifies = record {
-          plan_right = right;
-          target_right = target;
-          tree = found.tree;
-          spelled = found.spelled;
-          accepted = subst (λ f. Accepted f cert.target) (sym of.of_format_two) (subst (Accepted Two) (sym target) (subst (λ o. AcceptsFirst network o [] found.tree) is found.accepted));
-        };
-        of_format_two = of.of_format_two;
-        counted = counted ∙ sym of.counted;
-        within = omega (arith, counted);
-      }
+right_plan : (network : Network) (kept : Option (List ℕ)) → MatchOption kept (HasNoSchedule network) (IsFirst network) → IsPlanRight network (plan_kept network kept)
+right_plan network None nothing = tt
+right_plan network (Some offsets) first = (first.optimal.valid, refl)
 
-  -- nothing is kept
-  pub shows_none : (count : ℕ) → count ≡ length history → kept_of network history ≡ None → HasNoSchedule network × Shows network limit plan.None cert count
-  shows_none count counted nothing =
-      let P : Option (List ℕ) → Type 0 = λ o. MatchOption o (HasNoSchedule network) (IsFirst network) in
-      (subst P nothing (finished_plan network formed history legal none_open), shown count counted plan.None nothing tt)
+planned_kept : (network : Network) (kept : Option (List ℕ)) → kept ≡ offsets_in (plan_kept network kept)
+planned_kept network None = refl
+planned_kept network (Some offsets) = refl
 
-  -- a schedule is kept
-  pub shows_kept : (count : ℕ) → count ≡ length history → (solution : Solution) → kept_of network history ≡ Some solution.offsets → IsSolved network solution
-      → let plan = plan.Schedule solution.flowspan solution.offsets in IsOptimalPlan network plan × IsFirstPlan network plan × Shows network limit plan cert count
-  shows_kept count counted solution kept solved =
-      let P : Option (List ℕ) → Type 0 = λ o. MatchOption o (HasNoSchedule network) (IsFirst network) in
-      let first : IsFirst network solution.offsets = subst P kept (finished_plan network formed history legal none_open) in
-      let span = sym solved.1 in
-      ((first.optimal, span), (first, span), shown count counted (plan.Schedule solution.flowspan solution.offsets) kept (solved.0, span))
+-- a plan that is right, and what is kept, is shown by each certificate of a book
+shown : (limit : ℕ) (book : Progress) → IsLawful book → length book.history ≤ limit → (plan : Plan) → kept_of book.network book.history ≡ offsets_in plan → IsPlanRight book.network plan
+    → (cert : Cert) → IsCertOf book cert → Shows book.network limit plan cert (length book.history)
+shown limit book lawful within plan is right cert of =
+    let network = book.network in
+    let found = of.tree in
+    let target = of.same_target ∙ sym (kept_target network book.history lawful.legal) ∙ ap (target_of network) is in
+    let Accepted : Format → ℕ → Type 0 = λ format least. AcceptsBy (IsNodeShown network (leaf_target network format least) (tie_plan format (offsets_in plan))) [] found.tree in
+    record {
+      certifies = record {
+        plan_right = right;
+        target_right = target;
+        tree = found.tree;
+        spelled = found.spelled;
+        accepted = subst (λ f. Accepted f cert.target) (sym of.of_format_two) (subst (Accepted Two) (sym target) (subst (λ o. AcceptsFirst network o [] found.tree) is found.accepted));
+      };
+      of_format_two = of.of_format_two;
+      counted = sym of.counted;
+      within = within;
+    }
+
+-- a lawful search that has left nothing open
+pub finished : (limit : ℕ) (book : Progress) → IsWellFormed book.network → IsLawful book → length book.history ≤ limit → open_paths book.history ≡ [] → IsFinished book.network limit book
+finished limit book formed lawful within none_open =
+    let network = book.network in
+    let kept = kept_of network book.history in
+    let answer = finished_plan network formed book.history lawful.legal none_open in
+    record {
+      same_network = refl;
+      lawful = lawful;
+      none_open = none_open;
+      within = within;
+      found = found_plan network kept answer;
+      shown = shown limit book lawful within (plan_kept network kept) (planned_kept network kept) (right_plan network kept answer);
+    }
+
+-- a search for the network
+pub finished_for : (network : Network) (limit : ℕ) (book : Progress) → IsWellFormed network → IsLawful book → IsSearchOf network limit book → open_paths book.history ≡ [] → IsFinished network limit book
+finished_for network limit book formed lawful search none_open =
+    let same = search.same_network in
+    subst (λ n. IsFinished n limit book) same
+    (finished limit book (subst IsWellFormed (sym same) formed) lawful (subst (λ l. length book.history ≤ l) search.same_limit lawful.within_limit) none_open)
+
+-- with a greater limit
+pub finished_within : (network : Network) (limit greater : ℕ) (book : Progress) → limit ≤ greater → IsFinished network limit book → IsFinished network greater book
+finished_within network limit greater book more done = record {
+  same_network = done.same_network;
+  lawful = done.lawful;
+  none_open = done.none_open;
+  within = omega (arith, done.within);
+  found = done.found;
+  shown = λ cert of.
+      let shows = done.shown cert of in
+      record { certifies = shows.certifies; of_format_two = shows.of_format_two; counted = shows.counted; within = omega (arith, shows.within) };
+}
+
+-- a plan that is found and shown is an answer
+pub answers : (network : Network) (limit : ℕ) (plan : Plan) (cert : Cert) (count : ℕ) → IsFoundPlan network plan → Shows network limit plan cert count → IsAnswer network limit (answer_for plan cert count)
+answers network limit (plan.Schedule span offsets) cert count found shows = (found.0, found.1, shows)
+answers network limit plan.None cert count found shows = (found, shows)
+
+-- the answer of a book, with its certificate
+pub certified : (network : Network) (limit : ℕ) (book : Progress) (plan : Plan) (cert : Cert) (count : ℕ) → plan ≡ plan_kept book.network (kept_of book.network book.history) → count ≡ length book.history
+    → IsCertOf book cert → IsFinished network limit book → IsAnswer network limit (answer_for plan cert count)
+certified network limit book plan cert count is counted of done =
+    let here : plan ≡ plan_kept network (kept_of network book.history) = is ∙ ap (λ n. plan_kept n (kept_of n book.history)) done.same_network in
+    rw (here, counted) (answers network limit (plan_kept network (kept_of network book.history)) cert (length book.history) done.found (done.shown cert of))
 
 first_of : {X : Type 0} (xs : List X) → 0 < length xs → (x : X) × Contains xs x
 first_of [] some = absurd (omega arith)
@@ -84,3 +124,8 @@ stopped network limit book lawful search (inr full) some =
     kept_is : (o : Option (List ℕ)) → MatchOption o (solved_bounds book.history ≡ []) (λ os. IsValid network os × (flowspan network os ≡ best_bound network book.history)) → MatchOption o (Unit {0}) (IsValid network)
     kept_is None unsolved = tt
     kept_is (Some offsets) valid = valid.0
+
+-- nothing is open in what is finished
+pub none_open : (network : Network) (limit : ℕ) (found : Found) → IsFound network limit found → HasNoneOpen found
+none_open network limit (found.Finished book) done = done.none_open
+none_open network limit (found.Stopped book) stopped = tt

@@ -1,20 +1,24 @@
 -- What a planner's answers say.
 --     Shows         a certificate that shows what the plan says
 --     IsStopped     a search that was stopped at its limit
+--     IsFinished    a search that has left nothing open, and what its book shows
+--     IsFound       what a search leaves
 --     IsAnswer      the answer to a network
-use Rattle.std.specs.Prelude.{◌≡◌, ◌≤◌, ◌<◌, ◌+◌, ◌-◌, ◌^◌, ℕ, length, MatchOption}
+use Rattle.std.specs.Prelude.{◌≡◌, ◌≤◌, ◌<◌, ◌+◌, ◌-◌, ◌^◌, ℕ, List, [], length, Option, Some, None, MatchOption}
 use Rattle.tsn_model.specs.Network.{Network}
-use Rattle.tsn_model.specs.Schedule.{IsValid, HasNoSchedule}
+use Rattle.tsn_model.specs.Schedule.{IsValid, HasNoSchedule, flowspan}
 use Rattle.tsn_model.specs.Arcs.{conflicts_of}
-use Rattle.tsn_model.specs.Search.{open_paths, kept_of}
+use Rattle.tsn_model.specs.Search.{open_paths, kept_of, best_bound}
 use Rattle.tsn_cert.specs.declared.plan.Plan.{Plan}
 use Rattle.tsn_cert.specs.declared.plan.Plan.TheVariants as plan
 use Rattle.tsn_cert.specs.declared.cert.Cert.{Cert}
 use Rattle.tsn_cert.specs.declared.cert.Format.TheVariants.{Two}
 use Rattle.tsn_check.specs.Faults.{Certifies, IsOptimalPlan, IsFirstPlan}
-use Rattle.tsn_book.specs.Book.{Progress, IsLawful}
+use Rattle.tsn_book.specs.Book.{Progress, IsLawful, SpellsAccepted}
 use Rattle.tsn_worker.specs.declared.answer.Answer.{Answer}
 use Rattle.tsn_worker.specs.declared.answer.Answer.TheVariants.{Optimal, NoSchedule, Stopped}
+use Rattle.tsn_worker.specs.declared.found.Found.{Found}
+use Rattle.tsn_worker.specs.declared.found.Found.TheVariants as found
 
 -- the certificate, of format 2, shows what the plan says, by so many nodes, at most the limit
 pub record Shows (network : Network) (limit : ℕ) (plan : Plan) (cert : Cert) (count : ℕ) : Type 0 where
@@ -38,3 +42,47 @@ abbrev pub IsAnswer : Network → ℕ → Answer → Type 0
 IsAnswer network limit (Optimal plan cert count) = IsOptimalPlan network plan × IsFirstPlan network plan × Shows network limit plan cert count
 IsAnswer network limit (NoSchedule cert count) = HasNoSchedule network × Shows network limit plan.None cert count
 IsAnswer network limit (Stopped book) = IsStopped network limit book
+
+-- the answer that has a plan with its certificate
+abbrev pub answer_for : Plan → Cert → ℕ → Answer
+answer_for (plan.Schedule span offsets) cert count = Optimal (plan.Schedule span offsets) cert count
+answer_for plan.None cert count = NoSchedule cert count
+
+-- ---- what a search leaves
+
+-- the plan of what is kept
+abbrev pub plan_kept : Network → Option (List ℕ) → Plan
+plan_kept network None = plan.None
+plan_kept network (Some offsets) = plan.Schedule (flowspan network offsets) offsets
+
+-- the first schedule of least flowspan, or that there is none
+abbrev pub IsFoundPlan : Network → Plan → Type 0
+IsFoundPlan network (plan.Schedule span offsets) = IsOptimalPlan network (plan.Schedule span offsets) × IsFirstPlan network (plan.Schedule span offsets)
+IsFoundPlan network plan.None = HasNoSchedule network
+
+-- a certificate of format 2 for what a search has kept: its nodes, one for each settlement, spell a tree that is accepted for that
+pub record IsCertOf (book : Progress) (cert : Cert) : Type 0 where
+  pub of_format_two : cert.format ≡ Two
+  pub same_target : cert.target ≡ best_bound book.network book.history
+  pub tree : SpellsAccepted book.network (kept_of book.network book.history) cert.nodes
+  pub counted : length cert.nodes ≡ length book.history
+
+-- a lawful search for the network that has left no node open, and has settled at most as many as it may; what it has kept is the first schedule of least
+-- flowspan, and where it has kept none there is none; each certificate for that shows it
+pub record IsFinished (network : Network) (limit : ℕ) (book : Progress) : Type 0 where
+  pub same_network : book.network ≡ network
+  pub lawful : IsLawful book
+  pub none_open : open_paths book.history ≡ []
+  pub within : length book.history ≤ limit
+  pub found : IsFoundPlan network (plan_kept network (kept_of network book.history))
+  pub shown : (cert : Cert) → IsCertOf book cert → Shows network limit (plan_kept network (kept_of network book.history)) cert (length book.history)
+
+-- what a search leaves: nothing open, or as many nodes settled as it may
+abbrev pub IsFound : Network → ℕ → Found → Type 0
+IsFound network limit (found.Finished book) = IsFinished network limit book
+IsFound network limit (found.Stopped book) = IsStopped network limit book
+
+-- nothing is open in a book that is finished
+abbrev pub HasNoneOpen : Found → Type 0
+HasNoneOpen (found.Finished book) = open_paths book.history ≡ []
+HasNoneOpen (found.Stopped book) = Unit {0}

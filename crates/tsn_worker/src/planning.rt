@@ -4,18 +4,17 @@ ghost use Rattle.tsn_model.specs.Network.{IsWellFormed};
 ghost use Rattle.tsn_model.specs.Search.{open_paths};
 ghost use Rattle.tsn_conflict.specs.Kept.{AreConflictsOf};
 ghost use Rattle.tsn_branch.specs.Loads.{AreLoadsOf};
-ghost use Rattle.tsn_cert.specs.declared.plan.Plan.TheVariants.{Schedule};
-ghost use Rattle.tsn_worker.specs.Answer.{IsAnswer};
+ghost use Rattle.tsn_worker.specs.Answer.{IsAnswer, IsFound};
 ghost use Rattle.tsn_search.specs.Search.{IsSearchOf};
 
 use crate::answer::Answer;
+use crate::found::Found;
 use std::alloc::Global;
 use std::marker::Brand;
 use std::sync::Wait;
 use std::thread::Threads;
 use tsn_book::Book;
 use tsn_branch::Guide;
-use tsn_cert::{Offsets, Plan};
 use tsn_hint::{Hint, hint_of};
 use tsn_model::NoMemory;
 use tsn_net::Problem;
@@ -24,7 +23,7 @@ use tsn_search::search::settle_open;
 use tsn_search::threads::search;
 use tsn_search::{Bag, DequeBag, Gate, Order, Phase, Prepared, Setting, Watcher};
 use tsn_share::Parts;
-use tsn_timing::{Solved, Timing};
+use tsn_timing::Timing;
 
 /// The most nodes that a run may settle.
 pub const MAX_LIMIT: usize = 1_000_000_000;
@@ -97,13 +96,30 @@ pub fn plan_by<R: Threads + Wait + Sync, G: Gate + Sync>(
     requires few { effort.limit ≤ MAX_LIMIT }
     ensures { IfOk result (IsAnswer problem.now.network effort.limit) }
 {
+    search_by(rt, alloc, problem, effort, gate)?.into_answer(alloc)
+}
+
+/// What is searched for `plan_by`, and no certificate: the book that is left says which schedule is the first, or that there is
+/// none, where no node is open in it.
+pub fn search_by<R: Threads + Wait + Sync, G: Gate + Sync>(
+    rt: &R,
+    alloc: Global,
+    problem: &Problem,
+    effort: Effort,
+    gate: &G,
+) -> Result<Found, NoMemory>
+    requires workers { (1 ≤ effort.workers) × (effort.workers ≤ MAX_WORKERS) }
+    requires some { 1 ≤ effort.limit }
+    requires few { effort.limit ≤ MAX_LIMIT }
+    ensures { IfOk result (IsFound problem.now.network effort.limit) }
+{
     let prepared = Prepared::of(alloc, problem)?;
     let setting = prepared.setting(alloc, Order::File, gate);
     tell_bound(&setting);
-    let answer = answer_by(rt, &setting, effort);
+    let found = found_by(rt, &setting, effort);
     drop(setting);
     drop(prepared);
-    answer
+    found
 }
 
 /// What `plan` answers, by 2 to 16 workers, one a bag. The bags are handed in empty.
@@ -124,61 +140,60 @@ pub fn plan_over<R: Threads + Wait + Sync, G: Gate + Sync, B: Bag + Send>(
     let setting = prepared.setting(alloc, Order::File, gate);
     tell_bound(&setting);
     gate.begin(Phase::File);
-    let answer = answer_over(rt, &setting, limit, bags);
+    let found = found_over(rt, &setting, limit, bags);
     drop(setting);
     drop(prepared);
-    answer
+    found?.into_answer(alloc)
 }
 
-// The answer by a method.
-fn answer_by<R: Threads + Wait + Sync, G: Gate + Sync>(
+// What is found by a method.
+fn found_by<R: Threads + Wait + Sync, G: Gate + Sync>(
     rt: &R,
     setting: &Setting<'_, '_, G>,
     effort: Effort,
-) -> Result<Answer, NoMemory>
+) -> Result<Found, NoMemory>
     requires conflicts { AreConflictsOf setting.now.tables.timing.now setting.now.tables.conflicts.now }
     requires loads { AreLoadsOf setting.now.tables.timing.now setting.now.tables.loads.now }
     requires workers { (1 ≤ effort.workers) × (effort.workers ≤ MAX_WORKERS) }
     requires some { 1 ≤ effort.limit }
     requires few { effort.limit ≤ MAX_LIMIT }
-    ensures { IfOk result (IsAnswer setting.now.tables.timing.now effort.limit) }
+    ensures { IfOk result (IsFound setting.now.tables.timing.now effort.limit) }
 {
     match effort.method {
         Method::FileOrder => {
             setting.gate.begin(Phase::File);
-            answer_with(rt, setting, effort.workers, effort.limit)
+            found_with(rt, setting, effort.workers, effort.limit)
         }
-        Method::Guided => answer_guided(rt, setting, effort.workers, effort.limit, None),
-        Method::Auto => answer_auto(rt, setting, effort.workers, effort.limit),
+        Method::Guided => found_guided(rt, setting, effort.workers, effort.limit, None),
+        Method::Auto => found_auto(rt, setting, effort.workers, effort.limit),
     }
 }
 
-// The answer of a search in the order of the file, or else of a guided one.
-fn answer_auto<R: Threads + Wait + Sync, G: Gate + Sync>(
+// What is found in the order of the file, or else by a guided search.
+fn found_auto<R: Threads + Wait + Sync, G: Gate + Sync>(
     rt: &R,
     setting: &Setting<'_, '_, G>,
     workers: usize,
     limit: usize,
-) -> Result<Answer, NoMemory>
+) -> Result<Found, NoMemory>
     requires conflicts { AreConflictsOf setting.now.tables.timing.now setting.now.tables.conflicts.now }
     requires loads { AreLoadsOf setting.now.tables.timing.now setting.now.tables.loads.now }
     requires workers { (1 ≤ workers) × (workers ≤ MAX_WORKERS) }
     requires some { 1 ≤ limit }
     requires few { limit ≤ MAX_LIMIT }
-    ensures { IfOk result (IsAnswer setting.now.tables.timing.now limit) }
+    ensures { IfOk result (IsFound setting.now.tables.timing.now limit) }
 {
     setting.gate.begin(Phase::File);
     if limit <= FILE_ORDER_LIMIT {
-        return answer_with(rt, setting, workers, limit);
+        return found_with(rt, setting, workers, limit);
     }
-    match answer_with(rt, setting, workers, FILE_ORDER_LIMIT)? {
-        Answer::Stopped(book) => {
+    match found_with(rt, setting, workers, FILE_ORDER_LIMIT)? {
+        Found::Stopped(book) => {
             let known = known_to(setting.alloc, &book);
             drop(book);
-            answer_guided(rt, setting, workers, limit, known)
+            found_guided(rt, setting, workers, limit, known)
         }
-        Answer::Optimal(plan, cert, settled) => Ok(Answer::Optimal(plan, cert, settled)),
-        Answer::NoSchedule(cert, settled) => Ok(Answer::NoSchedule(cert, settled)),
+        Found::Finished(finished) => Ok(Found::Finished(finished)),
     }
 }
 
@@ -189,26 +204,26 @@ fn known_to(alloc: Global, book: &Book) -> Option<Hint> {
     Some(Hint::new(offsets, kept.flowspan()))
 }
 
-// The answer of a search along a schedule that is found beforehand, or the one that is known, where that is better.
-fn answer_guided<R: Threads + Wait + Sync, G: Gate + Sync>(
+// What is found along a schedule that is found beforehand, or the one that is known, where that is better.
+fn found_guided<R: Threads + Wait + Sync, G: Gate + Sync>(
     rt: &R,
     setting: &Setting<'_, '_, G>,
     workers: usize,
     limit: usize,
     known: Option<Hint>,
-) -> Result<Answer, NoMemory>
+) -> Result<Found, NoMemory>
     requires conflicts { AreConflictsOf setting.now.tables.timing.now setting.now.tables.conflicts.now }
     requires loads { AreLoadsOf setting.now.tables.timing.now setting.now.tables.loads.now }
     requires workers { (1 ≤ workers) × (workers ≤ MAX_WORKERS) }
     requires some { 1 ≤ limit }
     requires few { limit ≤ MAX_LIMIT }
-    ensures { IfOk result (IsAnswer setting.now.tables.timing.now limit) }
+    ensures { IfOk result (IsFound setting.now.tables.timing.now limit) }
 {
     setting.gate.begin(Phase::Hint);
     let tables = setting.tables;
     let watcher = Watcher { gate: setting.gate };
-    let found = hint_of(setting.alloc, tables.timing, tables.conflicts, &watcher);
-    let hint = better(found, known);
+    let sought = hint_of(setting.alloc, tables.timing, tables.conflicts, &watcher);
+    let hint = better(sought, known);
     setting.gate.begin(Phase::Guided);
     let guided = Setting {
         alloc: setting.alloc,
@@ -216,10 +231,10 @@ fn answer_guided<R: Threads + Wait + Sync, G: Gate + Sync>(
         order: Order::Guided(guide_of(&hint)),
         gate: setting.gate,
     };
-    let answer = answer_with(rt, &guided, workers, limit);
+    let found = found_with(rt, &guided, workers, limit);
     drop(guided);
     drop(hint);
-    answer
+    found
 }
 
 // Tells the gate what no schedule undercuts, where there is memory to find it.
@@ -256,105 +271,73 @@ fn guide_of(hint: &Option<Hint>) -> Option<Guide<'_>> {
     }
 }
 
-// The answer by 1 to 16 workers.
-fn answer_with<R: Threads + Wait + Sync, G: Gate + Sync>(
+// What 1 to 16 workers find.
+fn found_with<R: Threads + Wait + Sync, G: Gate + Sync>(
     rt: &R,
     setting: &Setting<'_, '_, G>,
     workers: usize,
     limit: usize,
-) -> Result<Answer, NoMemory>
+) -> Result<Found, NoMemory>
     requires conflicts { AreConflictsOf setting.now.tables.timing.now setting.now.tables.conflicts.now }
     requires loads { AreLoadsOf setting.now.tables.timing.now setting.now.tables.loads.now }
     requires workers { (1 ≤ workers) × (workers ≤ MAX_WORKERS) }
     requires some { 1 ≤ limit }
     requires few { limit ≤ MAX_LIMIT }
-    ensures { IfOk result (IsAnswer setting.now.tables.timing.now limit) }
+    ensures { IfOk result (IsFound setting.now.tables.timing.now limit) }
 {
     if workers == 1 {
-        return answer_alone(setting, limit);
+        return found_alone(setting, limit);
     }
     let bags = DequeBag::make(setting.alloc, workers)?;
-    answer_over(rt, setting, limit, bags)
+    found_over(rt, setting, limit, bags)
 }
 
-// The answer by 2 to 16 workers, one a bag.
-fn answer_over<R: Threads + Wait + Sync, G: Gate + Sync, B: Bag + Send>(
+// What 2 to 16 workers find, one a bag.
+fn found_over<R: Threads + Wait + Sync, G: Gate + Sync, B: Bag + Send>(
     rt: &R,
     setting: &Setting<'_, '_, G>,
     limit: usize,
     bags: Vec<B>,
-) -> Result<Answer, NoMemory>
+) -> Result<Found, NoMemory>
     requires conflicts { AreConflictsOf setting.now.tables.timing.now setting.now.tables.conflicts.now }
     requires loads { AreLoadsOf setting.now.tables.timing.now setting.now.tables.loads.now }
     requires workers { (2 ≤ length bags.items) × (length bags.items ≤ MAX_WORKERS) }
     requires some { 1 ≤ limit }
     requires few { limit ≤ MAX_LIMIT }
-    ensures { IfOk result (IsAnswer setting.now.tables.timing.now limit) }
+    ensures { IfOk result (IsFound setting.now.tables.timing.now limit) }
 {
     let workers = bags.len();
     let timing = setting.tables.timing;
     let parts = Parts::new(setting.alloc, timing, workers + 1, limit)?;
     let book = search::<Brand, R, G, B>(rt, setting, bags, parts)?;
     let book = settle_open(setting, workers, limit, book)?;
-    answer(setting.alloc, timing, limit, book)
+    Ok(found_in(timing, limit, book))
 }
 
-// The answer by the caller alone.
-fn answer_alone<G: Gate>(setting: &Setting<'_, '_, G>, limit: usize) -> Result<Answer, NoMemory>
+// What the caller finds alone.
+fn found_alone<G: Gate>(setting: &Setting<'_, '_, G>, limit: usize) -> Result<Found, NoMemory>
     requires conflicts { AreConflictsOf setting.now.tables.timing.now setting.now.tables.conflicts.now }
     requires loads { AreLoadsOf setting.now.tables.timing.now setting.now.tables.loads.now }
     requires some { 1 ≤ limit }
     requires few { limit ≤ MAX_LIMIT }
-    ensures { IfOk result (IsAnswer setting.now.tables.timing.now limit) }
+    ensures { IfOk result (IsFound setting.now.tables.timing.now limit) }
 {
     let timing = setting.tables.timing;
     let book = Book::new(setting.alloc, timing, 1, limit)?;
     let book = settle_open(setting, 0, limit, book)?;
-    answer(setting.alloc, timing, limit, book)
+    Ok(found_in(timing, limit, book))
 }
 
-// The answer of a search that left nothing open, or met its limit.
-fn answer(alloc: Global, timing: &Timing, limit: usize, book: Book) -> Result<Answer, NoMemory>
+// What is found in the book of a search that left nothing open, or met its limit.
+fn found_in(timing: &Timing, limit: usize, book: Book) -> Found
     requires formed { IsWellFormed timing.now }
     requires search { IsSearchOf timing.now limit book }
     requires done { (open_paths book.history ≡ []) ⊎ (length book.history ≡ limit) }
-    ensures { IfOk result (IsAnswer timing.now limit) }
+    ensures { IsFound timing.now limit result }
 {
     if book.open_count() > 0 {
-        Ok(Answer::Stopped(book))
+        Found::Stopped(book)
     } else {
-        decide(alloc, timing, limit, book)
+        Found::Finished(book)
     }
-}
-/// The answer of a search that left nothing open.
-fn decide(alloc: Global, timing: &Timing, limit: usize, book: Book) -> Result<Answer, NoMemory>
-    requires formed { IsWellFormed timing.now }
-    requires search { IsSearchOf timing.now limit book }
-    requires none_open { open_paths book.history ≡ [] }
-    ensures { IfOk result (IsAnswer timing.now limit) }
-{
-    let count = book.count();
-    let Some(kept) = book.kept() else {
-        let cert = book.into_cert()?;
-        return Ok(Answer::NoSchedule(cert, count));
-    };
-    let plan = match plan_of(alloc, kept) {
-        Ok(plan) => plan,
-        Err(fault) => {
-            drop(book);
-            return Err(fault);
-        }
-    };
-    let cert = book.into_cert()?;
-    Ok(Answer::Optimal(plan, cert, count))
-}
-
-// The plan of a schedule.
-fn plan_of(alloc: Global, solved: &Solved) -> Result<Plan, NoMemory>
-    ensures { IfOk result (λ plan. plan ≡ Schedule solved.now.flowspan solved.now.offsets) }
-{
-    Ok(Plan::Schedule {
-        flowspan: solved.flowspan(),
-        offsets: Offsets::of(Vec::from_slice(alloc, solved.valid().offsets())?),
-    })
 }

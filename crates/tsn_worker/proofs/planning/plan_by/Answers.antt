@@ -1,5 +1,11 @@
-use Rattle.std.proofs.Common.{sym, ◌∙◌}
+use Rattle.std.proofs.lemmas.Result.{IfOk-weaker}
+use Rattle.tsn_worker.proofs.Deciding.{none_open}
 use Rattle.tsn_worker.proofs.planning.plan_by.Goals as goal
 
+pub into_answer-requires : goal.into_answer-requires
+into_answer-requires g c = none_open c.args.problem.now.network c.args.effort.limit c.in_ok-search_by.field-0 c.in_ok-search_by.ensures
+
 pub returns : goal.returns
-returns g c = rw (sym (c.setting-setting.ensures.timing ∙ c.in_ok-prepared.ensures.timing)) c.answer_by-answer.ensures
+returns g c =
+    let found = c.in_ok-search_by.ensures in
+    IfOk-weaker c.into_answer.result _ _ (λ answer answers. answers c.args.problem.now.network c.args.effort.limit found) c.into_answer.ensures

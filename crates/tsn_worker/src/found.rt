@@ -1,0 +1,89 @@
+//! What a search leaves, and the answer that it gives.
+ghost use Rattle.std.specs.Prelude.{◌≡◌, ℕ, [], IfOk};
+ghost use Rattle.tsn_model.specs.Network.{Network};
+ghost use Rattle.tsn_model.specs.Search.{open_paths, kept_of};
+ghost use Rattle.tsn_cert.specs.declared.plan.Plan.TheVariants.{Schedule};
+ghost use Rattle.tsn_worker.specs.Answer.{IsAnswer, IsFinished, IsFound, HasNoneOpen, plan_kept, answer_for};
+
+use crate::answer::Answer;
+use std::alloc::Global;
+use tsn_book::Book;
+use tsn_cert::{Cert, Offsets, Plan};
+use tsn_model::NoMemory;
+use tsn_timing::Solved;
+
+/// What a search leaves.
+#[derive(Drop)]
+pub enum Found {
+    /// No node is open.
+    Finished(Book),
+    /// The limit was met while a node was open.
+    Stopped(Book),
+}
+
+impl Found {
+    /// The answer, with the certificate of a finished search. The error says that there was no memory.
+    pub fn into_answer(self, alloc: Global) -> Result<Answer, NoMemory>
+        requires { HasNoneOpen self }
+        ensures { IfOk result (λ answer. (network : Network) (limit : ℕ) → IsFound network limit self → IsAnswer network limit answer) }
+    {
+        match self {
+            Found::Finished(book) => certify(alloc, book),
+            Found::Stopped(book) => Ok(Answer::Stopped(book)),
+        }
+    }
+}
+
+/// The plan of what a book has kept: its schedule, or else that there is none. The error says that there was no memory.
+pub fn plan_of(alloc: Global, book: &Book) -> Result<Plan, NoMemory>
+    ensures { IfOk result (λ plan. plan ≡ plan_kept book.now.network (kept_of book.now.network book.now.history)) }
+{
+    match book.kept() {
+        Some(kept) => schedule_of(alloc, kept),
+        None => Ok(Plan::None),
+    }
+}
+
+// The answer of a search that left nothing open.
+fn certify(alloc: Global, book: Book) -> Result<Answer, NoMemory>
+    requires { open_paths book.history ≡ [] }
+    ensures { IfOk result (λ answer. (network : Network) (limit : ℕ) → IsFinished network limit book → IsAnswer network limit answer) }
+{
+    let count = book.count();
+    let plan = match plan_of(alloc, &book) {
+        Ok(plan) => plan,
+        Err(fault) => {
+            drop(book);
+            return Err(fault);
+        }
+    };
+    match book.into_cert() {
+        Ok(cert) => Ok(answer_for(plan, cert, count)),
+        Err(fault) => {
+            drop(plan);
+            Err(fault)
+        }
+    }
+}
+
+// The answer that has a plan with its certificate.
+fn answer_for(plan: Plan, cert: Cert, count: usize) -> Answer
+    ensures { result ≡ answer_for plan cert count }
+{
+    match plan {
+        Plan::Schedule { flowspan, offsets } => {
+            Answer::Optimal(Plan::Schedule { flowspan, offsets }, cert, count)
+        }
+        Plan::None => Answer::NoSchedule(cert, count),
+    }
+}
+
+// The plan of a schedule.
+fn schedule_of(alloc: Global, solved: &Solved) -> Result<Plan, NoMemory>
+    ensures { IfOk result (λ plan. plan ≡ Schedule solved.now.flowspan solved.now.offsets) }
+{
+    Ok(Plan::Schedule {
+        flowspan: solved.flowspan(),
+        offsets: Offsets::of(Vec::from_slice(alloc, solved.valid().offsets())?),
+    })
+}
