@@ -1,0 +1,4 @@
+pub mod Answer
+pub mod Filling
+pub mod Walk
+pub mod Laws
