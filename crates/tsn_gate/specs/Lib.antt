@@ -5,5 +5,6 @@ pub mod Merged
 pub mod Fault
 pub mod Table
 pub mod Taprio
+pub mod Device
 pub mod Json
 pub mod Laws

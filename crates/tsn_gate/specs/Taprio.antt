@@ -1,7 +1,7 @@
 -- A shell script that hands gate control lists to Linux's taprio.
 --     escaped                       a name in a comment
 --     device_text, part_text        its parts
---     script_text                   the whole
+--     script_text_within, script_text    the whole
 use Rattle.std.specs.Prelude.{ℕ, ◌/◌, ◌%◌, ◌==◌, ◌&&◌, Bool, not, nat_le, nat_lt, if◌then◌else◌, true, List, [], ◌∷◌, ◌++◌, codes}
 use Rattle.std.specs.List.{flat_map}
 use Rattle.std.specs.Fmt.{decimal, digit_glyph}
@@ -50,12 +50,12 @@ step_text entry =
 -- the head of a link's command, up to the cycle
 unfoldable pub opening_text : ℕ → ℕ → List ℕ
 opening_text link cycle =
-    codes "[ -z \"$DEV_" ++ (decimal link ++ (codes "\" ] || tc qdisc replace dev \"$DEV_" ++ (decimal link
+    codes "[ -z \"$DEV_" ++ (decimal link ++ (codes "\" ] || \"$1\" \"$DEV_" ++ (decimal link
     ++ (codes "\" parent root handle 100 taprio \\\n    num_tc 8 map 0 1 2 3 4 5 6 7 0 0 0 0 0 0 0 0 \\\n    queues 1@0 1@1 1@2 1@3 1@4 1@5 1@6 1@7 \\\n    base-time \"$BASE_TIME\" cycle-time "
     ++ (decimal cycle ++ codes " \\\n")))))
 
 abbrev pub closing_text : List ℕ
-closing_text = codes "    clockid \"$CLOCKID\"\n"
+closing_text = codes "    $CLOCK\n"
 
 -- a list's command
 unfoldable pub command_text : LinkGates → List ℕ
@@ -65,10 +65,37 @@ command_text list = opening_text list.link (cycle_of list.entries) ++ (flat_map 
 abbrev pub part_text : NamedNetwork → LinkGates → List ℕ
 part_text problem list = (10 ∷ [] ++ link_comment problem list.link) ++ command_text list
 
-abbrev pub first_lines : List ℕ
+-- the variables, but for those of devices
+unfoldable pub first_lines : List ℕ
 first_lines =
-    codes "#!/bin/sh\n# Each list is set on the device that its variable names, and none where that is empty.\nset -eu\nCLOCKID=${CLOCKID:-CLOCK_TAI}\nBASE_TIME=${BASE_TIME:-0}\n"
+    codes "#!/bin/sh\n# Each list is set on the device that its variable names, and none where that is empty.\n# BASE_TIME: when the first cycle begins, in nanoseconds of the clock CLOCKID.\n# FLAGS: empty where the kernel runs the lists, 0x2 where the device does, 0x1 for launch times, with TXTIME_DELAY.\n# DRY=1: print the commands and run none. FORCE=1: set lists that are refused for MOST or LEAST, too.\nset -eu\nCLOCKID=${CLOCKID:-CLOCK_TAI}\nBASE_TIME=${BASE_TIME:-0}\nFLAGS=${FLAGS:-}\nTXTIME_DELAY=${TXTIME_DELAY:-0}\nDRY=${DRY:-}\nFORCE=${FORCE:-}\n"
 
--- the variables of all links, and the command of each
+-- what a device takes where the caller says nothing else
+unfoldable pub limits_text : ℕ → ℕ → List ℕ
+limits_text most least = codes "MOST=${MOST:-" ++ (decimal most ++ (codes "}\nLEAST=${LEAST:-" ++ (decimal least ++ codes "}\n")))
+
+-- what is done with each list
+unfoldable pub middle_lines : List ℕ
+middle_lines =
+    codes "\ncase $FLAGS in\n'') CLOCK=\"clockid $CLOCKID\" ;;\n0x1 | 1) CLOCK=\"flags $FLAGS txtime-delay $TXTIME_DELAY clockid $CLOCKID\" ;;\n*) CLOCK=\"flags $FLAGS\" ;;\nesac\nREFUSED=\n\n# Tells what a device doesn't take of its list: more than MOST entries, or one shorter than LEAST nanoseconds.\njudge() {\n    device=$1\n    entries=0\n    shortest=$LEAST\n    while [ $# -gt 0 ]; do\n        if [ \"$1\" = sched-entry ]; then\n            entries=$((entries + 1))\n            [ \"$4\" -ge \"$shortest\" ] || shortest=$4\n            shift 3\n        fi\n        shift\n    done\n    if [ \"$entries\" -gt \"$MOST\" ]; then\n        echo \"$device: $entries entries, more than $MOST\" >&2\n        REFUSED=1\n    fi\n    if [ \"$shortest\" -lt \"$LEAST\" ]; then\n        echo \"$device: an entry of $shortest ns, shorter than $LEAST\" >&2\n        REFUSED=1\n    fi\n}\n\n# Sets a list on its device.\nput() {\n    device=$1\n    shift\n    if [ -n \"$DRY\" ]; then\n        echo tc qdisc replace dev \"$device\" \"$@\"\n    else\n        tc qdisc replace dev \"$device\" \"$@\"\n    fi\n}\n\neach_list() {\n    :\n"
+
+-- that none is set where one is refused
+unfoldable pub last_lines : List ℕ
+last_lines =
+    codes "}\n\neach_list judge\nif [ -n \"$REFUSED\" ] && [ -z \"$FORCE\" ]; then\n    echo \"No list is set; FORCE=1 sets them all.\" >&2\n    exit 1\nfi\neach_list put\n"
+
+-- what a device takes, and the devices
+abbrev pub variables_text : ℕ → ℕ → NamedNetwork → List LinkGates → List ℕ
+variables_text most least problem lists = limits_text most least ++ flat_map (device_text problem) lists
+
+-- the commands of the lists, between what is done with each
+abbrev pub commands_text : NamedNetwork → List LinkGates → List ℕ
+commands_text problem lists = middle_lines ++ (flat_map (part_text problem) lists ++ last_lines)
+
+-- the whole
+abbrev pub script_text_within : ℕ → ℕ → NamedNetwork → List LinkGates → List ℕ
+script_text_within most least problem lists = first_lines ++ (variables_text most least problem lists ++ commands_text problem lists)
+
+-- that of what Linux takes
 abbrev pub script_text : NamedNetwork → List LinkGates → List ℕ
-script_text problem lists = first_lines ++ (flat_map (device_text problem) lists ++ flat_map (part_text problem) lists)
+script_text problem lists = script_text_within 30 480 problem lists

@@ -1,6 +1,7 @@
 //! Gate control lists (IEEE Std 802.1Q-2018, clause 8.6.8.4): those that a schedule asks for, and others' lists.
 #![tactic(auto)]
 
+mod device;
 pub mod fault;
 mod json;
 pub mod laws;
@@ -12,9 +13,10 @@ pub mod taprio;
 mod timeline;
 mod windows;
 
+pub use device::device_lines;
 pub use fault::GateFault;
 pub use list::GateList;
 pub use lists::gate_lists;
 pub use merged::{lists_by, merged_lists};
-pub use taprio::to_taprio;
+pub use taprio::{DeviceLimits, LINUX, to_taprio, to_taprio_within};
 pub use tsn_model::{GateEntry, NoMemory};

@@ -1,7 +1,7 @@
 //! Gate control lists as a script for Linux's taprio.
 ghost use Rattle.std.specs.Prelude.{◌≡◌, ◌++◌, ◌<◌, OnOk, IfOk, length, string_bytes, All};
 ghost use Rattle.std.specs.List.{flat_map};
-ghost use Rattle.tsn_gate.specs.Taprio.{escaped, escaped_byte, is_plain, comment_text, link_comment, variable_text, device_text, step_text, opening_text, command_text, part_text, script_text};
+ghost use Rattle.tsn_gate.specs.Taprio.{escaped, escaped_byte, is_plain, comment_text, limits_text, link_comment, variable_text, device_text, step_text, opening_text, command_text, commands_text, first_lines, last_lines, middle_lines, part_text, variables_text, script_text, script_text_within};
 
 use crate::list::{GateList, names};
 use std::alloc::{AllocError, Global};
@@ -9,17 +9,38 @@ use std::fmt::Write;
 use tsn_model::{GateEntry, NoMemory};
 use tsn_net::Problem;
 
-/// The first lines of a script: the clock and the instant at which the first cycle begins, in nanoseconds of that clock.
+/// The first lines of a script, with its variables.
 const FIRST_LINES: &str =
-    "#!/bin/sh\n# Each list is set on the device that its variable names, and none where that is empty.\nset -eu\nCLOCKID=${CLOCKID:-CLOCK_TAI}\nBASE_TIME=${BASE_TIME:-0}\n";
+    "#!/bin/sh\n# Each list is set on the device that its variable names, and none where that is empty.\n# BASE_TIME: when the first cycle begins, in nanoseconds of the clock CLOCKID.\n# FLAGS: empty where the kernel runs the lists, 0x2 where the device does, 0x1 for launch times, with TXTIME_DELAY.\n# DRY=1: print the commands and run none. FORCE=1: set lists that are refused for MOST or LEAST, too.\nset -eu\nCLOCKID=${CLOCKID:-CLOCK_TAI}\nBASE_TIME=${BASE_TIME:-0}\nFLAGS=${FLAGS:-}\nTXTIME_DELAY=${TXTIME_DELAY:-0}\nDRY=${DRY:-}\nFORCE=${FORCE:-}\n";
 
-/// The last line of a link's command.
-const LAST_LINE: &str = "    clockid \"$CLOCKID\"\n";
+/// The lines between the variables of the devices and the lists: what is done with each list.
+const MIDDLE_LINES: &str =
+    "\ncase $FLAGS in\n'') CLOCK=\"clockid $CLOCKID\" ;;\n0x1 | 1) CLOCK=\"flags $FLAGS txtime-delay $TXTIME_DELAY clockid $CLOCKID\" ;;\n*) CLOCK=\"flags $FLAGS\" ;;\nesac\nREFUSED=\n\n# Tells what a device doesn't take of its list: more than MOST entries, or one shorter than LEAST nanoseconds.\njudge() {\n    device=$1\n    entries=0\n    shortest=$LEAST\n    while [ $# -gt 0 ]; do\n        if [ \"$1\" = sched-entry ]; then\n            entries=$((entries + 1))\n            [ \"$4\" -ge \"$shortest\" ] || shortest=$4\n            shift 3\n        fi\n        shift\n    done\n    if [ \"$entries\" -gt \"$MOST\" ]; then\n        echo \"$device: $entries entries, more than $MOST\" >&2\n        REFUSED=1\n    fi\n    if [ \"$shortest\" -lt \"$LEAST\" ]; then\n        echo \"$device: an entry of $shortest ns, shorter than $LEAST\" >&2\n        REFUSED=1\n    fi\n}\n\n# Sets a list on its device.\nput() {\n    device=$1\n    shift\n    if [ -n \"$DRY\" ]; then\n        echo tc qdisc replace dev \"$device\" \"$@\"\n    else\n        tc qdisc replace dev \"$device\" \"$@\"\n    fi\n}\n\neach_list() {\n    :\n";
 
-/// The lists as a shell script, with a command of `tc` for each that sets it on a device of eight queues, one for each
-/// traffic class. The device of link 4 is in the variable `DEV_4`, the clock in `CLOCKID` and the instant at which the first
-/// cycle begins in `BASE_TIME`; the caller's environment may set them. A comment on each link names the nodes that it
-/// joins: in it a byte of no printable ASCII character, or of a backslash, stands as `\x` and its two hexadecimal digits.
+/// The last lines: each list is judged before any is set.
+const LAST_LINES: &str =
+    "}\n\neach_list judge\nif [ -n \"$REFUSED\" ] && [ -z \"$FORCE\" ]; then\n    echo \"No list is set; FORCE=1 sets them all.\" >&2\n    exit 1\nfi\neach_list put\n";
+
+/// The last line of a link's list.
+const LAST_LINE: &str = "    $CLOCK\n";
+
+/// What a device takes of a gate control list.
+#[derive(Clone, Copy)]
+pub struct DeviceLimits {
+    /// The most entries.
+    pub most: usize,
+    /// The shortest entry, in nanoseconds.
+    pub least: u64,
+}
+
+/// What Linux takes: 30 entries fit into a message of `tc`, and the kernel refuses an entry within which 60 octets don't fit,
+/// 480 ns at 1000 Mb/s.
+pub const LINUX: DeviceLimits = DeviceLimits {
+    most: 30,
+    least: 480,
+};
+
+/// The script of `to_taprio_within` for what Linux takes.
 ///
 /// # Errors
 ///
@@ -28,10 +49,94 @@ pub fn to_taprio(alloc: Global, problem: &Problem, lists: &[GateList]) -> Result
     requires { All (λ list. list.link < length problem.now.network.links) lists.now }
     ensures { IfOk result (λ text. string_bytes text ≡ script_text problem.now lists.now) }
 {
-    let mut text = String::from_str(alloc, FIRST_LINES)?;
-    write_devices(&mut text, problem, lists)?;
-    write_parts(&mut text, problem, lists)?;
+    to_taprio_within(alloc, problem, lists, LINUX)
+}
+
+/// The lists as a shell script, with a command of `tc` for each that sets it on a device of eight queues, one for each
+/// traffic class. The device of link 4 is in the variable `DEV_4`, the clock in `CLOCKID` and the instant at which the first
+/// cycle begins in `BASE_TIME`; the caller's environment may set them, and `FLAGS`, `TXTIME_DELAY`, `DRY`, `FORCE`, `MOST` and
+/// `LEAST`, whose meaning the script says. It sets no list where a device's has more entries than the limits allow, or a
+/// shorter one, unless `FORCE` is set. A comment on each link names the nodes that it joins: in it a byte of no printable
+/// ASCII character, or of a backslash, stands as `\x` and its two hexadecimal digits.
+///
+/// # Errors
+///
+/// There was no memory.
+pub fn to_taprio_within(
+    alloc: Global,
+    problem: &Problem,
+    lists: &[GateList],
+    limits: DeviceLimits,
+) -> Result<String, NoMemory>
+    requires { All (λ list. list.link < length problem.now.network.links) lists.now }
+    ensures { IfOk result (λ text. string_bytes text ≡ script_text_within limits.most limits.least problem.now lists.now) }
+{
+    let mut text = first_text(alloc)?;
+    write_variables(&mut text, problem, lists, limits)?;
+    write_commands(&mut text, problem, lists)?;
     Ok(text)
+}
+
+/// Writes the variables of what a device takes, and those of the devices.
+fn write_variables(
+    text: &mut String,
+    problem: &Problem,
+    lists: &[GateList],
+    limits: DeviceLimits,
+) -> Result<(), AllocError>
+    requires { All (λ list. list.link < length problem.now.network.links) lists.now }
+    ensures { OnOk result (string_bytes text.new ≡ string_bytes text.old ++ variables_text limits.most limits.least problem.now lists.now) }
+{
+    write_limits(text, limits)?;
+    write_devices(text, problem, lists)
+}
+
+/// Writes what is done with each list, and the lists' commands.
+fn write_commands(
+    text: &mut String,
+    problem: &Problem,
+    lists: &[GateList],
+) -> Result<(), AllocError>
+    requires { All (λ list. list.link < length problem.now.network.links) lists.now }
+    ensures { OnOk result (string_bytes text.new ≡ string_bytes text.old ++ commands_text problem.now lists.now) }
+{
+    write_middle(text)?;
+    write_parts(text, problem, lists)?;
+    write_last(text)
+}
+
+/// A script's first lines.
+#[tactic(auto, unfolding(crate::specs::Taprio::first_lines))]
+fn first_text(alloc: Global) -> Result<String, AllocError>
+    ensures { IfOk result (λ text. string_bytes text ≡ first_lines) }
+{
+    String::from_str(alloc, FIRST_LINES)
+}
+
+/// Writes the lines before the lists.
+#[tactic(auto, unfolding(crate::specs::Taprio::middle_lines))]
+fn write_middle(text: &mut String) -> Result<(), AllocError>
+    ensures { OnOk result (string_bytes text.new ≡ string_bytes text.old ++ middle_lines) }
+{
+    text.push_str(MIDDLE_LINES)
+}
+
+/// Writes the lines behind the lists.
+#[tactic(auto, unfolding(crate::specs::Taprio::last_lines))]
+fn write_last(text: &mut String) -> Result<(), AllocError>
+    ensures { OnOk result (string_bytes text.new ≡ string_bytes text.old ++ last_lines) }
+{
+    text.push_str(LAST_LINES)
+}
+
+/// Writes the variables of what a device takes.
+#[tactic(auto, unfolding(crate::specs::Taprio::limits_text))]
+fn write_limits(text: &mut String, limits: DeviceLimits) -> Result<(), AllocError>
+    ensures { OnOk result (string_bytes text.new ≡ string_bytes text.old ++ limits_text limits.most limits.least) }
+{
+    let most = limits.most;
+    let least = limits.least;
+    write!(text, "MOST=${{MOST:-{most}}}\nLEAST=${{LEAST:-{least}}}\n")
 }
 
 /// Writes the variables of the devices.
@@ -152,7 +257,7 @@ fn write_opening(text: &mut String, link: usize, cycle: u64) -> Result<(), Alloc
 {
     write!(
         text,
-        "[ -z \"$DEV_{link}\" ] || tc qdisc replace dev \"$DEV_{link}\" parent root handle 100 taprio \\\n    num_tc 8 map 0 1 2 3 4 5 6 7 0 0 0 0 0 0 0 0 \\\n    queues 1@0 1@1 1@2 1@3 1@4 1@5 1@6 1@7 \\\n    base-time \"$BASE_TIME\" cycle-time {cycle} \\\n"
+        "[ -z \"$DEV_{link}\" ] || \"$1\" \"$DEV_{link}\" parent root handle 100 taprio \\\n    num_tc 8 map 0 1 2 3 4 5 6 7 0 0 0 0 0 0 0 0 \\\n    queues 1@0 1@1 1@2 1@3 1@4 1@5 1@6 1@7 \\\n    base-time \"$BASE_TIME\" cycle-time {cycle} \\\n"
     )
 }
 
