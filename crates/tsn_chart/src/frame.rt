@@ -10,6 +10,9 @@ use std::fmt::Write;
 /// The most marks of the axis.
 const MOST_MARKS: u64 = 12;
 
+/// Half of the width of the flowspan's label, at most: 24 letters.
+const HALF_LABEL: u64 = 900;
+
 /// The steps of the axis but for the longest, in nanoseconds.
 const STEPS: [u64; 24] = [
     1, 2, 5, 10, 20, 50, 100, 200, 500, 1000, 2000, 5000, 10_000, 20_000, 50_000, 100_000, 200_000,
@@ -24,7 +27,7 @@ pub fn write_head(text: &mut String, sheet: Sheet<'_>, height: u64) -> Result<()
     let font = sheet.scale.font();
     write!(
         text,
-        "<svg xmlns=\"http://www.w3.org/2000/svg\" width=\"{pixels}\" height=\"{high}\" viewBox=\"0 0 {page} {height}\" font-family=\"sans-serif\" font-size=\"{font}\">\n"
+        "<svg xmlns=\"http://www.w3.org/2000/svg\" width=\"{pixels}\" height=\"{high}\" viewBox=\"0 0 {page} {height}\" font-family=\"monospace\" font-size=\"{font}\">\n"
     )?;
     write!(
         text,
@@ -37,7 +40,7 @@ pub fn write_head(text: &mut String, sheet: Sheet<'_>, height: u64) -> Result<()
     write_title(text, sheet)
 }
 
-/// Writes the title: how many streams there are, their flowspan, and the cycle.
+/// Writes the title: how many streams there are, their flowspan, the cycle, and how many links are shown.
 fn write_title(text: &mut String, sheet: Sheet<'_>) -> Result<(), AllocError> {
     let streams = sheet.timing.streams();
     let noun = if streams == 1 { "stream" } else { "streams" };
@@ -48,7 +51,9 @@ fn write_title(text: &mut String, sheet: Sheet<'_>) -> Result<(), AllocError> {
     write_microseconds(text, flowspan(sheet))?;
     text.push_str(" &#181;s, cycle ")?;
     write_microseconds(text, sheet.timing.cycle())?;
-    text.push_str(" &#181;s</text>\n")
+    let rows = sheet.rows;
+    let links = sheet.lists.len();
+    write!(text, " &#181;s, {rows} of {links} links in use</text>\n")
 }
 
 /// When the stream that finishes last has arrived.
@@ -63,10 +68,17 @@ fn flowspan(sheet: Sheet<'_>) -> u64 {
 
 /// Writes what says how the gates are shaded.
 pub fn write_background(text: &mut String, scale: Scale) -> Result<(), AllocError> {
-    write_sample(text, 2000, "url(#guard)", "guard: all gates closed")?;
-    write_sample(text, 5000, "#d9ecd9", "open for background")?;
-    write_sample(text, 8000, "#fff3c4", "open for scheduled frames")?;
-    write_sample(text, 11_000, "#ffffff", "other gates")?;
+    write_sample(text, 2000, 380, "url(#guard)", "guard: all gates closed")?;
+    write_sample(text, 5000, 380, "#d9ecd9", "open for background")?;
+    write_sample(text, 8000, 380, "#fff3c4", "open for scheduled frames")?;
+    write_sample(text, 11_000, 380, "#ffffff", "other gates")?;
+    write_sample(
+        text,
+        2000,
+        580,
+        "#555555",
+        "a bar: a frame, and the gap that has to follow it",
+    )?;
     let bottom = scale.bottom();
     let high = bottom.saturating_sub(TOP);
     write!(
@@ -76,13 +88,21 @@ pub fn write_background(text: &mut String, scale: Scale) -> Result<(), AllocErro
 }
 
 /// Writes a sample of a shade and what it means.
-fn write_sample(text: &mut String, x: u64, fill: &str, meaning: &str) -> Result<(), AllocError>
-    requires { x ≤ 20_000 }
+fn write_sample(
+    text: &mut String,
+    x: u64,
+    y: u64,
+    fill: &str,
+    meaning: &str,
+) -> Result<(), AllocError>
+    requires x { x ≤ 20_000 }
+    requires y { y ≤ 20_000 }
 {
     let words = x + 320;
+    let line = y + 115;
     write!(
         text,
-        "<rect x=\"{x}\" y=\"420\" width=\"260\" height=\"150\" fill=\"{fill}\" stroke=\"#888888\" stroke-width=\"6\"/><text x=\"{words}\" y=\"540\" font-size=\"120\">{meaning}</text>\n"
+        "<rect x=\"{x}\" y=\"{y}\" width=\"260\" height=\"140\" fill=\"{fill}\" stroke=\"#888888\" stroke-width=\"6\"/><text x=\"{words}\" y=\"{line}\" font-size=\"110\">{meaning}</text>\n"
     )
 }
 
@@ -123,7 +143,7 @@ fn step_of(until: u64) -> u64 {
     100_000_000
 }
 
-/// Writes the line that marks the flowspan, where it is in the picture.
+/// Writes the line that marks the flowspan, where it is in the picture. Its label ends at the page's edge where it would be cut.
 pub fn write_flowspan(text: &mut String, sheet: Sheet<'_>) -> Result<(), AllocError> {
     let end = flowspan(sheet);
     if end > sheet.scale.until() {
@@ -132,9 +152,14 @@ pub fn write_flowspan(text: &mut String, sheet: Sheet<'_>) -> Result<(), AllocEr
     let x = sheet.scale.x(end);
     let bottom = sheet.scale.bottom();
     let words = bottom + 150;
+    let (at, anchor) = if x + HALF_LABEL > PAGE {
+        (PAGE - 60, "end")
+    } else {
+        (x, "middle")
+    };
     write!(
         text,
-        "<line x1=\"{x}\" y1=\"{TOP}\" x2=\"{x}\" y2=\"{bottom}\" stroke=\"#c00000\" stroke-width=\"16\" stroke-dasharray=\"60 40\"/><text x=\"{x}\" y=\"{words}\" fill=\"#c00000\" text-anchor=\"middle\">flowspan "
+        "<line x1=\"{x}\" y1=\"{TOP}\" x2=\"{x}\" y2=\"{bottom}\" stroke=\"#c00000\" stroke-width=\"16\" stroke-dasharray=\"60 40\"/><text x=\"{at}\" y=\"{words}\" fill=\"#c00000\" text-anchor=\"{anchor}\">flowspan "
     )?;
     write_microseconds(text, end)?;
     text.push_str(" &#181;s</text>\n")

@@ -6,7 +6,9 @@ mod key;
 pub mod picture;
 mod rows;
 mod scale;
+mod shown;
 pub mod words;
 
-pub use picture::chart;
+pub use picture::{View, chart, chart_of};
+pub use shown::Shown;
 pub use tsn_model::NoMemory;

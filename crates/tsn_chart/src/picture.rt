@@ -5,8 +5,9 @@ ghost use Rattle.tsn_model.specs.Schedule.{IsValid};
 
 use crate::frame::{write_axis, write_background, write_flowspan, write_head};
 use crate::key::{key_height, write_key};
-use crate::rows::write_row;
+use crate::rows::{Line, write_row};
 use crate::scale::Scale;
+use crate::shown::{Shown, is_shown, rows_shown};
 use std::alloc::{AllocError, Global};
 use tsn_gate::GateList;
 use tsn_model::NoMemory;
@@ -20,6 +21,9 @@ pub(crate) struct Sheet<'a> {
     pub(crate) timing: &'a Timing,
     pub(crate) offsets: &'a [u64],
     pub(crate) lists: &'a [GateList],
+    pub(crate) shown: Shown,
+    /// How many lists are shown.
+    pub(crate) rows: usize,
     pub(crate) scale: Scale,
 
     ghost same: { timing.now ≡ problem.now.network },
@@ -38,12 +42,18 @@ impl<'a> Sheet<'a> {
     }
 }
 
-/// The schedule as an SVG document: time runs from 0 to `until` nanoseconds, but no further than the cycle, and each list has
-/// a row with the names of the nodes that its link joins. A row is shaded by the gates of its list, and has a bar in the
-/// stream's colour for each frame, with the stream's name where there is room. A line marks the flowspan.
-///
-/// Names are cut where they are too long, and written so that XML may hold them: a character that it can't hold becomes
-/// U+FFFD.
+/// What is drawn of a schedule.
+#[derive(Clone, Copy)]
+pub struct View {
+    /// The instant at the right edge, in nanoseconds; the cycle's end where that is sooner.
+    pub until: u64,
+    /// Which links have a row.
+    pub shown: Shown,
+    pub ghost some: { 1 ≤ until },
+    pub ghost few: { until ≤ 1000000000 },
+}
+
+/// The picture of a schedule as `chart_of` draws it, with the rows of `Shown::Auto`.
 ///
 /// # Errors
 ///
@@ -60,13 +70,41 @@ pub fn chart(
     requires valid { IsValid problem.now.network valid.now }
     requires exist { All (λ list. list.link < length problem.now.network.links) lists.now }
 {
+    let shown = Shown::Auto;
+    chart_of(alloc, problem, valid, lists, View { until, shown })
+}
+
+/// The schedule as an SVG document: time runs from 0 to `until` nanoseconds, but no further than the cycle, and each list that
+/// is shown has a row with its link's number and the names of the nodes that this joins. A row is shaded by the gates of its
+/// list, and has a bar in the stream's colour for each frame with the gap behind it, with the stream's name where there is
+/// room. A line marks the flowspan. Below stands a table of all streams, with their offsets, arrivals and latest instants.
+///
+/// Names are cut where they are too long, and written so that XML may hold them: a character that it can't hold becomes
+/// U+FFFD.
+///
+/// # Errors
+///
+/// There was no memory.
+pub fn chart_of(
+    alloc: Global,
+    problem: &Problem,
+    valid: &Valid,
+    lists: &[GateList],
+    view: View,
+) -> Result<String, NoMemory>
+    requires valid { IsValid problem.now.network valid.now }
+    requires exist { All (λ list. list.link < length problem.now.network.links) lists.now }
+{
     let timing = Timing::of(alloc, problem)?;
-    let scale = Scale::new(until.min(timing.cycle()), lists.len());
+    let rows = rows_shown(&timing, lists, view.shown);
+    let scale = Scale::new(view.until.min(timing.cycle()), rows);
     let sheet = Sheet {
         problem,
         timing: &timing,
         offsets: valid.offsets(),
         lists,
+        shown: view.shown,
+        rows,
         scale,
     };
     Ok(draw(alloc, sheet)?)
@@ -78,12 +116,24 @@ fn draw(alloc: Global, sheet: Sheet<'_>) -> Result<String, AllocError> {
     let mut text = String::new(alloc);
     write_head(&mut text, sheet, height)?;
     write_background(&mut text, sheet.scale)?;
-    for row in 0..sheet.lists.len() {
-        write_row(&mut text, sheet, row)?;
-    }
+    write_rows(&mut text, sheet)?;
     write_axis(&mut text, sheet.scale)?;
     write_flowspan(&mut text, sheet)?;
     write_key(&mut text, sheet)?;
     text.push_str("</svg>\n")?;
     Ok(text)
+}
+
+/// Writes the rows of the lists that are shown.
+fn write_rows(text: &mut String, sheet: Sheet<'_>) -> Result<(), AllocError> {
+    let mut row: usize = 0;
+    for number in 0..sheet.lists.len() {
+        let link = sheet.lists[number].link();
+        if is_shown(sheet.timing, sheet.lists, link, sheet.shown) {
+            let y = sheet.scale.y(row);
+            write_row(text, sheet, Line { number, y })?;
+            row = row.saturating_add(1);
+        }
+    }
+    Ok(())
 }

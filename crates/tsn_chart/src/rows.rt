@@ -4,7 +4,9 @@ ghost use Rattle.tsn_model.specs.Network.{stream_count, hop_count};
 
 use crate::picture::Sheet;
 use crate::scale::{LEFT, PAGE};
-use crate::words::{letters_in, write_colour, write_microseconds, write_name, write_whole};
+use crate::words::{
+    letters_in, letters_on, write_colour, write_microseconds, write_name, write_whole,
+};
 use std::alloc::AllocError;
 use std::fmt::Write;
 use tsn_gate::{GateEntry, GateList};
@@ -15,25 +17,33 @@ const NARROWEST: u64 = 6;
 /// The gate of the scheduled class alone open.
 const SCHEDULED: u8 = 0x80;
 
+/// A row: the number of its list, and its upper edge.
+#[derive(Clone, Copy)]
+pub struct Line {
+    pub(crate) number: usize,
+    pub(crate) y: u64,
+    ghost low: { y ≤ 400000 },
+}
+
 /// The bar of a stream's frame in a row: where it begins, and how wide it is, in tenths of a pixel.
 #[derive(Clone, Copy)]
 struct Bar {
-    row: usize,
+    line: Line,
     stream: usize,
     x: u64,
     wide: u64,
 }
 
 /// Writes a row: its label, its gates, and its frames.
-pub fn write_row(text: &mut String, sheet: Sheet<'_>, row: usize) -> Result<(), AllocError>
-    requires { row < length sheet.lists.now }
+pub fn write_row(text: &mut String, sheet: Sheet<'_>, line: Line) -> Result<(), AllocError>
+    requires { line.number < length sheet.lists.now }
 {
-    write_label(text, sheet, row)?;
-    write_gates(text, sheet, row)?;
+    write_label(text, sheet, line)?;
+    write_gates(text, sheet, line)?;
     for stream in 0..sheet.timing.streams() {
-        write_frames(text, sheet, row, stream)?;
+        write_frames(text, sheet, line, stream)?;
     }
-    let y = sheet.scale.y(row);
+    let y = line.y;
     write!(
         text,
         "<line x1=\"0\" y1=\"{y}\" x2=\"{PAGE}\" y2=\"{y}\" stroke=\"#cccccc\" stroke-width=\"5\"/>\n"
@@ -41,15 +51,18 @@ pub fn write_row(text: &mut String, sheet: Sheet<'_>, row: usize) -> Result<(), 
 }
 
 /// Writes the names of the nodes that the row's link joins.
-fn write_label(text: &mut String, sheet: Sheet<'_>, row: usize) -> Result<(), AllocError>
-    requires { row < length sheet.lists.now }
+fn write_label(text: &mut String, sheet: Sheet<'_>, line: Line) -> Result<(), AllocError>
+    requires { line.number < length sheet.lists.now }
 {
-    let link = sheet.lists[row].link();
-    let (from, to) = sheet.lists[row].names(sheet.problem);
+    let link = sheet.lists[line.number].link();
+    let (from, to) = sheet.lists[line.number].names(sheet.problem);
     let x = LEFT - 100;
-    let y = sheet.scale.y(row) + sheet.scale.row_height() / 2 + sheet.scale.font() / 3;
-    let most = letters_in(LEFT - 200, sheet.scale.font()).saturating_sub(3) / 2;
-    write!(text, "<text x=\"{x}\" y=\"{y}\" text-anchor=\"end\">")?;
+    let y = line.y + sheet.scale.row_height() / 2 + sheet.scale.font() / 3;
+    let most = letters_in(LEFT - 200, sheet.scale.font()).saturating_sub(8) / 2;
+    write!(
+        text,
+        "<text x=\"{x}\" y=\"{y}\" text-anchor=\"end\">{link} "
+    )?;
     write_name(text, from, most)?;
     text.push_str(" &#8594; ")?;
     write_name(text, to, most)?;
@@ -61,15 +74,15 @@ fn write_label(text: &mut String, sheet: Sheet<'_>, row: usize) -> Result<(), Al
 }
 
 /// Writes the shades of a row's gates.
-fn write_gates(text: &mut String, sheet: Sheet<'_>, row: usize) -> Result<(), AllocError>
-    requires { row < length sheet.lists.now }
+fn write_gates(text: &mut String, sheet: Sheet<'_>, line: Line) -> Result<(), AllocError>
+    requires { line.number < length sheet.lists.now }
 {
     let mut start: u64 = 0;
-    for entry in sheet.lists[row].entries() {
+    for entry in sheet.lists[line.number].entries() {
         if start >= sheet.scale.until() {
             break;
         }
-        write_gate(text, sheet, row, start, *entry)?;
+        write_gate(text, sheet, line, start, *entry)?;
         start = start.saturating_add(entry.interval);
     }
     Ok(())
@@ -79,7 +92,7 @@ fn write_gates(text: &mut String, sheet: Sheet<'_>, row: usize) -> Result<(), Al
 fn write_gate(
     text: &mut String,
     sheet: Sheet<'_>,
-    row: usize,
+    line: Line,
     start: u64,
     entry: GateEntry,
 ) -> Result<(), AllocError> {
@@ -87,7 +100,7 @@ fn write_gate(
     let end = start.saturating_add(entry.interval);
     let x = sheet.scale.x(start);
     let wide = sheet.scale.x(end).saturating_sub(x);
-    let y = sheet.scale.y(row);
+    let y = line.y;
     let high = sheet.scale.row_height();
     let shade = shade_of(octet);
     write!(
@@ -110,16 +123,16 @@ fn shade_of(octet: u8) -> &'static str {
 fn write_frames(
     text: &mut String,
     sheet: Sheet<'_>,
-    row: usize,
+    line: Line,
     stream: usize,
 ) -> Result<(), AllocError>
-    requires row { row < length sheet.lists.now }
+    requires line { line.number < length sheet.lists.now }
     requires stream { stream < stream_count sheet.timing.now }
 {
-    let link = sheet.lists[row].link();
+    let link = sheet.lists[line.number].link();
     for hop in 0..sheet.timing.hops(stream) {
         if sheet.timing.route_link(stream, hop) == link {
-            write_bar(text, sheet, row, stream, hop)?;
+            write_bar(text, sheet, line, stream, hop)?;
         }
     }
     Ok(())
@@ -129,7 +142,7 @@ fn write_frames(
 fn write_bar(
     text: &mut String,
     sheet: Sheet<'_>,
-    row: usize,
+    line: Line,
     stream: usize,
     hop: usize,
 ) -> Result<(), AllocError>
@@ -143,18 +156,18 @@ fn write_bar(
     }
     let x = sheet.scale.x(start);
     let wide = sheet.scale.x(end).saturating_sub(x).max(NARROWEST);
-    let y = sheet.scale.y(row) + 20;
+    let y = line.y + 20;
     let high = sheet.scale.row_height().saturating_sub(40);
     write!(text, "<g><title>")?;
     write_whole(text, sheet.name(stream))?;
     write!(
         text,
-        ": {start} to {end} ns</title><rect x=\"{x}\" y=\"{y}\" width=\"{wide}\" height=\"{high}\" fill=\""
+        ": {start} to {end} ns with the gap</title><rect x=\"{x}\" y=\"{y}\" width=\"{wide}\" height=\"{high}\" fill=\""
     )?;
     write_colour(text, stream)?;
     text.push_str("\"/>")?;
     let bar = Bar {
-        row,
+        line,
         stream,
         x,
         wide,
@@ -174,10 +187,11 @@ fn write_bar_name(text: &mut String, sheet: Sheet<'_>, bar: Bar) -> Result<(), A
         return Ok(());
     }
     let middle = bar.x + bar.wide / 2;
-    let y = sheet.scale.y(bar.row) + sheet.scale.row_height() / 2 + sheet.scale.font() / 3;
+    let letters = letters_on(bar.stream);
+    let y = bar.line.y + sheet.scale.row_height() / 2 + sheet.scale.font() / 3;
     write!(
         text,
-        "<text x=\"{middle}\" y=\"{y}\" fill=\"#ffffff\" text-anchor=\"middle\">"
+        "<text x=\"{middle}\" y=\"{y}\" fill=\"{letters}\" text-anchor=\"middle\">"
     )?;
     write_name(text, sheet.name(bar.stream), room)?;
     text.push_str("</text>")

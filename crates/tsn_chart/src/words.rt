@@ -3,7 +3,7 @@
 use std::alloc::AllocError;
 use std::fmt::Write;
 
-/// How wide a letter is at most on average, in hundredths of the letters' height.
+/// How wide a letter is, in hundredths of the letters' height: those of names are all of one width.
 const LETTER: u64 = 62;
 
 /// How many letters of that height have room.
@@ -84,9 +84,29 @@ pub fn write_microseconds(text: &mut String, instant: u64) -> Result<(), AllocEr
     }
 }
 
-/// The colour of a stream: neighbours have hues that are far apart.
+/// The colour of a stream: neighbours have hues that are far apart, and letters on it can be read.
 pub(crate) fn write_colour(text: &mut String, stream: usize) -> Result<(), AllocError> {
-    let hue = stream % 360 * 137 % 360;
-    let lightness = 42 + stream % 3 * 9;
+    let hue = hue_of(stream);
+    let least = if is_bright(hue) { 50 } else { 32 };
+    let lightness = least + stream % 3 * 5;
     write!(text, "hsl({hue},65%,{lightness}%)")
+}
+
+/// The colour of letters on that of a stream.
+pub(crate) fn letters_on(stream: usize) -> &'static str {
+    if is_bright(hue_of(stream)) {
+        "#000000"
+    } else {
+        "#ffffff"
+    }
+}
+
+/// The hue of a stream, in degrees.
+fn hue_of(stream: usize) -> usize {
+    stream % 360 * 137 % 360
+}
+
+/// Whether a hue is so bright that dark letters are read better on it: from orange over green to cyan.
+fn is_bright(hue: usize) -> bool {
+    (30..200).contains(&hue)
 }

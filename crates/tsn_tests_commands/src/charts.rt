@@ -7,6 +7,7 @@ use std::alloc::Global;
 use std::process::Abort;
 use std::str::from_utf8;
 use std::test::Fail;
+use tsn_chart::{Shown, View};
 use tsn_cli::chart_run;
 use tsn_cli::memory::{MemorySink, MemorySource, NEVER};
 
@@ -18,7 +19,11 @@ fn chart_to<R: Abort>(rt: &R, alloc: Global, until: u64) -> Vec<u8>
     let mut network = MemorySource::new(NETWORK.as_bytes(), 4096, NEVER);
     let mut plan = MemorySource::new(PLAN.as_bytes(), 4096, NEVER);
     let mut sink = MemorySink::new(alloc, 4096, NEVER);
-    let status = chart_run(alloc, &mut network, &mut plan, until, &mut sink);
+    let view = View {
+        until,
+        shown: Shown::All,
+    };
+    let status = chart_run(alloc, &mut network, &mut plan, view, &mut sink);
     assert_eq!(rt; status, 0);
     sink.bytes
 }
@@ -48,8 +53,8 @@ fn draws_two_streams(rt: HostRuntime) -> Result<(), Fail> {
     let parts = [
         "2 streams, flowspan 2.924 &#181;s, cycle 1000 &#181;s",
         "link 4: S to C",
-        "<title>one: 0 to 672 ns</title><rect x=\"2000\" ",
-        "<title>two: 2298 to 2970 ns</title><rect x=\"6596\" ",
+        "<title>one: 0 to 672 ns with the gap</title><rect x=\"2000\" ",
+        "<title>two: 2298 to 2970 ns with the gap</title><rect x=\"6596\" ",
         "gates 00: 0 to 1626 ns",
         "gates 7F: 2970 to 989290 ns",
         "flowspan 2.924 &#181;s</text>",
