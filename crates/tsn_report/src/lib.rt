@@ -1,0 +1,7 @@
+//! What a command answers, for whoever reads it by a program.
+#![tactic(auto)]
+
+pub mod told;
+
+pub use told::{Told, told_to_json};
+pub use tsn_model::NoMemory;
