@@ -58,6 +58,13 @@ pub trait Sink {
         ensures broken { OnErr result (failed self.new ≡ failed self.old + 1) }
         ensures kept { OnErr result (Keeps (taken self.old) (taken self.new)) };
 
+    /// Says that the bytes are whole. A file that replaces an old one takes its place only then.
+    fn end(&mut self) -> Result<(), Broken>
+        requires { failed self.old < 2 ^ 64 - 1 }
+        ensures ok { OnOk result (failed self.new ≡ failed self.old) }
+        ensures broken { OnErr result (failed self.new ≡ failed self.old + 1) }
+        ensures kept { Keeps (taken self.old) (taken self.new) };
+
     /// How many writes failed.
     fn failures(&self) -> u64
         ensures { result ≡ failed self.now };
@@ -152,4 +159,17 @@ pub fn write_all<W: Sink>(sink: &mut W, bytes: &[u8]) -> Result<(), Broken>
         written += sink.write(&bytes[written..])?;
     }
     Ok(())
+}
+
+/// Writes all the bytes, and says that they are whole. Where that fails, the bytes written are a beginning of them.
+pub fn write_whole<W: Sink>(sink: &mut W, bytes: &[u8]) -> Result<(), Broken>
+    requires { W.failed sink.old < 2 ^ 64 - 1 }
+    ensures whole { OnOk result (Appends (W.taken sink.old) (W.taken sink.new) bytes.now) }
+    ensures beginning { OnErr result ((n : ℕ)
+        × Appends (W.taken sink.old) (W.taken sink.new) (take n bytes.now)) }
+    ensures ok { OnOk result (W.failed sink.new ≡ W.failed sink.old) }
+    ensures broken { OnErr result (W.failed sink.new ≡ W.failed sink.old + 1) }
+{
+    write_all(sink, bytes)?;
+    sink.end()
 }

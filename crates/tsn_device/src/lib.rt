@@ -5,11 +5,13 @@ pub mod device;
 pub mod failure;
 mod kept;
 pub mod memory;
+mod place;
 mod reader;
 pub mod run;
 pub mod sink;
 pub mod source;
 
 pub use failure::{Action, Failure};
+pub use place::are_one_file;
 pub use sink::{FileSink, WriterSink};
 pub use source::FileSource;

@@ -141,6 +141,10 @@ impl Sink for MemorySink {
         Ok(count)
     }
 
+    fn end(&mut self) -> Result<(), Broken> {
+        Ok(())
+    }
+
     fn failures(&self) -> u64 {
         self.failures
     }

@@ -1,5 +1,5 @@
 //! Readers of the system that are opened when they are first read.
-ghost use Rattle.std.specs.Prelude.{◌≡◌, ◌≤◌, ◌<◌, IsTrue, IfOk, length, not};
+ghost use Rattle.std.specs.Prelude.{◌≡◌, ◌≤◌, ◌<◌, IsTrue, IfOk, codes, length, not, if◌then◌else◌};
 ghost use Rattle.either.specs.Either.{either, is_left};
 ghost use Rattle.std.specs.Io.KnownBytes.{ReadConsumes};
 ghost use Rattle.tsn_device.specs.Known.{is_over, known_of};
@@ -22,7 +22,8 @@ pub struct LateReader<'a, R: Files + Input> {
 impl<'a, R: Files + Input> LateReader<'a, R> {
     /// A reader of the file of this path, or of standard input.
     pub fn new(rt: &'a R, path: &'a str, is_input: bool) -> LateReader<'a, R>
-        ensures { result.is_input ≡ is_input }
+        ensures input { result.is_input ≡ is_input }
+        ensures path { result.path ≡ path.entry }
     {
         LateReader {
             rt,
@@ -33,7 +34,9 @@ impl<'a, R: Files + Input> LateReader<'a, R> {
     }
 
     /// What is read.
-    pub fn name(&self) -> &'a str {
+    pub fn name(&self) -> &'a str
+        ensures { result.now ≡ (if self.now.is_input then codes "standard input" else self.now.path.now) }
+    {
         if self.is_input {
             "standard input"
         } else {

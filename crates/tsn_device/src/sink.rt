@@ -1,11 +1,13 @@
 //! Files and standard output, as sinks.
-ghost use Rattle.std.specs.Prelude.{◌≡◌, ◌≤◌, ◌<◌, ◌+◌, ◌-◌, ◌^◌, ◌↔◌, length, take, IfOk, OnOk, OnErr, IsSome};
+ghost use Rattle.std.specs.Prelude.{◌≡◌, ◌≤◌, ◌<◌, ◌+◌, ◌-◌, ◌^◌, ◌↔◌, length, take, option_map, IfErr, IfOk, IfSome, OnOk, OnErr, IsSome, Some};
 ghost use Rattle.std.specs.Io.{WritesAtMost};
 ghost use Rattle.std.specs.Io.KnownBytes.{Appends, Keeps, WriteAppends};
 ghost use Rattle.tsn_device.specs.Known.{known_of};
 
 use crate::device::{Broken, Sink};
 use crate::failure::{Action, Failure};
+use crate::place::{Replacement, place_of};
+use std::alloc::Global;
 use std::io::{Error, ErrorKind, Write};
 use std::rt::Files;
 use std::{fs, io};
@@ -23,6 +25,7 @@ pub struct WriterSink<'a, W: Write + Drop> {
 impl<'a, W: Write + Drop> WriterSink<'a, W> {
     /// The writer of this name, of which no write has failed yet.
     pub fn new(name: &'a str, writer: W) -> WriterSink<'a, W>
+        ensures name { result.name ≡ name.entry }
         ensures writer { result.writer ≡ writer }
         ensures failures { result.failures ≡ 0 }
     {
@@ -36,7 +39,10 @@ impl<'a, W: Write + Drop> WriterSink<'a, W> {
 
     /// Why the last write that failed did so, if one failed.
     pub fn failure(&self) -> Option<Failure<'a>>
-        ensures { IsSome result ↔ 0 < self.now.failures }
+        ensures some { IsSome result ↔ 0 < self.now.failures }
+        ensures action { IfSome result (λ failure. failure.action ≡ Action.Write) }
+        ensures name { IfSome result (λ failure. failure.name ≡ self.now.name) }
+        ensures cause { option_map (λ failure. failure.cause) result ≡ self.now.cause }
     {
         match self.cause {
             Some(cause) => Some(Failure {
@@ -65,6 +71,10 @@ impl<'a, W: Write + Drop> Sink for WriterSink<'a, W> {
         Err(Broken)
     }
 
+    fn end(&mut self) -> Result<(), Broken> {
+        Ok(())
+    }
+
     fn failures(&self) -> u64 {
         self.failures
     }
@@ -74,6 +84,8 @@ impl<'a, W: Write + Drop> Sink for WriterSink<'a, W> {
 #[derive(Drop)]
 struct Wanted<'a, F> {
     path: &'a str,
+    /// How it takes the place of what is there; none where that is opened as it is.
+    replacement: Option<Replacement>,
     file: Option<F>,
 }
 
@@ -87,11 +99,12 @@ fn write_wanted<R: Files>(
     ensures bytes { WriteAppends (known_of R.File.contents wanted.old.file)
         (known_of R.File.contents wanted.new.file) result bytes.now }
     ensures made { OnOk result (IsSome wanted.new.file) }
+    ensures path { wanted.new.path ≡ wanted.old.path }
 {
     match &mut wanted.file {
         Some(file) => file.write(bytes),
         None => {
-            let mut file = fs::create(rt, wanted.path)?;
+            let mut file = make_wanted(rt, wanted.path, &mut wanted.replacement)?;
             let count = file.write(bytes);
             wanted.file = Some(file);
             count
@@ -99,8 +112,44 @@ fn write_wanted<R: Files>(
     }
 }
 
+fn make_wanted<R: Files>(
+    rt: &R,
+    path: &str,
+    replacement: &mut Option<Replacement>,
+) -> io::Result<R::File> {
+    match replacement {
+        Some(replacement) => replacement.make(rt),
+        None => fs::create(rt, path),
+    }
+}
+
+/// Puts a wanted file, of which nothing more is written, into its place.
+fn put_wanted<R: Files>(rt: &R, wanted: &mut Wanted<'_, R::File>) -> io::Result<()>
+    ensures file { wanted.new.file ≡ wanted.old.file }
+    ensures path { wanted.new.path ≡ wanted.old.path }
+{
+    match (&mut wanted.replacement, &wanted.file) {
+        (Some(replacement), Some(file)) => replacement.put(rt, file),
+        _ => Ok(()),
+    }
+}
+
+/// Removes what is unfinished of a wanted file.
+fn discard_wanted<R: Files>(rt: &R, wanted: &mut Wanted<'_, R::File>)
+    ensures file { wanted.new.file ≡ wanted.old.file }
+    ensures path { wanted.new.path ≡ wanted.old.path }
+{
+    if let Some(replacement) = &mut wanted.replacement {
+        replacement.discard(rt);
+    }
+}
+
 /// A file that is made when its first byte is written, and keeps why a write failed. Where no file is asked for, the bytes are
 /// dropped.
+///
+/// A regular file is made anew beside the one that is there, or that is to be, under that one's name with
+/// `.tsn-unfinished-` and a number behind it, and takes its place only when all is written. Devices and pipes are written as
+/// they are.
 #[derive(Drop)]
 pub struct FileSink<'a, R: Files> {
     rt: &'a R,
@@ -112,26 +161,38 @@ pub struct FileSink<'a, R: Files> {
 }
 
 impl<'a, R: Files> FileSink<'a, R> {
-    /// The file of this path, if one is asked for, of which no write has failed yet.
-    pub fn new(rt: &'a R, path: Option<&'a str>) -> FileSink<'a, R>
-        ensures wanted { IsSome result.wanted ↔ IsSome path.entry }
-        ensures failures { result.failures ≡ 0 }
+    ghost use Rattle.tsn_device.specs.Wanted.{path_in};
+
+    /// The file of this path, if one is asked for, of which no write has failed yet. It is tried whether it can be made; why
+    /// it can't is an error, of kind `OutOfMemory` where memory was refused. Nothing is left of that.
+    pub fn new(
+        rt: &'a R,
+        alloc: Global,
+        path: Option<&'a str>,
+    ) -> Result<FileSink<'a, R>, Failure<'a>>
+        ensures wanted { IfOk result (λ sink. path_in sink.wanted ≡ option_map (λ path. path.now) path.entry) }
+        ensures failures { IfOk result (λ sink. sink.failures ≡ 0) }
+        ensures action { IfErr result (λ failure. failure.action ≡ Action.Write) }
+        ensures name { IfErr result (λ failure. Some failure.name.now ≡ option_map (λ path. path.now) path.entry) }
     {
         let wanted = match path {
-            Some(path) => Some(Wanted { path, file: None }),
+            Some(path) => Some(wanted_at(rt, alloc, path)?),
             None => None,
         };
-        FileSink {
+        Ok(FileSink {
             rt,
             wanted,
             cause: None,
             failures: 0,
-        }
+        })
     }
 
     /// Why the last write that failed did so, if one failed.
     pub fn failure(&self) -> Option<Failure<'a>>
-        ensures { IsSome result ↔ 0 < self.now.failures }
+        ensures some { IsSome result ↔ 0 < self.now.failures }
+        ensures action { IfSome result (λ failure. failure.action ≡ Action.Write) }
+        ensures name { IfSome result (λ failure. Some failure.name.now ≡ path_in self.now.wanted) }
+        ensures cause { option_map (λ failure. failure.cause) result ≡ self.now.cause }
     {
         match (&self.wanted, self.cause) {
             (Some(wanted), Some(cause)) => Some(Failure {
@@ -142,10 +203,47 @@ impl<'a, R: Files> FileSink<'a, R> {
             _ => None,
         }
     }
+
+    /// Lets the sink go. What is unfinished is removed.
+    pub fn close(self) {
+        let FileSink {
+            rt,
+            mut wanted,
+            cause: _,
+            failures: _,
+        } = self;
+        if let Some(wanted) = &mut wanted {
+            discard_wanted(rt, wanted);
+        }
+    }
+}
+
+/// A file that is wanted at a path, where it can be made.
+fn wanted_at<'a, R: Files>(
+    rt: &R,
+    alloc: Global,
+    path: &'a str,
+) -> Result<Wanted<'a, R::File>, Failure<'a>>
+    ensures path { IfOk result (λ wanted. wanted.path ≡ path.entry) }
+    ensures action { IfErr result (λ failure. failure.action ≡ Action.Write) }
+    ensures name { IfErr result (λ failure. failure.name ≡ path.entry) }
+{
+    match place_of(rt, alloc, path) {
+        Ok(replacement) => Ok(Wanted {
+            path,
+            replacement,
+            file: None,
+        }),
+        Err(cause) => Err(Failure {
+            name: path,
+            action: Action::Write,
+            cause,
+        }),
+    }
 }
 
 impl<'a, R: Files> Sink for FileSink<'a, R> {
-    ghost use Rattle.tsn_device.specs.Wanted.{contents_in, IsMade};
+    ghost use Rattle.tsn_device.specs.Wanted.{contents_in, IsMade, path_in};
 
     ghost taken = { λ s. contents_in R.File.contents s.wanted };
 
@@ -164,7 +262,7 @@ impl<'a, R: Files> Sink for FileSink<'a, R> {
 
         // No byte of a wanted file is taken unless the file is made.
         ensures made { OnOk result (0 < length bytes.now → IsMade self.new.wanted) }
-        ensures wanted { IsSome self.new.wanted ↔ IsSome self.old.wanted }
+        ensures wanted { path_in self.new.wanted ≡ path_in self.old.wanted }
     {
         let Some(wanted) = &mut self.wanted else {
             return Ok(bytes.len());
@@ -177,9 +275,39 @@ impl<'a, R: Files> Sink for FileSink<'a, R> {
             Ok(_) => Error::from(ErrorKind::WriteZero),
             Err(error) => error,
         };
+        discard_wanted(self.rt, wanted);
         self.cause = Some(cause);
         self.failures += 1;
         Err(Broken)
+    }
+
+    /// Puts the file into its place. It fails where a write has failed before.
+    fn end(&mut self) -> Result<(), Broken>
+        requires { self.old.failures < 2 ^ 64 - 1 }
+        ensures ok { OnOk result (self.new.failures ≡ self.old.failures) }
+        ensures broken { OnErr result (self.new.failures ≡ self.old.failures + 1) }
+        ensures kept { Keeps (contents_in R.File.contents self.old.wanted)
+            (contents_in R.File.contents self.new.wanted) }
+
+        ensures whole { OnOk result (self.old.failures ≡ 0) }
+        ensures wanted { path_in self.new.wanted ≡ path_in self.old.wanted }
+    {
+        let Some(wanted) = &mut self.wanted else {
+            return Ok(());
+        };
+        if self.failures > 0 {
+            self.failures += 1;
+            return Err(Broken);
+        }
+        match put_wanted(self.rt, wanted) {
+            Ok(()) => Ok(()),
+            Err(cause) => {
+                discard_wanted(self.rt, wanted);
+                self.cause = Some(cause);
+                self.failures += 1;
+                Err(Broken)
+            }
+        }
     }
 
     fn failures(&self) -> u64 {

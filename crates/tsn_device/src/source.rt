@@ -1,5 +1,5 @@
 //! Files and standard input, as sources.
-ghost use Rattle.std.specs.Prelude.{◌≡◌, ◌≤◌, ◌<◌, ◌+◌, ◌-◌, ◌^◌, ◌↔◌, IsSome, IsTrue, IfOk, OnOk, OnErr, None, codes, false, length, take};
+ghost use Rattle.std.specs.Prelude.{◌≡◌, ◌≤◌, ◌<◌, ◌+◌, ◌-◌, ◌^◌, ◌↔◌, ◌++◌, IsSome, IsTrue, IfOk, IfSome, if◌then◌else◌, min, option_map, OnOk, OnErr, None, codes, false, length, take};
 ghost use Rattle.std.specs.Io.KnownBytes.{Appends, Keeps, ReadConsumes};
 ghost use Rattle.either.specs.Either.{either};
 ghost use Rattle.tsn_device.specs.Known.{is_over, known_of};
@@ -26,6 +26,7 @@ impl<'a, R: Files + Input> FileSource<'a, R> {
     /// A network file; `-` is standard input.
     pub fn network(rt: &'a R, alloc: Global, name: &'a str) -> FileSource<'a, R>
         ensures input { IsTrue result.reader.is_input ↔ (name.now ≡ codes "-") }
+        ensures path { result.reader.path ≡ name.entry }
         ensures failures { result.failures ≡ 0 }
     {
         FileSource::new(LateReader::new(rt, name, name == "-"), alloc)
@@ -34,6 +35,7 @@ impl<'a, R: Files + Input> FileSource<'a, R> {
     /// A file.
     pub fn file(rt: &'a R, alloc: Global, name: &'a str) -> FileSource<'a, R>
         ensures input { result.reader.is_input ≡ false }
+        ensures path { result.reader.path ≡ name.entry }
         ensures failures { result.failures ≡ 0 }
     {
         FileSource::new(LateReader::new(rt, name, false), alloc)
@@ -52,13 +54,19 @@ impl<'a, R: Files + Input> FileSource<'a, R> {
     }
 
     /// The path of the file, or that it is standard input.
-    pub fn name(&self) -> &'a str {
+    pub fn name(&self) -> &'a str
+        ensures { result.now ≡ (if self.now.reader.is_input then codes "standard input" else self.now.reader.path.now) }
+    {
         self.reader.name()
     }
 
     /// Why the last read that failed did so, if one failed.
     pub fn failure(&self) -> Option<Failure<'a>>
-        ensures { IsSome result ↔ 0 < self.now.failures }
+        ensures some { IsSome result ↔ 0 < self.now.failures }
+        ensures action { IfSome result (λ failure. failure.action ≡ Action.Read) }
+        ensures name { IfSome result (λ failure. failure.name.now
+            ≡ (if self.now.reader.is_input then codes "standard input" else self.now.reader.path.now)) }
+        ensures cause { option_map (λ failure. failure.cause) result ≡ self.now.cause }
     {
         match self.cause {
             Some(cause) => Some(Failure {
@@ -71,12 +79,16 @@ impl<'a, R: Files + Input> FileSource<'a, R> {
     }
 
     /// How many bytes it gave.
-    pub fn count(&self) -> usize {
+    pub fn count(&self) -> usize
+        ensures { result ≡ self.now.kept.count }
+    {
         self.kept.count()
     }
 
     /// All that it gave, where that was kept.
-    pub fn bytes(&self) -> Option<&[u8]> {
+    pub fn bytes(&self) -> Option<&[u8]>
+        ensures { IfSome result (λ bytes. (bytes.now ≡ self.now.kept.bytes.items) × IsTrue self.now.kept.is_whole) }
+    {
         self.kept.bytes()
     }
 }
@@ -101,10 +113,15 @@ impl<'a, R: Files + Input> Source for FileSource<'a, R> {
         // What is given is what the reader had left.
         ensures left { ReadConsumes (known_of (either R.File.remaining R.Reader.remaining) self.old.reader.reader)
             (known_of (either R.File.remaining R.Reader.remaining) self.new.reader.reader) result buffer.new }
+
+        // What is given is counted, and is what is kept, if anything is.
+        ensures counted { IfOk result (λ n. self.new.kept.count ≡ min (self.old.kept.count + n) usize.MAX) }
+        ensures keeps { IfOk result (λ n. IsTrue self.new.kept.is_whole → IsTrue self.old.kept.is_whole
+            × (self.new.kept.bytes.items ≡ self.old.kept.bytes.items ++ take n buffer.new)) }
     {
         match self.reader.read(buffer) {
             Ok(count) => {
-                self.kept.keep(&buffer[..count]);
+                let _ = self.kept.keep(&buffer[..count]);
                 Ok(count)
             }
             Err(error) => {
