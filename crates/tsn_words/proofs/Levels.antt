@@ -17,7 +17,7 @@ use Rattle.clap.specs.declared.builder.value_parser.ValueParser.TheVariants as p
 use Rattle.clap.proofs.ValueTestLemmas.{accepts-Accepts}
 use Rattle.tsn_words.specs.Grammar as grammar
 use Rattle.tsn_words.specs.declared.words.TheConstants.{MAX_WORKERS}
-use Rattle.tsn_words.specs.Grammar.{HasCommand, HasOffsets, IsGiven, IsWhole, IsWithin}
+use Rattle.tsn_words.specs.Grammar.{HasCommand, HasOffsets, IsGiven, IsLink, IsTime, IsWhole, IsWithin}
 use Rattle.tsn_words.proofs.Given.{Each, Fit, FitsFor, Good, GoodFor, StopGood, defaults_good, found_one, neither, settled_good, walk_good}
 
 -- ---- one level
@@ -155,6 +155,7 @@ valid_found rows network offsets = record {
   valid = λ _. (network, offsets);
   plan = λ e. differ (codes "valid") (codes "plan") refl e;
   check = λ e. differ (codes "valid") (codes "check") refl e;
+  prove = λ e. differ (codes "valid") (codes "prove") refl e;
   gates = λ e. differ (codes "valid") (codes "gates") refl e;
   replay = λ e. differ (codes "valid") (codes "replay") refl e;
   chart = λ e. differ (codes "valid") (codes "chart") refl e;
@@ -166,6 +167,7 @@ plan_found rows network workers steps = record {
   valid = λ e. differ (codes "plan") (codes "valid") refl e;
   plan = λ _. (network, workers, steps);
   check = λ e. differ (codes "plan") (codes "check") refl e;
+  prove = λ e. differ (codes "plan") (codes "prove") refl e;
   gates = λ e. differ (codes "plan") (codes "gates") refl e;
   replay = λ e. differ (codes "plan") (codes "replay") refl e;
   chart = λ e. differ (codes "plan") (codes "chart") refl e;
@@ -177,43 +179,60 @@ check_found rows network plan cert = record {
   valid = λ e. differ (codes "check") (codes "valid") refl e;
   plan = λ e. differ (codes "check") (codes "plan") refl e;
   check = λ _. (network, plan, cert);
+  prove = λ e. differ (codes "check") (codes "prove") refl e;
   gates = λ e. differ (codes "check") (codes "gates") refl e;
   replay = λ e. differ (codes "check") (codes "replay") refl e;
   chart = λ e. differ (codes "check") (codes "chart") refl e;
   known = inr (inr (inl refl));
 }
 
-gates_found : (rows : List Row) → IsGiven (codes "NET") rows → IsGiven (codes "PLAN") rows → HasCommand (codes "gates") rows
-gates_found rows network plan = record {
-  valid = λ e. differ (codes "gates") (codes "valid") refl e;
-  plan = λ e. differ (codes "gates") (codes "plan") refl e;
-  check = λ e. differ (codes "gates") (codes "check") refl e;
-  gates = λ _. (network, plan);
-  replay = λ e. differ (codes "gates") (codes "replay") refl e;
-  chart = λ e. differ (codes "gates") (codes "chart") refl e;
+prove_found : (rows : List Row) → IsGiven (codes "NET") rows → IsGiven (codes "PLAN") rows → IsWithin (codes "steps") 1000000000 rows → HasCommand (codes "prove") rows
+prove_found rows network plan steps = record {
+  valid = λ e. differ (codes "prove") (codes "valid") refl e;
+  plan = λ e. differ (codes "prove") (codes "plan") refl e;
+  check = λ e. differ (codes "prove") (codes "check") refl e;
+  prove = λ _. (network, plan, steps);
+  gates = λ e. differ (codes "prove") (codes "gates") refl e;
+  replay = λ e. differ (codes "prove") (codes "replay") refl e;
+  chart = λ e. differ (codes "prove") (codes "chart") refl e;
   known = inr (inr (inr (inl refl)));
 }
 
-replay_found : (rows : List Row) → IsGiven (codes "NET") rows → IsGiven (codes "PLAN") rows → IsWithin (codes "cycles") 16 rows → HasCommand (codes "replay") rows
-replay_found rows network plan cycles = record {
-  valid = λ e. differ (codes "replay") (codes "valid") refl e;
-  plan = λ e. differ (codes "replay") (codes "plan") refl e;
-  check = λ e. differ (codes "replay") (codes "check") refl e;
-  gates = λ e. differ (codes "replay") (codes "gates") refl e;
-  replay = λ _. (network, plan, cycles);
-  chart = λ e. differ (codes "replay") (codes "chart") refl e;
+gates_found : (rows : List Row) → IsGiven (codes "NET") rows → IsGiven (codes "PLAN") rows → IsTime (codes "merge") rows → IsWithin (codes "most") 1000000 rows → IsTime (codes "least") rows
+    → HasCommand (codes "gates") rows
+gates_found rows network plan merge most least = record {
+  valid = λ e. differ (codes "gates") (codes "valid") refl e;
+  plan = λ e. differ (codes "gates") (codes "plan") refl e;
+  check = λ e. differ (codes "gates") (codes "check") refl e;
+  prove = λ e. differ (codes "gates") (codes "prove") refl e;
+  gates = λ _. (network, plan, merge, most, least);
+  replay = λ e. differ (codes "gates") (codes "replay") refl e;
+  chart = λ e. differ (codes "gates") (codes "chart") refl e;
   known = inr (inr (inr (inr (inl refl))));
 }
 
-chart_found : (rows : List Row) → IsGiven (codes "NET") rows → IsGiven (codes "PLAN") rows → IsWithin (codes "until") 1000000000 rows → HasCommand (codes "chart") rows
-chart_found rows network plan until = record {
+replay_found : (rows : List Row) → IsGiven (codes "NET") rows → IsGiven (codes "PLAN") rows → IsWithin (codes "cycles") 16 rows → IsTime (codes "merge") rows → HasCommand (codes "replay") rows
+replay_found rows network plan cycles merge = record {
+  valid = λ e. differ (codes "replay") (codes "valid") refl e;
+  plan = λ e. differ (codes "replay") (codes "plan") refl e;
+  check = λ e. differ (codes "replay") (codes "check") refl e;
+  prove = λ e. differ (codes "replay") (codes "prove") refl e;
+  gates = λ e. differ (codes "replay") (codes "gates") refl e;
+  replay = λ _. (network, plan, cycles, merge);
+  chart = λ e. differ (codes "replay") (codes "chart") refl e;
+  known = inr (inr (inr (inr (inr (inl refl)))));
+}
+
+chart_found : (rows : List Row) → IsGiven (codes "NET") rows → IsGiven (codes "PLAN") rows → IsWithin (codes "until") 1000000000 rows → IsLink rows → HasCommand (codes "chart") rows
+chart_found rows network plan until link = record {
   valid = λ e. differ (codes "chart") (codes "valid") refl e;
   plan = λ e. differ (codes "chart") (codes "plan") refl e;
   check = λ e. differ (codes "chart") (codes "check") refl e;
+  prove = λ e. differ (codes "chart") (codes "prove") refl e;
   gates = λ e. differ (codes "chart") (codes "gates") refl e;
   replay = λ e. differ (codes "chart") (codes "replay") refl e;
-  chart = λ _. (network, plan, until);
-  known = inr (inr (inr (inr (inr refl))));
+  chart = λ _. (network, plan, until, link);
+  known = inr (inr (inr (inr (inr (inr refl)))));
 }
 
 -- the command as it is built below the program
@@ -230,10 +249,10 @@ valid_known p answers no_help e =
     let rows = rows_after s.rules [] p.1 in
     let wanted = required s p.1 refl e in
     let network : IsGiven (codes "NET") rows = first_given (codes "NET") Any rows
-    (rows_good s [] p.1 false [] e (codes "NET") Any (λ _. fit_file _ refl refl refl, (apart, (apart, tt)))) wanted.0 in
+    (rows_good s [] p.1 false [] e (codes "NET") Any (λ _. fit_file _ refl refl refl, (apart, (apart, (apart, tt))))) wanted.0 in
     let offsets : HasOffsets rows = offsets_given rows
     (rows_good s [] p.1 false [] e (codes "OFFSET") (IsUnsignedIn 0 2000000000)
-    (apart, (λ _. fit_numbers _ _ _ refl (inr refl) refl refl, (apart, tt)))) wanted.1.0 in
+    (apart, (λ _. fit_numbers _ _ _ refl (inr refl) refl refl, (apart, (apart, tt))))) wanted.1.0 in
     valid_found rows network offsets
 
 plan_known : Known (leaf grammar.plan.top)
@@ -243,13 +262,13 @@ plan_known p answers no_help e =
     let wanted = required s p.1 refl e in
     let network : IsGiven (codes "NET") rows = first_given (codes "NET") Any rows
     (rows_good s [] p.1 false [] e (codes "NET") Any
-    (λ _. fit_file _ refl refl refl, (apart, (apart, (apart, (apart, (apart, (apart, tt)))))))) wanted.0 in
+    (λ _. fit_file _ refl refl refl, (apart, (apart, (apart, (apart, (apart, (apart, (apart, (apart, tt)))))))))) wanted.0 in
     let workers : IsWithin (codes "workers") MAX_WORKERS rows = first_fits (codes "workers") _ rows
     (rows_good s [] p.1 false [] e (codes "workers") (IsUnsignedIn 1 MAX_WORKERS)
-    (apart, (λ _. fit_numbers _ _ _ refl (inl refl) refl refl, (apart, (apart, (apart, (apart, (apart, tt)))))))) in
+    (apart, (λ _. fit_numbers _ _ _ refl (inl refl) refl refl, (apart, (apart, (apart, (apart, (apart, (apart, (apart, tt)))))))))) in
     let steps : IsWithin (codes "steps") 1000000000 rows = first_fits (codes "steps") _ rows
     (rows_good s [] p.1 false [] e (codes "steps") (IsUnsignedIn 1 1000000000)
-    (apart, (apart, (λ _. fit_numbers _ _ _ refl (inl refl) refl refl, (apart, (apart, (apart, (apart, tt)))))))) in
+    (apart, (apart, (λ _. fit_numbers _ _ _ refl (inl refl) refl refl, (apart, (apart, (apart, (apart, (apart, (apart, tt)))))))))) in
     plan_found rows network workers steps
 
 check_known : Known (leaf grammar.check.top)
@@ -258,12 +277,26 @@ check_known p answers no_help e =
     let rows = rows_after s.rules [] p.1 in
     let wanted = required s p.1 refl e in
     let network : IsGiven (codes "NET") rows = first_given (codes "NET") Any rows
-    (rows_good s [] p.1 false [] e (codes "NET") Any (λ _. fit_file _ refl refl refl, (apart, (apart, (apart, tt))))) wanted.0 in
+    (rows_good s [] p.1 false [] e (codes "NET") Any (λ _. fit_file _ refl refl refl, (apart, (apart, (apart, (apart, tt)))))) wanted.0 in
     let plan : IsGiven (codes "PLAN") rows = first_given (codes "PLAN") Any rows
-    (rows_good s [] p.1 false [] e (codes "PLAN") Any (apart, (λ _. fit_file _ refl refl refl, (apart, (apart, tt))))) wanted.1.0 in
+    (rows_good s [] p.1 false [] e (codes "PLAN") Any (apart, (λ _. fit_file _ refl refl refl, (apart, (apart, (apart, tt)))))) wanted.1.0 in
     let cert : IsGiven (codes "CERT") rows = first_given (codes "CERT") Any rows
-    (rows_good s [] p.1 false [] e (codes "CERT") Any (apart, (apart, (λ _. fit_file _ refl refl refl, (apart, tt))))) wanted.1.1.0 in
+    (rows_good s [] p.1 false [] e (codes "CERT") Any (apart, (apart, (λ _. fit_file _ refl refl refl, (apart, (apart, tt)))))) wanted.1.1.0 in
     check_found rows network plan cert
+
+prove_known : Known (leaf grammar.prove.top)
+prove_known p answers no_help e =
+    let s = leaf grammar.prove.top in
+    let rows = rows_after s.rules [] p.1 in
+    let wanted = required s p.1 refl e in
+    let network : IsGiven (codes "NET") rows = first_given (codes "NET") Any rows
+    (rows_good s [] p.1 false [] e (codes "NET") Any (λ _. fit_file _ refl refl refl, (apart, (apart, (apart, (apart, (apart, (apart, tt)))))))) wanted.0 in
+    let plan : IsGiven (codes "PLAN") rows = first_given (codes "PLAN") Any rows
+    (rows_good s [] p.1 false [] e (codes "PLAN") Any (apart, (λ _. fit_file _ refl refl refl, (apart, (apart, (apart, (apart, (apart, tt)))))))) wanted.1.0 in
+    let steps : IsWithin (codes "steps") 1000000000 rows = first_fits (codes "steps") _ rows
+    (rows_good s [] p.1 false [] e (codes "steps") (IsUnsignedIn 1 1000000000)
+    (apart, (apart, (λ _. fit_numbers _ _ _ refl (inl refl) refl refl, (apart, (apart, (apart, (apart, tt)))))))) in
+    prove_found rows network plan steps
 
 gates_known : Known (leaf grammar.gates.top)
 gates_known p answers no_help e =
@@ -271,10 +304,19 @@ gates_known p answers no_help e =
     let rows = rows_after s.rules [] p.1 in
     let wanted = required s p.1 refl e in
     let network : IsGiven (codes "NET") rows = first_given (codes "NET") Any rows
-    (rows_good s [] p.1 false [] e (codes "NET") Any (λ _. fit_file _ refl refl refl, (apart, (apart, (apart, tt))))) wanted.0 in
+    (rows_good s [] p.1 false [] e (codes "NET") Any (λ _. fit_file _ refl refl refl, (apart, (apart, (apart, (apart, (apart, (apart, tt)))))))) wanted.0 in
     let plan : IsGiven (codes "PLAN") rows = first_given (codes "PLAN") Any rows
-    (rows_good s [] p.1 false [] e (codes "PLAN") Any (apart, (λ _. fit_file _ refl refl refl, (apart, (apart, tt))))) wanted.1.0 in
-    gates_found rows network plan
+    (rows_good s [] p.1 false [] e (codes "PLAN") Any (apart, (λ _. fit_file _ refl refl refl, (apart, (apart, (apart, (apart, (apart, tt)))))))) wanted.1.0 in
+    let merge : IsTime (codes "merge") rows = first_fits (codes "merge") _ rows
+    (rows_good s [] p.1 false [] e (codes "merge") (IsUnsignedIn 0 1000000000)
+    (apart, (apart, (apart, (λ _. fit_numbers _ _ _ refl (inl refl) refl refl, (apart, (apart, (apart, tt)))))))) in
+    let most : IsWithin (codes "most") 1000000 rows = first_fits (codes "most") _ rows
+    (rows_good s [] p.1 false [] e (codes "most") (IsUnsignedIn 1 1000000)
+    (apart, (apart, (apart, (apart, (λ _. fit_numbers _ _ _ refl (inl refl) refl refl, (apart, (apart, tt)))))))) in
+    let least : IsTime (codes "least") rows = first_fits (codes "least") _ rows
+    (rows_good s [] p.1 false [] e (codes "least") (IsUnsignedIn 0 1000000000)
+    (apart, (apart, (apart, (apart, (apart, (λ _. fit_numbers _ _ _ refl (inl refl) refl refl, (apart, tt)))))))) in
+    gates_found rows network plan merge most least
 
 replay_known : Known (leaf grammar.replay.top)
 replay_known p answers no_help e =
@@ -282,13 +324,16 @@ replay_known p answers no_help e =
     let rows = rows_after s.rules [] p.1 in
     let wanted = required s p.1 refl e in
     let network : IsGiven (codes "NET") rows = first_given (codes "NET") Any rows
-    (rows_good s [] p.1 false [] e (codes "NET") Any (λ _. fit_file _ refl refl refl, (apart, (apart, (apart, (apart, (apart, tt))))))) wanted.0 in
+    (rows_good s [] p.1 false [] e (codes "NET") Any (λ _. fit_file _ refl refl refl, (apart, (apart, (apart, (apart, (apart, (apart, tt)))))))) wanted.0 in
     let plan : IsGiven (codes "PLAN") rows = first_given (codes "PLAN") Any rows
-    (rows_good s [] p.1 false [] e (codes "PLAN") Any (apart, (λ _. fit_file _ refl refl refl, (apart, (apart, (apart, (apart, tt))))))) wanted.1.0 in
+    (rows_good s [] p.1 false [] e (codes "PLAN") Any (apart, (λ _. fit_file _ refl refl refl, (apart, (apart, (apart, (apart, (apart, tt)))))))) wanted.1.0 in
     let cycles : IsWithin (codes "cycles") 16 rows = first_fits (codes "cycles") _ rows
     (rows_good s [] p.1 false [] e (codes "cycles") (IsUnsignedIn 1 16)
-    (apart, (apart, (λ _. fit_numbers _ _ _ refl (inl refl) refl refl, (apart, (apart, (apart, tt))))))) in
-    replay_found rows network plan cycles
+    (apart, (apart, (λ _. fit_numbers _ _ _ refl (inl refl) refl refl, (apart, (apart, (apart, (apart, tt)))))))) in
+    let merge : IsTime (codes "merge") rows = first_fits (codes "merge") _ rows
+    (rows_good s [] p.1 false [] e (codes "merge") (IsUnsignedIn 0 1000000000)
+    (apart, (apart, (apart, (apart, (apart, (λ _. fit_numbers _ _ _ refl (inl refl) refl refl, (apart, tt)))))))) in
+    replay_found rows network plan cycles merge
 
 chart_known : Known (leaf grammar.chart.top)
 chart_known p answers no_help e =
@@ -296,13 +341,16 @@ chart_known p answers no_help e =
     let rows = rows_after s.rules [] p.1 in
     let wanted = required s p.1 refl e in
     let network : IsGiven (codes "NET") rows = first_given (codes "NET") Any rows
-    (rows_good s [] p.1 false [] e (codes "NET") Any (λ _. fit_file _ refl refl refl, (apart, (apart, (apart, tt))))) wanted.0 in
+    (rows_good s [] p.1 false [] e (codes "NET") Any (λ _. fit_file _ refl refl refl, (apart, (apart, (apart, (apart, (apart, tt))))))) wanted.0 in
     let plan : IsGiven (codes "PLAN") rows = first_given (codes "PLAN") Any rows
-    (rows_good s [] p.1 false [] e (codes "PLAN") Any (apart, (λ _. fit_file _ refl refl refl, (apart, (apart, tt))))) wanted.1.0 in
+    (rows_good s [] p.1 false [] e (codes "PLAN") Any (apart, (λ _. fit_file _ refl refl refl, (apart, (apart, (apart, (apart, tt))))))) wanted.1.0 in
     let until : IsWithin (codes "until") 1000000000 rows = first_fits (codes "until") _ rows
     (rows_good s [] p.1 false [] e (codes "until") (IsUnsignedIn 1 1000000000)
-    (apart, (apart, (λ _. fit_numbers _ _ _ refl (inl refl) refl refl, (apart, tt))))) in
-    chart_found rows network plan until
+    (apart, (apart, (λ _. fit_numbers _ _ _ refl (inl refl) refl refl, (apart, (apart, (apart, tt))))))) in
+    let link : IsLink rows = first_fits (codes "link") _ rows
+    (rows_good s [] p.1 false [] e (codes "link") (IsUnsignedIn 0 1023)
+    (apart, (apart, (apart, (apart, (λ _. fit_numbers _ _ _ refl (inl refl) refl refl, (apart, tt))))))) in
+    chart_found rows network plan until link
 
 or_false : (b : Bool) → (b || false) ≡ true → b ≡ true
 or_false true e = refl
@@ -314,7 +362,7 @@ help_known p answers no_help e =
     absurd (true≢false (subst (λ t. bytes_eq t (codes "help") ≡ false) named no_help))
 
 each_known : Each Known (built grammar.tsn).subs
-each_known = (valid_known, (plan_known, (check_known, (gates_known, (replay_known, (chart_known, (help_known, tt)))))))
+each_known = (valid_known, (plan_known, (check_known, (prove_known, (gates_known, (replay_known, (chart_known, (help_known, tt))))))))
 
 -- ---- the program
 
@@ -331,7 +379,7 @@ entered_whole a (Some p) known no_help some e = go (find (λ s. answers_to p.0 (
         one.0 p one.1 no_help e
 
 top_fits : Each (FitsFor (codes "NET") Any) (built grammar.tsn).top.rules
-top_fits = (apart, tt)
+top_fits = (apart, (apart, tt))
 
 not_help : (stop : Option (Text × List Text)) → StopGood (codes "NET") Any (built grammar.tsn).top top_fits stop → option_map_or (λ p. bytes_eq p.0 (codes "help")) stop false ≡ false
 not_help None good = refl

@@ -1,9 +1,9 @@
 -- What the words of the command line ask for, by the grammar that `clap` reads them with.
---     tsn, valid, plan, check, gates, replay, chart    the commands
+--     tsn, valid, plan, check, prove, gates, replay, chart    the commands
 --     IsNumber, number_of, offsets_in      numbers
---     gates_format, replay_format, has_format      formats
+--     gates_format, replay_format, plan_search, has_format      formats and searches
 --     AsksFor, takes_words, IsRefused      what the words ask for, and whether they are refused
---     IsGiven, IsWithin, HasOffsets, HasCommand, IsWhole      what a parse without a fault finds
+--     IsGiven, IsWithin, IsTime, IsLink, HasOffsets, HasCommand, IsWhole      what a parse without a fault finds
 use Rattle.std.specs.Prelude.{◌≡◌, ◌≤◌, ◌⊎◌, ◌&&◌, if◌then◌else◌, ℕ, List, map, length, codes, Option, Some, None, IfSome, MatchOption, is_some, option_map, Bool, true, false, All}
 use Rattle.std.specs.Str.Parse.{IsNumeral, digits_value, without_leading_plus}
 use Rattle.std.specs.Str.{bytes_eq}
@@ -12,10 +12,11 @@ use Rattle.clap.specs.declared.builder.ArgAction.TheVariants.{Set, Append, SetTr
 use Rattle.clap.specs.declared.builder.value_parser.ValueParser.TheVariants.{Unsigned}
 use Rattle.tsn_words.specs.declared.words.TheConstants.{MAX_WORKERS}
 use Rattle.tsn_words.specs.declared.words.Words.{Words}
-use Rattle.tsn_words.specs.declared.words.Words.TheVariants.{Valid, Plan, Check, Gates, Replay, Chart}
+use Rattle.tsn_words.specs.declared.words.Words.TheVariants.{Valid, Plan, Check, Prove, Gates, Replay, Chart}
 use Rattle.tsn_words.specs.declared.words.ValidWords.{ValidWords}
 use Rattle.tsn_words.specs.declared.words.PlanWords.{PlanWords}
 use Rattle.tsn_words.specs.declared.words.CheckWords.{CheckWords}
+use Rattle.tsn_words.specs.declared.words.ProveWords.{ProveWords}
 use Rattle.tsn_words.specs.declared.words.GatesWords.{GatesWords}
 use Rattle.tsn_words.specs.declared.words.ReplayWords.{ReplayWords}
 use Rattle.tsn_words.specs.declared.words.ChartWords.{ChartWords}
@@ -23,8 +24,10 @@ use Rattle.tsn_words.specs.declared.words.GatesFormat.{GatesFormat}
 use Rattle.tsn_words.specs.declared.words.GatesFormat.TheVariants as lists
 use Rattle.tsn_words.specs.declared.words.ReplayFormat.{ReplayFormat}
 use Rattle.tsn_words.specs.declared.words.ReplayFormat.TheVariants as replays
+use Rattle.tsn_words.specs.declared.words.Search.{Search}
+use Rattle.tsn_words.specs.declared.words.Search.TheVariants as searches
 use Rattle.tsn_words.specs.declared.words.WordsFault.{WordsFault}
-use Rattle.tsn_words.specs.declared.words.WordsFault.TheVariants.{Refused}
+use Rattle.tsn_words.specs.declared.words.WordsFault.TheVariants.{Refused, Asked}
 
 -- a file: one word
 abbrev pub file : Text → Rule
@@ -39,56 +42,79 @@ offsets = record (new_rule (codes "OFFSET")) {
   parser = Some (Unsigned 0 2000000000);
 }
 
--- valid NET OFFSET..
-abbrev pub valid : App
-valid = with_rule (with_rule (new_app (codes "valid")) (file (codes "NET"))) offsets
-
 -- an option with a number from 1 on
 abbrev pub number_option : Text → ℕ → Rule
-number_option id most = record (new_rule id) { long = Some id; action = Some Set; parser = Some (Unsigned 1 most) }
+number_option id most = record (new_rule id) { long = Some id; value_names = 1; action = Some Set; parser = Some (Unsigned 1 most) }
 
--- an option with a word: a file or a format
+-- an option with a time in nanoseconds
+abbrev pub time_option : Text → Rule
+time_option id = record (new_rule id) { long = Some id; value_names = 1; action = Some Set; parser = Some (Unsigned 0 1000000000) }
+
+-- an option with a word: a file, a format or a search
 abbrev pub word_option : Text → Rule
-word_option id = record (new_rule id) { long = Some id; action = Some Set }
+word_option id = record (new_rule id) { long = Some id; value_names = 1; action = Some Set }
 
 -- a flag, which takes no word
 abbrev pub flag : Text → Rule
 flag id = record (new_rule id) { long = Some id; action = Some SetTrue }
 
--- plan NET [--workers W] [--steps N] [--plan FILE] [--cert FILE] [--progress]
+-- valid NET OFFSET.. [--json]
+abbrev pub valid : App
+valid = with_rule (with_rule (with_rule (new_app (codes "valid")) (file (codes "NET"))) offsets) (flag (codes "json"))
+
+-- plan NET [--workers W] [--steps N] [--plan FILE] [--cert FILE] [--progress] [--search SEARCH] [--json]
 abbrev pub plan : App
 plan =
-    with_rule (with_rule (with_rule (with_rule (with_rule (with_rule (new_app (codes "plan")) (file (codes "NET"))) (number_option (codes "workers") MAX_WORKERS))
+    with_rule (with_rule (with_rule (with_rule (with_rule (with_rule (with_rule (with_rule (new_app (codes "plan")) (file (codes "NET"))) (number_option (codes "workers") MAX_WORKERS))
     (number_option (codes "steps") 1000000000))
+    (word_option (codes "plan")))
+    (word_option (codes "cert")))
+    (flag (codes "progress")))
+    (word_option (codes "search")))
+    (flag (codes "json"))
+
+-- check NET PLAN CERT [--json]
+abbrev pub check : App
+check = with_rule (with_rule (with_rule (with_rule (new_app (codes "check")) (file (codes "NET"))) (file (codes "PLAN"))) (file (codes "CERT"))) (flag (codes "json"))
+
+-- prove NET PLAN [--steps N] [--plan FILE] [--cert FILE] [--progress]
+abbrev pub prove : App
+prove =
+    with_rule (with_rule (with_rule (with_rule (with_rule (with_rule (new_app (codes "prove")) (file (codes "NET"))) (file (codes "PLAN"))) (number_option (codes "steps") 1000000000))
     (word_option (codes "plan")))
     (word_option (codes "cert")))
     (flag (codes "progress"))
 
--- check NET PLAN CERT
-abbrev pub check : App
-check = with_rule (with_rule (with_rule (new_app (codes "check")) (file (codes "NET"))) (file (codes "PLAN"))) (file (codes "CERT"))
-
--- gates NET PLAN [--format FORMAT]
+-- gates NET PLAN [--format FORMAT] [--merge NS] [--most N] [--least NS]
 abbrev pub gates : App
-gates = with_rule (with_rule (with_rule (new_app (codes "gates")) (file (codes "NET"))) (file (codes "PLAN"))) (word_option (codes "format"))
+gates =
+    with_rule (with_rule (with_rule (with_rule (with_rule (with_rule (new_app (codes "gates")) (file (codes "NET"))) (file (codes "PLAN"))) (word_option (codes "format"))) (time_option (codes "merge")))
+    (number_option (codes "most") 1000000))
+    (time_option (codes "least"))
 
--- replay NET PLAN [--cycles N] [--greedy] [--format FORMAT]
+-- replay NET PLAN [--cycles N] [--greedy] [--format FORMAT] [--merge NS]
 abbrev pub replay : App
 replay =
-    with_rule (with_rule (with_rule (with_rule (with_rule (new_app (codes "replay")) (file (codes "NET"))) (file (codes "PLAN"))) (number_option (codes "cycles") 16)) (flag (codes "greedy")))
-    (word_option (codes "format"))
+    with_rule (with_rule (with_rule (with_rule (with_rule (with_rule (new_app (codes "replay")) (file (codes "NET"))) (file (codes "PLAN"))) (number_option (codes "cycles") 16)) (flag (codes "greedy")))
+    (word_option (codes "format"))) (time_option (codes "merge"))
 
--- chart NET PLAN [--until NS]
+-- an option with a link's number
+abbrev pub link_option : Rule
+link_option = record (new_rule (codes "link")) { long = Some (codes "link"); value_names = 1; action = Some Set; parser = Some (Unsigned 0 1023) }
+
+-- chart NET PLAN [--until NS] [--all] [--link N]
 abbrev pub chart : App
-chart = with_rule (with_rule (with_rule (new_app (codes "chart")) (file (codes "NET"))) (file (codes "PLAN"))) (number_option (codes "until") 1000000000)
+chart =
+    with_rule (with_rule (with_rule (with_rule (with_rule (new_app (codes "chart")) (file (codes "NET"))) (file (codes "PLAN"))) (number_option (codes "until") 1000000000)) (flag (codes "all")))
+    link_option
 
--- the program: a command is required
+-- the program: a command is required, unless the version is asked for
 abbrev pub alone : App
-alone = record { top = record (new_app (codes "tsn")).top { subcommand_required = true }; subs = (new_app (codes "tsn")).subs }
+alone = record { top = record (new_app (codes "tsn")).top { has_version = true; subcommand_required = true }; subs = (new_app (codes "tsn")).subs }
 
 abbrev pub tsn : App
 tsn =
-    with_subcommand (with_subcommand (with_subcommand (with_subcommand (with_subcommand (with_subcommand alone valid.top) plan.top) check.top) gates.top) replay.top)
+    with_subcommand (with_subcommand (with_subcommand (with_subcommand (with_subcommand (with_subcommand (with_subcommand alone valid.top) plan.top) check.top) prove.top) gates.top) replay.top)
     chart.top
 
 -- a word that is a number: digits, where a plus may stand first
@@ -102,18 +128,24 @@ number_of word = digits_value 10 (without_leading_plus word)
 abbrev pub AreNumbers : Option (List Text) → List ℕ → Type 0
 AreNumbers argument numbers = (words : List Text) × (argument ≡ Some words) × All IsNumber words × (numbers ≡ map number_of words)
 
--- the file and the numbers of `valid`
+-- whether a flag is set, by the text that stands for it
+abbrev pub IsFlag : Option Text → Bool → Type 0
+IsFlag word is_set = (word ≡ Some (codes "true") → is_set ≡ true) × (word ≡ Some (codes "false") → is_set ≡ false) × (word ≡ None → is_set ≡ false)
+
+-- the file, the numbers and the flag of `valid`
 abbrev pub IsValidOf : List Row → ValidWords → Type 0
 IsValidOf rows asked = (first_of (codes "NET") rows ≡ Some asked.network.now) × AreNumbers (all_of (codes "OFFSET") rows) asked.offsets.items
+    × IsFlag (one_of (codes "json") rows) asked.json
 
 -- the number that the word of an option is, or the default where there is none
 abbrev pub IsNumberOr : Option Text → ℕ → ℕ → Type 0
 IsNumberOr (Some word) default number = IsNumber word × (number ≡ number_of word)
 IsNumberOr None default number = number ≡ default
 
--- whether a flag is set, by the text that stands for it
-abbrev pub IsFlag : Option Text → Bool → Type 0
-IsFlag word is_set = (word ≡ Some (codes "true") → is_set ≡ true) × (word ≡ Some (codes "false") → is_set ≡ false) × (word ≡ None → is_set ≡ false)
+-- the number that the word of an option is, if there is one
+abbrev pub IsNumberIf : Option Text → Option ℕ → Type 0
+IsNumberIf (Some word) number = IsNumber word × (number ≡ Some (number_of word))
+IsNumberIf None number = number ≡ None
 
 -- the format of `gates` that a word names; a table where there is none
 abbrev pub gates_format : Option Text → Option GatesFormat
@@ -127,41 +159,60 @@ abbrev pub replay_format : Option Text → Option ReplayFormat
 replay_format None = Some replays.Table
 replay_format (Some word) = if bytes_eq word (codes "table") then Some replays.Table else if bytes_eq word (codes "csv") then Some replays.Csv else None
 
--- the file, the numbers, the files to write, and the flag, of `plan`
+-- the search of `plan` that a word names; `auto` where there is none
+abbrev pub plan_search : Option Text → Option Search
+plan_search None = Some searches.Auto
+plan_search (Some word) =
+    if bytes_eq word (codes "auto") then Some searches.Auto
+    else if bytes_eq word (codes "file") then Some searches.File else if bytes_eq word (codes "guided") then Some searches.Guided else None
+
+-- the file, the numbers, the files to write, the flags and the search of `plan`
 abbrev pub IsPlanOf : List Row → PlanWords → Type 0
 IsPlanOf rows asked =
     (first_of (codes "NET") rows ≡ Some asked.network.now) × IsNumberOr (first_of (codes "workers") rows) 1 asked.workers × IsNumberOr (first_of (codes "steps") rows) 1000000 asked.steps
     × (first_of (codes "plan") rows ≡ option_map (λ word. word.now) asked.plan) × (first_of (codes "cert") rows ≡ option_map (λ word. word.now) asked.cert)
-    × IsFlag (one_of (codes "progress") rows) asked.progress
+    × IsFlag (one_of (codes "progress") rows) asked.progress × (plan_search (first_of (codes "search") rows) ≡ Some asked.search)
+    × IsFlag (one_of (codes "json") rows) asked.json
 
--- the files of `check`
+-- the files and the flag of `check`
 abbrev pub IsCheckOf : List Row → CheckWords → Type 0
 IsCheckOf rows asked =
     (first_of (codes "NET") rows ≡ Some asked.network.now) × (first_of (codes "PLAN") rows ≡ Some asked.plan.now) × (first_of (codes "CERT") rows ≡ Some asked.cert.now)
+    × IsFlag (one_of (codes "json") rows) asked.json
 
--- the files and the format of `gates`
+-- the files, the number, the files to write and the flag of `prove`
+abbrev pub IsProveOf : List Row → ProveWords → Type 0
+IsProveOf rows asked =
+    (first_of (codes "NET") rows ≡ Some asked.network.now) × (first_of (codes "PLAN") rows ≡ Some asked.given.now) × IsNumberOr (first_of (codes "steps") rows) 1000000 asked.steps
+    × (first_of (codes "plan") rows ≡ option_map (λ word. word.now) asked.plan) × (first_of (codes "cert") rows ≡ option_map (λ word. word.now) asked.cert)
+    × IsFlag (one_of (codes "progress") rows) asked.progress
+
+-- the files, the format, the times and the number of `gates`
 abbrev pub IsGatesOf : List Row → GatesWords → Type 0
 IsGatesOf rows asked =
     (first_of (codes "NET") rows ≡ Some asked.network.now) × (first_of (codes "PLAN") rows ≡ Some asked.plan.now) × (gates_format (first_of (codes "format") rows) ≡ Some asked.format)
+    × IsNumberIf (first_of (codes "merge") rows) asked.merge × IsNumberOr (first_of (codes "most") rows) 30 asked.most × IsNumberOr (first_of (codes "least") rows) 480 asked.least
 
--- the files, the number, the flag and the format of `replay`
+-- the files, the number, the flag, the format and the time of `replay`
 abbrev pub IsReplayOf : List Row → ReplayWords → Type 0
 IsReplayOf rows asked =
     (first_of (codes "NET") rows ≡ Some asked.network.now) × (first_of (codes "PLAN") rows ≡ Some asked.plan.now)
     × IsNumberOr (first_of (codes "cycles") rows) 1 asked.cycles × IsFlag (one_of (codes "greedy") rows) asked.greedy
-    × (replay_format (first_of (codes "format") rows) ≡ Some asked.format)
+    × (replay_format (first_of (codes "format") rows) ≡ Some asked.format) × IsNumberIf (first_of (codes "merge") rows) asked.merge
 
--- the files and the number of `chart`
+-- the files, the numbers and the flag of `chart`
 abbrev pub IsChartOf : List Row → ChartWords → Type 0
 IsChartOf rows asked =
     (first_of (codes "NET") rows ≡ Some asked.network.now) × (first_of (codes "PLAN") rows ≡ Some asked.plan.now)
-    × IsNumberOr (first_of (codes "until") rows) 1000000000 asked.until
+    × IsNumberOr (first_of (codes "until") rows) 1000000000 asked.until × IsFlag (one_of (codes "all") rows) asked.all
+    × IsNumberIf (first_of (codes "link") rows) asked.link
 
 -- what is asked for by a command's name and the values of its arguments
 abbrev pub IsAsked : Option (Text × List Row) → Words → Type 0
 IsAsked found (Valid asked) = (rows : List Row) × (found ≡ Some (codes "valid", rows)) × IsValidOf rows asked
 IsAsked found (Plan asked) = (rows : List Row) × (found ≡ Some (codes "plan", rows)) × IsPlanOf rows asked
 IsAsked found (Check asked) = (rows : List Row) × (found ≡ Some (codes "check", rows)) × IsCheckOf rows asked
+IsAsked found (Prove asked) = (rows : List Row) × (found ≡ Some (codes "prove", rows)) × IsProveOf rows asked
 IsAsked found (Gates asked) = (rows : List Row) × (found ≡ Some (codes "gates", rows)) × IsGatesOf rows asked
 IsAsked found (Replay asked) = (rows : List Row) × (found ≡ Some (codes "replay", rows)) × IsReplayOf rows asked
 IsAsked found (Chart asked) = (rows : List Row) × (found ≡ Some (codes "chart", rows)) × IsChartOf rows asked
@@ -170,14 +221,15 @@ IsAsked found (Chart asked) = (rows : List Row) × (found ≡ Some (codes "chart
 abbrev pub AsksFor : List Text → Words → Type 0
 AsksFor words asked = IsAsked (subcommand_of tsn words) asked
 
--- the format that is named, if any, is one of the command's
+-- the format or the search that is named, if any, is one of the command's
 abbrev pub has_format : Option (Text × List Row) → Bool
 has_format None = true
 has_format (Some command) =
-    if bytes_eq command.0 (codes "gates") then is_some (gates_format (first_of (codes "format") command.1))
+    if bytes_eq command.0 (codes "plan") then is_some (plan_search (first_of (codes "search") command.1))
+    else if bytes_eq command.0 (codes "gates") then is_some (gates_format (first_of (codes "format") command.1))
     else if bytes_eq command.0 (codes "replay") then is_some (replay_format (first_of (codes "format") command.1)) else true
 
--- the words keep to the grammar, and name no other format
+-- the words keep to the grammar, and name no other format or search
 abbrev pub takes_words : List Text → Bool
 takes_words words = takes tsn words && has_format (subcommand_of tsn words)
 
@@ -189,25 +241,35 @@ IsGiven id rows = is_some (first_of id rows) ≡ true
 abbrev pub IsWithin : Text → ℕ → List Row → Type 0
 IsWithin id most rows = IfSome (first_of id rows) (IsUnsignedIn 1 most)
 
+-- the word of an option, where there is one, is a time
+abbrev pub IsTime : Text → List Row → Type 0
+IsTime id rows = IfSome (first_of id rows) (IsUnsignedIn 0 1000000000)
+
+-- the word of `--link`, where there is one, is a link's number
+abbrev pub IsLink : List Row → Type 0
+IsLink rows = IfSome (first_of (codes "link") rows) (IsUnsignedIn 0 1023)
+
 -- there is an offset, and each is a number up to the greatest offset
 abbrev pub HasOffsets : List Row → Type 0
 HasOffsets rows = MatchOption (all_of (codes "OFFSET") rows) ⊥ (λ words. (1 ≤ length words) × All (IsUnsignedIn 0 2000000000) words)
 
--- a command that was met is one of the six, and has what it requires, each value within its range
+-- a command that was met is one of the seven, and has what it requires, each value within its range
 pub record HasCommand (name : Text) (rows : List Row) : Type 0 where
   pub valid : name ≡ codes "valid" → IsGiven (codes "NET") rows × HasOffsets rows
   pub plan : name ≡ codes "plan" → IsGiven (codes "NET") rows × IsWithin (codes "workers") MAX_WORKERS rows × IsWithin (codes "steps") 1000000000 rows
   pub check : name ≡ codes "check" → IsGiven (codes "NET") rows × IsGiven (codes "PLAN") rows × IsGiven (codes "CERT") rows
-  pub gates : name ≡ codes "gates" → IsGiven (codes "NET") rows × IsGiven (codes "PLAN") rows
-  pub replay : name ≡ codes "replay" → IsGiven (codes "NET") rows × IsGiven (codes "PLAN") rows × IsWithin (codes "cycles") 16 rows
-  pub chart : name ≡ codes "chart" → IsGiven (codes "NET") rows × IsGiven (codes "PLAN") rows × IsWithin (codes "until") 1000000000 rows
-  pub known : (name ≡ codes "valid") ⊎ ((name ≡ codes "plan") ⊎ ((name ≡ codes "check") ⊎ ((name ≡ codes "gates") ⊎ ((name ≡ codes "replay") ⊎ (name ≡ codes "chart")))))
+  pub prove : name ≡ codes "prove" → IsGiven (codes "NET") rows × IsGiven (codes "PLAN") rows × IsWithin (codes "steps") 1000000000 rows
+  pub gates : name ≡ codes "gates" → IsGiven (codes "NET") rows × IsGiven (codes "PLAN") rows × IsTime (codes "merge") rows × IsWithin (codes "most") 1000000 rows × IsTime (codes "least") rows
+  pub replay : name ≡ codes "replay" → IsGiven (codes "NET") rows × IsGiven (codes "PLAN") rows × IsWithin (codes "cycles") 16 rows × IsTime (codes "merge") rows
+  pub chart : name ≡ codes "chart" → IsGiven (codes "NET") rows × IsGiven (codes "PLAN") rows × IsWithin (codes "until") 1000000000 rows × IsLink rows
+  pub known : (name ≡ codes "valid") ⊎ ((name ≡ codes "plan") ⊎ ((name ≡ codes "check") ⊎ ((name ≡ codes "prove") ⊎ ((name ≡ codes "gates") ⊎ ((name ≡ codes "replay") ⊎ (name ≡ codes "chart"))))))
 
 -- what a parse without a fault finds
 abbrev pub IsWhole : Option (Text × List Row) → Type 0
 IsWhole found = MatchOption found ⊥ (λ command. HasCommand command.0 command.1)
 
--- the words are refused as words
+-- the words ask for no command: they are refused as words, or ask for the version
 abbrev pub IsRefused : WordsFault → Type 0
 IsRefused (Refused text) = Unit {0}
+IsRefused (Asked text) = Unit {0}
 IsRefused _ = ⊥

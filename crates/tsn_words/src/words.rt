@@ -1,5 +1,6 @@
 //! What the words of the command line ask for.
 ghost use Rattle.std.specs.Prelude.{◌≡◌, ◌≤◌, All, vec_len};
+ghost use Rattle.std.specs.Option.{ForSome};
 ghost use Rattle.tsn_words.specs.declared.words.TheConstants.{MAX_WORKERS};
 
 use std::alloc::AllocError;
@@ -20,8 +21,26 @@ pub const MAX_CYCLES: usize = 16;
 /// The latest end of a chart, in nanoseconds.
 pub const MAX_UNTIL: usize = 1_000_000_000;
 
+/// The greatest time of an option of `gates` and `replay`, in nanoseconds.
+pub const MAX_TIME: u64 = 1_000_000_000;
+
+/// The most entries that a device may be said to take.
+pub const MAX_ENTRIES: usize = 1_000_000;
+
+/// The most entries that a device takes where the words don't say: more don't fit into a message to Linux.
+pub const DEFAULT_ENTRIES: usize = 30;
+
+/// The shortest entry that a device takes where the words don't say, in nanoseconds: Linux refuses shorter ones.
+pub const DEFAULT_ENTRY: u64 = 480;
+
+/// The greatest number of a directed link.
+pub const MAX_LINK: u64 = 1023;
+
 /// The most nodes that a run settles where the words don't say.
 pub const DEFAULT_STEPS: usize = 1_000_000;
+
+/// The version, and on its second line the toolchain that proved the program, as `rt version` says it.
+pub const VERSION: &str = "1.0.0\nproved with rattle-kit-13f logic dac8208d650f15bf";
 
 /// `valid NET OFFSET..`: judge some offsets.
 #[derive(Drop)]
@@ -30,6 +49,8 @@ pub struct ValidWords<'a> {
     pub network: &'a str,
     /// At least one, each at most `MAX_OFFSET`, in nanoseconds.
     pub offsets: Vec<u64>,
+    /// Whether the answer is printed as a line of JSON.
+    pub json: bool,
     pub ghost some: { 1 ≤ vec_len offsets },
     pub ghost small: { All (λ offset. offset ≤ 2000000000) offsets.items },
 }
@@ -43,6 +64,8 @@ pub struct CheckWords<'a> {
     pub plan: &'a str,
     /// The certificate file.
     pub cert: &'a str,
+    /// Whether the answer is printed as a line of JSON.
+    pub json: bool,
 }
 
 /// How gate control lists are printed.
@@ -65,6 +88,16 @@ pub struct GatesWords<'a> {
     pub plan: &'a str,
     /// How they are printed.
     pub format: GatesFormat,
+    /// In nanoseconds, 0 to `MAX_TIME`: windows that are less than this apart are joined, if it is given.
+    pub merge: Option<u64>,
+    /// The most entries that a device takes, 1 to `MAX_ENTRIES`.
+    pub most: usize,
+    /// The shortest entry that a device takes, in nanoseconds, 0 to `MAX_TIME`.
+    pub least: u64,
+    pub ghost small: { ForSome merge (λ time. time ≤ 1000000000) },
+    pub ghost some: { 1 ≤ most },
+    pub ghost few: { most ≤ 1000000 },
+    pub ghost short: { least ≤ 1000000000 },
 }
 
 /// `chart NET PLAN`: draw a plan.
@@ -76,8 +109,25 @@ pub struct ChartWords<'a> {
     pub plan: &'a str,
     /// Where the chart ends, in nanoseconds, 1 to `MAX_UNTIL`. No cycle is longer, so the greatest shows all of it.
     pub until: usize,
+    /// Whether all links in use are shown, however many they are.
+    pub all: bool,
+    /// The number of the link that is shown alone, 0 to `MAX_LINK`, if it is given; it goes before `all`.
+    pub link: Option<usize>,
     pub ghost some: { 1 ≤ until },
     pub ghost few: { until ≤ 1000000000 },
+    pub ghost link_small: { ForSome link (λ number. number ≤ 1023) },
+}
+
+/// How a plan is searched for: where its nodes are split.
+#[derive(Clone, Copy, Debug, PartialEq, Eq)]
+pub enum Search {
+    /// `auto`, which goes where the words name none: in the order of the file up to 100,000 settled nodes, and guided where that
+    /// leaves nodes open and more may be settled.
+    Auto,
+    /// `file`: nodes are split on the first violated conflict, in the order of the file.
+    File,
+    /// `guided`: along a schedule that is found beforehand.
+    Guided,
 }
 
 /// `plan NET`: plan a network.
@@ -95,8 +145,31 @@ pub struct PlanWords<'a> {
     pub cert: Option<&'a str>,
     /// Whether it is told on standard error how far the plan has got.
     pub progress: bool,
+    /// How the plan is searched for.
+    pub search: Search,
+    /// Whether the answer is printed as a line of JSON.
+    pub json: bool,
     pub ghost some_workers: { 1 ≤ workers },
     pub ghost few_workers: { workers ≤ MAX_WORKERS },
+    pub ghost some: { 1 ≤ steps },
+    pub ghost few: { steps ≤ 1000000000 },
+}
+
+/// `prove NET PLAN`: show that a plan is optimal, or find a better one.
+#[derive(Clone, Copy)]
+pub struct ProveWords<'a> {
+    /// The network file, or `-` for standard input.
+    pub network: &'a str,
+    /// The plan file that is to be proved optimal.
+    pub given: &'a str,
+    /// The most nodes that may be settled, 1 to `MAX_STEPS`.
+    pub steps: usize,
+    /// The file that the plan is written to, if any.
+    pub plan: Option<&'a str>,
+    /// The file that the certificate is written to, if any.
+    pub cert: Option<&'a str>,
+    /// Whether it is told on standard error how far the search has got.
+    pub progress: bool,
     pub ghost some: { 1 ≤ steps },
     pub ghost few: { steps ≤ 1000000000 },
 }
@@ -123,8 +196,11 @@ pub struct ReplayWords<'a> {
     pub greedy: bool,
     /// How it is printed.
     pub format: ReplayFormat,
+    /// In nanoseconds, 0 to `MAX_TIME`: windows that are less than this apart are joined, if it is given.
+    pub merge: Option<u64>,
     pub ghost some: { 1 ≤ cycles },
     pub ghost few: { cycles ≤ 16 },
+    pub ghost small: { ForSome merge (λ time. time ≤ 1000000000) },
 }
 
 /// A command, with its words.
@@ -133,6 +209,7 @@ pub enum Words<'a> {
     Valid(ValidWords<'a>),
     Plan(PlanWords<'a>),
     Check(CheckWords<'a>),
+    Prove(ProveWords<'a>),
     Gates(GatesWords<'a>),
     Replay(ReplayWords<'a>),
     Chart(ChartWords<'a>),
@@ -144,6 +221,9 @@ pub enum WordsFault {
     /// The words are refused, with a text that says why. A request for help is refused too, with the help as its text.
     #[error("{0}")]
     Refused(String),
+    /// The words ask for the version, which is the text.
+    #[error("{0}")]
+    Asked(String),
     /// A growth was refused.
     #[error("no memory")]
     Memory,

@@ -4,7 +4,7 @@ use Rattle.std.proofs.lemmas.Result.{IfErr-weaker, IfOk-weaker}
 use Rattle.clap.specs.Words.{Row, Text, found_of, first_of, rows_of, subcommand_name_of, subcommand_rows_of}
 use Rattle.clap.specs.declared.parser.matches.ArgMatches.{ArgMatches}
 use Rattle.clap.specs.declared.parser.matches.ArgMatches.TheViews.{out-ArgMatches, out-SubCommand}
-use Rattle.tsn_words.specs.Grammar.{HasCommand, IsAsked, IsRefused, IsWhole, gates_format, has_format, replay_format}
+use Rattle.tsn_words.specs.Grammar.{HasCommand, IsAsked, IsRefused, IsWhole, gates_format, has_format, plan_search, replay_format}
 use Rattle.tsn_words.specs.declared.words.WordsFault.TheVariants.{Memory}
 use Rattle.tsn_words.proofs.command.command_of.Goals as goal
 
@@ -59,10 +59,13 @@ pub plan_words-requires-clause-steps : goal.plan_words-requires-clause-steps
 plan_words-requires-clause-steps c = ((has c.args.matches.now c.in-Some-plan-default.words.now (codes "plan") c.requires (plan c)).plan refl).2
 
 pub returns-in-Some-plan-default-clause-asked : goal.returns-in-Some-plan-default-clause-asked
-returns-in-Some-plan-default-clause-asked c = subst (λ o. IsAsked o c.plan_words.result) (sym (plan c.before)) c.plan_words.ensures
+returns-in-Some-plan-default-clause-asked c = subst (λ o. IfOk c.plan_words.result (IsAsked o)) (sym (plan c.before)) c.plan_words.ensures.asked
 
 pub returns-in-Some-plan-default-clause-known : goal.returns-in-Some-plan-default-clause-known
-returns-in-Some-plan-default-clause-known c = ap has_format (plan c.before)
+returns-in-Some-plan-default-clause-known c = IfOk-weaker c.plan_words.result (λ _. is_some (plan_search (first_of (codes "search") (rows_of (found_of c.in-Some-plan-default.words.now)))) ≡ true) _ (λ _ is. ap has_format (plan c.before) ∙ is) c.plan_words.ensures.known
+
+pub returns-in-Some-plan-default-clause-refused : goal.returns-in-Some-plan-default-clause-refused
+returns-in-Some-plan-default-clause-refused c = IfErr-weaker c.plan_words.result (λ fault. IsRefused fault → plan_search (first_of (codes "search") (rows_of (found_of c.in-Some-plan-default.words.now))) ≡ None) _ (λ fault none refused. ap has_format (plan c.before) ∙ ap is_some (none refused)) c.plan_words.ensures.refused
 
 check : (c : goal.In-Some-check-default) → subcommand_rows_of c.args.matches.now ≡ Some (codes "check", rows_of (found_of c.in-Some-check-default.words.now))
 check c = met c.args.matches.now c.in-Some-check-default.words.now c.in-Some-check-default.field-0-0.now (codes "check") (search rules) c.in-Some-check-default.ensures.name c.in-Some-check-default.ensures.rows
@@ -82,6 +85,24 @@ returns-in-Some-check-default-clause-asked c = subst (λ o. IsAsked o c.check_wo
 pub returns-in-Some-check-default-clause-known : goal.returns-in-Some-check-default-clause-known
 returns-in-Some-check-default-clause-known c = ap has_format (check c.before)
 
+prove : (c : goal.In-Some-prove-default) → subcommand_rows_of c.args.matches.now ≡ Some (codes "prove", rows_of (found_of c.in-Some-prove-default.words.now))
+prove c = met c.args.matches.now c.in-Some-prove-default.words.now c.in-Some-prove-default.field-0-0.now (codes "prove") (search rules) c.in-Some-prove-default.ensures.name c.in-Some-prove-default.ensures.rows
+
+pub prove_words-requires-clause-network : goal.prove_words-requires-clause-network
+prove_words-requires-clause-network c = ((has c.args.matches.now c.in-Some-prove-default.words.now (codes "prove") c.requires (prove c)).prove refl).0
+
+pub prove_words-requires-clause-given : goal.prove_words-requires-clause-given
+prove_words-requires-clause-given c = ((has c.args.matches.now c.in-Some-prove-default.words.now (codes "prove") c.requires (prove c)).prove refl).1
+
+pub prove_words-requires-clause-steps : goal.prove_words-requires-clause-steps
+prove_words-requires-clause-steps c = ((has c.args.matches.now c.in-Some-prove-default.words.now (codes "prove") c.requires (prove c)).prove refl).2
+
+pub returns-in-Some-prove-default-clause-asked : goal.returns-in-Some-prove-default-clause-asked
+returns-in-Some-prove-default-clause-asked c = subst (λ o. IsAsked o c.prove_words.result) (sym (prove c.before)) c.prove_words.ensures
+
+pub returns-in-Some-prove-default-clause-known : goal.returns-in-Some-prove-default-clause-known
+returns-in-Some-prove-default-clause-known c = ap has_format (prove c.before)
+
 gates : (c : goal.In-Some-gates-default) → subcommand_rows_of c.args.matches.now ≡ Some (codes "gates", rows_of (found_of c.in-Some-gates-default.words.now))
 gates c = met c.args.matches.now c.in-Some-gates-default.words.now c.in-Some-gates-default.field-0-0.now (codes "gates") (search rules) c.in-Some-gates-default.ensures.name c.in-Some-gates-default.ensures.rows
 
@@ -90,6 +111,15 @@ gates_words-requires-clause-network c = ((has c.args.matches.now c.in-Some-gates
 
 pub gates_words-requires-clause-plan : goal.gates_words-requires-clause-plan
 gates_words-requires-clause-plan c = ((has c.args.matches.now c.in-Some-gates-default.words.now (codes "gates") c.requires (gates c)).gates refl).1
+
+pub gates_words-requires-clause-merge : goal.gates_words-requires-clause-merge
+gates_words-requires-clause-merge c = ((has c.args.matches.now c.in-Some-gates-default.words.now (codes "gates") c.requires (gates c)).gates refl).2
+
+pub gates_words-requires-clause-most : goal.gates_words-requires-clause-most
+gates_words-requires-clause-most c = ((has c.args.matches.now c.in-Some-gates-default.words.now (codes "gates") c.requires (gates c)).gates refl).3
+
+pub gates_words-requires-clause-least : goal.gates_words-requires-clause-least
+gates_words-requires-clause-least c = ((has c.args.matches.now c.in-Some-gates-default.words.now (codes "gates") c.requires (gates c)).gates refl).4
 
 pub returns-in-Some-gates-default-clause-asked : goal.returns-in-Some-gates-default-clause-asked
 returns-in-Some-gates-default-clause-asked c = subst (λ o. IfOk c.gates_words.result (IsAsked o)) (sym (gates c.before)) c.gates_words.ensures.asked
@@ -112,6 +142,9 @@ replay_words-requires-clause-plan c = ((has c.args.matches.now c.in-Some-replay-
 pub replay_words-requires-clause-cycles : goal.replay_words-requires-clause-cycles
 replay_words-requires-clause-cycles c = ((has c.args.matches.now c.in-Some-replay-default.words.now (codes "replay") c.requires (replay c)).replay refl).2
 
+pub replay_words-requires-clause-merge : goal.replay_words-requires-clause-merge
+replay_words-requires-clause-merge c = ((has c.args.matches.now c.in-Some-replay-default.words.now (codes "replay") c.requires (replay c)).replay refl).3
+
 pub returns-in-Some-replay-default-clause-asked : goal.returns-in-Some-replay-default-clause-asked
 returns-in-Some-replay-default-clause-asked c = subst (λ o. IfOk c.replay_words.result (IsAsked o)) (sym (replay c.before)) c.replay_words.ensures.asked
 
@@ -132,6 +165,9 @@ chart_words-requires-clause-plan c = ((has c.args.matches.now c.in-Some-chart-de
 
 pub chart_words-requires-clause-until : goal.chart_words-requires-clause-until
 chart_words-requires-clause-until c = ((has c.args.matches.now c.in-Some-chart-default.words.now (codes "chart") c.requires (chart c)).chart refl).2
+
+pub chart_words-requires-clause-link : goal.chart_words-requires-clause-link
+chart_words-requires-clause-link c = ((has c.args.matches.now c.in-Some-chart-default.words.now (codes "chart") c.requires (chart c)).chart refl).3
 
 pub returns-in-Some-chart-default-clause-asked : goal.returns-in-Some-chart-default-clause-asked
 returns-in-Some-chart-default-clause-asked c = subst (λ o. IsAsked o c.chart_words.result) (sym (chart c.before)) c.chart_words.ensures

@@ -5,13 +5,13 @@ use Rattle.tsn_words.specs.declared.words.TheConstants.{MAX_OFFSET}
 use Rattle.tsn_words.proofs.Fronts.{more_values, one_within}
 use Rattle.tsn_words.proofs.command.offsets_of.Goals as goal
 
-pub offset_of-offset-requires : goal.offset_of-offset-requires
-offset_of-offset-requires c = one_within (λ word. word.now) (IsUnsignedIn 0 MAX_OFFSET) c.args.words.now c.loop-word.word-index _ c.loop-word-test.true c.requires
+pub unsigned_of-offset-requires : goal.unsigned_of-offset-requires
+unsigned_of-offset-requires c = one_within (λ word. word.now) (IsUnsignedIn 0 MAX_OFFSET) c.args.words.now c.loop-word.word-index _ c.loop-word-test.true c.requires
 
 pub loop-word-preserved : goal.loop-word-preserved
 loop-word-preserved c =
-    let pushed : c.push.new.self.items ≡ c.loop-word.offsets.items ++ c.offset_of-offset.result ∷ [] = search rules in
+    let pushed : c.push.new.self.items ≡ c.loop-word.offsets.items ++ c.unsigned_of-offset.result ∷ [] = search rules in
     record {
-      small = rw pushed (All-push (λ offset. offset ≤ MAX_OFFSET) _ _ c.loop-word.invariant.small c.offset_of-offset.ensures.small);
-      values = pushed ∙ more_values (λ word. word.now) c.args.words.now c.loop-word.word-index _ _ _ c.loop-word-test.true c.loop-word.invariant.values c.offset_of-offset.ensures.value;
+      small = rw pushed (All-push (λ offset. offset ≤ MAX_OFFSET) _ _ c.loop-word.invariant.small c.unsigned_of-offset.ensures.small);
+      values = pushed ∙ more_values (λ word. word.now) c.args.words.now c.loop-word.word-index _ _ _ c.loop-word-test.true c.loop-word.invariant.values c.unsigned_of-offset.ensures.value;
     }

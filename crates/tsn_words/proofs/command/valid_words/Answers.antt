@@ -2,7 +2,7 @@ use Rattle.std.proofs.Common.{◌≡◌, ◌≤◌, ◌∙◌, List, All, Option
 use Rattle.std.specs.Prelude.{MatchOption}
 use Rattle.std.proofs.Math.ListN.{length-map}
 use Rattle.clap.specs.Words.{IsUnsignedIn, Text, found_of, rows_of}
-use Rattle.clap.proofs.WalkLemmas.{raw_values-rows}
+use Rattle.clap.proofs.WalkLemmas.{one_text-rows, raw_values-rows}
 use Rattle.tsn_words.specs.declared.words.TheConstants.{MAX_OFFSET}
 use Rattle.tsn_words.proofs.Getters.{all_got, are_numbers}
 use Rattle.tsn_words.proofs.command.valid_words.Goals as goal
@@ -32,4 +32,12 @@ returns-clause-asked c =
     let found = found_of c.args.words.now in
     let texts = map (λ word. word.now) c.in-Some.texts.now in
     let has : Has (Some texts) = all_got found (codes "OFFSET") _ Has c.in-Some.ensures c.requires.offsets in
-    (rows_of found, refl, (c.text_of-network.ensures, (texts, sym (raw_values-rows found (codes "OFFSET")) ∙ sym c.in-Some.ensures, are_numbers 0 MAX_OFFSET texts has.1, c.in_ok-offsets.ensures.values)))
+    let json = one_text-rows found (codes "json") in (
+      rows_of found,
+      refl,
+      (
+        c.text_of-network.ensures,
+        (texts, sym (raw_values-rows found (codes "OFFSET")) ∙ sym c.in-Some.ensures, are_numbers 0 MAX_OFFSET texts has.1, c.in_ok-offsets.ensures.values),
+        (λ is. c.get_flag-json.ensures.value (json ∙ is), λ is. c.get_flag-json.ensures.other (json ∙ is), λ is. c.get_flag-json.ensures.none (json ∙ is)),
+      ),
+    )

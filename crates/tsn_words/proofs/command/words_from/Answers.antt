@@ -6,7 +6,7 @@ use Rattle.clap.specs.Faults.{fault_of, is_simple_and_free}
 use Rattle.tsn_words.specs.Grammar as grammar
 use Rattle.tsn_words.specs.Grammar.{IsAsked, IsRefused, IsWhole, has_format, takes_words}
 use Rattle.tsn_words.specs.declared.words.WordsFault.{WordsFault}
-use Rattle.tsn_words.specs.declared.words.WordsFault.TheVariants.{Memory, Refused}
+use Rattle.tsn_words.specs.declared.words.WordsFault.TheVariants.{Asked, Memory, Refused}
 use Rattle.tsn_words.proofs.Levels.{whole}
 use Rattle.tsn_words.proofs.Taken.{taken}
 use Rattle.tsn_words.proofs.command.words_from.Goals as goal
@@ -38,6 +38,7 @@ unknown false b e f = true≢false (sym f)
 
 only_memory : (fault : WordsFault) → (IsRefused fault → ⊥) → fault ≡ Memory
 only_memory (Refused text) never = absurd (never tt)
+only_memory (Asked text) never = absurd (never tt)
 only_memory Memory never = refl
 
 pub returns-in-Err-clause-refused : goal.returns-in-Err-clause-refused
