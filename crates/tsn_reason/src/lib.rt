@@ -4,6 +4,7 @@
 
 mod bound;
 mod certificate;
+mod device;
 mod document;
 mod json;
 mod keys;
@@ -20,13 +21,18 @@ use crate::certificate::{cert_file_line, certificate_line};
 use crate::network::network_line;
 use crate::offsets::{Schedule, offsets_line};
 use crate::plan::{Stated, is_at_fault, plan_file_line, plan_line};
+pub use device::device_reason;
 use std::alloc::Global;
+use std::fmt::Write;
 pub use text::line_of;
 use tsn_cert::{Cert, Plan, cert_from_json, plan_from_json};
 use tsn_check::{CheckFault, check, check_plan};
 use tsn_model::NoMemory;
 use tsn_net::{Problem, read_problem};
 use tsn_timing::{Timing, Validity};
+
+/// The most bytes of a network file of which the reason is looked for; reading one takes a second or two then.
+pub const MOST_LOOKED_AT: usize = 1_048_576;
 
 /// A file that was read.
 #[derive(Clone, Copy)]
@@ -51,6 +57,9 @@ pub type Reason = Result<Option<String>, NoMemory>;
 
 /// Why a network file is refused.
 pub fn network_reason(alloc: Global, network: File<'_>) -> Reason {
+    if network.bytes.len() > MOST_LOOKED_AT {
+        return long_line(alloc, network);
+    }
     match read_problem(alloc, network.bytes) {
         Ok(problem) => {
             drop(problem);
@@ -60,8 +69,21 @@ pub fn network_reason(alloc: Global, network: File<'_>) -> Reason {
     }
 }
 
+/// That the reason isn't looked for in a long file.
+fn long_line(alloc: Global, network: File<'_>) -> Reason {
+    let mut text = line_of(alloc, network.name)?;
+    write!(
+        text,
+        "longer than {MOST_LOOKED_AT} bytes: the reason isn't looked for"
+    )?;
+    Ok(Some(text))
+}
+
 /// Why a network file is refused, or these offsets of its streams, in nanoseconds.
 pub fn offsets_reason(alloc: Global, network: File<'_>, offsets: &[u64]) -> Reason {
+    if network.bytes.len() > MOST_LOOKED_AT {
+        return long_line(alloc, network);
+    }
     match read_problem(alloc, network.bytes) {
         Ok(problem) => {
             let reason = refused_offsets(alloc, network, &problem, offsets);
@@ -90,6 +112,9 @@ fn refused_offsets(alloc: Global, network: File<'_>, problem: &Problem, offsets:
 
 /// Why a network file is refused, or else a plan file, or else the plan as a schedule that can be shown.
 pub fn plan_reason(alloc: Global, network: File<'_>, plan: File<'_>) -> Reason {
+    if network.bytes.len() > MOST_LOOKED_AT {
+        return long_line(alloc, network);
+    }
     match read_problem(alloc, network.bytes) {
         Ok(problem) => {
             let reason = refused_plan_file(alloc, &problem, plan);
@@ -134,6 +159,9 @@ fn refused_plan(alloc: Global, problem: &Problem, file: File<'_>, plan: &Plan) -
 /// Why a network file is refused, or else a plan file, or else a certificate file, or else the plan or the certificate
 /// itself.
 pub fn cert_reason(alloc: Global, network: File<'_>, plan: File<'_>, cert: File<'_>) -> Reason {
+    if network.bytes.len() > MOST_LOOKED_AT {
+        return long_line(alloc, network);
+    }
     match read_problem(alloc, network.bytes) {
         Ok(problem) => {
             let reason = refused_files(alloc, &problem, plan, cert);

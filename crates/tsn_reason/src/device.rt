@@ -1,0 +1,60 @@
+//! What a device doesn't take of a plan's gate control lists.
+ghost use Rattle.tsn_model.specs.Schedule.{IsValid};
+
+use crate::File;
+use std::alloc::Global;
+use tsn_cert::plan_from_json;
+use tsn_check::check_plan;
+use tsn_gate::{DeviceLimits, device_lines, lists_by};
+use tsn_model::NoMemory;
+use tsn_net::{Problem, read_problem};
+use tsn_timing::{Timing, Valid};
+
+/// A line for each list that has more entries than a device takes, or a shorter one than it takes; the lists are those of a plan,
+/// merged where that is asked for. Nothing where a file or the plan is refused.
+pub fn device_reason(
+    alloc: Global,
+    network: File<'_>,
+    plan: File<'_>,
+    merge: Option<u64>,
+    limits: DeviceLimits,
+) -> Result<Option<String>, NoMemory> {
+    match read_problem(alloc, network.bytes) {
+        Ok(problem) => {
+            let lines = lines_of_file(alloc, &problem, plan, merge, limits);
+            drop(problem);
+            lines
+        }
+        Err(_) => Ok(None),
+    }
+}
+
+fn lines_of_file(
+    alloc: Global,
+    problem: &Problem,
+    file: File<'_>,
+    merge: Option<u64>,
+    limits: DeviceLimits,
+) -> Result<Option<String>, NoMemory> {
+    let Ok(plan) = plan_from_json(alloc, file.bytes) else {
+        return Ok(None);
+    };
+    let timing = Timing::of(alloc, problem)?;
+    match check_plan(alloc, &timing, &plan) {
+        Ok(valid) => Ok(Some(lines_of(alloc, problem, &valid, merge, limits)?)),
+        Err(_) => Ok(None),
+    }
+}
+
+fn lines_of(
+    alloc: Global,
+    problem: &Problem,
+    valid: &Valid,
+    merge: Option<u64>,
+    limits: DeviceLimits,
+) -> Result<String, NoMemory>
+    requires { IsValid problem.now.network valid.now }
+{
+    let lists = lists_by(alloc, problem, valid, merge)?;
+    device_lines(alloc, &lists, limits)
+}
