@@ -89,6 +89,20 @@ fn a_line_is_told_about_once_a_second(rt: HostRuntime) {
     );
 }
 
+/// The clock is looked at at 600 ms, 1200 ms, 1800 ms and 2400 ms: at the second and the last of these a line is due.
+#[test]
+fn a_line_waits_for_the_next_second(rt: HostRuntime) {
+    let console = Console::new(rt.alloc());
+    let progress = Progress::new(&console);
+    for _ in 0..4 {
+        progress.hear(0, news(256, 128, None));
+    }
+    console.expect(
+        &rt,
+        "tsn: so far: settled 512, open 1, best none, 426 nodes a second\ntsn: so far: settled 1024, open 1, best none, 426 nodes a second\n",
+    );
+}
+
 /// 3 nodes in the 600 ms between two looks at the clock.
 #[test]
 fn the_end_is_told(rt: HostRuntime) {

@@ -1,6 +1,7 @@
 //! Bags from which nothing can be stolen, and bags that lose, double, refuse or make up nodes.
 
 use std::alloc::Global;
+use std::sync::atomic::{AtomicU64, Ordering};
 use std::test::Fail;
 use tsn_branch::{NoMemory, Node, Side, Triple};
 use tsn_worker::{Bag, DequeBag};
@@ -34,6 +35,57 @@ pub fn stacks(alloc: Global, workers: usize) -> Result<Vec<StackBag>, Fail> {
     for _worker in 0..workers {
         bags.push(StackBag {
             nodes: Vec::new(alloc),
+        })?;
+    }
+    Ok(bags)
+}
+
+/// A stack that notes which node is pushed first: a digit for each decision, 1 for Left and 2 for Right.
+#[derive(Drop)]
+pub struct NotingBag<'a> {
+    nodes: Vec<Node>,
+    first: &'a AtomicU64,
+}
+
+impl<'a> Bag for NotingBag<'a> {
+    fn push(&mut self, node: Node) -> Result<(), Node> {
+        if self.first.load(Ordering::SeqCst) == 0 {
+            self.first.store(digits_of(&node), Ordering::SeqCst);
+        }
+        match self.nodes.push(node) {
+            Ok(()) => Ok(()),
+            Err(refused) => Err(refused.value),
+        }
+    }
+
+    fn pop(&mut self) -> Option<Node> {
+        self.nodes.pop()
+    }
+
+    fn steal(&mut self) -> Option<Node> {
+        None
+    }
+}
+
+fn digits_of(node: &Node) -> u64 {
+    let mut digits = 0u64;
+    for decision in node.path() {
+        let digit = match decision.side {
+            Side::Left => 1,
+            Side::Right => 2,
+        };
+        digits = digits.saturating_mul(10).saturating_add(digit);
+    }
+    digits
+}
+
+/// A bag for each note.
+pub fn noting_bags<'a>(alloc: Global, notes: &'a [AtomicU64]) -> Result<Vec<NotingBag<'a>>, Fail> {
+    let mut bags = Vec::new(alloc);
+    for first in notes {
+        bags.push(NotingBag {
+            nodes: Vec::new(alloc),
+            first,
         })?;
     }
     Ok(bags)

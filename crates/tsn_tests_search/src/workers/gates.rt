@@ -1,8 +1,8 @@
-//! Gates that watch, hold or stop the workers.
+//! Gates that watch, hold or stop the workers, and add up what they hear.
 
 use std::sync::atomic::{AtomicU64, Ordering};
 use std::sync::{Mutex, Wait};
-use tsn_worker::Gate;
+use tsn_worker::{Gate, News};
 
 /// How often a worker looks for the other one before it goes on alone.
 const TURNS: u64 = 50_000_000;
@@ -193,5 +193,136 @@ impl Gate for StoppingGate {
             Stop::Start(_) | Stop::EachStart => true,
             Stop::EachBatch => false,
         }
+    }
+}
+
+/// A gate that adds up what it hears, and may let no worker go on behind its first batch.
+#[derive(Drop)]
+pub struct AccountingGate {
+    goes_on: bool,
+    passes: AtomicU64,
+    hears: AtomicU64,
+    nodes: AtomicU64,
+    splits: AtomicU64,
+    most: AtomicU64,
+    least: AtomicU64,
+    last: AtomicU64,
+    late: AtomicU64,
+}
+
+impl AccountingGate {
+    pub fn new(goes_on: bool) -> AccountingGate {
+        AccountingGate {
+            goes_on,
+            passes: AtomicU64::new(0),
+            hears: AtomicU64::new(0),
+            nodes: AtomicU64::new(0),
+            splits: AtomicU64::new(0),
+            most: AtomicU64::new(0),
+            least: AtomicU64::new(u64::MAX),
+            last: AtomicU64::new(0),
+            late: AtomicU64::new(0),
+        }
+    }
+
+    /// How many nodes were settled, and how many of them were split.
+    pub fn sums(&self) -> (u64, u64) {
+        (
+            self.nodes.load(Ordering::SeqCst),
+            self.splits.load(Ordering::SeqCst),
+        )
+    }
+
+    /// How many nodes were told of at once, at most.
+    pub fn most(&self) -> u64 {
+        self.most.load(Ordering::SeqCst)
+    }
+
+    /// The least flowspan that was told of.
+    pub fn least(&self) -> u64 {
+        self.least.load(Ordering::SeqCst)
+    }
+
+    /// The greatest number of a teller.
+    pub fn last(&self) -> u64 {
+        self.last.load(Ordering::SeqCst)
+    }
+
+    /// How often more was told of than had passed.
+    pub fn late(&self) -> u64 {
+        self.late.load(Ordering::SeqCst)
+    }
+}
+
+impl Gate for AccountingGate {
+    fn pass(&self, teller: usize) {
+        self.last.fetch_max(teller as u64, Ordering::SeqCst);
+        self.passes.fetch_add(1, Ordering::SeqCst);
+    }
+
+    fn hear(&self, _teller: usize, news: News) {
+        let hears = self.hears.fetch_add(1, Ordering::SeqCst);
+        if self.passes.load(Ordering::SeqCst) <= hears {
+            self.late.fetch_add(1, Ordering::SeqCst);
+        }
+        let nodes = news.nodes as u64;
+        self.nodes.fetch_add(nodes, Ordering::SeqCst);
+        self.splits.fetch_add(news.splits as u64, Ordering::SeqCst);
+        self.most.fetch_max(nodes, Ordering::SeqCst);
+        if let Some(flowspan) = news.flowspan {
+            self.least.fetch_min(flowspan, Ordering::SeqCst);
+        }
+    }
+
+    fn may_go_on(&self, _teller: usize) -> bool {
+        self.goes_on
+    }
+}
+
+/// A gate at which worker 0 waits until the others have settled as many nodes as may be settled.
+#[derive(Drop)]
+pub struct WaitingGate {
+    limit: u64,
+    by_zero: AtomicU64,
+    by_others: AtomicU64,
+}
+
+impl WaitingGate {
+    pub fn new(limit: u64) -> WaitingGate {
+        WaitingGate {
+            limit,
+            by_zero: AtomicU64::new(0),
+            by_others: AtomicU64::new(0),
+        }
+    }
+
+    /// How many nodes worker 0 has settled, and how many the others.
+    pub fn sums(&self) -> (u64, u64) {
+        (
+            self.by_zero.load(Ordering::SeqCst),
+            self.by_others.load(Ordering::SeqCst),
+        )
+    }
+}
+
+impl Gate for WaitingGate {
+    fn pass(&self, teller: usize) {
+        if teller != 0 {
+            return;
+        }
+        for _ in 0..TURNS {
+            if self.by_others.load(Ordering::SeqCst) >= self.limit {
+                return;
+            }
+        }
+    }
+
+    fn hear(&self, teller: usize, news: News) {
+        let settled = if teller == 0 {
+            &self.by_zero
+        } else {
+            &self.by_others
+        };
+        settled.fetch_add(news.nodes as u64, Ordering::SeqCst);
     }
 }

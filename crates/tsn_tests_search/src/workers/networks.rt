@@ -61,3 +61,30 @@ stream = [
     {name = 's9', octets = 64, route = ['A9', 'S', 'C']},
 ]
 ";
+
+/// Twelve streams of 64 octets, all of one route of two links: 66 conflicts are decided above the first schedule.
+pub const TWELVE: &str = "cycle = 1000000
+node = [
+    {name = 'A', kind = 'station'},
+    {name = 'C', kind = 'station'},
+    {name = 'S', kind = 'bridge', proc = 1000},
+]
+link = [
+    {a = 'A', b = 'S', mbps = 1000, prop = 50},
+    {a = 'S', b = 'C', mbps = 1000, prop = 50},
+]
+stream = [
+    {name = 's0', octets = 64, route = ['A', 'S', 'C']},
+    {name = 's1', octets = 64, route = ['A', 'S', 'C']},
+    {name = 's2', octets = 64, route = ['A', 'S', 'C']},
+    {name = 's3', octets = 64, route = ['A', 'S', 'C']},
+    {name = 's4', octets = 64, route = ['A', 'S', 'C']},
+    {name = 's5', octets = 64, route = ['A', 'S', 'C']},
+    {name = 's6', octets = 64, route = ['A', 'S', 'C']},
+    {name = 's7', octets = 64, route = ['A', 'S', 'C']},
+    {name = 's8', octets = 64, route = ['A', 'S', 'C']},
+    {name = 's9', octets = 64, route = ['A', 'S', 'C']},
+    {name = 's10', octets = 64, route = ['A', 'S', 'C']},
+    {name = 's11', octets = 64, route = ['A', 'S', 'C']},
+]
+";

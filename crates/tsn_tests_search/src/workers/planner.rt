@@ -8,7 +8,7 @@ use std::thread::Threads;
 use tsn_cert::{Cert, Plan};
 use tsn_check::{Verdict, check};
 use tsn_net::{Problem, read_problem};
-use tsn_worker::{Answer, Bag, Gate, MAX_WORKERS, plan_over};
+use tsn_worker::{Answer, Bag, Gate, MAX_WORKERS, plan, plan_over};
 
 /// More nodes than any of these networks has.
 const LIMIT: usize = 1_000_000;
@@ -82,6 +82,56 @@ pub fn planned<R: Threads + Wait + Sync, G: Gate + Sync, B: Bag + Send>(
     let problem = network(alloc, text)?;
     let answer = plan_by(rt, alloc, &problem, gate, bags)?;
     judge(alloc, &problem, answer)
+}
+
+/// Plans by so many workers, over bags of their own.
+pub fn planned_by<R: Threads + Wait + Sync, G: Gate + Sync>(
+    rt: &R,
+    alloc: Global,
+    text: &str,
+    gate: &G,
+    workers: usize,
+) -> Result<Outcome, Fail> {
+    let problem = network(alloc, text)?;
+    let answer = answer_by(rt, alloc, &problem, gate, workers, LIMIT)?;
+    judge(alloc, &problem, answer)
+}
+
+fn answer_by<R: Threads + Wait + Sync, G: Gate + Sync>(
+    rt: &R,
+    alloc: Global,
+    problem: &Problem,
+    gate: &G,
+    workers: usize,
+    limit: usize,
+) -> Result<Answer, Fail> {
+    if workers < 1 || workers > MAX_WORKERS || limit < 1 || limit > LIMIT {
+        return Err(Fail::from("no such effort"));
+    }
+    match plan(rt, alloc, problem, workers, limit, gate) {
+        Ok(answer) => Ok(answer),
+        Err(_) => Err(Fail::from("no memory")),
+    }
+}
+
+/// How many nodes are settled by so many workers where so many may be, while one is open.
+pub fn settled_by<R: Threads + Wait + Sync, G: Gate + Sync>(
+    rt: &R,
+    alloc: Global,
+    text: &str,
+    gate: &G,
+    workers: usize,
+    limit: usize,
+) -> Result<usize, Fail> {
+    let problem = network(alloc, text)?;
+    count_of(answer_by(rt, alloc, &problem, gate, workers, limit)?)
+}
+
+fn count_of(answer: Answer) -> Result<usize, Fail> {
+    match answer {
+        Answer::Stopped(book) => Ok(book.count()),
+        Answer::Optimal(_, _, _) | Answer::NoSchedule(_, _) => Err(Fail::from("not stopped")),
+    }
 }
 
 /// The plan has to be of this flowspan, and its certificate accepted.

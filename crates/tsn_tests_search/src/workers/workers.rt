@@ -1,13 +1,14 @@
 //! Workers that meet, begin, share and settle by batches.
 
-use crate::workers::bags::stacks;
+use crate::workers::bags::{noting_bags, stacks};
 use crate::workers::gates::{CountingGate, MeetingGate};
 use crate::workers::networks::{TEN, TWO};
 use crate::workers::planner::{expect, planned};
 use std::alloc::Global;
+use std::sync::atomic::{AtomicU64, Ordering};
 use std::test::*;
 use tsn_branch::{NoMemory, Node, Side, Triple};
-use tsn_worker::{Bag, DequeBag};
+use tsn_worker::{Bag, DequeBag, OpenGate};
 
 /// A worker that waits for the other one meets it only where each has a thread of its own.
 #[test]
@@ -31,6 +32,24 @@ fn caller_only_starts(rt: HostRuntime) -> Result<(), Fail> {
         assert_eq!(rt; gate.before(), before, "of {workers} workers");
         assert_eq!(rt; gate.behind(), 0, "of {workers} workers");
         expect(&rt, &found, 8_300);
+    }
+    Ok(())
+}
+
+/// Open node n in preorder goes to bag n: of the root's split, of that of its Left child, and of that one's Left child.
+#[test]
+fn each_bag_is_given_its_node(rt: HostRuntime) -> Result<(), Fail> {
+    let alloc = rt.alloc();
+    let notes = [
+        AtomicU64::new(0),
+        AtomicU64::new(0),
+        AtomicU64::new(0),
+        AtomicU64::new(0),
+    ];
+    let bags = noting_bags(alloc, &notes)?;
+    expect(&rt, &planned(&rt, alloc, TEN, &OpenGate, bags)?, 8_300);
+    for (note, first) in notes.iter().zip([111, 112, 12, 2]) {
+        assert_eq!(rt; note.load(Ordering::SeqCst), first);
     }
     Ok(())
 }
