@@ -1,16 +1,32 @@
--- The gate lists that a schedule asks for can be replayed.
-use Rattle.std.proofs.Common.{◌≡◌, ℕ, ◌<◌, ◌*◌, List, length, All, Bool, true, false, refl, arith}
+-- A schedule's gate lists can be replayed.
+use Rattle.std.proofs.Common.{◌≡◌, ℕ, ◌<◌, ◌*◌, List, length, All, AllPairs, Bool, true, false, Option, Some, None, refl, arith}
+use Rattle.std.specs.List.{Any}
 use Rattle.std.proofs.lemmas.List.Elements.{All-nil}
 use Rattle.tsn_model.specs.Network.{Network, IsWellFormed, route_link}
+use Rattle.tsn_model.specs.Gates.{cycle_of}
 use Rattle.tsn_model.specs.Bridge.{LinkGates}
 use Rattle.tsn_model.proofs.OnTime.{hop_uses}
-use Rattle.tsn_gate.specs.GateLists.{AreWantedLists}
+use Rattle.tsn_gate.specs.GateLists.{IsUsed}
+use Rattle.tsn_gate.specs.Merged.{AreListsBy}
 use Rattle.tsn_replay.specs.Faults.{NamesLinks, KeepsLimits, IsListed, IsWithin, HasReplayFault}
 use Rattle.tsn_replay.specs.declared.fault.ReplayFault.{ReplayFault}
 use Rattle.tsn_replay.specs.declared.fault.ReplayFault.TheVariants.{UnknownLink, Limit, Memory}
 use Rattle.tsn_replay.specs.Feeding.{background_for}
 
-module _ (network : Network) (formed : IsWellFormed network) (offsets : List ℕ) (lists : List LinkGates) (wanted : AreWantedLists network offsets lists) (exist : All (λ list. list.link < length network.links) lists) where
+-- lists that last the cycle, one for each link that a stream uses
+record AreWhole (network : Network) (lists : List LinkGates) : Type 0 where
+  whole : All (λ (list : LinkGates). cycle_of list.entries ≡ network.cycle) lists
+  in_order : AllPairs (λ (a b : LinkGates). a.link < b.link) lists
+  all_used : (link : ℕ) → IsUsed network link → Any (λ (list : LinkGates). list.link ≡ link) lists
+
+are_whole : (network : Network) (offsets : List ℕ) (lists : List LinkGates) (merge : Option ℕ) → AreListsBy merge network offsets lists → AreWhole network lists
+are_whole network offsets lists None are = record { whole = λ k d below. (are.wanted k d below).whole; in_order = are.in_order; all_used = are.all_used }
+are_whole network offsets lists (Some least) are = record { whole = λ k d below. (are.kept k d below).whole; in_order = are.in_order; all_used = are.all_used }
+
+module _ (network : Network) (formed : IsWellFormed network) (offsets : List ℕ) (lists : List LinkGates) (merge : Option ℕ) (are : AreListsBy merge network offsets lists) (exist : All (λ list. list.link < length network.links) lists) where
+  wanted : AreWhole network lists
+  wanted = are_whole network offsets lists merge are
+
   names : (is_greedy : Bool) → NamesLinks network lists (background_for is_greedy)
   names true = record {
     exist = exist;
@@ -26,8 +42,8 @@ module _ (network : Network) (formed : IsWellFormed network) (offsets : List ℕ
   }
 
   keeps : (cycles : ℕ) (is_greedy : Bool) → KeepsLimits network lists cycles (background_for is_greedy)
-  keeps cycles true = record { whole = λ k d below. (wanted.wanted k d below).whole; few = omega arith; within = All-nil (IsWithin (cycles * network.cycle)) }
-  keeps cycles false = record { whole = λ k d below. (wanted.wanted k d below).whole; few = omega arith; within = All-nil (IsWithin (cycles * network.cycle)) }
+  keeps cycles true = record { whole = wanted.whole; few = omega arith; within = All-nil (IsWithin (cycles * network.cycle)) }
+  keeps cycles false = record { whole = wanted.whole; few = omega arith; within = All-nil (IsWithin (cycles * network.cycle)) }
 
   -- so they are refused for want of memory alone
   pub memory_alone : (cycles : ℕ) (is_greedy : Bool) (fault : ReplayFault) → HasReplayFault network lists cycles (background_for is_greedy) fault → fault ≡ Memory

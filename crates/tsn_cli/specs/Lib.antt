@@ -3,6 +3,10 @@ pub mod Valid
 pub mod Check
 pub mod Tables
 pub mod Outcome
+pub mod Pieces
 pub mod PlanOutput
 pub mod Plan
 pub mod Laws
+pub mod ProofOutput
+pub mod Prove
+pub mod ProveLaws

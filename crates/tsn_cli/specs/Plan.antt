@@ -1,29 +1,37 @@
 -- What `plan` answers.
 --     optimal_line, settled_line, stopped_line     its lines
---     output_of                                    the texts of a planner's answer
+--     finished_output, stopped_output              the texts of what was found
+--     ShowsIfAny, IsWanted                         a certificate, if one is written
+--     TellsPlan, TellsStop                         an output that tells of a search of the network
 --     PlanAnswers                                  the answer to the file read
-use Rattle.std.specs.Prelude.{◌≡◌, ◌⊎◌, ℕ, List, [], ◌∷◌, ◌++◌, codes, decimal, length, Option, Some, None}
+use Rattle.std.specs.Prelude.{◌≡◌, ◌≤◌, ◌⊎◌, ℕ, Bool, List, [], ◌∷◌, ◌++◌, codes, decimal, length, MatchOption, Option, Some, None, is_some}
+use Rattle.tsn_model.specs.Network.{Network}
 use Rattle.tsn_model.specs.Search.{kept_of, best_bound}
 use Rattle.tsn_net.specs.File.{States}
 use Rattle.tsn_net.specs.Problem.{NamedNetwork}
+use Rattle.tsn_cert.specs.declared.cert.Cert.{Cert}
 use Rattle.tsn_cert.specs.declared.plan.Plan.{Plan}
 use Rattle.tsn_cert.specs.declared.plan.Plan.TheVariants as plan
 use Rattle.tsn_cert.specs.Plan.{plan_text}
-use Rattle.tsn_cert.specs.Cert.{cert_text}
-use Rattle.tsn_worker.specs.declared.answer.Answer.{Answer}
-use Rattle.tsn_worker.specs.declared.answer.Answer.TheVariants.{Optimal, NoSchedule, Stopped}
-use Rattle.tsn_worker.specs.Answer.{IsAnswer}
+use Rattle.tsn_book.specs.Book.{Progress}
+use Rattle.tsn_worker.specs.Answer.{IsCertOf, IsFoundPlan, IsStopped, Shows}
 use Rattle.tsn_cli.specs.Run.{Output, Command}
+use Rattle.tsn_cli.specs.PlanOutput.{cert_bytes, IsCut}
 use Rattle.tsn_cli.specs.Valid.{RefusesNetwork}
 
 -- how many nodes were settled, and the line's end
 abbrev pub settled_text : ℕ → List ℕ
 settled_text count = codes " settled " ++ decimal count ++ codes "\n"
 
--- what is said of a plan whose certificate shows it optimal; of a plan that there is none, as of no schedule
+-- what is said of a plan that was found; of a plan that there is none, as of no schedule
 abbrev pub optimal_line : Plan → ℕ → List ℕ
 optimal_line (plan.Schedule span offsets) count = codes "optimal " ++ decimal span ++ settled_text count
 optimal_line plan.None count = codes "no schedule" ++ settled_text count
+
+-- the status of a plan that was found
+abbrev pub found_status : Plan → ℕ
+found_status (plan.Schedule span offsets) = 0
+found_status plan.None = 4
 
 -- the best plan of a search that was stopped, if it has one
 abbrev pub best_plan_text : ℕ → Option (List ℕ) → List ℕ
@@ -34,17 +42,40 @@ abbrev pub best_text : ℕ → Option (List ℕ) → List ℕ
 best_text span None = codes "none"
 best_text span (Some offsets) = decimal span
 
--- what a planner's answer is told by: the plan file, the certificate file, and the line
-abbrev pub output_of : Answer → Output
-output_of (Optimal plan cert count) = record { status = 0; texts = plan_text plan ∷ cert_text cert ∷ optimal_line plan count ∷ [] }
-output_of (NoSchedule cert count) = record { status = 4; texts = plan_text plan.None ∷ cert_text cert ∷ optimal_line plan.None count ∷ [] }
-output_of (Stopped book) =
+-- what a finished search is told by: the plan file, the certificate file, if one is written, and the line
+abbrev pub finished_output : Plan → Option Cert → ℕ → Output
+finished_output plan cert count = record { status = found_status plan; texts = plan_text plan ∷ cert_bytes cert ∷ optimal_line plan count ∷ [] }
+
+-- what a search that was stopped is told by
+abbrev pub stopped_output : Progress → Output
+stopped_output book =
     let span = best_bound book.network book.history in
     let kept = kept_of book.network book.history in
     record { status = 5; texts = best_plan_text span kept ∷ [] ∷ (codes "stopped " ++ best_text span kept ++ settled_text (length book.history)) ∷ [] }
 
--- the answer to a network file, where at most so many nodes are settled
-abbrev pub PlanAnswers : ℕ → Command
-PlanAnswers limit (file ∷ []) output =
-    RefusesNetwork file output ⊎ ((problem : NamedNetwork) × States file problem × ((answer : Answer) × IsAnswer problem.network limit answer × (output ≡ output_of answer)))
-PlanAnswers limit _ output = ⊥
+-- the certificate, if one is written, shows what the plan says, by as many nodes as were settled, at most the limit
+abbrev pub ShowsIfAny : Network → ℕ → Plan → Option Cert → ℕ → Type 0
+ShowsIfAny network limit plan None count = count ≤ limit
+ShowsIfAny network limit plan (Some cert) count = Shows network limit plan cert count
+
+-- the certificate of a finished search, where one is wanted, and else none
+abbrev pub IsWanted : Bool → Progress → Option Cert → Type 0
+IsWanted wanted book cert = (is_some cert ≡ wanted) × MatchOption cert (Unit {0}) (IsCertOf book)
+
+-- It tells of a finished search: the first schedule of least flowspan, or that there is none, and a certificate that shows it exactly where one is
+-- wanted; or as much of that as there is memory for.
+abbrev pub TellsPlan : Network → ℕ → Bool → Output → Type 0
+TellsPlan network limit wanted output =
+    (plan : Plan) × ((cert : Option Cert) × ((count : ℕ) × (is_some cert ≡ wanted) × IsFoundPlan network plan × ShowsIfAny network limit plan cert count
+    × ((output ≡ finished_output plan cert count) ⊎ IsCut (plan_text plan) cert output)))
+
+-- it tells of a search that was stopped at its limit
+abbrev pub TellsStop : Network → ℕ → Output → Type 0
+TellsStop network limit output = (book : Progress) × IsStopped network limit book × (output ≡ stopped_output book)
+
+-- the answer to a network file, where at most so many nodes are settled and a certificate is wanted or not
+abbrev pub PlanAnswers : ℕ → Bool → Command
+PlanAnswers limit wanted (file ∷ []) output =
+    RefusesNetwork file output
+    ⊎ ((problem : NamedNetwork) × States file problem × (TellsPlan problem.network limit wanted output ⊎ TellsStop problem.network limit output))
+PlanAnswers limit wanted _ output = ⊥

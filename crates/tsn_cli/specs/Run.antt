@@ -1,9 +1,10 @@
 -- What a run of a command ends with, by what its sources gave and its sinks took.
 --     Reading, GivesFile, GivesTooMuch      a source over a run
 --     Writing, TakesAll, TakesBeginning     the sinks over a run
+--     taken_in, failed_in                   a sink that may be none
 --     Output, Command, Answers, BreaksOff   what a command answers, and how far it goes where a read fails
 --     Ends, EndsEarly                       a run that was done, and one in which a write failed
-use Rattle.std.specs.Prelude.{◌≡◌, ◌+◌, ◌≤◌, ◌<◌, ◌⊎◌, ℕ, List, [], ◌∷◌, ◌++◌, Bool, IsTrue, length, take, codes, Option, All}
+use Rattle.std.specs.Prelude.{◌≡◌, ◌+◌, ◌≤◌, ◌<◌, ◌⊎◌, ℕ, List, [], ◌∷◌, ◌++◌, Bool, IsTrue, length, take, codes, Option, None, Some, All}
 use Rattle.std.specs.Io.KnownBytes.{Appends, Keeps}
 
 -- the most bytes of a file
@@ -47,6 +48,15 @@ pub record Writing : Type 0 where
 
 abbrev pub writing_of : Option (List ℕ) → Option (List ℕ) → Writing
 writing_of before after = record { before = before; after = after }
+
+-- the bytes that a sink has taken, where there is one, and how many of its writes failed
+abbrev pub taken_in : {S : Type 0} → (S → Option (List ℕ)) → Option S → Option (List ℕ)
+taken_in taken None = Some []
+taken_in taken (Some sink) = taken sink
+
+abbrev pub failed_in : {S : Type 0} → (S → ℕ) → Option S → ℕ
+failed_in failed None = 0
+failed_in failed (Some sink) = failed sink
 
 -- a sink that took nothing
 abbrev pub IsUnwritten : Writing → Type 0

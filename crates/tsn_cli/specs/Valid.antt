@@ -35,3 +35,8 @@ abbrev pub ValidAnswers : List ℕ → Command
 ValidAnswers offsets (file ∷ []) output =
     RefusesNetwork file output ⊎ ((problem : NamedNetwork) × States file problem × (Accepts problem.network offsets output ⊎ Rejects problem.network offsets output))
 ValidAnswers offsets _ output = ⊥
+
+-- the answer for a network file that is judged alone: nothing is said of one that is taken
+abbrev pub JudgeAnswers : Command
+JudgeAnswers (file ∷ []) output = RefusesNetwork file output ⊎ ((problem : NamedNetwork) × States file problem × IsLine 0 [] output)
+JudgeAnswers _ output = ⊥

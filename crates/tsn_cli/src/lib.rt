@@ -2,11 +2,17 @@
 #![tactic(auto)]
 
 mod answer;
+mod certificate;
 mod check;
 pub mod format;
+mod judge;
 pub mod laws;
 mod plan;
 mod print;
+mod print_proof;
+mod proof_output;
+mod prove;
+pub mod prove_laws;
 pub mod run;
 mod table;
 mod tables;
@@ -14,7 +20,10 @@ mod valid;
 
 pub use check::check_run;
 pub use format::{GatesFormat, ReplayFormat};
-pub use plan::plan_run;
+pub use judge::judge_run;
+pub use plan::{NO_SCHEDULE, STOPPED, plan_run};
+pub use prove::prove_run;
+pub use table::{GatesOptions, ReplayOptions};
 pub use tables::{chart_run, gates_run, replay_run};
 pub use tsn_device::{device, memory};
 pub use valid::valid_run;

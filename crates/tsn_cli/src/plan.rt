@@ -1,10 +1,13 @@
 //! `plan`: finds the schedule of least flowspan that is first in list order.
-ghost use Rattle.std.specs.Prelude.{◌≡◌, ◌≢◌, ◌≤◌, ◌<◌, ◌+◌, ◌-◌, ◌^◌, [], ◌∷◌, IfOk, string_bytes};
+ghost use Rattle.std.specs.Prelude.{◌≡◌, ◌≢◌, ◌≤◌, ◌<◌, ◌+◌, ◌-◌, ◌^◌, ◌⊎◌, ℕ, [], ◌∷◌, IfOk, IsTrue, None, OnErr, is_some, length, string_bytes};
 ghost use Rattle.std.specs.Io.KnownBytes.{Keeps};
-ghost use Rattle.tsn_cli.specs.Run.{Ends, EndsEarly, IsOutput, reading_of, writing_of};
-ghost use Rattle.tsn_cli.specs.Plan.{PlanAnswers, optimal_line, output_of};
-ghost use Rattle.tsn_cli.specs.PlanOutput.{line_alone, printed};
-ghost use Rattle.tsn_worker.specs.declared.answer.Answer.TheVariants.{Optimal, NoSchedule, Stopped};
+ghost use Rattle.tsn_model.specs.Network.{Network};
+ghost use Rattle.tsn_model.specs.Search.{kept_of, open_paths};
+ghost use Rattle.tsn_cli.specs.Run.{Output, Ends, EndsEarly, IsOutput, reading_of, writing_of, taken_in, failed_in};
+ghost use Rattle.tsn_cli.specs.Plan.{IsWanted, PlanAnswers, TellsPlan, TellsStop, optimal_line, found_status, stopped_output};
+ghost use Rattle.tsn_cli.specs.PlanOutput.{IsPrinted, line_alone, printed};
+ghost use Rattle.tsn_cert.specs.Plan.{plan_text};
+ghost use Rattle.tsn_worker.specs.Answer.{IsFinished, IsFound, IsStopped, plan_kept};
 
 use crate::answer::{Answer as Line, PlanOutput};
 use crate::print::print;
@@ -13,12 +16,12 @@ use crate::valid::refusal;
 use std::alloc::Global;
 use std::sync::Wait;
 use std::thread::Threads;
-use tsn_book::Book;
-use tsn_cert::{Cert, Offsets, Plan, cert_to_json, plan_to_json};
+use tsn_book::{Book, Spelling};
+use tsn_cert::{Offsets, Plan, plan_to_json};
 use tsn_device::device::{ReadFault, Sink, Source, read_all};
 use tsn_model::NoMemory;
 use tsn_net::read_problem;
-use tsn_worker::{Answer, Gate, plan};
+use tsn_worker::{Effort, Found, Gate, plan_of, search_by};
 
 /// There is no schedule.
 pub const NO_SCHEDULE: u8 = 4;
@@ -26,58 +29,66 @@ pub const NO_SCHEDULE: u8 = 4;
 /// The limit of settlements was met.
 pub const STOPPED: u8 = 5;
 
-/// With how many workers to plan, and how many nodes may be settled.
-#[derive(Clone, Copy)]
-struct Effort {
-    workers: usize,
-    limit: usize,
-}
-
-/// Reads a network file and plans it with 1 to 16 workers and at most `limit` settlements, 1 to 1,000,000,000. It writes the
-/// plan, then its certificate, then a line on what was found; or a line on why the file is refused. Where the limit is met
-/// it writes the best plan so far, if there is one, and no certificate. The gate hears of each settlement. The answer is the
-/// status.
+/// Reads a network file and plans it by a method, with 1 to 16 workers and at most so many settlements, 1 to 1,000,000,000. It
+/// writes the plan, then its certificate, where there is a sink for it, then a line on what was found; or a line on why the file is
+/// refused. Where the limit is met it writes the best plan so far, if there is one, and no certificate. The certificate is written
+/// a node at a time; where memory is refused for one, the line says that. The gate hears of each settlement. The answer is the status.
 pub fn plan_run<R: Threads + Wait + Sync, N: Source, G: Gate + Sync, P: Sink, C: Sink, W: Sink>(
     rt: &R,
     alloc: Global,
     network: &mut N,
-    workers: usize,
-    limit: usize,
+    effort: Effort,
     gate: &G,
     plan: &mut P,
-    cert: &mut C,
+    cert: &mut Option<C>,
     sink: &mut W,
 ) -> u8
-    requires workers { (1 ≤ workers) × (workers ≤ 16) }
-    requires some { 1 ≤ limit }
-    requires few { limit ≤ 1_000_000_000 }
+    requires workers { (1 ≤ effort.workers) × (effort.workers ≤ 16) }
+    requires some { 1 ≤ effort.limit }
+    requires few { effort.limit ≤ 1_000_000_000 }
     requires reads { N.failed network.old < 2 ^ 64 - 1 }
     requires plan_writes { P.failed plan.old < 2 ^ 64 - 1 }
-    requires cert_writes { C.failed cert.old < 2 ^ 64 - 1 }
+    requires cert_writes { failed_in C.failed cert.old < 2 ^ 64 - 1 }
     requires writes { W.failed sink.old < 2 ^ 64 - 1 }
 
-    ensures ended { result ≢ DEVICE → Ends (PlanAnswers limit)
+    ensures ended { result ≢ DEVICE → Ends (PlanAnswers effort.limit (is_some cert.old))
         (reading_of (N.given network.old) (N.given network.new) (N.is_at_end network.new) ∷ [])
-        (writing_of (P.taken plan.old) (P.taken plan.new) ∷ writing_of (C.taken cert.old) (C.taken cert.new)
+        (writing_of (P.taken plan.old) (P.taken plan.new) ∷ writing_of (taken_in C.taken cert.old) (taken_in C.taken cert.new)
         ∷ writing_of (W.taken sink.old) (W.taken sink.new) ∷ []) result }
     ensures no_failure { result ≢ DEVICE → (N.failed network.new ≡ N.failed network.old)
-        × (P.failed plan.new ≡ P.failed plan.old) × (C.failed cert.new ≡ C.failed cert.old)
+        × (P.failed plan.new ≡ P.failed plan.old) × (failed_in C.failed cert.new ≡ failed_in C.failed cert.old)
         × (W.failed sink.new ≡ W.failed sink.old) }
 
-    ensures failure { result ≡ DEVICE → N.failed network.new + P.failed plan.new + C.failed cert.new
+    ensures failure { result ≡ DEVICE → N.failed network.new + P.failed plan.new + failed_in C.failed cert.new
         + W.failed sink.new
-        ≡ N.failed network.old + P.failed plan.old + C.failed cert.old + W.failed sink.old + 1 }
+        ≡ N.failed network.old + P.failed plan.old + failed_in C.failed cert.old + W.failed sink.old + 1 }
     ensures read_failed { N.failed network.new ≢ N.failed network.old
-        → Keeps (P.taken plan.old) (P.taken plan.new) × Keeps (C.taken cert.old) (C.taken cert.new)
+        → Keeps (P.taken plan.old) (P.taken plan.new) × Keeps (taken_in C.taken cert.old) (taken_in C.taken cert.new)
         × Keeps (W.taken sink.old) (W.taken sink.new) }
-    ensures write_failed { P.failed plan.new + C.failed cert.new + W.failed sink.new
-        ≢ P.failed plan.old + C.failed cert.old + W.failed sink.old → EndsEarly (PlanAnswers limit)
+    ensures write_failed { P.failed plan.new + failed_in C.failed cert.new + W.failed sink.new
+        ≢ P.failed plan.old + failed_in C.failed cert.old + W.failed sink.old → EndsEarly (PlanAnswers effort.limit (is_some cert.old))
         (reading_of (N.given network.old) (N.given network.new) (N.is_at_end network.new) ∷ [])
-        (writing_of (P.taken plan.old) (P.taken plan.new) ∷ writing_of (C.taken cert.old) (C.taken cert.new)
+        (writing_of (P.taken plan.old) (P.taken plan.new) ∷ writing_of (taken_in C.taken cert.old) (taken_in C.taken cert.new)
         ∷ writing_of (W.taken sink.old) (W.taken sink.new) ∷ []) }
 {
-    let effort = Effort { workers, limit };
-    print(plan, cert, sink, found(rt, alloc, network, effort, gate))
+    let task = Task {
+        effort,
+        wanted: cert.is_some(),
+    };
+    print(
+        alloc,
+        plan,
+        cert,
+        sink,
+        found(rt, alloc, network, task, gate),
+    )
+}
+
+/// How much is to be done, and whether a certificate is wanted.
+#[derive(Clone, Copy)]
+struct Task {
+    effort: Effort,
+    wanted: bool,
 }
 
 /// What the run found.
@@ -85,21 +96,24 @@ fn found<R: Threads + Wait + Sync, N: Source, G: Gate + Sync>(
     rt: &R,
     alloc: Global,
     network: &mut N,
-    effort: Effort,
+    task: Task,
     gate: &G,
 ) -> Result<PlanOutput, ReadFault>
-    requires workers { (1 ≤ effort.workers) × (effort.workers ≤ 16) }
-    requires some { 1 ≤ effort.limit }
-    requires few { effort.limit ≤ 1_000_000_000 }
+    requires workers { (1 ≤ task.effort.workers) × (task.effort.workers ≤ 16) }
+    requires some { 1 ≤ task.effort.limit }
+    requires few { task.effort.limit ≤ 1_000_000_000 }
     requires reads { N.failed network.old < 2 ^ 64 - 1 }
-    ensures answer { (result ≡ Err ReadFault.Broken → ⊥) → IsOutput (PlanAnswers effort.limit)
-        (reading_of (N.given network.old) (N.given network.new) (N.is_at_end network.new) ∷ [])
-        (printed result) }
+    ensures faults { (result ≡ Err ReadFault.Broken → ⊥) → OnErr result (IsOutput (PlanAnswers task.effort.limit task.wanted)
+        (reading_of (N.given network.old) (N.given network.new) (N.is_at_end network.new) ∷ []) (printed result)) }
+    ensures answers { IfOk result (λ output. (shown : Output) → IsPrinted (Ok output) shown
+        → IsOutput (PlanAnswers task.effort.limit task.wanted)
+        (reading_of (N.given network.old) (N.given network.new) (N.is_at_end network.new) ∷ []) shown) }
+    ensures wanted { IfOk result (λ output. IsTrue (is_some output.cert) → IsTrue task.wanted) }
     ensures broken { result ≡ Err ReadFault.Broken → N.failed network.new ≡ N.failed network.old + 1 }
     ensures kept { (result ≡ Err ReadFault.Broken → ⊥) → N.failed network.new ≡ N.failed network.old }
 {
     let file = read_all(alloc, network, MAX_FILE)?;
-    match found_in(rt, alloc, &file, effort, gate) {
+    match found_in(rt, alloc, &file, task, gate) {
         Ok(output) => Ok(output),
         Err(NoMemory) => Err(ReadFault::Memory),
     }
@@ -110,41 +124,37 @@ fn found_in<R: Threads + Wait + Sync, G: Gate + Sync>(
     rt: &R,
     alloc: Global,
     file: &[u8],
-    effort: Effort,
+    task: Task,
     gate: &G,
 ) -> Result<PlanOutput, NoMemory>
-    requires workers { (1 ≤ effort.workers) × (effort.workers ≤ 16) }
-    requires some { 1 ≤ effort.limit }
-    requires few { effort.limit ≤ 1_000_000_000 }
-    ensures { IfOk result (λ output. PlanAnswers effort.limit (file.now ∷ []) (printed (Ok output))) }
+    requires workers { (1 ≤ task.effort.workers) × (task.effort.workers ≤ 16) }
+    requires some { 1 ≤ task.effort.limit }
+    requires few { task.effort.limit ≤ 1_000_000_000 }
+    ensures answers { IfOk result (λ output. (shown : Output) → IsPrinted (Ok output) shown
+        → PlanAnswers task.effort.limit task.wanted (file.now ∷ []) shown) }
+    ensures wanted { IfOk result (λ output. IsTrue (is_some output.cert) → IsTrue task.wanted) }
 {
     match read_problem(alloc, file) {
         Ok(problem) => {
-            let answer = plan(rt, alloc, &problem, effort.workers, effort.limit, gate);
+            let found = search_by(rt, alloc, &problem, task.effort, gate);
             drop(problem);
-            output_for(alloc, answer?)
+            output_for(alloc, found?, task.wanted)
         }
         Err(fault) => Ok(alone(alloc, refusal(alloc, fault)?)),
     }
 }
 
-/// What is printed of a planner's answer.
-fn output_for(alloc: Global, answer: Answer) -> Result<PlanOutput, NoMemory>
-    ensures { IfOk result (λ output. printed (Ok output) ≡ output_of answer) }
+/// What is printed of what a search found.
+fn output_for(alloc: Global, found: Found, wanted: bool) -> Result<PlanOutput, NoMemory>
+    requires { (network : Network) × ((limit : ℕ) × IsFound network limit found) }
+    ensures tells { IfOk result (λ output. (network : Network) (limit : ℕ) → IsFound network limit found
+        → (shown : Output) → IsPrinted (Ok output) shown
+        → TellsPlan network limit wanted shown ⊎ TellsStop network limit shown) }
+    ensures wanted { IfOk result (λ output. IsTrue (is_some output.cert) → IsTrue wanted) }
 {
-    match answer {
-        Answer::Optimal(plan, cert, count) => {
-            let output = optimal(alloc, &plan, &cert, count);
-            drop(plan);
-            drop(cert);
-            output
-        }
-        Answer::NoSchedule(cert, count) => {
-            let output = no_schedule(alloc, &cert, count);
-            drop(cert);
-            output
-        }
-        Answer::Stopped(book) => {
+    match found {
+        Found::Finished(book) => finished(alloc, book, wanted),
+        Found::Stopped(book) => {
             let output = stopped(alloc, &book);
             drop(book);
             output
@@ -154,15 +164,68 @@ fn output_for(alloc: Global, answer: Answer) -> Result<PlanOutput, NoMemory>
 
 /// An answer that is a line alone.
 fn alone(alloc: Global, answer: Line) -> PlanOutput
-    ensures { printed (Ok result) ≡ line_alone answer.status (string_bytes answer.text) }
+    ensures alone { printed (Ok result) ≡ line_alone answer.status (string_bytes answer.text) }
+    ensures none { result.cert ≡ None }
 {
     let Line { status, text } = answer;
     PlanOutput {
         status,
         plan: String::new(alloc),
-        cert: String::new(alloc),
+        cert: None,
         line: text,
     }
+}
+
+/// What is said of a finished search, with its certificate, where that is wanted.
+fn finished(alloc: Global, book: Book, wanted: bool) -> Result<PlanOutput, NoMemory>
+    requires { (network : Network) × ((limit : ℕ) × IsFinished network limit book) }
+    ensures tells { IfOk result (λ output. (network : Network) (limit : ℕ) → IsFinished network limit book
+        → (shown : Output) → IsPrinted (Ok output) shown → TellsPlan network limit wanted shown) }
+    ensures wanted { IfOk result (λ output. IsTrue (is_some output.cert) → IsTrue wanted) }
+{
+    let (status, plan, line) = match texts_of(alloc, &book) {
+        Ok(texts) => texts,
+        Err(fault) => {
+            drop(book);
+            return Err(fault);
+        }
+    };
+    let cert = spelled(book, wanted)?;
+    Ok(PlanOutput {
+        status,
+        plan,
+        cert,
+        line,
+    })
+}
+
+/// The certificate of a finished search, where that is wanted.
+fn spelled(book: Book, wanted: bool) -> Result<Option<Spelling>, NoMemory>
+    requires { open_paths book.history ≡ [] }
+    ensures { IfOk result (IsWanted wanted book) }
+{
+    if wanted {
+        Ok(Some(book.into_spelling()?))
+    } else {
+        drop(book);
+        Ok(None)
+    }
+}
+
+/// The status of a finished search, the text of its plan, and its line.
+fn texts_of(alloc: Global, book: &Book) -> Result<(u8, String, String), NoMemory>
+    ensures status { IfOk result (λ texts. texts.0 ≡ found_status (plan_kept book.now.network (kept_of book.now.network book.now.history))) }
+    ensures plan { IfOk result (λ texts. string_bytes texts.1 ≡ plan_text (plan_kept book.now.network (kept_of book.now.network book.now.history))) }
+    ensures line { IfOk result (λ texts. string_bytes texts.2 ≡ optimal_line (plan_kept book.now.network (kept_of book.now.network book.now.history)) (length book.now.history)) }
+{
+    let plan = plan_of(alloc, book)?;
+    let text = plan_to_json(alloc, &plan)?;
+    let line = line_of(alloc, &plan, book.count())?;
+    let status = match plan {
+        Plan::Schedule { .. } => DONE,
+        Plan::None => NO_SCHEDULE,
+    };
+    Ok((status, text, line))
 }
 
 /// What is said of a plan that is shown to be optimal, or that there is none.
@@ -178,33 +241,9 @@ fn line_of(alloc: Global, plan: &Plan, count: usize) -> Result<String, NoMemory>
     Ok(line)
 }
 
-/// What is said of an optimal plan.
-fn optimal(alloc: Global, plan: &Plan, cert: &Cert, count: usize) -> Result<PlanOutput, NoMemory>
-    ensures { IfOk result (λ output. printed (Ok output) ≡ output_of (Optimal plan.now cert.now count)) }
-{
-    Ok(PlanOutput {
-        status: DONE,
-        plan: plan_to_json(alloc, plan)?,
-        cert: cert_to_json(alloc, cert)?,
-        line: line_of(alloc, plan, count)?,
-    })
-}
-
-/// What is said where there is no schedule.
-fn no_schedule(alloc: Global, cert: &Cert, count: usize) -> Result<PlanOutput, NoMemory>
-    ensures { IfOk result (λ output. printed (Ok output) ≡ output_of (NoSchedule cert.now count)) }
-{
-    Ok(PlanOutput {
-        status: NO_SCHEDULE,
-        plan: plan_to_json(alloc, &Plan::None)?,
-        cert: cert_to_json(alloc, cert)?,
-        line: line_of(alloc, &Plan::None, count)?,
-    })
-}
-
 /// What is said of a search that was stopped.
 fn stopped(alloc: Global, book: &Book) -> Result<PlanOutput, NoMemory>
-    ensures { IfOk result (λ output. printed (Ok output) ≡ output_of (Stopped book.now)) }
+    ensures { IfOk result (λ output. (printed (Ok output) ≡ stopped_output book.now) × (output.cert ≡ None)) }
 {
     let count = book.count();
     let (plan, line) = match book.kept() {
@@ -226,7 +265,7 @@ fn stopped(alloc: Global, book: &Book) -> Result<PlanOutput, NoMemory>
     Ok(PlanOutput {
         status: STOPPED,
         plan,
-        cert: String::new(alloc),
+        cert: None,
         line,
     })
 }

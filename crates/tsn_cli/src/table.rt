@@ -1,22 +1,35 @@
 //! What a plan is shown by.
 
 use crate::format::{GatesFormat, ReplayFormat};
+use tsn_chart::View;
+use tsn_gate::DeviceLimits;
 
-/// A replay of so many cycles, with no background or a greedy one, and how it is printed.
+/// How the gate control lists of a plan are printed, and of how many nanoseconds an entry is to be at least: with `merge`,
+/// lists that keep the wanted gates take the place of those that the schedule asks for. A script has the limits of a device.
 #[derive(Clone, Copy)]
-pub(crate) struct ReplayOptions {
-    pub(crate) cycles: usize,
-    pub(crate) greedy: bool,
-    pub(crate) format: ReplayFormat,
+pub struct GatesOptions {
+    pub format: GatesFormat,
+    pub merge: Option<u64>,
+    pub limits: DeviceLimits,
+}
+
+/// A replay of so many cycles, with no background or a greedy one, how it is printed, and the lists by which it runs, as
+/// `GatesOptions` has them.
+#[derive(Clone, Copy)]
+pub struct ReplayOptions {
+    pub cycles: usize,
+    pub greedy: bool,
+    pub format: ReplayFormat,
+    pub merge: Option<u64>,
 }
 
 /// What a plan may be shown by.
 #[derive(Clone, Copy)]
 pub(crate) enum Table {
     /// Its gate control lists.
-    Gates(GatesFormat),
+    Gates(GatesOptions),
     /// A replay.
     Replay(ReplayOptions),
-    /// A picture of it, from the cycle's start to an instant, in nanoseconds.
-    Chart { until: u64 },
+    /// A picture of it.
+    Chart(View),
 }

@@ -15,33 +15,33 @@ use crate::answer::Answer;
 use crate::check::{Cause, file_refusal};
 use crate::format::{GatesFormat, ReplayFormat};
 use crate::run::{DEVICE, DONE, MAX_FILE, REJECTED, respond};
-use crate::table::{ReplayOptions, Table};
+use crate::table::{GatesOptions, ReplayOptions, Table};
 use crate::valid::refusal;
 use std::alloc::Global;
 use tsn_cert::{Plan, plan_from_json};
-use tsn_chart::chart;
+use tsn_chart::{View, chart_of};
 use tsn_check::{CheckFault, check_plan};
 use tsn_device::device::{ReadFault, Sink, Source, read_all};
-use tsn_gate::{GateList, gate_lists, to_taprio};
+use tsn_gate::{GateList, gate_lists, lists_by, to_taprio_within};
 use tsn_model::NoMemory;
 use tsn_net::{Problem, read_problem};
 use tsn_replay::{Background, ReplayFault, Trace, replay};
 use tsn_timing::{Timing, Valid};
 
 /// Reads a network file and a plan file, the first judged before the second is read, and writes the plan's gate control
-/// lists in a format, or a line on what is refused. The answer is the status.
+/// lists, merged where that is asked for, in a format, or a line on what is refused. The answer is the status.
 pub fn gates_run<N: Source, P: Source, W: Sink>(
     alloc: Global,
     network: &mut N,
     plan: &mut P,
-    format: GatesFormat,
+    options: GatesOptions,
     sink: &mut W,
 ) -> u8
     requires network_reads { N.failed network.old < 2 ^ 64 - 1 }
     requires plan_reads { P.failed plan.old < 2 ^ 64 - 1 }
     requires writes { W.failed sink.old < 2 ^ 64 - 1 }
 
-    ensures ended { result ≢ DEVICE → Ends (GatesAnswers format)
+    ensures ended { result ≢ DEVICE → Ends (GatesAnswers options)
         (reading_of (N.given network.old) (N.given network.new) (N.is_at_end network.new)
         ∷ reading_of (P.given plan.old) (P.given plan.new) (P.is_at_end plan.new) ∷ [])
         (writing_of (W.taken sink.old) (W.taken sink.new) ∷ []) result }
@@ -52,36 +52,34 @@ pub fn gates_run<N: Source, P: Source, W: Sink>(
         ≡ N.failed network.old + P.failed plan.old + W.failed sink.old + 1 }
     ensures read_failed { N.failed network.new + P.failed plan.new
         ≢ N.failed network.old + P.failed plan.old
-        → Keeps (W.taken sink.old) (W.taken sink.new) × BreaksOff (GatesAnswers format) []
+        → Keeps (W.taken sink.old) (W.taken sink.new) × BreaksOff (GatesAnswers options) []
         (reading_of (N.given network.old) (N.given network.new) (N.is_at_end network.new)
         ∷ reading_of (P.given plan.old) (P.given plan.new) (P.is_at_end plan.new) ∷ []) }
-    ensures write_failed { W.failed sink.new ≢ W.failed sink.old → EndsEarly (GatesAnswers format)
+    ensures write_failed { W.failed sink.new ≢ W.failed sink.old → EndsEarly (GatesAnswers options)
         (reading_of (N.given network.old) (N.given network.new) (N.is_at_end network.new)
         ∷ reading_of (P.given plan.old) (P.given plan.new) (P.is_at_end plan.new) ∷ [])
         (writing_of (W.taken sink.old) (W.taken sink.new) ∷ []) }
 {
-    respond(sink, answer_of(alloc, network, plan, Table::Gates(format)))
+    respond(sink, answer_of(alloc, network, plan, Table::Gates(options)))
 }
 
 /// Reads a network file and a plan file, the first judged before the second is read, and writes, in a format, a
-/// replay of the plan by the gate control lists that it asks for, over 1 to 16 cycles, with no background or, where
+/// replay of the plan by its gate control lists, merged where that is asked for, over 1 to 16 cycles, with no background or, where
 /// `greedy`, with a background frame of 1522 octets always waiting; or a line on what is refused. The answer is the status.
 pub fn replay_run<N: Source, P: Source, W: Sink>(
     alloc: Global,
     network: &mut N,
     plan: &mut P,
-    cycles: usize,
-    greedy: bool,
-    format: ReplayFormat,
+    options: ReplayOptions,
     sink: &mut W,
 ) -> u8
-    requires some { 1 ≤ cycles }
-    requires few { cycles ≤ 16 }
+    requires some { 1 ≤ options.cycles }
+    requires few { options.cycles ≤ 16 }
     requires network_reads { N.failed network.old < 2 ^ 64 - 1 }
     requires plan_reads { P.failed plan.old < 2 ^ 64 - 1 }
     requires writes { W.failed sink.old < 2 ^ 64 - 1 }
 
-    ensures ended { result ≢ DEVICE → Ends (ReplayAnswers format cycles greedy)
+    ensures ended { result ≢ DEVICE → Ends (ReplayAnswers options)
         (reading_of (N.given network.old) (N.given network.new) (N.is_at_end network.new)
         ∷ reading_of (P.given plan.old) (P.given plan.new) (P.is_at_end plan.new) ∷ [])
         (writing_of (W.taken sink.old) (W.taken sink.new) ∷ []) result }
@@ -92,19 +90,14 @@ pub fn replay_run<N: Source, P: Source, W: Sink>(
         ≡ N.failed network.old + P.failed plan.old + W.failed sink.old + 1 }
     ensures read_failed { N.failed network.new + P.failed plan.new
         ≢ N.failed network.old + P.failed plan.old
-        → Keeps (W.taken sink.old) (W.taken sink.new) × BreaksOff (ReplayAnswers format cycles greedy) []
+        → Keeps (W.taken sink.old) (W.taken sink.new) × BreaksOff (ReplayAnswers options) []
         (reading_of (N.given network.old) (N.given network.new) (N.is_at_end network.new)
         ∷ reading_of (P.given plan.old) (P.given plan.new) (P.is_at_end plan.new) ∷ []) }
-    ensures write_failed { W.failed sink.new ≢ W.failed sink.old → EndsEarly (ReplayAnswers format cycles greedy)
+    ensures write_failed { W.failed sink.new ≢ W.failed sink.old → EndsEarly (ReplayAnswers options)
         (reading_of (N.given network.old) (N.given network.new) (N.is_at_end network.new)
         ∷ reading_of (P.given plan.old) (P.given plan.new) (P.is_at_end plan.new) ∷ [])
         (writing_of (W.taken sink.old) (W.taken sink.new) ∷ []) }
 {
-    let options = ReplayOptions {
-        cycles,
-        greedy,
-        format,
-    };
     respond(
         sink,
         answer_of(alloc, network, plan, Table::Replay(options)),
@@ -118,16 +111,14 @@ pub fn chart_run<N: Source, P: Source, W: Sink>(
     alloc: Global,
     network: &mut N,
     plan: &mut P,
-    until: u64,
+    view: View,
     sink: &mut W,
 ) -> u8
-    requires some { 1 ≤ until }
-    requires few { until ≤ 1_000_000_000 }
     requires network_reads { N.failed network.old < 2 ^ 64 - 1 }
     requires plan_reads { P.failed plan.old < 2 ^ 64 - 1 }
     requires writes { W.failed sink.old < 2 ^ 64 - 1 }
 
-    ensures ended { result ≢ DEVICE → Ends (ChartAnswers until)
+    ensures ended { result ≢ DEVICE → Ends (ChartAnswers view)
         (reading_of (N.given network.old) (N.given network.new) (N.is_at_end network.new)
         ∷ reading_of (P.given plan.old) (P.given plan.new) (P.is_at_end plan.new) ∷ [])
         (writing_of (W.taken sink.old) (W.taken sink.new) ∷ []) result }
@@ -138,18 +129,15 @@ pub fn chart_run<N: Source, P: Source, W: Sink>(
         ≡ N.failed network.old + P.failed plan.old + W.failed sink.old + 1 }
     ensures read_failed { N.failed network.new + P.failed plan.new
         ≢ N.failed network.old + P.failed plan.old
-        → Keeps (W.taken sink.old) (W.taken sink.new) × BreaksOff (ChartAnswers until) []
+        → Keeps (W.taken sink.old) (W.taken sink.new) × BreaksOff (ChartAnswers view) []
         (reading_of (N.given network.old) (N.given network.new) (N.is_at_end network.new)
         ∷ reading_of (P.given plan.old) (P.given plan.new) (P.is_at_end plan.new) ∷ []) }
-    ensures write_failed { W.failed sink.new ≢ W.failed sink.old → EndsEarly (ChartAnswers until)
+    ensures write_failed { W.failed sink.new ≢ W.failed sink.old → EndsEarly (ChartAnswers view)
         (reading_of (N.given network.old) (N.given network.new) (N.is_at_end network.new)
         ∷ reading_of (P.given plan.old) (P.given plan.new) (P.is_at_end plan.new) ∷ [])
         (writing_of (W.taken sink.old) (W.taken sink.new) ∷ []) }
 {
-    respond(
-        sink,
-        answer_of(alloc, network, plan, Table::Chart { until }),
-    )
+    respond(sink, answer_of(alloc, network, plan, Table::Chart(view)))
 }
 
 /// What the run answers.
@@ -272,13 +260,13 @@ fn table_of(
     ensures { IfOk result (λ a. ShowsTable table problem.now valid.now (output_of (Ok a))) }
 {
     match table {
-        Table::Gates(format) => lists(alloc, problem, valid, format),
+        Table::Gates(options) => lists(alloc, problem, valid, options),
         Table::Replay(options) => replay_table(alloc, problem, valid, options),
-        Table::Chart { until } => picture(alloc, problem, valid, until),
+        Table::Chart(view) => picture(alloc, problem, valid, view),
     }
 }
 
-/// The table of a replay by the gate lists that a schedule asks for.
+/// The table of a replay by a schedule's gate lists.
 fn replay_table(
     alloc: Global,
     problem: &Problem,
@@ -288,9 +276,9 @@ fn replay_table(
     requires some { 1 ≤ options.cycles }
     requires few { options.cycles ≤ 16 }
     requires valid { IsValid problem.now.network valid.now }
-    ensures { IfOk result (λ a. ShowsReplay options.format problem.now valid.now options.cycles options.greedy (output_of (Ok a))) }
+    ensures { IfOk result (λ a. ShowsReplay options problem.now valid.now (output_of (Ok a))) }
 {
-    let lists = gate_lists(alloc, problem, valid)?;
+    let lists = lists_by(alloc, problem, valid, options.merge)?;
     let background = Background::of(options.greedy);
     // The network is within its limits.
     let _limits = problem.cycle();
@@ -318,25 +306,25 @@ fn rows_text(
     }
 }
 
-/// The lists that a schedule asks for are replayed unless memory is wanting.
+/// A schedule's lists are replayed unless memory is wanting.
 fn want_of_memory(_fault: ReplayFault) -> NoMemory
     requires { _fault ≡ ReplayFault.Memory }
 {
     NoMemory
 }
 
-/// The gate lists that a schedule asks for.
+/// A schedule's gate lists.
 fn lists(
     alloc: Global,
     problem: &Problem,
     valid: &Valid,
-    format: GatesFormat,
+    options: GatesOptions,
 ) -> Result<Answer, NoMemory>
     requires { IsValid problem.now.network valid.now }
-    ensures { IfOk result (λ a. ShowsLists format problem.now valid.now (output_of (Ok a))) }
+    ensures { IfOk result (λ a. ShowsLists options problem.now valid.now (output_of (Ok a))) }
 {
-    let lists = gate_lists(alloc, problem, valid)?;
-    let text = lists_text(alloc, problem, &lists, format)?;
+    let lists = lists_by(alloc, problem, valid, options.merge)?;
+    let text = lists_text(alloc, problem, &lists, options)?;
     Ok(Answer { status: DONE, text })
 }
 
@@ -345,14 +333,14 @@ fn lists_text(
     alloc: Global,
     problem: &Problem,
     lists: &[GateList],
-    format: GatesFormat,
+    options: GatesOptions,
 ) -> Result<String, NoMemory>
     requires { All (λ list. list.link < length problem.now.network.links) lists.now }
-    ensures { IfOk result (λ text. string_bytes text ≡ lists_text format problem.now lists.now) }
+    ensures { IfOk result (λ text. string_bytes text ≡ lists_text options problem.now lists.now) }
 {
-    match format {
+    match options.format {
         GatesFormat::Table => gate_tables(alloc, problem, lists),
-        GatesFormat::Taprio => to_taprio(alloc, problem, lists),
+        GatesFormat::Taprio => to_taprio_within(alloc, problem, lists, options.limits),
         GatesFormat::Json => gate_lines(alloc, problem, lists),
     }
 }
@@ -382,19 +370,17 @@ fn gate_lines(alloc: Global, problem: &Problem, lists: &[GateList]) -> Result<St
 }
 
 /// The picture of a valid schedule.
-fn picture(alloc: Global, problem: &Problem, valid: &Valid, until: u64) -> Result<Answer, NoMemory>
-    requires some { 1 ≤ until }
-    requires few { until ≤ 1_000_000_000 }
+fn picture(alloc: Global, problem: &Problem, valid: &Valid, view: View) -> Result<Answer, NoMemory>
     requires valid { IsValid problem.now.network valid.now }
     ensures { IfOk result (λ a. ShowsPicture (output_of (Ok a))) }
 {
     let lists = gate_lists(alloc, problem, valid)?;
-    let text = chart(alloc, problem, valid, &lists, until)?;
+    let text = chart_of(alloc, problem, valid, &lists, view)?;
     Ok(Answer { status: DONE, text })
 }
 
 /// What is said of a plan with this fault.
-fn rejection(alloc: Global, fault: CheckFault) -> Result<Answer, NoMemory>
+pub(crate) fn rejection(alloc: Global, fault: CheckFault) -> Result<Answer, NoMemory>
     ensures line { IfOk result (λ a. IsLine REJECTED (rejected_plan fault) (output_of (Ok a))) }
     ensures memory { fault ≡ CheckFault.Memory → IsErr result }
 {

@@ -1,0 +1,45 @@
+-- What a run of `plan` prints is what it has to print.
+use Rattle.std.proofs.Common.{◌≡◌, ℕ, Bool, true, false, List, [], ◌∷◌, take, codes, Option, None, Some, IsSome, Result, Ok, Err, OnOk, OnErr, is_err, refl, sym, subst, All}
+use Rattle.std.proofs.lemmas.List.Elements.{All-nil, All-cons}
+use Rattle.std.specs.Io.KnownBytes.{Appends}
+use Rattle.tsn_device.specs.declared.device.ReadFault.{ReadFault}
+use Rattle.tsn_cert.specs.declared.cert.Cert.{Cert}
+use Rattle.tsn_cli.specs.declared.answer.PlanOutput.{PlanOutput}
+use Rattle.tsn_cli.specs.Run.{Output, IsUnwritten, writing_of}
+use Rattle.tsn_cli.specs.PlanOutput.{IsCut, IsPrinted, cert_bytes, printed}
+use Rattle.tsn_cli.proofs.RunLemmas.{Keeps-same}
+
+-- the plan, so many bytes of the certificate, and the line
+abbrev pub cut : List ℕ → Option Cert → ℕ → Output
+cut plan cert n = record { status = 7; texts = plan ∷ take n (cert_bytes cert) ∷ codes "no memory\n" ∷ [] }
+
+pub is_cut : (plan : List ℕ) (cert : Option Cert) (n : ℕ) → IsSome cert → IsCut plan cert (cut plan cert n)
+is_cut plan None n some = cc
+is_cut plan (Some cert) n some = (n, refl)
+
+-- a fault is printed as its line
+pub printed_fault : (outcome : Result PlanOutput ReadFault) (fault : ReadFault) → outcome ≡ Err fault → IsPrinted outcome (printed (Err fault))
+printed_fault outcome fault is = subst (λ o. IsPrinted o (printed (Err fault))) (sym is) refl
+
+-- what holds of an error, and of what is none
+pub of_err : {A E : Type 0} {P : Type 0} (result : Result A E) → is_err result ≡ true → OnErr result P → P
+of_err (Ok a) fails holds = cc
+of_err (Err e) fails holds = holds
+
+pub of_ok : {A E : Type 0} {P : Type 0} (result : Result A E) → is_err result ≡ false → OnOk result P → P
+of_ok (Ok a) works holds = holds
+of_ok (Err e) works holds = cc
+
+-- the bytes that were written are those of the text
+pub text_whole : (before after : Option (List ℕ)) (bytes text : List ℕ) → bytes ≡ text → Appends before after bytes → Appends before after text
+text_whole before after bytes text same taken = subst (λ t. Appends before after t) same taken
+
+pub text_beginning : (before after : Option (List ℕ)) (bytes text : List ℕ) → bytes ≡ text → (n : ℕ) × Appends before after (take n bytes) → (n : ℕ) × Appends before after (take n text)
+text_beginning before after bytes text same taken = (taken.0, subst (λ t. Appends before after (take taken.0 t)) same taken.1)
+
+-- a sink that was left alone
+pub one_unwritten : (taken : Option (List ℕ)) → All IsUnwritten (writing_of taken taken ∷ [])
+one_unwritten taken = All-cons IsUnwritten _ [] (Keeps-same taken) (All-nil IsUnwritten)
+
+pub two_unwritten : (taken other : Option (List ℕ)) → All IsUnwritten (writing_of taken taken ∷ writing_of other other ∷ [])
+two_unwritten taken other = All-cons IsUnwritten _ (writing_of other other ∷ []) (Keeps-same taken) (one_unwritten other)

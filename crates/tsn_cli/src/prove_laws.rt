@@ -1,0 +1,12 @@
+//! The law of `prove` and `check`. The function does nothing but cite another law: its contract is the law.
+
+ghost use Rattle.tsn_cli.specs.ProveLaws.{ProvedIsAccepted};
+
+use tsn_check::laws::first_faults_refute;
+
+/// A certificate that proves a plan is accepted by `check`, where it answers to the certificate.
+pub fn proved_is_accepted()
+    ensures { ProvedIsAccepted }
+{
+    first_faults_refute();
+}
