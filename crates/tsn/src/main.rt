@@ -1,23 +1,44 @@
 //! The program: its words, and the status with which it ends.
 #![tactic(auto)]
 
+use std::fs::{File, OpenOptions};
 use std::io::ErrorKind;
+use std::os::fd::AsRawFd;
 use std::process::ExitCode;
 use std::rt::{Clock, Env, Files};
 use std::sync::Wait;
 use std::thread::Threads;
-use std::{env, io};
-use tsn_cli::run::{MEMORY, NO_MEMORY_LINE, WORDS, finish};
-use tsn_files::WriterSink;
+use std::{env, fs, io};
+use tsn_files::{no_memory, refuse, show};
 use tsn_words::{WordsFault, words_from};
 
 fn main(rt: HostRuntime) -> ExitCode {
+    // (no file that is opened later takes the place of a standard stream)
+    let stand_ins = [stand_in(&rt), stand_in(&rt), stand_in(&rt)];
     let status = match run(&rt) {
         Ok(status) => status,
         Err(error) if error.kind() == ErrorKind::OutOfMemory => no_memory(&rt),
         Err(_) => refuse(&rt, "error: the words aren't UTF-8\n"),
     };
+    drop(stand_ins);
     ExitCode::from(status)
+}
+
+/// Stands for the first standard stream that is closed, if one is. What reads from it or writes to it fails, as it does where
+/// the stream is closed.
+fn stand_in(rt: &HostRuntime) -> Option<File> {
+    let file = fs::open(rt, "/dev/null")
+        .or_else(|_| fs::open(rt, "/"))
+        .ok()?;
+    match file.as_raw_fd() {
+        0 => {
+            drop(file);
+            let unread = OpenOptions::new().write(true).open(rt, "/dev/null");
+            unread.or_else(|_| fs::open(rt, "/")).ok()
+        }
+        1 | 2 => Some(file),
+        _ => None,
+    }
 }
 
 /// Runs the command that the words ask for, and says the status.
@@ -33,17 +54,7 @@ fn run<R: Env + Files + Input + Print + Eprint + Clock + AllocGlobal + Threads +
     match words_from(alloc, words.as_slice()) {
         Ok(words) => Ok(tsn_files::run(rt, alloc, rt, rt, words)),
         Err(WordsFault::Refused(text)) => Ok(refuse(rt, text.as_str())),
+        Err(WordsFault::Asked(text)) => Ok(show(alloc, rt, rt, text.as_str())),
         Err(WordsFault::Memory) => Ok(no_memory(rt)),
     }
-}
-
-/// Tells on standard error why the words are refused.
-fn refuse<R: Eprint>(rt: &R, text: &str) -> u8 {
-    let _ = eprint!(rt; "{text}");
-    WORDS
-}
-
-fn no_memory<R: Print>(rt: &R) -> u8 {
-    let mut sink = WriterSink::new("standard output", io::writer(rt));
-    finish(&mut sink, MEMORY, NO_MEMORY_LINE)
 }

@@ -1,23 +1,26 @@
 //! The commands over the files of a folder, from their words on.
-ghost use Rattle.std.specs.Prelude.{◌≡◌, ◌<◌};
+ghost use Rattle.std.specs.Prelude.{◌≡◌, ◌<◌, IfSome};
 
 use crate::console::NoConsole;
 use crate::folder::Folder;
 use std::alloc::{AllocError, Global};
 use std::sync::Wait;
 use std::thread::Threads;
+use tsn_chart::{Shown, View};
 use tsn_cli::memory::{MemorySink, MemorySource, NEVER};
-use tsn_cli::run::WORDS;
+use tsn_cli::run::{DONE, WORDS};
 use tsn_cli::{
-    GatesFormat, ReplayFormat, chart_run, check_run, gates_run, plan_run, replay_run, valid_run,
+    GatesFormat, GatesOptions, ReplayFormat, ReplayOptions, chart_run, check_run, gates_run,
+    plan_run, prove_run, replay_run, valid_run,
 };
+use tsn_gate::DeviceLimits;
 use tsn_progress::Progress;
 use tsn_reason::{File, Reason, cert_reason, network_reason, offsets_reason, plan_reason};
 use tsn_words::{
-    ChartWords, CheckWords, GatesWords, PlanWords, ReplayWords, ValidWords, Words, WordsFault,
-    words_from,
+    ChartWords, CheckWords, GatesWords, PlanWords, ProveWords, ReplayWords, Search, ValidWords,
+    Words, WordsFault, words_from,
 };
-use tsn_worker::{Gate, OpenGate};
+use tsn_worker::{Effort, Gate, Method, OpenGate};
 
 /// The file that stands for standard input, which the network `-` is read from.
 const STANDARD_INPUT: &str = "stdin";
@@ -84,9 +87,10 @@ pub fn run<R: AllocGlobal + Threads + Wait + Sync>(
     folder: &mut Folder,
 ) -> Result<Outcome, AllocError> {
     let outcome = run_over(rt, words, folder, Devices::Good)?;
-    if let Ok(Words::Plan(words)) = words_from(rt.alloc(), words) {
-        keep(folder, words.plan, &outcome.plan)?;
-        keep(folder, words.cert, &outcome.cert)?;
+    match words_from(rt.alloc(), words) {
+        Ok(Words::Plan(words)) => keep_both(folder, words.plan, words.cert, &outcome)?,
+        Ok(Words::Prove(words)) => keep_both(folder, words.plan, words.cert, &outcome)?,
+        _ => {}
     }
     Ok(outcome)
 }
@@ -103,10 +107,12 @@ pub fn run_over<R: AllocGlobal + Threads + Wait + Sync>(
         Ok(Words::Valid(words)) => Ok(valid(alloc, &words, folder, devices)),
         Ok(Words::Plan(words)) => Ok(plan(rt, words, folder, devices)),
         Ok(Words::Check(words)) => Ok(check(alloc, words, folder, devices)),
+        Ok(Words::Prove(words)) => Ok(prove(alloc, words, folder, devices)),
         Ok(Words::Gates(words)) => Ok(gates(alloc, words, folder, devices)),
         Ok(Words::Replay(words)) => Ok(replay(alloc, words, folder, devices)),
         Ok(Words::Chart(words)) => Ok(chart(alloc, words, folder, devices)),
         Err(WordsFault::Refused(told)) => Ok(refused(alloc, told)),
+        Err(WordsFault::Asked(text)) => Ok(asked(alloc, text)),
         Err(WordsFault::Memory) => Err(AllocError),
     }
 }
@@ -126,6 +132,7 @@ fn reason_for(alloc: Global, words: &[&str], folder: &Folder) -> Reason {
         Ok(Words::Valid(words)) => valid_reason(alloc, folder, &words),
         Ok(Words::Plan(words)) => network_reason(alloc, file(folder, words.network)),
         Ok(Words::Check(words)) => check_reason(alloc, folder, words),
+        Ok(Words::Prove(words)) => shown_reason(alloc, folder, words.network, words.given),
         Ok(Words::Gates(words)) => shown_reason(alloc, folder, words.network, words.plan),
         Ok(Words::Replay(words)) => shown_reason(alloc, folder, words.network, words.plan),
         Ok(Words::Chart(words)) => shown_reason(alloc, folder, words.network, words.plan),
@@ -190,14 +197,18 @@ fn plan_at<R: AllocGlobal + Threads + Wait + Sync, G: Gate + Sync>(
     let alloc = rt.alloc();
     let mut network = network_of(folder, words.network, devices);
     let mut plan = sink(alloc, Device::PlanFile, devices);
-    let mut cert = sink(alloc, Device::CertFile, devices);
+    let mut cert = cert_sink(alloc, words.cert, devices);
     let mut line = sink(alloc, Device::Output, devices);
+    let effort = Effort {
+        method: method_of(words.search),
+        workers: words.workers,
+        limit: words.steps,
+    };
     let status = plan_run(
         rt,
         alloc,
         &mut network,
-        words.workers,
-        words.steps,
+        effort,
         gate,
         &mut plan,
         &mut cert,
@@ -207,8 +218,35 @@ fn plan_at<R: AllocGlobal + Threads + Wait + Sync, G: Gate + Sync>(
         status,
         output: line.bytes,
         plan: plan.bytes,
-        cert: cert.bytes,
+        cert: taken(alloc, cert),
         told: String::new(alloc),
+    }
+}
+
+/// What a certificate is written to, where a file is named for it.
+fn cert_sink(alloc: Global, name: Option<&str>, devices: Devices) -> Option<MemorySink>
+    ensures { IfSome result (λ sink. sink.failures ≡ 0) }
+{
+    match name {
+        Some(_) => Some(sink(alloc, Device::CertFile, devices)),
+        None => None,
+    }
+}
+
+/// What was taken, where there is a sink.
+fn taken(alloc: Global, sink: Option<MemorySink>) -> Vec<u8> {
+    match sink {
+        Some(sink) => sink.bytes,
+        None => Vec::new(alloc),
+    }
+}
+
+/// How the words have the search go.
+fn method_of(search: Search) -> Method {
+    match search {
+        Search::Auto => Method::Auto,
+        Search::File => Method::FileOrder,
+        Search::Guided => Method::Guided,
     }
 }
 
@@ -221,39 +259,79 @@ fn check(alloc: Global, words: CheckWords<'_>, folder: &Folder, devices: Devices
     done(alloc, status, sink)
 }
 
+fn prove(alloc: Global, words: ProveWords<'_>, folder: &Folder, devices: Devices) -> Outcome {
+    let mut network = network_of(folder, words.network, devices);
+    let mut given = source(folder, words.given, Device::Plan, devices);
+    let mut better = sink(alloc, Device::PlanFile, devices);
+    let mut cert = sink(alloc, Device::CertFile, devices);
+    let mut line = sink(alloc, Device::Output, devices);
+    let status = prove_run(
+        alloc,
+        &mut network,
+        &mut given,
+        words.steps,
+        &OpenGate,
+        &mut cert,
+        &mut better,
+        &mut line,
+    );
+    Outcome {
+        status,
+        output: line.bytes,
+        plan: better.bytes,
+        cert: cert.bytes,
+        told: String::new(alloc),
+    }
+}
+
 fn gates(alloc: Global, words: GatesWords<'_>, folder: &Folder, devices: Devices) -> Outcome {
     let mut network = network_of(folder, words.network, devices);
     let mut plan = source(folder, words.plan, Device::Plan, devices);
     let mut sink = sink(alloc, Device::Output, devices);
-    let format = gates_format(words.format);
-    let status = gates_run(alloc, &mut network, &mut plan, format, &mut sink);
+    let options = GatesOptions {
+        format: gates_format(words.format),
+        merge: words.merge,
+        limits: DeviceLimits {
+            most: words.most,
+            least: words.least,
+        },
+    };
+    let status = gates_run(alloc, &mut network, &mut plan, options, &mut sink);
     done(alloc, status, sink)
 }
 
 fn replay(alloc: Global, words: ReplayWords<'_>, folder: &Folder, devices: Devices) -> Outcome {
-    let (cycles, greedy) = (words.cycles, words.greedy);
     let mut network = network_of(folder, words.network, devices);
     let mut plan = source(folder, words.plan, Device::Plan, devices);
     let mut sink = sink(alloc, Device::Output, devices);
-    let format = replay_format(words.format);
-    let status = replay_run(
-        alloc,
-        &mut network,
-        &mut plan,
-        cycles,
-        greedy,
-        format,
-        &mut sink,
-    );
+    let options = ReplayOptions {
+        cycles: words.cycles,
+        greedy: words.greedy,
+        format: replay_format(words.format),
+        merge: words.merge,
+    };
+    let status = replay_run(alloc, &mut network, &mut plan, options, &mut sink);
     done(alloc, status, sink)
 }
 
+/// What is drawn.
+fn view_of(words: ChartWords<'_>) -> View {
+    let shown = match words.link {
+        Some(link) => Shown::Link(link),
+        None if words.all => Shown::All,
+        None => Shown::Auto,
+    };
+    View {
+        until: words.until as u64,
+        shown,
+    }
+}
+
 fn chart(alloc: Global, words: ChartWords<'_>, folder: &Folder, devices: Devices) -> Outcome {
-    let until = words.until as u64;
     let mut network = network_of(folder, words.network, devices);
     let mut plan = source(folder, words.plan, Device::Plan, devices);
     let mut sink = sink(alloc, Device::Output, devices);
-    let status = chart_run(alloc, &mut network, &mut plan, until, &mut sink);
+    let status = chart_run(alloc, &mut network, &mut plan, view_of(words), &mut sink);
     done(alloc, status, sink)
 }
 
@@ -279,6 +357,16 @@ fn refused(alloc: Global, told: String) -> Outcome {
         plan: Vec::new(alloc),
         cert: Vec::new(alloc),
         told,
+    }
+}
+
+fn asked(alloc: Global, text: String) -> Outcome {
+    Outcome {
+        status: DONE,
+        output: text.into_bytes(),
+        plan: Vec::new(alloc),
+        cert: Vec::new(alloc),
+        told: String::new(alloc),
     }
 }
 
@@ -314,6 +402,17 @@ fn sink(alloc: Global, device: Device, devices: Devices) -> MemorySink
     ensures { result.failures ≡ 0 }
 {
     MemorySink::new(alloc, devices.piece(), devices.good_calls(device))
+}
+
+/// Keeps the files of a plan and a certificate.
+fn keep_both(
+    folder: &mut Folder,
+    plan: Option<&str>,
+    cert: Option<&str>,
+    outcome: &Outcome,
+) -> Result<(), AllocError> {
+    keep(folder, plan, &outcome.plan)?;
+    keep(folder, cert, &outcome.cert)
 }
 
 /// Keeps a file that was asked for and is made: it is made when its first byte is written.

@@ -188,6 +188,15 @@ impl<'a, R: Files + Print + AllocGlobal + Threads + Wait + Sync> Session<'a, R> 
         Ok(())
     }
 
+    /// The bytes of a content: its text with its marks, but a picture as it stands.
+    fn bytes_of(&self, content: &str) -> Result<Vec<u8>> {
+        let text = self.text_of(content)?;
+        if content.ends_with(".svg") {
+            return Ok(text.into_bytes());
+        }
+        expanded(self.rt.alloc(), text.as_str())
+    }
+
     /// The text of a content: `@NAME` is a file of the data, and any other text is a line; changes stand behind it.
     fn text_of(&self, content: &str) -> Result<String> {
         let alloc = self.rt.alloc();
@@ -249,12 +258,13 @@ impl<'a, R: Files + Print + AllocGlobal + Threads + Wait + Sync> Session<'a, R> 
     /// Whether this is the content, or begins with it where it ends with `<..>`.
     fn is_said(&self, content: &str, output: &[u8]) -> Result<bool> {
         if let Some(beginning) = content.strip_suffix("<..>") {
-            return Ok(output.starts_with(beginning.as_bytes()));
+            let wanted = expanded(self.rt.alloc(), beginning)?;
+            return Ok(output.starts_with(wanted.as_slice()));
         }
         if content.is_empty() {
             return Ok(output.is_empty());
         }
-        let wanted = expanded(self.rt.alloc(), self.text_of(content)?.as_str())?;
+        let wanted = self.bytes_of(content)?;
         Ok(wanted.as_slice() == output)
     }
 
@@ -275,7 +285,7 @@ impl<'a, R: Files + Print + AllocGlobal + Threads + Wait + Sync> Session<'a, R> 
         let Some(content) = content else {
             return Ok(());
         };
-        let wanted = expanded(self.rt.alloc(), self.text_of(content)?.as_str())?;
+        let wanted = self.bytes_of(content)?;
         let found = self.folder.bytes(name).unwrap_or(&[]);
         if found != wanted.as_slice() {
             self.show(found)?;
