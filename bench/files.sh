@@ -1,8 +1,8 @@
 #!/usr/bin/env bash
 # Runs the built program on files and streams that fail, or that have to be left alone, where the system has to help: pipes
 # that nobody writes to, a full device, a pipe that is closed, streams that are closed, a file that may not be read. Each case
-# says which status it expects, which standard output, and which line on standard error. The gate doesn't run it; what needs no
-# help of the system is in bench/real-files.
+# says which status it expects, which standard output, and which line on standard error. What needs no help of the system is in
+# bench/real-files.
 #
 #     bench/files.sh [PROGRAM]
 set -u
@@ -101,7 +101,7 @@ else
     expect 'a file that may not be read' 8 '' 'tsn: secret.toml: cannot be read: Permission denied (os error 13)'
 fi
 
-for words in '' 'valid' 'valid net.toml' 'valid net.toml x' 'check net.toml plan.json' 'plan net.toml --workers 17' '--help'; do
+for words in '' 'valid' 'valid net.toml' 'valid net.toml x' 'check net.toml plan.json' 'plan net.toml --workers 17'; do
     # shellcheck disable=SC2086
     run $words
     expect "the words '$words'" 2 '' '?'

@@ -3,25 +3,63 @@
 
 real_files.py [PROGRAM..]   the program as each of the two compilers builds it, unless programs are given
 
-Each program runs in a folder of its own: a copy of bench/real-files, with an empty folder `made`. Standard input is the two
-streams' network. docs/rows.md says how a table is written.
+Each program runs in a folder of its own: a copy of bench/real-files, with an empty folder `made` and `long.toml`, a network that
+takes long. Standard input is the two streams' network. docs/rows.md says how a table is written.
 """
 
 import os
+import re
+import resource
 import shutil
+import signal
+import stat
 import subprocess
 import sys
 import tempfile
+import time
 
 from measure import PROGRAM, ROOT, build
 
 DATA = os.path.join(ROOT, "bench", "real-files")
 TABLE = "real-files.rows"
 INPUT = "two-streams.toml"
+LONG = os.path.join(ROOT, "bench", "networks", "random-40.toml")
+NOBODY = 65534
 
 
 class Wrong(Exception):
     pass
+
+
+class Setting:
+    """How a command is started: the words in braces behind it, `{>&- limit=0}`."""
+
+    def __init__(self, words):
+        self.closed, self.input, self.output = [], None, None
+        self.limit, self.dies, self.plain = None, False, False
+        for word in words:
+            if word in ("<&-", ">&-", "2>&-"):
+                self.closed.append({"<&-": 0, ">&-": 1, "2>&-": 2}[word])
+            elif word.startswith(("<", ">")):
+                setattr(self, "input" if word[0] == "<" else "output", word[1:])
+            elif word.startswith(("limit=", "killed=")):
+                self.limit, self.dies = int(word.split("=")[1]), word.startswith("killed")
+            elif word == "plain":
+                self.plain = True
+            else:
+                raise Wrong(f"no setting {word}")
+
+    def prepare(self):
+        """What the process does before it is the program."""
+        if self.limit is not None:
+            signal.signal(signal.SIGXFSZ, signal.SIG_DFL if self.dies else signal.SIG_IGN)
+            resource.setrlimit(resource.RLIMIT_FSIZE, (self.limit, self.limit))
+        if self.plain and os.geteuid() == 0:
+            os.setgroups([])
+            os.setgid(NOBODY)
+            os.setuid(NOBODY)
+        for number in self.closed:
+            os.close(number)
 
 
 class Session:
@@ -32,9 +70,10 @@ class Session:
         self.ended = None
 
     def text_of(self, content):
-        """`@NAME` is a file of the data, and any other text is a line."""
+        """`@NAME` is a file of the data, and any other text is a line, or lines with `<0a>` between them."""
         if not content.startswith("@"):
-            return content + "\n"
+            content = content.replace("<0a>", "\n") + "\n"
+            return re.sub(r"<(\d+)\*([^>]*)>", lambda it: "".join(it[2].replace("#", str(i)) for i in range(int(it[1]))), content)
         with open(content[1:]) as file:
             return file.read()
 
@@ -43,43 +82,81 @@ class Session:
         mark, _, rest = line.partition(" ")
         if mark in ("", "#"):
             return False
-        steps = {"put": self.put, "$": self.run, "=": self.compare_end, "!": self.compare_told, ">": self.compare_file, "absent": self.compare_absent}
+        makes = {"put": self.put, "link": self.link, "mode": self.mode, "folder": self.folder, "$": self.run}
+        compares = {
+            "=": self.compare_end, "!": self.compare_told, "?": self.compare_part, ">": self.compare_file, "absent": self.compare_absent,
+            "files": self.compare_files, "has": self.compare_mode, "leads": self.compare_link, "threads": self.compare_threads,
+        }
+        steps = {**makes, **compares}
         if mark not in steps:
             raise Wrong("a line of no kind")
         steps[mark](rest.strip())
-        return mark not in ("put", "$")
+        return mark in compares
 
     def put(self, rest):
         name, content = rest.split(" = ", 1)
         with open(name, "w") as file:
             file.write(self.text_of(content))
 
+    def link(self, rest):
+        name, target = rest.split(" = ", 1)
+        os.symlink(target, name)
+
+    def mode(self, rest):
+        name, mode = rest.split(" = ", 1)
+        os.chmod(name, int(mode, 8))
+
+    def folder(self, name):
+        os.mkdir(name)
+
+    def started(self, rest):
+        """The words of a command, and how it is started."""
+        words, brace, settings = rest.partition(" {")
+        setting = Setting(settings.removesuffix("}").split() if brace else [])
+        given = open(setting.input) if setting.input else self.given
+        taken = open(setting.output, "w") if setting.output else subprocess.PIPE
+        told = None if 2 in setting.closed else subprocess.PIPE
+        words = [self.program, *("" if word == "<>" else word for word in words.split(" "))]
+        return subprocess.Popen(words, stdin=given, stdout=taken, stderr=told, text=True, preexec_fn=setting.prepare)
+
     def run(self, rest):
         if self.ended is not None:
             raise Wrong("nothing compares what the command before this tells")
-        words = [self.program, *rest.split(" ")]
-        self.ended = subprocess.run(words, stdin=self.given, capture_output=True, text=True, timeout=60)
+        process = self.started(rest)
+        output, told = process.communicate(timeout=60)
+        self.ended = process.returncode, output or "", told or ""
 
     def compare_end(self, rest):
         status, _, content = rest.partition(" ")
         if self.ended is None:
             raise Wrong("no command to compare")
-        if self.ended.returncode != int(status):
-            raise Wrong(f"it ends with {self.ended.returncode}")
-        output = self.ended.stdout
-        if content.endswith("<..>"):
+        ended, output, _ = self.ended
+        if ended != int(status):
+            raise Wrong(f"it ends with {ended}")
+        if content.startswith("<..>"):
+            holds = content[4:].removesuffix("<..>") in output
+        elif content.endswith("<..>"):
             holds = output.startswith(content[: -len("<..>")])
         else:
             holds = output == (self.text_of(content) if content else "")
         if not holds:
             raise Wrong(f"it says {output!r}")
 
-    def compare_told(self, rest):
-        ended, self.ended = self.ended, None
-        if ended is None:
+    def all_told(self):
+        if self.ended is None:
             raise Wrong("no command to compare")
-        if ended.stderr != ("" if rest == "none" else f"tsn: {rest}\n"):
-            raise Wrong(f"it tells {ended.stderr!r}")
+        told, self.ended = self.ended[2], None
+        return told
+
+    def compare_told(self, rest):
+        told = self.all_told()
+        if told != ("" if rest == "none" else f"tsn: {rest}\n"):
+            raise Wrong(f"it tells {told!r}")
+
+    def compare_part(self, rest):
+        told = self.all_told()
+        if rest not in told or not told.endswith("\n"):
+            raise Wrong(f"it tells {told!r}")
 
     def compare_file(self, rest):
         name, content = rest.split(" = ", 1)
@@ -92,6 +169,38 @@ class Session:
         if os.path.lexists(name):
             raise Wrong("it is there")
 
+    def compare_files(self, rest):
+        name, _, wanted = rest.partition(" =")
+        found = sorted(os.listdir(name))
+        if found != wanted.split():
+            raise Wrong(f"there are {found}")
+
+    def compare_mode(self, rest):
+        name, mode = rest.split(" = ", 1)
+        found = stat.S_IMODE(os.stat(name).st_mode)
+        if found != int(mode, 8):
+            raise Wrong(f"its mode is {found:o}")
+
+    def compare_link(self, rest):
+        name, target = rest.split(" = ", 1)
+        if not os.path.islink(name) or os.readlink(name) != target:
+            raise Wrong("it is no link, or another")
+
+    def compare_threads(self, rest):
+        """How many threads a run has at a time at most."""
+        count, words = rest.split(" ", 1)
+        process = self.started(words)
+        most = 0
+        while process.poll() is None:
+            try:
+                most = max(most, len(os.listdir(f"/proc/{process.pid}/task")))
+            except OSError:
+                break
+            time.sleep(0.002)
+        process.communicate(timeout=60)
+        if most != int(count):
+            raise Wrong(f"it has {most}")
+
 
 def follow_all(program):
     """How many lines hold, and how many don't."""
@@ -101,13 +210,29 @@ def follow_all(program):
         for number, line in enumerate(table, 1):
             try:
                 held += session.follow(line.strip())
-            except (Wrong, OSError, ValueError) as fault:
+            except (Wrong, OSError, ValueError, subprocess.SubprocessError) as fault:
                 print(f"{TABLE}:{number}: {line.strip()}\n  {fault}")
                 wrong += 1
         if session.ended is not None:
             print(f"{TABLE}: nothing compares what the last command tells")
             wrong += 1
     return held, wrong
+
+
+def wrong_version(program):
+    """Whether `--version` names another toolchain than the README. That another one is here is told alone: then both lines have
+    to be changed once the gate has passed with it."""
+    version = subprocess.run([program, "--version"], capture_output=True, text=True).stdout
+    toolchain = version.split("proved with ")[-1].strip()
+    if shutil.which("rt") is not None:
+        here = subprocess.run(["rt", "version"], capture_output=True, text=True).stdout.split("\n")[0]
+        if here != toolchain:
+            print(f"--version says {toolchain!r}, and the toolchain here is {here!r}")
+    with open(os.path.join(ROOT, "README.md")) as file:
+        if f"\n{toolchain} (the line of `rt version`)" in file.read():
+            return False
+    print(f"--version says {toolchain!r}, and the README doesn't")
+    return True
 
 
 def main():
@@ -118,10 +243,17 @@ def main():
     failed = False
     for program in programs:
         with tempfile.TemporaryDirectory() as folder:
+            os.umask(0o022)
+            os.chmod(folder, 0o755)
             shutil.copytree(DATA, folder, dirs_exist_ok=True)
+            shutil.copy(LONG, os.path.join(folder, "long.toml"))
+            # (whoever has no rights has to be able to start it)
+            copy = os.path.join(folder, "program")
+            shutil.copy(program, copy)
             os.mkdir(os.path.join(folder, "made"))
             os.chdir(folder)
-            held, wrong = follow_all(program)
+            held, wrong = follow_all(copy)
+            wrong += wrong_version(copy)
             os.chdir(ROOT)
         print(f"{os.path.basename(program)}: {held} lines over real files hold, {wrong} don't")
         failed |= wrong > 0 or held == 0
