@@ -1,8 +1,8 @@
 -- The arcs of decisions, and a chain of a path's arcs, walked back from its end.
-use Rattle.std.proofs.Common.{◌≡◌, ℕ, ◌+◌, ◌<◌, List, [], ◌∷◌, length, drop, get_or, All, Some, ℤ, pos, ◌+ℤ◌, refl, sym, ap, ◌∙◌, subst, arith}
+use Rattle.std.proofs.Common.{◌≡◌, ℕ, ◌+◌, ◌<◌, List, [], ◌∷◌, ◌++◌, append_assoc, length-append, length, drop, get_or, All, Some, ℤ, pos, ◌+ℤ◌, refl, sym, ap, ◌∙◌, subst, arith}
 use Rattle.std.specs.Prelude.{◌-ℤ◌}
 use Rattle.std.proofs.lemmas.Int.{ints}
-use Rattle.std.proofs.lemmas.List.{drop_more, get_or-map}
+use Rattle.std.proofs.lemmas.List.{drop_more, get_or-map, get_or_at, length_push}
 use Rattle.std.proofs.Math.ListN.{drop_of_length-le}
 use Rattle.tsn_model.specs.declared.Arc.{Arc}
 use Rattle.tsn_model.specs.declared.Side.TheVariants.{Left, Right}
@@ -98,3 +98,24 @@ on_path network path chain depths i k same leads below =
     let places : All (λ place. place < length (arcs_of network path)) depths = subst (All (λ place. place < length (arcs_of network path))) (sym same) leads.chain_to.places in
     let within = places k 0 below in
     omega (arith, within, length-arcs_of network path)
+
+-- one arc less is left of a chain
+pub record IsParted (chain left : List ℕ) (depth : ℕ) : Type 0 where
+  pub after : List ℕ
+  pub parts : left ++ after ≡ chain
+  pub here : get_or chain (length left) 0 ≡ depth
+  pub below : length left < length chain
+
+pub parted : (chain before left : List ℕ) (depth : ℕ) → before ≡ left ++ depth ∷ [] → (after : List ℕ) → before ++ after ≡ chain → IsParted chain left depth
+parted chain before left depth last after parts =
+    let longer : left ++ depth ∷ after ≡ chain = sym (append_assoc left (depth ∷ []) after) ∙ ap (λ xs. xs ++ after) (sym last) ∙ parts in
+    let count : length left + length (depth ∷ after) ≡ length chain = sym (length-append left (depth ∷ after)) ∙ ap length longer in
+    record {
+      after = depth ∷ after;
+      parts = longer;
+      here = subst (λ xs. get_or xs (length left) 0 ≡ depth) longer (get_or_at left depth after 0 (length left) refl);
+      below = omega (arith, count);
+    }
+
+pub walked_on : (before left : List ℕ) (depth : ℕ) → before ≡ left ++ depth ∷ [] → length before ≡ length left + 1
+walked_on before left depth last = ap length last ∙ length_push left depth

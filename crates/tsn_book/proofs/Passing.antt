@@ -1,5 +1,5 @@
 -- One step of the walk that orders a finished tree's events.
-use Rattle.std.proofs.Common.{◌≡◌, ◌+◌, ◌<◌, ◌^◌, ℕ, List, [], ◌∷◌, ◌++◌, length, subst, arith}
+use Rattle.std.proofs.Common.{◌≡◌, ◌+◌, ◌<◌, ℕ, List, [], ◌∷◌, ◌++◌, length, subst, arith}
 use Rattle.std.specs.List.{slice_index_or}
 use Rattle.tsn_model.specs.declared.Triple.{Triple}
 use Rattle.tsn_book.specs.declared.standings.Standing.{Standing}

@@ -12,7 +12,7 @@ use Rattle.tsn_model.specs.declared.Triple.{Triple}
 use Rattle.tsn_model.specs.declared.Side.TheVariants.{Left, Right}
 use Rattle.tsn_model.specs.declared.Decision.{Decision}
 use Rattle.tsn_model.specs.Network.{Network}
-use Rattle.tsn_model.specs.Certificate.{Node, split_node, decided}
+use Rattle.tsn_model.specs.Certificate.{Node, decided}
 use Rattle.tsn_model.specs.Search.{Outcome, split, solved, pruned, tied, refuted, Settlement, children_of, open_paths, kept_of, is_settled, IsLegal}
 use Rattle.tsn_model.proofs.Lists.{Contains-head, Contains-more, AllPairs-head, AllPairs-tail}
 use Rattle.tsn_timing.specs.Solution.{Solution}

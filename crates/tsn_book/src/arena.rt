@@ -23,7 +23,7 @@ use crate::ties::{comes_before, shows_after};
 use std::alloc::{AllocError, Global};
 use tsn_branch::outcome::Look;
 use tsn_branch::{Decision, NoMemory, Node, Side, Triple};
-use tsn_cert::Chains;
+use tsn_diff::Forest;
 use tsn_timing::{Solved, Timing};
 
 /// Where a walk along a path ends: at an open place, at one that an event settled, or outside the tree.
@@ -398,7 +398,7 @@ impl Tree {
 
     // Whether the bound is above that of what is kept, or equal to it while the chains show that no schedule on the path comes
     // before it.
-    fn is_no_better(&self, bounds: Bounds, path: &[Decision], bound: u64, chains: &Chains) -> bool
+    fn is_no_better(&self, bounds: Bounds, path: &[Decision], bound: u64, chains: &Forest) -> bool
         requires tree { IsArena self.now }
         requires best { bounds.best ≡ best_bound self.now.network (settled_in self.now) }
         requires kept { IsKept self.now.network (settled_in self.now) bounds.kept }
@@ -413,12 +413,7 @@ impl Tree {
         if bound != bounds.best {
             return bounds.best < bound;
         }
-        shows_after(
-            &self.network,
-            path,
-            chains.list(),
-            best_solved.valid().offsets(),
-        )
+        shows_after(&self.network, path, chains, best_solved.valid().offsets())
     }
 
     /// The schedule of the event that is kept.

@@ -1,5 +1,5 @@
 //! The certificate of a finished tree, whose nodes are given one at a time.
-ghost use Rattle.std.specs.Prelude.{◌≡◌, ◌≢◌, ◌<◌, ◌≤◌, ◌^◌, ◌∷◌, [], take, ℕ, List, length, Option, map, IfOk, MatchOption, option_copied, slice_index_or};
+ghost use Rattle.std.specs.Prelude.{◌≡◌, ◌≢◌, ◌<◌, ◌≤◌, ◌^◌, ◌∷◌, [], take, drop, ℕ, List, length, Ok, None, Option, map, IfOk, OnErr, MatchOption, option_copied, slice_index_or};
 ghost use Rattle.tsn_cert.specs.Node.{tree_node};
 ghost use Rattle.tsn_model.specs.Search.{open_paths};
 ghost use Rattle.tsn_search_laws.specs.Order.{node_of};
@@ -18,9 +18,10 @@ use crate::log::Log;
 use crate::standings::Standing;
 use std::alloc::{AllocError, Global};
 use std::marker::Model;
-use tsn_branch::NoMemory;
 use tsn_branch::outcome::{Leaf, Look};
-use tsn_cert::{Cert, Chain, Chains, Format, Node, Nodes};
+use tsn_branch::{NoMemory, whole_chains};
+use tsn_cert::{Cert, Format, Node, Nodes};
+use tsn_diff::Forest;
 use tsn_timing::{Solved, Timing};
 
 /// A certificate of format 2, whose nodes are given one at a time: a split's node before those of its Left child, and these
@@ -91,20 +92,24 @@ impl Spelling {
         self.target
     }
 
-    /// The next node, or none where all were given. The memory of what was settled there is given back with it.
-    pub fn next(&mut self) -> Option<Node>
-        ensures node { MatchOption result (self.old.nodes ≡ []) (λ node. self.old.nodes ≡ tree_node node ∷ self.new.nodes) }
-        ensures none { result ≡ None → self.new ≡ self.old }
+    /// The next node, or none where all were given. The memory of what was settled there is given back with it. The error
+    /// says that there was no memory for the node, which is left out then.
+    pub fn next(&mut self) -> Result<Option<Node>, NoMemory>
+        ensures node { IfOk result (λ next. MatchOption next (self.old.nodes ≡ []) (λ node. self.old.nodes ≡ tree_node node ∷ self.new.nodes)) }
+        ensures none { result ≡ Ok None → self.new ≡ self.old }
+        ensures left_out { OnErr result (self.new.nodes ≡ drop 1 self.old.nodes) }
         ensures format { self.new.format ≡ self.old.format }
         ensures target { self.new.target ≡ self.old.target }
     {
         if self.given >= self.order.len() {
-            return None;
+            return Ok(None);
         }
+        let alloc = *self.order.allocator();
         let number = self.order[self.given];
         self.given += 1;
         let plan = self.plan.as_ref();
-        Some(take_node(&self.network, &mut self.events, number, plan))
+        let node = take_node(alloc, &self.network, &mut self.events, number, plan)?;
+        Ok(Some(node))
     }
 
     /// The certificate of the nodes that are left. The error says that there was no memory.
@@ -122,12 +127,12 @@ impl Spelling {
     }
 
     // The nodes that are left.
-    fn rest(&mut self) -> Result<Vec<Node>, AllocError>
+    fn rest(&mut self) -> Result<Vec<Node>, NoMemory>
         ensures { IfOk result (λ nodes. map tree_node nodes.items ≡ self.old.nodes) }
     {
         let mut nodes = Vec::with_capacity(*self.order.allocator(), self.order.len())?;
-        while let Some(node) = self.next() {
-            nodes.push(node)?;
+        while let Some(node) = self.next()? {
+            nodes.push(node).map_err(|_| NoMemory)?;
         }
         Ok(nodes)
     }
@@ -161,44 +166,56 @@ pub(crate) fn order_of(alloc: Global, tree: &Tree) -> Result<Vec<usize>, AllocEr
 }
 
 // Takes the node of an event out.
-fn take_node(network: &Timing, events: &mut Log, event: usize, plan: Option<&Solved>) -> Node
+fn take_node(
+    alloc: Global,
+    network: &Timing,
+    events: &mut Log,
+    event: usize,
+    plan: Option<&Solved>,
+) -> Result<Node, NoMemory>
     requires within { event < length events.old.items }
     requires plan { IsPlan network.now (option_copied plan) }
     requires tie { (d : Settled) → HasTie network.now (option_copied plan) (outcome_of (slice_index_or events.old.items event d).look) }
-    ensures node { (d : Settled)
-        → tree_node result ≡ node_of network.now (planned (option_copied plan.entry)) (outcome_of (slice_index_or events.old.items event d).look) }
+    ensures node { IfOk result (λ node. (d : Settled)
+        → tree_node node ≡ node_of network.now (planned (option_copied plan.entry)) (outcome_of (slice_index_or events.old.items event d).look)) }
     ensures counted { length events.new.items ≡ length events.old.items }
     ensures others { (other : ℕ) → other ≢ event → (d : Settled) → slice_index_or events.new.items other d ≡ slice_index_or events.old.items other d }
 {
-    node_from(network, events.take(event), plan)
+    node_from(alloc, network, events.take(event), plan)
 }
 
 // The node of what a look found.
-fn node_from(network: &Timing, look: Look, plan: Option<&Solved>) -> Node
+fn node_from(
+    alloc: Global,
+    network: &Timing,
+    look: Look,
+    plan: Option<&Solved>,
+) -> Result<Node, NoMemory>
     requires plan { IsPlan network.now (option_copied plan) }
     requires tie { HasTie network.now (option_copied plan) (outcome_of look) }
-    ensures { tree_node result ≡ node_of network.now (planned (option_copied plan.entry)) (outcome_of look) }
+    ensures { IfOk result (λ node. tree_node node ≡ node_of network.now (planned (option_copied plan.entry)) (outcome_of look)) }
 {
     // The network stands in the contract alone.
     let _ = network;
     match look {
-        Look::Split(triple) => Node::Branch(triple),
+        Look::Split(triple) => Ok(Node::Branch(triple)),
         Look::Solved {
             solved,
             leaf,
-            chains,
+            mut chains,
         } => match plan {
             Some(best) => {
                 if solved.flowspan() == best.flowspan() {
                     let count = common(solved.valid().offsets(), best.valid().offsets());
-                    tie_from(leaf, first_chains(chains, count + 1))
+                    chains.truncate(count + 1);
+                    tie_from(alloc, leaf, &chains)
                 } else {
-                    leaf.into()
+                    Ok(leaf.into())
                 }
             }
-            None => leaf.into(),
+            None => Ok(leaf.into()),
         },
-        Look::Pruned { leaf, .. } => leaf.into(),
+        Look::Pruned { leaf, .. } => Ok(leaf.into()),
         Look::Tied {
             bound,
             leaf,
@@ -206,39 +223,30 @@ fn node_from(network: &Timing, look: Look, plan: Option<&Solved>) -> Node
         } => match plan {
             Some(best) => {
                 if bound == best.flowspan() {
-                    tie_from(leaf, chains)
+                    tie_from(alloc, leaf, &chains)
                 } else {
-                    leaf.into()
+                    Ok(leaf.into())
                 }
             }
-            None => leaf.into(),
+            None => Ok(leaf.into()),
         },
-        Look::Refuted(leaf) => leaf.into(),
+        Look::Refuted(leaf) => Ok(leaf.into()),
     }
 }
 
 // The tie of a leaf that has a bound.
-fn tie_from(leaf: Leaf, chains: Chains) -> Node
+fn tie_from(alloc: Global, leaf: Leaf, chains: &Forest) -> Result<Node, NoMemory>
     requires bound { HasBound (leaf_of leaf) }
-    ensures { tree_node result ≡ tie_node (leaf_of leaf) chains }
+    ensures { IfOk result (λ node. tree_node node ≡ tie_node (leaf_of leaf) chains.now) }
 {
+    let chains = whole_chains(alloc, chains)?;
     match leaf {
-        Leaf::Late(stream, chain) => Node::Tie(stream, chain, chains),
-        Leaf::Load(link, entries) => Node::TieLoad(link, entries, chains),
+        Leaf::Late(stream, chain) => Ok(Node::Tie(stream, chain, chains)),
+        Leaf::Load(link, entries) => Ok(Node::TieLoad(link, entries, chains)),
         Leaf::Overrun(..) => unreachable!(),
         Leaf::Cycle(_) => unreachable!(),
         Leaf::Overload(..) => unreachable!(),
     }
-}
-
-// This many of the first chains, or all where there are no more.
-fn first_chains(chains: Chains, count: usize) -> Chains
-    requires some { 1 ≤ count }
-    ensures { result ≡ take count chains }
-{
-    let mut list: Vec<Chain> = chains.into_list();
-    list.truncate(count);
-    Chains::of(list)
 }
 
 // How many numbers the lists have in common before they differ.

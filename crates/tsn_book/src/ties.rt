@@ -1,11 +1,11 @@
 //! The order of offsets, and what chains show of it.
-ghost use Rattle.std.specs.Prelude.{◌≡◌, All, MatchBool, pos, ◌≤ℤ◌, ◌+ℤ◌};
+ghost use Rattle.std.specs.Prelude.{◌≡◌, ◌≤◌, length, All, MatchBool, pos, ◌≤ℤ◌, ◌+ℤ◌};
 ghost use Rattle.tsn_model.specs.Schedule.{IsConflict, IsValid, comes_before};
 ghost use Rattle.tsn_model.specs.Certificate.{LeadsTo, AreChains, ShowsAfter, sum_on};
 ghost use Rattle.tsn_model.specs.Arcs.{arc_of};
 
 use tsn_branch::{Decision, Side};
-use tsn_cert::Chain;
+use tsn_diff::{Forest, Walk};
 use tsn_timing::Timing;
 
 /// Whether the first list has the lesser number where the lists first differ.
@@ -22,14 +22,14 @@ pub fn comes_before(offsets: &[u64], others: &[u64]) -> bool
 
 /// Whether the chains show that no schedule on the path comes before the offsets: at the first stream at which the sums of
 /// the chains and the offsets differ the sum is greater, or there is none and a chain leads to each stream.
-pub fn shows_after(timing: &Timing, path: &[Decision], chains: &[Chain], offsets: &[u64]) -> bool
+pub fn shows_after(timing: &Timing, path: &[Decision], chains: &Forest, offsets: &[u64]) -> bool
     requires decided { All (λ decision. IsConflict timing.now decision.triple) path.now }
     requires chains { AreChains timing.now path.now chains.now }
     requires valid { IsValid timing.now offsets.now }
     ensures { MatchBool result (ShowsAfter timing.now path.now chains.now offsets.now) (ShowsAfter timing.now path.now chains.now offsets.now → ⊥) }
 {
     for stream in 0..chains.len() {
-        let sum = sum_on(timing, path, stream, &chains[stream]);
+        let sum = sum_on(timing, path, stream, chains.walk(stream));
         let Ok(sum) = u64::try_from(sum) else {
             // It's below 0, and no offset is.
             return false;
@@ -42,16 +42,17 @@ pub fn shows_after(timing: &Timing, path: &[Decision], chains: &[Chain], offsets
 }
 
 // The sum of a chain to a stream, in nanoseconds: the release of the stream where it begins, and the chain's weights.
-fn sum_on(timing: &Timing, path: &[Decision], stream: usize, chain: &Chain) -> i64
+fn sum_on(timing: &Timing, path: &[Decision], stream: usize, chain: Walk<'_>) -> i64
     requires decided { All (λ decision. IsConflict timing.now decision.triple) path.now }
-    requires leads { LeadsTo timing.now path.now chain.now stream }
-    ensures adds { result ≡ sum_on timing.now path.now chain.now stream }
+    requires leads { LeadsTo timing.now path.now chain stream }
+    requires short { length chain ≤ 128 }
+    ensures adds { result ≡ sum_on timing.now path.now chain.entry stream }
 {
+    let mut left = chain;
     let mut start = stream;
     let mut sum: i64 = 0;
-    let depths = chain.depths();
-    for index in (0..depths.len()).rev() {
-        let (from, weight) = arc_of(timing, path[depths[index]]);
+    while let Some(depth) = left.back() {
+        let (from, weight) = arc_of(timing, path[depth]);
         start = from;
         sum += weight;
     }

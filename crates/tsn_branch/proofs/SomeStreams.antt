@@ -1,5 +1,5 @@
 -- Some of a link's streams: what they come to, and the entries that show it.
-use Rattle.std.proofs.Common.{◌≡◌, ◌≢◌, ℕ, ◌+◌, ◌≤◌, ◌<◌, List, [], ◌∷◌, ◌++◌, map, length, get_or, All, Option, Some, sum_by, ℤ, pos, ◌+ℤ◌, ◌-ℤ◌, sym, ap, ◌∙◌, subst, arith}
+use Rattle.std.proofs.Common.{◌≡◌, ◌≢◌, ℕ, ◌+◌, ◌≤◌, ◌<◌, List, [], ◌∷◌, ◌++◌, map, length, get_or, All, Option, Some, sum_by, pos, ◌+ℤ◌, ◌-ℤ◌, sym, ap, ◌∙◌, subst, arith}
 use Rattle.std.proofs.lemmas.Int.{ints}
 use Rattle.std.proofs.lemmas.List.{length-map, length-append}
 use Rattle.std.proofs.lemmas.List.Elements.{All-nil, All-map, All-push, All-weaker}
@@ -24,7 +24,7 @@ use Rattle.tsn_diff.specs.Answers.{Solves}
 use Rattle.tsn_branch.specs.declared.loads.User.{User}
 use Rattle.tsn_branch.specs.Releases.{releases_of}
 use Rattle.tsn_branch.specs.Loads.{SharedLink, IsEarly, head_in, user_on, link_with, entry_by}
-use Rattle.tsn_branch.specs.Guided.{AreOn, IsPutUpto, IsPartOf, ShowsPart, IsClosing}
+use Rattle.tsn_branch.specs.Guided.{IsPutUpto, IsPartOf, ShowsPart, IsClosing}
 use Rattle.tsn_branch.proofs.Loading.{IsShortTail, start_on-le, tail-bounds, work-le}
 use Rattle.tsn_branch.proofs.Shown.{part_entries, part_busy, part_load, streams_back, chains_back}
 

@@ -5,7 +5,7 @@
 --     IsGuess             where to split a node, or what closes it
 use Rattle.std.specs.Prelude.{◌≡◌, ◌≢◌, ℕ, ◌≤◌, ◌<◌, ◌*◌, List, length, All, AllPairs, Option, pos, ◌+ℤ◌}
 use Rattle.tsn_model.specs.declared.Decision.{Decision}
-use Rattle.tsn_model.specs.Network.{Network, stream_count}
+use Rattle.tsn_model.specs.Network.{Network}
 use Rattle.tsn_model.specs.Timing.{UsesLink}
 use Rattle.tsn_model.specs.Schedule.{Overlaps}
 use Rattle.tsn_model.specs.Arcs.{conflicts_of}

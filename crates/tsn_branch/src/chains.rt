@@ -12,7 +12,7 @@ ghost use Rattle.tsn_branch.specs.Releases.{releases_of};
 
 use std::alloc::Global;
 use tsn_cert::{Chain, Chains};
-use tsn_diff::Least;
+use tsn_diff::{Forest, Least};
 use tsn_model::NoMemory;
 use tsn_timing::{Timing, Valid};
 
@@ -27,16 +27,22 @@ pub fn chain_to(alloc: Global, least: &Least, stream: usize) -> Result<Chain, No
 }
 
 /// The chains that show the least offsets of this many streams.
-pub fn chains_to(alloc: Global, least: &Least, count: usize) -> Result<Chains, NoMemory>
+pub fn chains_to(alloc: Global, least: &Least, count: usize) -> Result<Forest, NoMemory>
     requires some { 1 ≤ count }
-    requires few { count ≤ 128 }
     requires within { count ≤ length least.now.offsets }
-    requires short { (i : ℕ) → i < count → length (chain_of least.now i) ≤ 128 }
     ensures { IfOk result (λ chains. chains ≡ chains_upto least.now count) }
 {
-    let mut list = Vec::with_capacity(alloc, count)?;
-    for stream in 0..count {
-        let chain = chain_to(alloc, least, stream)?;
+    least.forest(alloc, count)
+}
+
+/// Chains as a certificate has them, each whole.
+pub fn whole_chains(alloc: Global, forest: &Forest) -> Result<Chains, NoMemory>
+    ensures { IfOk result (λ chains. chains ≡ forest.now) }
+{
+    let mut list = Vec::with_capacity(alloc, forest.len())?;
+    for stream in 0..forest.len() {
+        let depths = forest.chain(alloc, stream)?;
+        let chain = Chain::of(alloc, &depths)?;
         list.push(chain).map_err(|_| NoMemory)?;
     }
     Ok(Chains::of(list))
@@ -49,7 +55,7 @@ pub fn tie_chains(
     timing: &Timing,
     least: &Least,
     best: &Valid,
-) -> Result<Option<Chains>, NoMemory>
+) -> Result<Option<Forest>, NoMemory>
     requires formed { IsWellFormed timing.now }
     requires some_path { (path : List Decision) × Solves (releases_of timing.now) (arcs_of timing.now path) least.now }
     requires count { length best.now ≡ stream_count timing.now }

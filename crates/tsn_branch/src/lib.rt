@@ -28,6 +28,7 @@ use crate::arcs::least_at;
 use crate::judge::judge;
 use crate::outcome::Look;
 pub use arcs::fits;
+pub use chains::whole_chains;
 pub use descent::Descent;
 pub use guidance::Guidance;
 pub use loads::Loads;

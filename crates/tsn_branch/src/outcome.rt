@@ -1,5 +1,6 @@
 //! What a look at a node finds.
-use tsn_cert::{Chain, Chains, Entries};
+use tsn_cert::{Chain, Entries};
+use tsn_diff::Forest;
 use tsn_model::Triple;
 use tsn_timing::Solved;
 
@@ -31,7 +32,7 @@ pub enum Look {
     Solved {
         solved: Solved,
         leaf: Leaf,
-        chains: Chains,
+        chains: Forest,
     },
     /// What no flowspan on the path is below, in nanoseconds, and the leaf that shows it.
     Pruned {
@@ -43,7 +44,7 @@ pub enum Look {
     Tied {
         bound: u64,
         leaf: Leaf,
-        chains: Chains,
+        chains: Forest,
     },
     /// A leaf that shows that no valid schedule is on the path.
     Refuted(Leaf),

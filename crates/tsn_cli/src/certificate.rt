@@ -120,7 +120,7 @@ fn write_nodes<C: Sink>(
 {
     let mut text = head;
     let mut later = false;
-    while let Some(node) = cert.next() {
+    while let Some(node) = cert.next()? {
         write_node(alloc, sink, &mut text, later, node)?;
         later = true;
     }

@@ -17,11 +17,11 @@ use Rattle.tsn_diff.proofs.Sums.{indexes_of-cons}
 pub chain_of-least_by : (releases : List ℕ) (arcs : List Arc) (labels : Labelling) (i : ℕ) → i < length labels.last → chain_of (least_by releases arcs labels) i ≡ chain_by labels i
 chain_of-least_by releases arcs labels i l = get_or-map-range_with_len (chain_by labels) 0 (length labels.last) i i [] l (omega arith)
 
-steps_none : (n : ℕ) (last : List (Option Step)) (i : ℕ) → last_of last i ≡ None → steps_back n last None i ≡ []
+pub steps_none : (n : ℕ) (last : List (Option Step)) (i : ℕ) → last_of last i ≡ None → steps_back n last None i ≡ []
 steps_none zero last i none = refl
 steps_none (suc n) last i none = rw none refl
 
-steps_some : (n : ℕ) (last : List (Option Step)) (i : ℕ) (step : Step) → 0 < n → last_of last i ≡ Some step → steps_back n last None i ≡ step ∷ steps_back (n - 1) last None step.from
+pub steps_some : (n : ℕ) (last : List (Option Step)) (i : ℕ) (step : Step) → 0 < n → last_of last i ≡ Some step → steps_back n last None i ≡ step ∷ steps_back (n - 1) last None step.from
 steps_some zero last i step some is = absurd (omega arith)
 steps_some (suc n) last i step some is = let e : suc n - 1 ≡ n = omega arith in rw (is, e) refl
 

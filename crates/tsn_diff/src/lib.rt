@@ -2,6 +2,7 @@
 //! after another: a system of difference constraints, solved by label correcting.
 #![tactic(auto)]
 
+mod forest;
 mod labels;
 mod listing;
 mod solve;
@@ -9,5 +10,6 @@ mod spread;
 mod stack;
 mod trail;
 
+pub use forest::{Forest, Walk};
 pub use solve::{Least, MAX_RELEASE, MAX_STREAMS, MAX_WEIGHT, Net, Outcome};
 pub use stack::ArcStack;

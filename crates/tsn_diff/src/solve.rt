@@ -1,4 +1,5 @@
-ghost use Rattle.std.specs.Prelude.{◌≡◌, ◌++◌, ◌≤◌, ◌<◌, [], ◌∷◌, All, IfOk, IsTrue, ◌↔◌, length, replicate};
+ghost use Rattle.std.specs.Prelude.{◌≡◌, ◌++◌, ◌≤◌, ◌<◌, [], ◌∷◌, All, IfOk, IsTrue, ◌↔◌, length, map, replicate};
+ghost use Rattle.std.specs.List.{range_with_len};
 ghost use Rattle.tsn_diff.specs.Limits.{IsArcAmong};
 ghost use Rattle.tsn_diff.specs.Answers.{Answers, Solves};
 ghost use Rattle.tsn_diff.specs.Forest.{IsForest, IsRaised, Settles, labelling_by};
@@ -6,6 +7,7 @@ ghost use Rattle.tsn_diff.specs.Offsets.{chain_of};
 ghost use Rattle.tsn_diff.specs.Labels.{labelling_of};
 ghost use Rattle.tsn_diff.specs.Releases.{releases_of};
 
+use crate::forest::Forest;
 use crate::labels::{Labels, Progress};
 use std::alloc::{AllocError, Global};
 use std::marker::Model;
@@ -190,6 +192,16 @@ impl Least {
         ensures { IfOk result (λ chain. chain.items ≡ chain_of self.now stream) }
     {
         Ok(self.labels.chain(alloc, None, stream)?)
+    }
+
+    /// The chains that show the offsets of the first streams. The error says that there was no memory.
+    pub fn forest(&self, alloc: Global, count: usize) -> Result<Forest, NoMemory>
+        requires some { 1 ≤ count }
+        requires within { count ≤ length self.now.offsets }
+        ensures { IfOk result (λ forest. forest ≡ map (chain_of self.now) (range_with_len 0 count)) }
+    {
+        let last = Vec::from_slice(alloc, &self.labels.last)?;
+        Ok(Forest::of(last, count))
     }
 
     /// The least offsets with one more arc put last, or a closed chain of positive sum. The error says that there was no memory.

@@ -7,9 +7,9 @@ use crate::nodes::rows::cut;
 use std::process::Abort;
 use std::test::*;
 use tsn_branch::outcome::{Leaf, Look};
-use tsn_branch::{Node, Triple, fits};
-use tsn_cert::Chains;
+use tsn_branch::{Node, Triple, fits, whole_chains};
 use tsn_conflict::conflicts;
+use tsn_diff::Forest;
 use tsn_timing::{Solved, Timing};
 
 pub fn look_text<R: Abort + AllocGlobal>(rt: &R, look: &Look) -> String {
@@ -39,13 +39,15 @@ fn solved_text<R: Abort + AllocGlobal>(
     rt: &R,
     solved: &Solved,
     leaf: &Leaf,
-    chains: &Chains,
+    chains: &Forest,
 ) -> String {
+    let chains = whole_chains(rt.alloc(), chains).expect(rt, "memory");
     let (offsets, bound) = (solved.valid().offsets(), solved.flowspan());
     format!(in rt.alloc(); "solved {offsets:?} {bound} {leaf:?} {chains:?}").expect(rt, "memory")
 }
 
-fn tied_text<R: Abort + AllocGlobal>(rt: &R, bound: u64, leaf: &Leaf, chains: &Chains) -> String {
+fn tied_text<R: Abort + AllocGlobal>(rt: &R, bound: u64, leaf: &Leaf, chains: &Forest) -> String {
+    let chains = whole_chains(rt.alloc(), chains).expect(rt, "memory");
     format!(in rt.alloc(); "tied {bound} {leaf:?} {chains:?}").expect(rt, "memory")
 }
 

@@ -7,6 +7,7 @@ use Rattle.tsn_search_laws.specs.Order.{node_of}
 use Rattle.tsn_branch.specs.Leaf.{leaf_of}
 use Rattle.tsn_branch.specs.Outcome.{outcome_of}
 use Rattle.tsn_book.specs.Book.{planned, HasTie}
+use Rattle.tsn_book.proofs.Answering.{ok_as}
 use Rattle.tsn_book.proofs.Tying.{solved_even, solved_apart, solved_alone, tied_even, tied_apart}
 use Rattle.tsn_book.proofs.spelling.node_from.Goals as goal
 
@@ -24,9 +25,10 @@ returns-then-flowspan c =
     c.common-count.ensures.count ∙ ap (λ os. common os c.offsets-then-flowspan.result.now) (c.offsets.ensures ∙ c.valid.ensures)
     ∙ ap (common found.solved.offsets) (c.offsets-then-flowspan.ensures ∙ c.valid-then-flowspan.ensures) in
     rw (c.in-Solved.is, c.in-Some.is)
-    (c.tie_from.ensures ∙ ap (tie_node (leaf_of found.leaf)) (c.first_chains.ensures ∙ ap (λ n. take n found.chains) (omega (arith, alike)))
+    (ok_as c.tie_from.result
+    (λ node given. given ∙ ap (tie_node (leaf_of found.leaf)) (c.truncate.ensures ∙ ap (λ n. take n found.chains) (omega (arith, alike)))
     ∙ sym (solved_even network best.offsets best.flowspan is_solved.1 found.solved.offsets found.solved.flowspan (leaf_of found.leaf) found.chains
-    (omega (arith, c.flowspan.ensures, c.if-flowspan.true, c.flowspan-in-Some.ensures))))
+    (omega (arith, c.flowspan.ensures, c.if-flowspan.true, c.flowspan-in-Some.ensures)))) c.tie_from.ensures)
 
 pub returns-in-Some : goal.returns-in-Some
 returns-in-Some c =
@@ -57,8 +59,9 @@ returns-then-bound-flowspan c =
     let found = c.in-Tied in
     let is_solved = subst (λ p. MatchOption (option_copied p) (Unit {0}) (IsSolved network)) c.in-Some-plan.is c.requires.plan in
     rw (c.in-Tied.is, c.in-Some-plan.is)
-    (c.tie_from-then-bound-flowspan.ensures
-    ∙ sym (tied_even network best.offsets best.flowspan is_solved.1 found.bound (leaf_of found.leaf) found.chains (omega (arith, c.if-bound-flowspan.true, c.flowspan-in-Some-plan.ensures))))
+    (ok_as c.tie_from-then-bound-flowspan.result
+    (λ node given. given ∙ sym (tied_even network best.offsets best.flowspan is_solved.1 found.bound (leaf_of found.leaf) found.chains (omega (arith, c.if-bound-flowspan.true, c.flowspan-in-Some-plan.ensures))))
+    c.tie_from-then-bound-flowspan.ensures)
 
 pub returns-in-Some-plan : goal.returns-in-Some-plan
 returns-in-Some-plan c =

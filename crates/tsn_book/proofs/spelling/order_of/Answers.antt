@@ -1,4 +1,4 @@
-use Rattle.std.proofs.Common.{◌∷◌, ◌++◌, [], length, ap, subst, arith}
+use Rattle.std.proofs.Common.{◌∷◌, [], length, ap, subst, arith}
 use Rattle.std.proofs.lemmas.List.{length-append, nil_from_length}
 use Rattle.tsn_book.specs.Arena.{paths_of, settled_in}
 use Rattle.tsn_book.specs.Spelling.{IsWalk}

@@ -1,12 +1,16 @@
-use Rattle.std.proofs.Common.{◌<◌, ◌-◌, ◌*◌, length, pos, ◌+ℤ◌, ◌≤ℤ◌}
+use Rattle.std.proofs.Common.{◌≡◌, ◌++◌, ◌<◌, ◌-◌, ◌*◌, List, ℕ, length, pos, ◌+ℤ◌, ◌≤ℤ◌}
 use Rattle.tsn_model.specs.Network.{stream_count}
 use Rattle.tsn_book.proofs.Chains.{SummedTo}
 use Rattle.tsn_book.proofs.ties.sum_on.Given as goal
 
-abbrev pub invariant-loop-index : goal.invariant-loop-index
-invariant-loop-index l = record {
-  summed : SummedTo l.timing l.path l.depths l.index l.stream l.start l.sum;
+abbrev pub invariant-loop-depth : goal.invariant-loop-depth
+invariant-loop-depth l = record {
+  parted : (after : List ℕ) × (l.left ++ after ≡ l.fn.chain);
+  summed : SummedTo l.timing l.path l.fn.chain (length l.left) l.stream l.start l.sum;
   counted : l.start < stream_count l.timing;
-  low : pos 0 ≤ℤ (l.sum +ℤ pos (100000000 * (length l.depths - l.index)));
-  high : l.sum ≤ℤ pos (100000000 * (length l.depths - l.index));
+  low : pos 0 ≤ℤ (l.sum +ℤ pos (100000000 * (length l.fn.chain - length l.left)));
+  high : l.sum ≤ℤ pos (100000000 * (length l.fn.chain - length l.left));
 }
+
+abbrev pub decreases-loop-depth : goal.decreases-loop-depth
+decreases-loop-depth l = length l.left

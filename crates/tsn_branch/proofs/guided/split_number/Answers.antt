@@ -1,6 +1,5 @@
 use Rattle.std.proofs.Common.{◌<◌, ◌≤◌, ℕ, List, All, length, sym, subst}
 use Rattle.tsn_model.specs.declared.Triple.{Triple}
-use Rattle.tsn_model.specs.Network.{Network}
 use Rattle.tsn_model.specs.Schedule.{Overlaps}
 use Rattle.tsn_model.specs.Arcs.{conflicts_of}
 use Rattle.tsn_conflict.specs.Raised.{triple_at}

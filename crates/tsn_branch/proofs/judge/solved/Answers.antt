@@ -1,4 +1,4 @@
-use Rattle.std.proofs.Common.{◌≡◌, List, ℕ, sym, ap, ◌∙◌, subst, arith}
+use Rattle.std.proofs.Common.{◌≡◌, List, ℕ, sym, ap, ◌∙◌, subst}
 use Rattle.tsn_model.specs.Schedule.{flowspan}
 use Rattle.tsn_model.specs.Network.{stream_count}
 use Rattle.tsn_model.specs.Search.{ShowsOffsets}
@@ -6,7 +6,7 @@ use Rattle.tsn_diff.specs.Offsets.{chain_of}
 use Rattle.tsn_branch.specs.Chains.{chains_upto}
 use Rattle.tsn_branch.proofs.Tying.{upto_shows}
 use Rattle.tsn_branch.specs.Look.{AreLeast, IsFirstLast, IsShownBy}
-use Rattle.tsn_branch.proofs.Leasts.{AreLeast-from, IsShownBy-from, short, no_violation}
+use Rattle.tsn_branch.proofs.Leasts.{AreLeast-from, IsShownBy-from, no_violation}
 use Rattle.tsn_branch.proofs.judge.solved.Goals as goal
 
 pub returns : goal.returns
@@ -35,8 +35,3 @@ unreachable-requires c =
     let (path, solves) = c.requires.some_path in
     no_violation c.args.timing.now path c.args.least.now solves c.requires.fit c.requires.apart c.in_ok-from_slice.field-0.items (c.in_ok-from_slice.ensures.items ∙ c.offsets.ensures)
     c.in_default.field-0.0 c.in_default.ensures.refused
-
-pub chains_to-requires-clause-short : goal.chains_to-requires-clause-short
-chains_to-requires-clause-short c i below =
-    let (path, solves) = c.requires.some_path in
-    short c.args.timing.now path c.args.least.now solves c.requires.formed i (omega (arith, below, c.streams.ensures.value))

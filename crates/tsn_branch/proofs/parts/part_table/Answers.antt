@@ -1,4 +1,4 @@
-use Rattle.std.proofs.Common.{◌≡◌, vec_len, sym, arith, eqb-true}
+use Rattle.std.proofs.Common.{◌≡◌, vec_len, sym, arith}
 use Rattle.std.proofs.lemmas.Bool.{eqb-false}
 use Rattle.tsn_branch.specs.Loads.{link_in}
 use Rattle.tsn_branch.proofs.SomeStreams.{put_none, put_all}

@@ -1,6 +1,5 @@
-use Rattle.std.proofs.Common.{◌≡◌, ◌+◌, All, length, pos, ◌+ℤ◌, to_z, of_z, w64, sym, ap, ◌∙◌, subst, arith}
+use Rattle.std.proofs.Common.{◌≡◌, All, length, pos, sym, ap, ◌∙◌, subst, arith}
 use Rattle.std.proofs.lemmas.Int.{ints}
-use Rattle.tsn_model.specs.Network.{stream_count}
 use Rattle.tsn_branch.specs.Loads.{IsEarly, head_in, link_in}
 use Rattle.tsn_branch.proofs.SomeStreams.{users_count, users_early, work_short, tail_short}
 use Rattle.tsn_branch.proofs.parts.weight_of.Goals as goal

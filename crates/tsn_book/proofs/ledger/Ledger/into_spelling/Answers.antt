@@ -1,8 +1,6 @@
 use Rattle.tsn_book.specs.Arena.{settled_in}
-use Rattle.tsn_book.specs.Spelling.{left_nodes}
 use Rattle.tsn_book.specs.Book.{AreNodesOf, SpellsAccepted}
-use Rattle.std.proofs.Common.{◌≡◌, sym, ap, ◌∙◌, subst, length, List}
-use Rattle.tsn_model.specs.Certificate.{Node}
+use Rattle.std.proofs.Common.{sym, ap, ◌∙◌, subst, length}
 use Rattle.tsn_model.specs.Search.{kept_of}
 use Rattle.tsn_cert.specs.declared.cert.Cert.{Cert}
 use Rattle.tsn_book.proofs.Preorder.{order_spells, order_nodes, order_accepted, order_counted}

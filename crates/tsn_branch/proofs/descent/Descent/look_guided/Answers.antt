@@ -1,7 +1,6 @@
-use Rattle.std.proofs.Common.{◌≡◌, ℕ, List, sym, ◌∙◌, subst}
+use Rattle.std.proofs.Common.{List, sym, ◌∙◌, subst}
 use Rattle.std.specs.Prelude.{option_copied}
 use Rattle.tsn_model.specs.declared.Triple.{Triple}
-use Rattle.tsn_model.specs.Arcs.{conflicts_of}
 use Rattle.tsn_model.specs.Search.{split}
 use Rattle.tsn_conflict.specs.Raised.{triple_at}
 use Rattle.tsn_branch.specs.Guided.{IsGuess}

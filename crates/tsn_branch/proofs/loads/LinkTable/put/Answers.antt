@@ -4,7 +4,7 @@ use Rattle.std.specs.Int.{int_min}
 use Rattle.std.proofs.lemmas.Int.{ints, to_z-of_z}
 use Rattle.tsn_model.specs.Timing.{occupancy, start_on, arrival}
 use Rattle.tsn_model.proofs.Routes.{hop_on_found, hop_on_link}
-use Rattle.tsn_branch.specs.Loads.{link_in, link_with}
+use Rattle.tsn_branch.specs.Loads.{link_in}
 use Rattle.tsn_branch.proofs.Loading.{link_taken}
 use Rattle.tsn_branch.proofs.loads.LinkTable.put.Goals as goal
 use Rattle.tsn_branch.proofs.loads.LinkTable.put.Goals.{then-is_empty, else-is_empty}

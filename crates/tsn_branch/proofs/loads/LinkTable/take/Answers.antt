@@ -1,6 +1,6 @@
-use Rattle.std.proofs.Common.{◌≡◌, ◌++◌, ◌∷◌, [], sym, ap, ◌∙◌, arith}
+use Rattle.std.proofs.Common.{sym, ap, ◌∙◌, arith}
 use Rattle.std.proofs.lemmas.Result.{on_ok_weaker}
-use Rattle.tsn_branch.specs.Loads.{link_in, link_with, users_upto}
+use Rattle.tsn_branch.specs.Loads.{link_with, users_upto}
 use Rattle.tsn_branch.proofs.Loading.{used_more, unused_same}
 use Rattle.tsn_branch.proofs.loads.LinkTable.take.Goals as goal
 
