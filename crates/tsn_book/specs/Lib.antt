@@ -8,4 +8,3 @@ pub mod Ledger
 pub mod Below
 pub mod Spelling
 pub mod Solving
-pub mod Shared

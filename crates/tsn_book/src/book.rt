@@ -204,7 +204,7 @@ impl Book {
     }
 
     // What the network says of times.
-    pub(crate) fn timing(&self) -> &Timing
+    pub fn timing(&self) -> &Timing
         ensures { result.now ≡ self.now.network }
     {
         &self.ledger.tree.network

@@ -1,13 +1,13 @@
 //! The steps of two tellers: the root, what was posted, and both children.
 ghost use Rattle.std.specs.Prelude.{◌≡◌, ◌++◌, ◌∷◌, [], All, IfOk, OnOk};
 ghost use Rattle.tsn_conflict.specs.Kept.{AreConflictsOf};
-ghost use Rattle.tsn_book.specs.Shared.{IsProved};
+ghost use Rattle.tsn_core.specs.Shared.{IsProved};
 
 use crate::looks::event_at;
 use crate::search::{LIMIT, TELLERS, child};
 use crate::told::{NO_MEMORY, tell, tell_quiet};
 use std::alloc::Global;
-use tsn_book::{Core, Step};
+use tsn_core::{Core, Step};
 use tsn_branch::{Node, Side, Triple};
 use tsn_conflict::sharing::Conflicts;
 use tsn_model::NoMemory;

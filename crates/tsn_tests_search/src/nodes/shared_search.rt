@@ -1,13 +1,13 @@
 //! Two tellers that share a search, without threads.
 ghost use Rattle.std.specs.Prelude.{◌≡◌, All};
-ghost use Rattle.tsn_book.specs.Shared.{IsProved};
+ghost use Rattle.tsn_core.specs.Shared.{IsProved};
 
 use crate::nodes::networks::{LONG, Network, TWO, timing_of};
 use crate::nodes::nodes::event_of;
 use crate::nodes::rows::{cut, expect_text, number, place};
 use std::process::Abort;
 use std::test::*;
-use tsn_book::{Core, Reply, Step};
+use tsn_core::{Core, Reply, Step};
 use tsn_timing::Timing;
 
 /// A whole search by tellers 0 and 1: what a teller does, the reply to it, and whether the search is quiet then. Its right side

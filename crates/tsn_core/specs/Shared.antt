@@ -20,10 +20,10 @@ use Rattle.tsn_branch.specs.Look.{HasProof}
 use Rattle.tsn_book.specs.Event.{event_of}
 use Rattle.tsn_book.specs.Book.{Progress}
 use Rattle.tsn_book.specs.declared.fault.BookFault.TheVariants.{NotOpen, Limit, NotConflict, AlreadyDecided, Memory, NotMet}
-use Rattle.tsn_book.specs.declared.shared.Step.{Step}
-use Rattle.tsn_book.specs.declared.shared.Step.TheVariants.{Observe, Post, Settle}
-use Rattle.tsn_book.specs.declared.shared.Reply.{Reply}
-use Rattle.tsn_book.specs.declared.shared.Reply.TheVariants.{Found, Settled, Refused, NotAllowed}
+use Rattle.tsn_core.specs.declared.shared.Step.{Step}
+use Rattle.tsn_core.specs.declared.shared.Step.TheVariants.{Observe, Post, Settle}
+use Rattle.tsn_core.specs.declared.shared.Reply.{Reply}
+use Rattle.tsn_core.specs.declared.shared.Reply.TheVariants.{Found, Settled, Refused, NotAllowed}
 
 -- the state of a search of that network, with at most that many settlements
 pub record Shared : Type 0 where

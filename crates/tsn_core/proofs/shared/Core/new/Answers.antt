@@ -1,6 +1,6 @@
 use Rattle.std.proofs.Common.{◌≡◌, ◌+◌, ap}
-use Rattle.tsn_book.proofs.Sharing.{start_state, start_shared}
-use Rattle.tsn_book.proofs.shared.Core.new.Goals as goal
+use Rattle.tsn_core.proofs.Sharing.{start_state, start_shared}
+use Rattle.tsn_core.proofs.shared.Core.new.Goals as goal
 
 pub invariant_of-result : goal.invariant_of-result
 invariant_of-result c =

@@ -5,14 +5,14 @@ use Rattle.tsn_model.specs.declared.NoMemory.{NoMemory}
 use Rattle.tsn_model.specs.Core.{State, settle, teller_at, IsAboveSeen}
 use Rattle.tsn_search_laws.specs.Replies.{recorded}
 use Rattle.tsn_branch.specs.Outcome.{outcome_of}
-use Rattle.tsn_book.specs.declared.shared.Reply.{Reply}
-use Rattle.tsn_book.specs.declared.shared.Reply.TheVariants.{Settled, Refused}
+use Rattle.tsn_core.specs.declared.shared.Reply.{Reply}
+use Rattle.tsn_core.specs.declared.shared.Reply.TheVariants.{Settled, Refused}
 use Rattle.tsn_book.specs.Event.{event_of}
 use Rattle.tsn_book.specs.Book.{Progress}
-use Rattle.tsn_book.specs.Shared.{Shared, IsShared, IsReply}
-use Rattle.tsn_book.proofs.Sharing.{state_of, settle_taken, refused_reply}
-use Rattle.tsn_book.proofs.shared.Core.settle.Goals as goal
-use Rattle.tsn_book.proofs.shared.Core.settle.Goals.{in-Ok, in-Err}
+use Rattle.tsn_core.specs.Shared.{Shared, IsShared, IsReply}
+use Rattle.tsn_core.proofs.Sharing.{state_of, settle_taken, refused_reply}
+use Rattle.tsn_core.proofs.shared.Core.settle.Goals as goal
+use Rattle.tsn_core.proofs.shared.Core.settle.Goals.{in-Ok, in-Err}
 
 pub invariant_of-self : goal.invariant_of-self
 invariant_of-self c =

@@ -1,7 +1,7 @@
 use Rattle.std.proofs.Common.{◌≡◌, ◌++◌}
 use Rattle.tsn_model.specs.Core.{IsSound}
-use Rattle.tsn_book.specs.Shared.{AreReplies}
-use Rattle.tsn_book.proofs.shared.Core.run.Given as goal
+use Rattle.tsn_core.specs.Shared.{AreReplies}
+use Rattle.tsn_core.proofs.shared.Core.run.Given as goal
 
 abbrev pub invariant-loop-step : goal.invariant-loop-step
 invariant-loop-step l =

@@ -3,10 +3,10 @@ use Rattle.std.specs.Prelude.{slice_set}
 use Rattle.std.proofs.lemmas.List.{length-set}
 use Rattle.tsn_model.specs.Core.{State, observe}
 use Rattle.tsn_search_laws.specs.Replies.{found}
-use Rattle.tsn_book.specs.declared.shared.Reply.TheVariants.{Found}
-use Rattle.tsn_book.specs.Shared.{Shared, IsReply}
-use Rattle.tsn_book.proofs.Sharing.{state_of, step_shared, observed}
-use Rattle.tsn_book.proofs.shared.Core.observe.Goals as goal
+use Rattle.tsn_core.specs.declared.shared.Reply.TheVariants.{Found}
+use Rattle.tsn_core.specs.Shared.{Shared, IsReply}
+use Rattle.tsn_core.proofs.Sharing.{state_of, step_shared, observed}
+use Rattle.tsn_core.proofs.shared.Core.observe.Goals as goal
 
 pub invariant_of-self : goal.invariant_of-self
 invariant_of-self c =

@@ -3,9 +3,9 @@ use Rattle.std.specs.Prelude.{IsTrue}
 use Rattle.tsn_model.specs.Search.{open_paths}
 use Rattle.tsn_model.specs.Core.{IsSound, IsQuiet}
 use Rattle.tsn_search_laws.proofs.Finished.{quiet_word}
-use Rattle.tsn_book.specs.Shared.{Shared, HasPostedAll}
-use Rattle.tsn_book.proofs.Sharing.{state_of, quiet_where, quiet_tree}
-use Rattle.tsn_book.proofs.shared.Core.quiet.Goals as goal
+use Rattle.tsn_core.specs.Shared.{Shared, HasPostedAll}
+use Rattle.tsn_core.proofs.Sharing.{state_of, quiet_where, quiet_tree}
+use Rattle.tsn_core.proofs.shared.Core.quiet.Goals as goal
 
 pub returns-then-open_count-eq0-clause-quiet : goal.returns-then-open_count-eq0-clause-quiet
 returns-then-open_count-eq0-clause-quiet c =

@@ -2,9 +2,9 @@ use Rattle.std.proofs.Common.{◌≡◌, ◌<◌, length, sym, subst, arith}
 use Rattle.std.specs.Prelude.{IsTrue}
 use Rattle.tsn_model.specs.Core.{teller_at, IsAboveSeen}
 use Rattle.tsn_branch.specs.Outcome.{outcome_of}
-use Rattle.tsn_book.specs.Shared.{Shared}
-use Rattle.tsn_book.proofs.Sharing.{state_of, seen_at}
-use Rattle.tsn_book.proofs.shared.Core.may_settle.Goals as goal
+use Rattle.tsn_core.specs.Shared.{Shared}
+use Rattle.tsn_core.proofs.Sharing.{state_of, seen_at}
+use Rattle.tsn_core.proofs.shared.Core.may_settle.Goals as goal
 
 pub returns-then-teller-len : goal.returns-then-teller-len
 returns-then-teller-len c =

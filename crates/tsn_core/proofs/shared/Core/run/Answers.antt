@@ -1,9 +1,9 @@
 use Rattle.std.proofs.Common.{List, ◌∷◌, ◌++◌, [], sym, ap, ◌∙◌, subst, append_assoc}
 use Rattle.tsn_model.specs.Core.{State}
-use Rattle.tsn_book.specs.declared.shared.Reply.{Reply}
-use Rattle.tsn_book.specs.Shared.{Shared, step_of, IsReply, AreReplies}
-use Rattle.tsn_book.proofs.Sharing.{replies_more, on_err}
-use Rattle.tsn_book.proofs.shared.Core.run.Goals as goal
+use Rattle.tsn_core.specs.declared.shared.Reply.{Reply}
+use Rattle.tsn_core.specs.Shared.{Shared, step_of, IsReply, AreReplies}
+use Rattle.tsn_core.proofs.Sharing.{replies_more, on_err}
+use Rattle.tsn_core.proofs.shared.Core.run.Goals as goal
 
 pub loop-step-preserved : goal.loop-step-preserved
 loop-step-preserved c =

@@ -19,11 +19,11 @@ use Rattle.tsn_search_laws.proofs.Steps.{effect_sound, initial_sound}
 use Rattle.tsn_search_laws.proofs.Finished.{finished_tree}
 use Rattle.tsn_book.specs.declared.fault.BookFault.{BookFault}
 use Rattle.tsn_book.specs.declared.fault.BookFault.TheVariants.{NotOpen, Limit, NotConflict, AlreadyDecided, Memory, NotMet}
-use Rattle.tsn_book.specs.declared.shared.Step.{Step}
-use Rattle.tsn_book.specs.declared.shared.Reply.{Reply}
-use Rattle.tsn_book.specs.declared.shared.Reply.TheVariants.{Refused}
+use Rattle.tsn_core.specs.declared.shared.Step.{Step}
+use Rattle.tsn_core.specs.declared.shared.Reply.{Reply}
+use Rattle.tsn_core.specs.declared.shared.Reply.TheVariants.{Refused}
 use Rattle.tsn_book.specs.Book.{Progress, IsFault, IsLawful}
-use Rattle.tsn_book.specs.Shared.{step_of, reply_of, IsReply, AreReplies, IsShared, IsTreeForKept, HasPostedAll}
+use Rattle.tsn_core.specs.Shared.{step_of, reply_of, IsReply, AreReplies, IsShared, IsTreeForKept, HasPostedAll}
 
 -- ---- one step
 

@@ -6,13 +6,11 @@ ghost use Rattle.tsn_model.specs.Core.{initial_state, observe, post, settle, tel
 ghost use Rattle.tsn_branch.specs.Outcome.{outcome_of};
 ghost use Rattle.tsn_branch.specs.Look.{HasProof};
 ghost use Rattle.tsn_book.specs.Event.{event_of};
-ghost use Rattle.tsn_book.specs.Shared.{step_of, IsProved, IsReply, AreReplies, IsWanting, IsCutShort, IsTreeForKept, HasPostedAll};
+ghost use Rattle.tsn_core.specs.Shared.{step_of, IsProved, IsReply, AreReplies, IsWanting, IsCutShort, IsTreeForKept, HasPostedAll};
 
-use crate::book::Book;
-use crate::event::Event;
-use crate::fault::BookFault;
 use std::alloc::{AllocError, Global};
 use std::marker::Model;
+use tsn_book::{Book, BookFault, Event};
 use tsn_branch::NoMemory;
 use tsn_branch::outcome::Look;
 use tsn_timing::Timing;
@@ -105,7 +103,7 @@ pub struct Core {
 }
 
 impl Model for Core {
-    ghost use Rattle.tsn_book.specs.Shared.{Shared, IsShared};
+    ghost use Rattle.tsn_core.specs.Shared.{Shared, IsShared};
 
     ghost Value = { Shared };
 

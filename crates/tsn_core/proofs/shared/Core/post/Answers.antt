@@ -4,10 +4,10 @@ use Rattle.std.proofs.lemmas.List.{length-set}
 use Rattle.tsn_model.specs.Search.{solved_bounds, settled_by}
 use Rattle.tsn_model.specs.Core.{State, post}
 use Rattle.tsn_search_laws.specs.Replies.{found}
-use Rattle.tsn_book.specs.declared.shared.Reply.TheVariants.{Found}
-use Rattle.tsn_book.specs.Shared.{Shared, IsReply}
-use Rattle.tsn_book.proofs.Sharing.{state_of, step_shared, posted_after}
-use Rattle.tsn_book.proofs.shared.Core.post.Goals as goal
+use Rattle.tsn_core.specs.declared.shared.Reply.TheVariants.{Found}
+use Rattle.tsn_core.specs.Shared.{Shared, IsReply}
+use Rattle.tsn_core.proofs.Sharing.{state_of, step_shared, posted_after}
+use Rattle.tsn_core.proofs.shared.Core.post.Goals as goal
 
 pub invariant_of-self : goal.invariant_of-self
 invariant_of-self c =
