@@ -8,11 +8,14 @@ pub mod Advances
 pub mod Fresh
 pub mod Steps
 pub mod Ports
+pub mod Tournaments
 pub mod Lines
 pub mod Orders
 pub mod Followers
+pub mod Records
 pub mod States
 pub mod Stepping
+pub mod Sendings
 pub mod Tables
 pub mod Settings
 pub mod Progress

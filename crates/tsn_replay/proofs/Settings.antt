@@ -1,13 +1,20 @@
 -- What is handed in can be replayed, where it has no fault.
-use Rattle.std.proofs.Common.{◌≡◌, ℕ, ◌*◌, ◌≤◌, ◌<◌, List, length, get_or, Option, Some, None, MatchOption, All, refl, ap, ◌∙◌, subst, arith, mul-le-mul}
-use Rattle.std.proofs.lemmas.List.{get_or_default}
+use Rattle.std.proofs.Common.{◌≡◌, ◌≢◌, ℕ, ◌*◌, ◌≤◌, ◌<◌, List, map, length, get_or, Option, Some, None, MatchOption, All, refl, ap, ◌∙◌, subst, arith, mul-le-mul}
+use Rattle.std.proofs.Math.Dec.{eqb}
+use Rattle.std.proofs.lemmas.Bool.Decides.{Decides-eqb}
+use Rattle.std.proofs.lemmas.List.{get_or_default, length-map}
+use Rattle.std.proofs.lemmas.List.Elements.{All-map, All-contains}
+use Rattle.std.proofs.lemmas.Map.Made.{IsDistinct-from_AllPairs}
+use Rattle.std.proofs.lemmas.Map.Steps.{length-le_from_distinct_below}
+use Rattle.std.proofs.lemmas.Map.Views.{Contains-from_any}
 use Rattle.tsn_model.specs.Network.{Network, IsWellFormed, route_link}
 use Rattle.tsn_model.specs.Schedule.{IsValid}
 use Rattle.tsn_model.specs.Bridge.{LinkGates, BackgroundFrame, Background, frame_at}
 use Rattle.tsn_model.specs.Bridge.Background.{nothing, greedy, frames}
+use Rattle.tsn_model.proofs.Lists.{AllPairs-map}
 use Rattle.tsn_model.proofs.Schedules.{offsets_within}
 use Rattle.tsn_replay.specs.declared.fault.ReplayFault.{ReplayFault}
-use Rattle.tsn_replay.specs.Openings.{IsGivenFrame, HasBackground}
+use Rattle.tsn_replay.specs.Openings.{IsGivenFrame, HasLists, HasBackground}
 use Rattle.tsn_replay.specs.Faults.{IsListed, NamesLinks, KeepsLimits, HasReplayFault}
 use Rattle.tsn_replay.specs.Progress.{Setting, IsSetting}
 
@@ -58,3 +65,15 @@ setting_right setting formed valid few names keeps = record {
   lists = record { links = names.exist; distinct = names.distinct; used = λ i k i_below k_below. listed_at setting.gates (route_link setting.network i k) (names.used i i_below k k_below) };
   background = has_background setting.network formed setting.gates setting.cycles few setting.background names keeps;
 }
+
+-- there are no more lists than a network has links
+pub lists_few : (network : Network) → IsWellFormed network → (gates : List LinkGates) → HasLists network gates → length gates ≤ 1024
+lists_few network formed gates lists =
+    let links = map (λ (item : LinkGates). item.link) gates in
+    let exist = All-map (λ link. link < length network.links) (λ (item : LinkGates). item.link) gates lists.links in
+    let distinct = IsDistinct-from_AllPairs {eq = eqb} Decides-eqb links (AllPairs-map (λ a b. a ≢ b) (λ (item : LinkGates). item.link) gates lists.distinct) in
+    let few = length-le_from_distinct_below links (length network.links) distinct
+    (λ link found. All-contains (λ l. l < length network.links) links link exist (Contains-from_any {eq = eqb} (λ x y same. (Decides-eqb x y).0 same) link links found)) in
+    let size = length-map gates (λ (item : LinkGates). item.link) in
+    let limit = formed.few_links in
+    omega arith

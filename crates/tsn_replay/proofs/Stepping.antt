@@ -15,11 +15,13 @@ use Rattle.tsn_replay.specs.declared.engine.State.{State}
 use Rattle.tsn_replay.specs.Queue.{Waits, IsHead, Next, CanStart, IsNextOf, frame_in, passage_of, free_on}
 use Rattle.tsn_replay.specs.Feeding.{waiting_on, IsFeedOf, IsSent}
 use Rattle.tsn_replay.specs.Ports.{IsPort, IsScheduledNext, IsFirstPort, port_time, port_in}
-use Rattle.tsn_replay.specs.Progress.{IsRunSoFar, IsFedSoFar, IsTracked, Setting, IsSetting, IsUnderWay, IsPortAt, IsState, advanced, time_left}
+use Rattle.tsn_replay.specs.Records.{IsRecord, noted}
+use Rattle.tsn_replay.specs.Progress.{IsRunSoFar, IsFedSoFar, IsTracked, Setting, IsSetting, IsUnderWay, IsPortAt, IsState, AreStarts, advanced, time_left}
 use Rattle.tsn_replay.proofs.PassageStarts.{with_passage}
 use Rattle.tsn_replay.proofs.BackgroundStarts.{with_background}
 use Rattle.tsn_replay.proofs.Nexts.{time_facts, none_next, next_scheduled, next_background}
 use Rattle.tsn_replay.proofs.Ports.{scheduled_later, port_later, port_kept}
+use Rattle.tsn_replay.proofs.Records.{record_started, record_sent}
 use Rattle.tsn_replay.proofs.States.{under_way_ports, port_set_same, port_set_other}
 use Rattle.tsn_replay.proofs.Steps.{IsGiven, line_given, ends_run, ends_fed, can_start, passage_step, send_run, send_fed, still_tracked, time_falls}
 
@@ -36,8 +38,11 @@ module _ (setting : Setting) (state : State) (can : IsSetting setting) (is : IsS
   abbrev end : ℕ
   end = setting.cycles * network.cycle
 
+  abbrev made : BridgeRun
+  made = is.under_way.made
+
   abbrev port_at : ℕ → Port
-  port_at number = port_in state.ports.items number
+  port_at number = port_in state.ports number
 
   abbrev pub link_of_list : ℕ → ℕ
   link_of_list number = (get_or setting.gates number no_list).link
@@ -51,7 +56,7 @@ module _ (setting : Setting) (state : State) (can : IsSetting setting) (is : IsS
       (max (free_on state.free.items (get_or setting.gates number d).link) state.time) n (port_at number)) is.under_way.end (is.ports.each number below d)
 
   -- nothing starts before the end
-  module _ (late : (number : ℕ) → number < length state.ports.items → state.end ≤ port_time (port_at number)) where
+  module _ (late : (number : ℕ) → number < length state.ports → state.end ≤ port_time (port_at number)) where
     none : IsNextOf network setting.gates state.frames.items line state.free.items state.time end (record { link = 0; time = end; frame = None })
     none =
         let end_is = is.under_way.end in
@@ -59,22 +64,25 @@ module _ (setting : Setting) (state : State) (can : IsSetting setting) (is : IsS
         let count = is.ports.count in
         none_next network setting.gates can.lists state.frames.items line state.free.items state.time end port_at ports (omega arith) (λ other below. let after = late other (omega arith) in omega arith)
 
-    pub ends_as_run : IsBridgeRun network setting.offsets setting.gates setting.cycles state.starts
+    ends_as_run : IsBridgeRun network setting.offsets setting.gates setting.cycles made
     ends_as_run =
         let end_is = is.under_way.end in
         let upto = is.under_way.time in
-        ends_run network can.formed setting.offsets setting.gates can.lists setting.cycles setting.background can.background line state.time state.free.items state.starts state.frames.items is.under_way.run is.under_way.fed is.under_way.tracked
+        ends_run network can.formed setting.offsets setting.gates can.lists setting.cycles setting.background can.background line state.time state.free.items made state.frames.items is.under_way.run is.under_way.fed is.under_way.tracked
         (record { link = 0; time = end; frame = None }) none (omega arith) (omega arith)
 
-    pub ends_as_fed : IsFed network setting.gates setting.cycles setting.background state.starts
+    ends_as_fed : IsFed network setting.gates setting.cycles setting.background made
     ends_as_fed =
         let end_is = is.under_way.end in
         let upto = is.under_way.time in
-        ends_fed network can.formed setting.offsets setting.gates can.lists setting.cycles setting.background can.background line state.time state.free.items state.starts state.frames.items is.under_way.run is.under_way.fed is.under_way.tracked
+        ends_fed network can.formed setting.offsets setting.gates can.lists setting.cycles setting.background can.background line state.time state.free.items made state.frames.items is.under_way.run is.under_way.fed is.under_way.tracked
         (record { link = 0; time = end; frame = None }) none (omega arith) (omega arith)
 
+    pub ends_as_starts : AreStarts setting state.starts
+    ends_as_starts = record { made = made; records = is.under_way.records; run = ends_as_run; fed = ends_as_fed }
+
   -- something starts first on the link of a list
-  module _ (number : ℕ) (first : IsFirstPort state.ports.items state.end number) where
+  module _ (number : ℕ) (first : IsFirstPort state.ports state.end number) where
     pub below : number < length setting.gates
     below = let within = first.within in let count = is.ports.count in omega arith
 
@@ -83,6 +91,13 @@ module _ (setting : Setting) (state : State) (can : IsSetting setting) (is : IsS
 
     abbrev pub link : ℕ
     link = link_of_list number
+
+    -- another list's link is another one
+    apart : (other : ℕ) (d : LinkGates) → other < length setting.gates → (number ≡ other → ⊥) → (get_or setting.gates other d).link ≡ link → ⊥
+    apart other d other_below differ same = elim (cases_lt number other) [
+      | inl before ↦ can.lists.distinct number other no_list before other_below (sym same ∙ link_is other d other_below)
+      | inr not_before ↦ can.lists.distinct other number no_list (omega arith) below (sym (link_is other d other_below) ∙ same)
+    ]
 
     -- another list's port stays right until then, where neither its wire nor its queue changes
     other_later : (time other : ℕ) (d : LinkGates) (frames : List Frame) (free : List ℕ) (feed : Feed) → state.time ≤ time → time ≤ port_time (port_at other)
@@ -134,7 +149,7 @@ module _ (setting : Setting) (state : State) (can : IsSetting setting) (is : IsS
           omega arith
 
       can_start_here : CanStart network setting.gates state.frames.items line next (Some waiting)
-      can_start_here = can_start network can.formed setting.offsets setting.gates can.lists setting.cycles setting.background can.background line state.time state.free.items state.starts state.frames.items is.under_way.run is.under_way.fed is.under_way.tracked
+      can_start_here = can_start network can.formed setting.offsets setting.gates can.lists setting.cycles setting.background can.background line state.time state.free.items made state.frames.items is.under_way.run is.under_way.fed is.under_way.tracked
           next is_next in_time waiting refl
 
       pub waiting_below : waiting < length state.frames.items
@@ -159,8 +174,9 @@ module _ (setting : Setting) (state : State) (can : IsSetting setting) (is : IsS
 
         pub started_under_way : IsUnderWay setting started
         started_under_way =
-            let step = passage_step network can.formed setting.offsets setting.gates can.lists setting.cycles setting.background can.background line state.time state.free.items state.starts state.frames.items is.under_way.run is.under_way.fed is.under_way.tracked
-            next is_next in_time waiting refl frame frame_is trace trace_is occ occ_is moved moved_is is.under_way.wires in
+            let run = with_passage made (passage_of frame) time in
+            let step = passage_step network can.formed setting.offsets setting.gates can.lists setting.cycles setting.background can.background line state.time state.free.items made state.frames.items is.under_way.run is.under_way.fed is.under_way.tracked
+            next is_next in_time waiting refl frame frame_is run refl occ occ_is moved moved_is is.under_way.wires in
             let end_is = is.under_way.end in
             let limit = is.under_way.small in
             let soon = in_time in
@@ -168,25 +184,29 @@ module _ (setting : Setting) (state : State) (can : IsSetting setting) (is : IsS
               end = is.under_way.end;
               time = omega arith;
               small = is.under_way.small;
-              run = subst (λ fs. IsRunSoFar network setting.offsets setting.gates setting.cycles (free_on fs) time trace) (sym free_is) step.0;
-              fed = subst (λ fs. IsFedSoFar network setting.gates setting.cycles (free_on fs) time setting.background line trace) (sym free_is) step.1;
-              tracked = subst (IsTracked network setting.offsets setting.cycles trace) (sym frames_are) step.2;
+              made = run;
+              records = record_started setting.keeps made state.starts (passage_of frame) time is.under_way.records trace trace_is;
+              run = subst (λ fs. IsRunSoFar network setting.offsets setting.gates setting.cycles (free_on fs) time run) (sym free_is) step.0;
+              fed = subst (λ fs. IsFedSoFar network setting.gates setting.cycles (free_on fs) time setting.background line run) (sym free_is) step.1;
+              tracked = subst (IsTracked network setting.offsets setting.cycles run) (sym frames_are) step.2;
               feed = is.under_way.feed;
               wires = ap length free_is ∙ (length-set state.free.items link (time + occ) ∙ is.under_way.wires);
+              numbers = is.under_way.numbers;
               frees = subst (All (λ t. t ≤ 2 ^ 40)) (sym free_is) (All-set (λ t. t ≤ 2 ^ 40) state.free.items link (time + occ) (omega arith) is.under_way.frees);
               readies = subst (All (λ (f : Frame). f.ready ≤ 2 ^ 50)) (sym frames_are) (All-set (λ (f : Frame). f.ready ≤ 2 ^ 50) state.frames.items waiting moved early is.under_way.readies);
             }
 
-        pub started_others : (other : ℕ) → other < length setting.gates → ((d : LinkGates) → (get_or setting.gates other d).link ≡ link → ⊥) → ((d : LinkGates) → Waits network (get_or setting.gates other d).link moved → ⊥)
+        pub started_others : (other : ℕ) → other < length setting.gates → (number ≡ other → ⊥) → ((d : LinkGates) → Waits network (get_or setting.gates other d).link moved → ⊥)
             → IsPortAt setting started other (port_at other)
-        started_others other other_below differs silent d =
+        started_others other other_below differ silent d =
             let at = (get_or setting.gates other d).link in
-            let not_old : Waits network at (frame_in state.frames.items waiting) → ⊥ = λ waits. differs d (sym waits.on ∙ waits_here.on) in
+            let away = apart other d other_below differ in
+            let not_old : Waits network at (frame_in state.frames.items waiting) → ⊥ = λ waits. away (sym waits.on ∙ waits_here.on) in
             let kept = port_kept network state.frames.items at waiting moved waiting_below not_old (silent d) (get_or setting.gates other d).entries (line at) (max (free_on state.free.items at) state.time) state.end (port_at other)
             (is.ports.each other other_below d) in
             let soon = least other other_below in
             let here = scheduled_time in
-            other_later time other d frames.items free.items state.feed forward (omega arith) (ap (λ fs. free_on fs at) free_is ∙ get_or-set_other state.free.items link at (time + occ) 0 (differs d)) refl
+            other_later time other d frames.items free.items state.feed forward (omega arith) (ap (λ fs. free_on fs at) free_is ∙ get_or-set_other state.free.items link at (time + occ) 0 away) refl
             (subst (λ fs. IsPort network (get_or setting.gates other d).entries fs (line at) at (max (free_on state.free.items at) state.time) state.end (port_at other)) (sym frames_are) kept)
 
         pub started_falls : time_left started < time_left state
@@ -252,7 +272,7 @@ module _ (setting : Setting) (state : State) (can : IsSetting setting) (is : IsS
 
       module _ (waiting : Waiting) (waits : line link ≡ Some waiting) where
         pub given : IsGiven network link waiting
-        given = line_given network setting.gates setting.cycles (free_on state.free.items) state.time line state.starts setting.background can.background is.under_way.fed link (can.lists.links number no_list below) waiting waits
+        given = line_given network setting.gates setting.cycles (free_on state.free.items) state.time line made setting.background can.background is.under_way.fed link (can.lists.links number no_list below) waiting waits
 
         module _ (until : ℕ) (until_is : until ≡ port.background + (waiting.octets + 20) * (link_at network link).r) (some : 1 ≤ (link_at network link).r) (few : (link_at network link).r ≤ 800) where
           pub until_short : (port.background < until) × (until ≤ port.background + 1542 * 800)
@@ -272,14 +292,18 @@ module _ (setting : Setting) (state : State) (can : IsSetting setting) (is : IsS
               subst (λ n. IsScheduledNext network (get_or setting.gates number d).entries state.frames.items port.head until n port.scheduled) (sym is.under_way.end)
               (scheduled_later network (get_or setting.gates number d).entries state.frames.items port.head (max (free_on state.free.items (get_or setting.gates number d).link) state.time) until end port.scheduled (omega arith) upto (is_port d).scheduled)
 
-          module _ (trace : BridgeRun) (trace_is : trace ≡ with_background state.starts (record { link = waiting.link; time = port.background; octets = waiting.octets; number = waiting.number })) (feed : Feed)
+          module _ (trace : BridgeRun) (trace_is : trace ≡ noted setting.keeps state.starts (record { link = waiting.link; time = port.background; octets = waiting.octets; number = waiting.number })) (feed : Feed)
               (feed_is : IsFeedOf setting.background (length network.links) feed) (others : (m : ℕ) → (m ≡ link → ⊥) → waiting_on feed m ≡ line m) (follows : IsSent setting.background (line link) (waiting_on feed link))
               (free : Vec ℕ Global) (free_is : free.items ≡ slice_set state.free.items link until) where
             abbrev sent : State
             sent = record state { time = port.background; free = free; feed = feed; starts = trace }
 
-            trace_at : trace ≡ with_background state.starts (record { link = link; time = port.background; octets = waiting.octets; number = waiting.number })
-            trace_at = trace_is ∙ ap (λ l. with_background state.starts (record { link = l; time = port.background; octets = waiting.octets; number = waiting.number })) given.on
+            -- the run with that start, which is on this link
+            abbrev run_with : BridgeRun
+            run_with = with_background made (record { link = link; time = port.background; octets = waiting.octets; number = waiting.number })
+
+            run_at : with_background made (record { link = waiting.link; time = port.background; octets = waiting.octets; number = waiting.number }) ≡ run_with
+            run_at = ap (λ l. with_background made (record { link = l; time = port.background; octets = waiting.octets; number = waiting.number })) given.on
 
             pub sent_under_way : IsUnderWay setting sent
             sent_under_way =
@@ -288,22 +312,23 @@ module _ (setting : Setting) (state : State) (can : IsSetting setting) (is : IsS
                 let soon = send_in_time in
                 let short = until_short in
                 let upto = short.1 in
-                let run = send_run network can.formed setting.offsets setting.gates can.lists setting.cycles setting.background can.background line state.time state.free.items state.starts state.frames.items is.under_way.run is.under_way.fed is.under_way.tracked
+                let run = send_run network can.formed setting.offsets setting.gates can.lists setting.cycles setting.background can.background line state.time state.free.items made state.frames.items is.under_way.run is.under_way.fed is.under_way.tracked
                 send_next is_send_next send_in_time refl waiting waits until until_is is.under_way.wires in
-                let fed = send_fed network can.formed setting.offsets setting.gates can.lists setting.cycles setting.background can.background line state.time state.free.items state.starts state.frames.items is.under_way.run is.under_way.fed is.under_way.tracked
+                let fed = send_fed network can.formed setting.offsets setting.gates can.lists setting.cycles setting.background can.background line state.time state.free.items made state.frames.items is.under_way.run is.under_way.fed is.under_way.tracked
                 send_next is_send_next send_in_time refl waiting waits until until_is is.under_way.wires (waiting_on feed) others follows in
                 record {
                   end = is.under_way.end;
                   time = omega arith;
                   small = is.under_way.small;
-                  run = subst (λ fs. IsRunSoFar network setting.offsets setting.gates setting.cycles (free_on fs) port.background trace) (sym free_is)
-                      (subst (IsRunSoFar network setting.offsets setting.gates setting.cycles (free_on (slice_set state.free.items link until)) port.background) (sym trace_at) run);
-                  fed = subst (λ fs. IsFedSoFar network setting.gates setting.cycles (free_on fs) port.background setting.background (waiting_on feed) trace) (sym free_is)
-                      (subst (IsFedSoFar network setting.gates setting.cycles (free_on (slice_set state.free.items link until)) port.background setting.background (waiting_on feed)) (sym trace_at) fed);
-                  tracked = subst (λ r. IsTracked network setting.offsets setting.cycles r state.frames.items) (sym trace_at)
-                      (still_tracked network setting.offsets setting.cycles state.starts state.frames.items (record { link = link; time = port.background; octets = waiting.octets; number = waiting.number }) is.under_way.tracked);
+                  made = run_with;
+                  records = subst (λ r. IsRecord setting.keeps r trace) run_at
+                      (record_sent setting.keeps made state.starts (record { link = waiting.link; time = port.background; octets = waiting.octets; number = waiting.number }) is.under_way.records trace trace_is);
+                  run = subst (λ fs. IsRunSoFar network setting.offsets setting.gates setting.cycles (free_on fs) port.background run_with) (sym free_is) run;
+                  fed = subst (λ fs. IsFedSoFar network setting.gates setting.cycles (free_on fs) port.background setting.background (waiting_on feed) run_with) (sym free_is) fed;
+                  tracked = still_tracked network setting.offsets setting.cycles made state.frames.items (record { link = link; time = port.background; octets = waiting.octets; number = waiting.number }) is.under_way.tracked;
                   feed = feed_is;
                   wires = ap length free_is ∙ (length-set state.free.items link until ∙ is.under_way.wires);
+                  numbers = is.under_way.numbers;
                   frees = subst (All (λ t. t ≤ 2 ^ 40)) (sym free_is) (All-set (λ t. t ≤ 2 ^ 40) state.free.items link until (omega arith) is.under_way.frees);
                   readies = is.under_way.readies;
                 }
@@ -316,7 +341,7 @@ module _ (setting : Setting) (state : State) (can : IsSetting setting) (is : IsS
 
             -- with the port of its link made anew
             module _ (new : Port) (new_is : (d : LinkGates) → IsPort network (get_or setting.gates number d).entries state.frames.items (waiting_on feed (get_or setting.gates number d).link) (get_or setting.gates number d).link until state.end new)
-                (all : Vec Port Global) (all_are : all.items ≡ slice_set state.ports.items number new) where
+                (all : List Port) (all_are : all ≡ slice_set state.ports number new) where
               sent_port : (d : LinkGates) → IsPort network (get_or setting.gates number d).entries state.frames.items (waiting_on feed (get_or setting.gates number d).link) (get_or setting.gates number d).link
                   (max (free_on free.items (get_or setting.gates number d).link) port.background) state.end new
               sent_port d =
@@ -331,28 +356,25 @@ module _ (setting : Setting) (state : State) (can : IsSetting setting) (is : IsS
               sent_other : (other : ℕ) → other < length setting.gates → (number ≡ other → ⊥) → IsPortAt setting sent other (port_at other)
               sent_other other other_below differ d =
                   let at = (get_or setting.gates other d).link in
-                  let apart : at ≡ link → ⊥ = λ same. elim (cases_lt number other) [
-                    | inl before ↦ can.lists.distinct number other no_list before other_below (sym same ∙ link_is other d other_below)
-                    | inr not_before ↦ can.lists.distinct other number no_list (omega arith) below (sym (link_is other d other_below) ∙ same)
-                  ] in
+                  let away = apart other d other_below differ in
                   let soon = least other other_below in
                   let here : port_time (port_at number) ≡ port_time port = ap port_time port_is in
                   let now = port_first in
-                  other_later port.background other d state.frames.items free.items feed is_send_next.forward (omega arith) (ap (λ fs. free_on fs at) free_is ∙ get_or-set_other state.free.items link at until 0 apart) (others at apart)
+                  other_later port.background other d state.frames.items free.items feed is_send_next.forward (omega arith) (ap (λ fs. free_on fs at) free_is ∙ get_or-set_other state.free.items link at until 0 away) (others at away)
                   (is.ports.each other other_below d)
 
               pub sent_state : IsState setting (record sent { ports = all })
               sent_state = record {
                 under_way = under_way_ports setting sent all sent_under_way;
                 ports = record {
-                  count = ap length all_are ∙ (length-set state.ports.items number new ∙ is.ports.count);
+                  count = ap length all_are ∙ (length-set state.ports number new ∙ is.ports.count);
                   each = λ other other_below. elim (cases_eq number other) [
                     | inl same ↦
                         let count = is.ports.count in
-                        let read : new ≡ port_in all.items number = sym (port_set_same state.ports.items number new (let b = below in omega arith)) ∙ ap (λ ps. port_in ps number) (sym all_are) in
-                        subst (λ n. IsPortAt setting sent n (port_in all.items n)) same (subst (IsPortAt setting sent number) read sent_port)
+                        let read : new ≡ port_in all number = sym (port_set_same state.ports number new (let b = below in omega arith)) ∙ ap (λ ps. port_in ps number) (sym all_are) in
+                        subst (λ n. IsPortAt setting sent n (port_in all n)) same (subst (IsPortAt setting sent number) read sent_port)
                     | inr differ ↦
-                        let read : port_at other ≡ port_in all.items other = sym (port_set_other state.ports.items number other new differ) ∙ ap (λ ps. port_in ps other) (sym all_are) in
+                        let read : port_at other ≡ port_in all other = sym (port_set_other state.ports number other new differ) ∙ ap (λ ps. port_in ps other) (sym all_are) in
                         subst (IsPortAt setting sent other) read (sent_other other other_below differ)
                   ];
                 };

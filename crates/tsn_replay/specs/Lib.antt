@@ -4,7 +4,9 @@ pub mod Openings
 pub mod Queue
 pub mod Feeding
 pub mod Ports
-pub mod Progress
+pub mod Tournament
 pub mod Faults
 pub mod Rows
+pub mod Records
+pub mod Progress
 pub mod Csv

@@ -60,3 +60,8 @@ abbrev pub HasBackground : Network → List LinkGates → Background → Type 0
 HasBackground network gates nothing = Unit {0}
 HasBackground network gates greedy = Unit {0}
 HasBackground network gates (frames list) = (number : ℕ) → number < length list → IsGivenFrame network gates (frame_at list number)
+
+-- by link the number of its list
+pub record AreListNumbers (gates : List LinkGates) (links : ℕ) (numbers : List ℕ) : Type 0 where
+  pub count : length numbers ≡ links
+  pub of_list : (number : ℕ) (d : LinkGates) → number < length gates → slice_index numbers (slice_index_or gates number d).link ≡ number

@@ -3,9 +3,10 @@
 --     IsFrame, IsTracked      the frames that wait
 --     IsListSoFar, IsFedSoFar its background is what was handed in
 --     Setting, IsState        the whole state of a replay
-use Rattle.std.specs.Prelude.{◌≡◌, ℕ, ◌+◌, ◌*◌, ◌≤◌, ◌<◌, ◌⊎◌, ◌≢◌, ◌-◌, List, [], length, slice_index_or, max, sum_by, All, AllPairs, Option, Some, None}
-use Rattle.tsn_model.specs.Network.{Network, IsWellFormed, stream_count, hop_count, route_link}
-use Rattle.tsn_model.specs.Bridge.{LinkGates, BackgroundOpen, Passage, ScheduledStart, BackgroundStart, BridgeRun, WireUse, link_of, wire_uses, AreDisjoint, IsPassage, StartedAt, NotStartedBefore, IsReady, FitsAt, IsBlocked, IsTaken, IsHeld, Background, BackgroundFrame, frame_at, IsBefore, FrameStartedBefore}
+--     IsRenewed, IsSending, AreStarts      what its steps do, and what is left at its end
+use Rattle.std.specs.Prelude.{◌≡◌, ℕ, ◌+◌, ◌*◌, ◌≤◌, ◌<◌, ◌⊎◌, ◌≢◌, ◌-◌, List, [], length, slice_index_or, slice_set, max, sum_by, Bool, All, AllPairs, Option, Some, None}
+use Rattle.tsn_model.specs.Network.{Network, IsWellFormed, stream_count, hop_count, route_link, link_at}
+use Rattle.tsn_model.specs.Bridge.{LinkGates, BackgroundOpen, Passage, ScheduledStart, BackgroundStart, BridgeRun, WireUse, IsBridgeRun, IsFed, link_of, wire_uses, AreDisjoint, IsPassage, StartedAt, NotStartedBefore, IsReady, FitsAt, IsBlocked, IsTaken, IsHeld, Background, BackgroundFrame, frame_at, IsBefore, FrameStartedBefore}
 use Rattle.tsn_replay.specs.declared.queue.Frame.{Frame}
 use Rattle.tsn_replay.specs.Queue.{passage_of, frame_in, free_on}
 use Rattle.tsn_model.specs.Timing.{hop_delay}
@@ -13,7 +14,9 @@ use Rattle.tsn_model.specs.Bridge.Background.{nothing, greedy, frames}
 use Rattle.tsn_replay.specs.declared.feed.Waiting.{Waiting}
 use Rattle.tsn_replay.specs.declared.engine.State.{State}
 use Rattle.tsn_replay.specs.declared.engine.Replay.{Replay}
-use Rattle.tsn_replay.specs.Openings.{HasLists, HasBackground}
+use Rattle.tsn_replay.specs.declared.engine.Sending.{Sending}
+use Rattle.tsn_replay.specs.Openings.{HasLists, HasBackground, AreListNumbers}
+use Rattle.tsn_replay.specs.Records.{IsRecord}
 use Rattle.tsn_replay.specs.Feeding.{background_of, IsLine, IsFeedOf, waiting_on, greatest_on}
 use Rattle.tsn_replay.specs.declared.port.Port.{Port}
 use Rattle.tsn_replay.specs.Ports.{IsPort, port_in}
@@ -105,9 +108,10 @@ pub record Setting : Type 0 where
   pub gates : List LinkGates
   pub cycles : ℕ
   pub background : Background
+  pub keeps : Bool
 
 abbrev pub setting_of : Replay → Setting
-setting_of replay = record { network = replay.network.now; offsets = replay.offsets.now; gates = replay.gates.now; cycles = replay.cycles; background = background_of replay.background.now }
+setting_of replay = record { network = replay.network.now; offsets = replay.offsets.now; gates = replay.gates.now; cycles = replay.cycles; background = background_of replay.background.now; keeps = replay.keeps }
 
 -- it can be replayed
 pub record IsSetting (setting : Setting) : Type 0 where
@@ -123,11 +127,14 @@ pub record IsUnderWay (setting : Setting) (state : State) : Type 0 where
   pub end : state.end ≡ setting.cycles * setting.network.cycle
   pub time : state.time ≤ state.end
   pub small : state.end ≤ latest_end
-  pub run : IsRunSoFar setting.network setting.offsets setting.gates setting.cycles (free_on state.free.items) state.time state.starts
-  pub fed : IsFedSoFar setting.network setting.gates setting.cycles (free_on state.free.items) state.time setting.background (waiting_on state.feed) state.starts
-  pub tracked : IsTracked setting.network setting.offsets setting.cycles state.starts state.frames.items
+  pub made : BridgeRun
+  pub records : IsRecord setting.keeps made state.starts
+  pub run : IsRunSoFar setting.network setting.offsets setting.gates setting.cycles (free_on state.free.items) state.time made
+  pub fed : IsFedSoFar setting.network setting.gates setting.cycles (free_on state.free.items) state.time setting.background (waiting_on state.feed) made
+  pub tracked : IsTracked setting.network setting.offsets setting.cycles made state.frames.items
   pub feed : IsFeedOf setting.background (length setting.network.links) state.feed
   pub wires : length state.free.items ≡ length setting.network.links
+  pub numbers : AreListNumbers setting.gates (length setting.network.links) state.numbers.items
   pub frees : All (λ time. time ≤ latest_free) state.free.items
   pub readies : All (λ (frame : Frame). frame.ready ≤ latest_instant) state.frames.items
 
@@ -138,13 +145,36 @@ IsPortAt setting state number port = (d : LinkGates) → IsPort setting.network 
 
 -- the ports are those of the lists
 pub record HasPorts (setting : Setting) (state : State) : Type 0 where
-  pub count : length state.ports.items ≡ length setting.gates
-  pub each : (number : ℕ) → number < length setting.gates → IsPortAt setting state number (port_in state.ports.items number)
+  pub count : length state.ports ≡ length setting.gates
+  pub each : (number : ℕ) → number < length setting.gates → IsPortAt setting state number (port_in state.ports number)
 
 -- the state is under way
 pub record IsState (setting : Setting) (state : State) : Type 0 where
   pub under_way : IsUnderWay setting state
   pub ports : HasPorts setting state
+
+-- the states differ in the port of that number, which is made anew
+pub record IsRenewed (setting : Setting) (number : ℕ) (old new : State) : Type 0 where
+  pub port : Port
+  pub is_port : IsPortAt setting old number port
+  pub ports : new ≡ record old { ports = slice_set old.ports number port }
+
+-- the background frame that waits on the link of the list of that number, and when its wire is free once it has started at the port's instant
+pub record IsSending (setting : Setting) (state : State) (number : ℕ) (port : Port) (sending : Sending) : Type 0 where
+  pub on : (d : LinkGates) → (slice_index_or setting.gates number d).link ≡ sending.link
+  pub exists : sending.link < length setting.network.links
+  pub waits : waiting_on state.feed sending.link ≡ Some sending.waiting
+  pub until : sending.until ≡ port.background + (sending.waiting.octets + 20) * (link_at setting.network sending.link).r
+  pub some : 1 ≤ (link_at setting.network sending.link).r
+  pub few : (link_at setting.network sending.link).r ≤ 800
+  pub early : sending.until ≤ latest_free
+
+-- the starts that are kept are those of a whole bridge run that the background feeds
+pub record AreStarts (setting : Setting) (starts : BridgeRun) : Type 0 where
+  pub made : BridgeRun
+  pub records : IsRecord setting.keeps made starts
+  pub run : IsBridgeRun setting.network setting.offsets setting.gates setting.cycles made
+  pub fed : IsFed setting.network setting.gates setting.cycles setting.background made
 
 -- how long the wires are still free, all together
 abbrev pub time_left : State → ℕ

@@ -6,6 +6,7 @@ ghost use Rattle.tsn_model.specs.Kept.{KeepsWantedGates};
 ghost use Rattle.tsn_replay.specs.Feeding.{background_of};
 ghost use Rattle.tsn_replay.specs.Faults.{NamesLinks, KeepsLimits, HasReplayFault};
 ghost use Rattle.tsn_replay.specs.Rows.{AreRows};
+ghost use Rattle.tsn_replay.specs.Records.{IsReplayed, AreRowsOfRun};
 
 use crate::background::Background;
 use crate::conditions::first_fault;
@@ -13,6 +14,7 @@ use crate::engine::Replay;
 use crate::fault::ReplayFault;
 use crate::openings::Openings;
 use crate::rows::rows_of;
+use crate::table::ReplayTable;
 use crate::trace::{Row, Trace};
 use std::alloc::{AllocError, Global};
 use tsn_gate::GateList;
@@ -56,6 +58,59 @@ pub fn replay(
     ensures limits { IfOk result (λ _. KeepsLimits problem.now.network lists.now cycles (background_of background.now)) }
     ensures fault { IfErr result (HasReplayFault problem.now.network lists.now cycles (background_of background.now)) }
 {
+    replayed(alloc, problem, valid, lists, cycles, background, true)
+}
+
+/// Replays cycles as `replay` does, and gives the rows alone. The starts of background frames aren't kept: the memory that
+/// it takes grows with the scheduled frames, and not with the background ones that start.
+///
+/// # Errors
+///
+/// Those of `replay`.
+pub fn replay_rows(
+    alloc: Global,
+    problem: &Problem,
+    valid: &Valid,
+    lists: &[GateList],
+    cycles: usize,
+    background: &Background,
+) -> Result<ReplayTable, ReplayFault>
+    requires some { 1 ≤ cycles }
+    requires few { cycles ≤ 16 }
+    requires valid { IsValid problem.now.network valid.now }
+    ensures rows { IfOk result (λ table. AreRowsOfRun problem.now.network valid.now lists.now cycles (background_of background.now) table) }
+    ensures named { IfOk result (λ table. All (λ (row : Row). row.stream < length problem.now.stream_names) table) }
+    ensures on_time { IfOk result (λ _. KeepsWantedGates problem.now.network valid.now lists.now
+        → (count : ℕ) (run : BridgeRun) → IsBridgeRun problem.now.network valid.now lists.now count run → StartsOnTime problem.now.network valid.now count run) }
+    ensures links { IfOk result (λ _. NamesLinks problem.now.network lists.now (background_of background.now)) }
+    ensures limits { IfOk result (λ _. KeepsLimits problem.now.network lists.now cycles (background_of background.now)) }
+    ensures fault { IfErr result (HasReplayFault problem.now.network lists.now cycles (background_of background.now)) }
+{
+    let trace = replayed(alloc, problem, valid, lists, cycles, background, false)?;
+    Ok(trace.into_table())
+}
+
+/// A replay, in which the starts of background frames are kept or not.
+fn replayed(
+    alloc: Global,
+    problem: &Problem,
+    valid: &Valid,
+    lists: &[GateList],
+    cycles: usize,
+    background: &Background,
+    keeps: bool,
+) -> Result<Trace, ReplayFault>
+    requires some { 1 ≤ cycles }
+    requires few { cycles ≤ 16 }
+    requires valid { IsValid problem.now.network valid.now }
+    ensures replayed { IfOk result (IsReplayed keeps problem.now.network valid.now lists.now cycles (background_of background.now)) }
+    ensures named { IfOk result (λ trace. All (λ (row : Row). row.stream < length problem.now.stream_names) trace.rows) }
+    ensures on_time { IfOk result (λ _. KeepsWantedGates problem.now.network valid.now lists.now
+        → (count : ℕ) (run : BridgeRun) → IsBridgeRun problem.now.network valid.now lists.now count run → StartsOnTime problem.now.network valid.now count run) }
+    ensures links { IfOk result (λ _. NamesLinks problem.now.network lists.now (background_of background.now)) }
+    ensures limits { IfOk result (λ _. KeepsLimits problem.now.network lists.now cycles (background_of background.now)) }
+    ensures fault { IfErr result (HasReplayFault problem.now.network lists.now cycles (background_of background.now)) }
+{
     if let Some(fault) = first_fault(problem, lists, cycles, background) {
         return Err(fault);
     }
@@ -69,11 +124,12 @@ pub fn replay(
         gates: &gates,
         cycles,
         background,
+        keeps,
     };
     let starts = replay.run(alloc)?;
     let _names = problem.streams();
     let rows = rows_of(alloc, &timing, valid.offsets(), cycles, &starts)?;
-    Ok(Trace::new(starts, rows))
+    Ok(Trace::new(starts, ReplayTable::new(rows)))
 }
 
 /// The gates of the lists.

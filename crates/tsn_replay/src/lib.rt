@@ -13,10 +13,13 @@ mod port;
 mod queue;
 mod rows;
 pub mod starts;
+pub mod table;
+mod tournament;
 pub mod trace;
 
 pub use background::{Background, BackgroundFrame};
-pub use cycles::replay;
+pub use cycles::{replay, replay_rows};
 pub use fault::ReplayFault;
 pub use starts::Sent;
+pub use table::ReplayTable;
 pub use trace::{Row, Trace};

@@ -76,29 +76,11 @@ impl Port {
     }
 
     /// When something starts.
-    fn time(&self) -> u64
+    pub fn time(&self) -> u64
         ensures { result ≡ port_time self.now }
     {
         self.scheduled.min(self.background)
     }
-}
-
-/// The port where something starts first, if that is before the end.
-pub fn first_port(ports: &[Port], end: u64) -> Option<usize>
-    ensures { MatchOption result
-        ((number : ℕ) → number < length ports.now → end ≤ port_time (port_in ports.now number))
-        (λ number. IsFirstPort ports.now end number) }
-{
-    let mut first = None;
-    let mut least = end;
-    for (number, port) in ports.iter().enumerate() {
-        let time = port.time();
-        if time < least {
-            first = Some(number);
-            least = time;
-        }
-    }
-    first
 }
 
 /// When the first frame of the list's queue can start, from that instant on.

@@ -1,13 +1,11 @@
 //! What a replay shows.
-ghost use Rattle.std.specs.Prelude.{◌≡◌, ◌++◌, ◌<◌, length, filter, string_bytes, All, IfOk, OnOk};
-ghost use Rattle.tsn_net.specs.Problem.{NamedNetwork};
+ghost use Rattle.std.specs.Prelude.{◌≡◌, ◌<◌, length, string_bytes, All, IfOk};
 ghost use Rattle.tsn_replay.specs.Csv.{csv_text};
-ghost use Rattle.tsn_replay.specs.Rows.{is_late, stream_name, row_text, late_text, table_text};
+ghost use Rattle.tsn_replay.specs.Rows.{is_late, table_text};
 
-use crate::csv::{HEADER, write_record};
 use crate::starts::{Sent, Starts};
-use std::alloc::{AllocError, Global};
-use std::fmt::Write;
+use crate::table::ReplayTable;
+use std::alloc::Global;
 use std::marker::Model;
 use tsn_model::NoMemory;
 use tsn_net::Problem;
@@ -40,7 +38,7 @@ impl Row {
 #[derive(Drop)]
 pub struct Trace {
     starts: Starts,
-    rows: Vec<Row>,
+    table: ReplayTable,
 }
 
 impl Model for Trace {
@@ -48,22 +46,30 @@ impl Model for Trace {
 
     ghost Value = { Traced };
 
-    ghost view = { λ trace. record { run = trace.starts; rows = trace.rows.items } };
+    ghost view = { λ trace. record { run = trace.starts; rows = trace.table } };
 }
 
 impl Trace {
     /// A trace with its table.
-    pub(crate) fn new(starts: Starts, rows: Vec<Row>) -> Trace
-        ensures { result ≡ record { run = starts; rows = rows.items } }
+    pub(crate) fn new(starts: Starts, table: ReplayTable) -> Trace
+        ensures { result ≡ record { run = starts; rows = table } }
     {
-        Trace { starts, rows }
+        Trace { starts, table }
+    }
+
+    /// The table alone.
+    pub(crate) fn into_table(self) -> ReplayTable
+        ensures { result ≡ self.rows }
+    {
+        drop(self.starts);
+        self.table
     }
 
     /// A row for each scheduled frame and hop, by cycle, then stream, then hop.
     pub fn rows(&self) -> &[Row]
         ensures { result.now ≡ self.now.rows }
     {
-        &self.rows
+        self.table.rows()
     }
 
     /// The starts of background frames, in their order.
@@ -79,12 +85,7 @@ impl Trace {
         requires { All (λ (row : Row). row.stream < length problem.now.stream_names) self.now.rows }
         ensures { IfOk result (λ text. string_bytes text ≡ table_text problem.now self.now.rows) }
     {
-        let mut text = String::new(alloc);
-        for row in &self.rows {
-            write_row(&mut text, problem, row)?;
-        }
-        write_late(&mut text, late_count(&self.rows))?;
-        Ok(text)
+        self.table.to_text(alloc, problem)
     }
 
     /// The rows as comma-separated values (RFC 4180): a line with the columns' names, and one for each row with the stream's
@@ -93,41 +94,6 @@ impl Trace {
         requires { All (λ (row : Row). row.stream < length problem.now.stream_names) self.now.rows }
         ensures { IfOk result (λ text. string_bytes text ≡ csv_text problem.now self.now.rows) }
     {
-        let mut text = String::from_str(alloc, HEADER)?;
-        for row in &self.rows {
-            write_record(&mut text, problem, row)?;
-        }
-        Ok(text)
+        self.table.to_csv(alloc, problem)
     }
-}
-
-/// How many rows are late.
-fn late_count(rows: &[Row]) -> usize
-    ensures { result ≡ length (filter is_late rows.now) }
-{
-    rows.iter().filter(|row| row.is_late()).count()
-}
-
-/// Writes the line of a row.
-#[tactic(auto, unfolding(crate::specs::Rows::row_text))]
-fn write_row(text: &mut String, problem: &Problem, row: &Row) -> Result<(), AllocError>
-    requires { row.now.stream < length problem.now.stream_names }
-    ensures { OnOk result (string_bytes text.new ≡ string_bytes text.old ++ row_text problem.now row.now) }
-{
-    let name = problem.stream_name(row.stream);
-    let cycle = row.cycle;
-    let hop = row.hop;
-    let planned = row.planned;
-    match row.actual {
-        Some(actual) => write!(text, "{name} {cycle} {hop} {planned} {actual}\n"),
-        None => write!(text, "{name} {cycle} {hop} {planned} -\n"),
-    }
-}
-
-/// Writes the last line.
-#[tactic(auto, unfolding(crate::specs::Rows::late_text))]
-fn write_late(text: &mut String, count: usize) -> Result<(), AllocError>
-    ensures { OnOk result (string_bytes text.new ≡ string_bytes text.old ++ late_text count) }
-{
-    write!(text, "late {count}\n")
 }

@@ -1,33 +1,10 @@
-use Rattle.std.specs.Prelude.{MatchOption}
-use Rattle.std.proofs.Common.{◌≡◌, ◌<◌, length, All, sym, ap, ◌∙◌, subst}
-use Rattle.tsn_model.specs.Network.{IsWellFormed, stream_count}
-use Rattle.tsn_model.proofs.OnTime.{starts_on_time}
-use Rattle.tsn_replay.specs.declared.trace.Row.{Row}
+use Rattle.std.proofs.Common.{subst}
+use Rattle.std.proofs.lemmas.Result.{IfOk-weaker}
+use Rattle.tsn_model.specs.Bridge.{IsFed}
 use Rattle.tsn_replay.specs.Feeding.{background_of}
-use Rattle.tsn_replay.specs.Faults.{NamesLinks, KeepsLimits, HasReplayFault}
-use Rattle.tsn_replay.specs.Progress.{IsSetting}
-use Rattle.tsn_replay.specs.Rows.{Traced}
-use Rattle.tsn_replay.proofs.Settings.{no_fault, setting_right}
-use Rattle.tsn_replay.proofs.Tables.{rows_named}
+use Rattle.tsn_replay.proofs.Records.{all_kept}
 use Rattle.tsn_replay.proofs.cycles.replay.Goals as goal
 
-pub run-requires : goal.run-requires
-run-requires c =
-    let network : c.args.problem.now.network ≡ c.plain.result.now = sym (c.plain.ensures ∙ c.in_ok-timing.ensures) in
-    let formed = subst IsWellFormed c.deref-2.ensures c.cycle-limits.ensures.well_formed in
-    let offsets = sym c.offsets.ensures in
-    let gates = sym (c.deref-3.ensures.value ∙ c.in_ok-gates.ensures) in
-    let background = background_of c.args.background.now in
-    let judged = subst (λ n. MatchOption c.first_fault.result (NamesLinks n c.args.lists.now background × KeepsLimits n c.args.lists.now c.args.cycles background) (HasReplayFault n c.args.lists.now c.args.cycles background)) c.deref.ensures c.first_fault.ensures in
-    let right = no_fault c.args.problem.now.network c.args.lists.now c.args.cycles background c.first_fault.result c.in_default.not-Some judged in
-    let setting = setting_right (record { network = c.args.problem.now.network; offsets = c.args.valid.now; gates = c.args.lists.now; cycles = c.args.cycles; background = background }) formed c.requires.valid c.requires.few right.0 right.1 in
-    subst IsSetting (λ i. record { network = network i; offsets = offsets i; gates = gates i; cycles = c.args.cycles; background = background }) setting
-
-pub returns-clause-named : goal.returns-clause-named
-returns-clause-named c =
-    let names : stream_count c.in_ok-timing.timing ≡ length c.args.problem.now.stream_names = ap stream_count c.in_ok-timing.ensures ∙ (sym c.streams-names.ensures.count ∙ c.streams-names.ensures.named) in
-    subst (λ rows. All (λ (row : Row). row.stream < length c.args.problem.now.stream_names) rows) (sym (ap (λ (t : Traced). t.rows) c.new.ensures))
-    (rows_named c.in_ok-timing.timing _ c.args.cycles _ c.in_ok-rows.rows.items (length c.args.problem.now.stream_names) names c.in_ok-rows.ensures)
-
-pub returns-clause-on_time : goal.returns-clause-on_time
-returns-clause-on_time c kept count run is = starts_on_time c.args.problem.now.network (subst IsWellFormed c.deref-2.ensures c.cycle-limits.ensures.well_formed) c.args.valid.now c.requires.valid c.args.lists.now kept count run is
+pub returns-clause-fed : goal.returns-clause-fed
+returns-clause-fed c = IfOk-weaker c.replayed.result _ _ (λ trace is.
+    subst (IsFed c.args.problem.now.network c.args.lists.now c.args.cycles (background_of c.args.background.now)) (all_kept is.made trace.run is.records) is.fed) c.replayed.ensures.replayed

@@ -1,37 +1,55 @@
-use Rattle.std.proofs.Common.{◌≡◌, ◌+◌, get_or, max, refl, sym, ap, ◌∙◌, subst, true≢false}
-use Rattle.std.proofs.lemmas.List.{get_or_default}
-use Rattle.tsn_model.specs.Bridge.{LinkGates}
-use Rattle.tsn_replay.specs.Queue.{Waits, free_on}
-use Rattle.tsn_replay.specs.Feeding.{waiting_on}
-use Rattle.tsn_replay.specs.Ports.{IsPort}
+use Rattle.std.proofs.Common.{◌≡◌, Some, sym, ◌∙◌, subst, arith, inl, inr}
+use Rattle.std.proofs.lemmas.Bool.{cases_eq}
+use Rattle.tsn_replay.specs.Ports.{port_in}
 use Rattle.tsn_replay.specs.Progress.{setting_of, IsPortAt}
-use Rattle.tsn_replay.proofs.States.{IsRenewed, renew_kept, renew_port}
+use Rattle.tsn_replay.proofs.States.{renewed_under_way, renewed_count, renewed_here, renewed_other}
 use Rattle.tsn_replay.proofs.engine.Replay.renew.Goals as goal
-use Rattle.tsn_replay.proofs.engine.Replay.renew.Goals.{then-link, else-link+else-waits}
 
-pub loop-number-preserved : goal.loop-number-preserved
-loop-number-preserved c =
-    let below = c.loop-number-test.true in
+pub returns-in-Some-clause-state : goal.returns-in-Some-clause-state
+returns-in-Some-clause-state c =
     let setting = setting_of c.args.self.now in
-    let state = c.loop-number.state in
-    let number = c.loop-number.number in
-    let before = c.loop-number.invariant.renewed in
-    let item : (d : LinkGates) → c.index-self-number.result ≡ get_or c.args.self.now.gates.now number d = λ d. c.index-self-number.is ∙ get_or_default c.args.self.now.gates.now number c.index-self-number.result d below in
-    let link : (d : LinkGates) → c.link.result ≡ (get_or c.args.self.now.gates.now number d).link = λ d. c.link.ensures ∙ ap (λ (g : LinkGates). g.link) (sym c.index-self-number.is ∙ item d) in
-    elim c.if-link.branch [
-      | then-link w ↦
-          let here : IsPortAt setting state number w.port.result =
-          λ d. subst (λ (g : LinkGates). IsPort c.args.self.now.network.now g.entries state.frames.items (waiting_on state.feed g.link) g.link (max (free_on state.free.items g.link) state.time) state.end w.port.result)
-          (sym c.index-self-number.is ∙ item d) w.port.ensures in
-          record {
-            renewed = subst (IsRenewed setting c.args.state.now c.args.link c.args.moved.now (number + 1)) (sym w.state-is) (renew_port setting c.args.state.now c.args.link c.args.moved.now number state before below w.port.result here _ refl);
-            last = refl;
-          }
-      | else-link+else-waits w ↦ record {
-        renewed = subst (IsRenewed setting c.args.state.now c.args.link c.args.moved.now (number + 1)) (sym w.state-is)
-            (renew_kept setting c.args.state.now c.args.link c.args.moved.now number state before below
-            (λ d same. w.if-link.false (link d ∙ same))
-            (λ d waits. true≢false (sym (w.waits.ensures.1 (subst (λ n. Waits c.args.self.now.network.now n c.args.moved.now) (sym (link d) ∙ (c.link.ensures ∙ sym w.link-else-link.ensures)) waits)) ∙ w.if-waits.false)));
-        last = refl;
-      }
-    ]
+    let old = c.args.state.now in
+    let first = c.renew_port.new.state in
+    let new = c.renew_port-in-Some.new.state in
+    let number = c.args.number in
+    let next = c.in-Some.next in
+    let one = c.renew_port.ensures in
+    let two = c.renew_port-in-Some.ensures in
+    let count = c.requires.count in
+    let list = c.requires.list in
+    let between = renewed_count setting number old first one in
+    let within = c.list_of.ensures.list next c.in-Some.is in
+    record {
+      under_way = renewed_under_way setting next first new two (renewed_under_way setting number old first one c.requires.state);
+      ports = record {
+        count = renewed_count setting next first new two ∙ (between ∙ count);
+        each = λ other below. elim (cases_eq next other) [
+          | inl same ↦ subst (λ n. IsPortAt setting new n (port_in new.ports n)) same (renewed_here setting next first new two (omega arith))
+          | inr apart ↦ renewed_other setting next first new two other apart (elim (cases_eq number other) [
+            | inl same ↦ subst (λ n. IsPortAt setting first n (port_in first.ports n)) same (renewed_here setting number old first one (omega arith))
+            | inr differ ↦ renewed_other setting number old first one other differ (c.requires.others other below differ
+                (λ d waits. let found : Some next ≡ Some other = sym c.in-Some.is ∙ c.list_of.ensures.waits other d below waits in apart (cc found)))
+          ])
+        ];
+      };
+    }
+
+pub returns-in_default-clause-state : goal.returns-in_default-clause-state
+returns-in_default-clause-state c =
+    let setting = setting_of c.args.self.now in
+    let old = c.args.state.now in
+    let new = c.renew_port.new.state in
+    let number = c.args.number in
+    let one = c.renew_port.ensures in
+    let count = c.requires.count in
+    let list = c.requires.list in
+    record {
+      under_way = renewed_under_way setting number old new one c.requires.state;
+      ports = record {
+        count = renewed_count setting number old new one ∙ count;
+        each = λ other below. elim (cases_eq number other) [
+          | inl same ↦ subst (λ n. IsPortAt setting new n (port_in new.ports n)) same (renewed_here setting number old new one (omega arith))
+          | inr differ ↦ renewed_other setting number old new one other differ (c.requires.others other below differ (λ d waits. c.in_default.not-Some other (c.list_of.ensures.waits other d below waits)))
+        ];
+      };
+    }

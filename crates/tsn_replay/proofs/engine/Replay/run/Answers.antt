@@ -1,9 +1,8 @@
-use Rattle.std.proofs.Common.{◌≡◌, ◌≤◌, ◌<◌, ℕ, Option, Some, None, MatchOption, length, refl, subst}
+use Rattle.std.proofs.Common.{◌≡◌, ◌≤◌, ◌<◌, ℕ, List, Option, Some, None, MatchOption, length, refl}
 use Rattle.tsn_replay.specs.declared.port.Port.{Port}
-use Rattle.std.proofs.Common.{List}
 use Rattle.tsn_replay.specs.Ports.{IsFirstPort, port_time, port_in}
 use Rattle.tsn_replay.specs.Progress.{setting_of}
-use Rattle.tsn_replay.proofs.Stepping.{ends_as_run, ends_as_fed}
+use Rattle.tsn_replay.proofs.Stepping.{ends_as_starts}
 use Rattle.tsn_replay.proofs.engine.Replay.run.Goals as goal
 
 -- where no port is first, none starts anything before the end
@@ -13,14 +12,7 @@ all_late : (ports : List Port) (end : ℕ) (first : Option ℕ) → ((number : �
 all_late ports end None none late = late
 all_late ports end (Some number) none first = absurd (none number refl)
 
-pub returns-clause-run : goal.returns-clause-run
-returns-clause-run c =
+pub returns : goal.returns
+returns c =
     let state = c.loop-number.state in
-    ends_as_run (setting_of c.args.self.now) state c.requires c.loop-number.invariant
-    (subst (λ ports. (number : ℕ) → number < length ports → state.end ≤ port_time (port_in ports number)) c.deref.ensures.value (all_late c.deref.result.now state.end c.first_port.result c.in_default.not-Some c.first_port.ensures))
-
-pub returns-clause-fed : goal.returns-clause-fed
-returns-clause-fed c =
-    let state = c.loop-number.state in
-    ends_as_fed (setting_of c.args.self.now) state c.requires c.loop-number.invariant
-    (subst (λ ports. (number : ℕ) → number < length ports → state.end ≤ port_time (port_in ports number)) c.deref.ensures.value (all_late c.deref.result.now state.end c.first_port.result c.in_default.not-Some c.first_port.ensures))
+    ends_as_starts (setting_of c.args.self.now) state c.requires c.loop-number.invariant (all_late state.ports state.end c.first.result c.in_default.not-Some c.first.ensures)

@@ -64,7 +64,7 @@ renew-requires-clause-stream c =
     subst (λ n. n < stream_count c.args.self.now.network.now) (sym moved) (subst (λ (f : Frame). f.stream < stream_count c.args.self.now.network.now) (sym frame) (stream_below setting state can is c.args.number first c.args.waiting c.requires.head c.args.time c.requires.time c.requires.order))
 
 pub renew-requires-clause-others : goal.renew-requires-clause-others
-renew-requires-clause-others c other other_below differs silent =
+renew-requires-clause-others c other other_below differ silent =
     let setting = setting_of c.args.self.now in
     let state = c.args.state.now in
     let can = c.requires.setting in
@@ -74,4 +74,4 @@ renew-requires-clause-others c other other_below differs silent =
     let on : link setting state can is c.args.number first ≡ c.link-link.result = sym (c.link-link.ensures ∙ link_is setting state can is c.args.number c.index-self-number.result (below setting state can is c.args.number first)) in
     let occupies : c.occupancy.result ≡ occupancy c.args.self.now.network.now c.index.result.now.stream (link setting state can is c.args.number first) =
     c.occupancy.ensures.value ∙ ap (occupancy c.args.self.now.network.now c.index.result.now.stream) (sym on) in
-    started_others setting state can is c.args.number first c.args.waiting c.requires.head c.args.time c.requires.time c.requires.order c.index.result.now frame c.occupancy.result occupies c.occupancy.ensures.some c.occupancy.ensures.bound c.advance-moved.result c.advance-moved.ensures.value c.advance-moved.ensures.ready c.start.new.self c.in_ok-start.ensures (with_item state.frames c.args.waiting c.advance-moved.result) refl (with_item state.free c.link-link.result (c.args.time + c.occupancy.result)) (ap (λ l. slice_set state.free.items l (c.args.time + c.occupancy.result)) (sym on)) other other_below (λ d same. differs d (same ∙ on)) silent
+    started_others setting state can is c.args.number first c.args.waiting c.requires.head c.args.time c.requires.time c.requires.order c.index.result.now frame c.occupancy.result occupies c.occupancy.ensures.some c.occupancy.ensures.bound c.advance-moved.result c.advance-moved.ensures.value c.advance-moved.ensures.ready c.start.new.self c.in_ok-start.ensures (with_item state.frames c.args.waiting c.advance-moved.result) refl (with_item state.free c.link-link.result (c.args.time + c.occupancy.result)) (ap (λ l. slice_set state.free.items l (c.args.time + c.occupancy.result)) (sym on)) other other_below differ silent
