@@ -1,0 +1,5 @@
+pub mod Links
+pub mod Octets
+pub mod Runs
+pub mod Longest
+pub mod Listing

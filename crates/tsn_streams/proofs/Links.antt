@@ -1,0 +1,13 @@
+-- The links of a network within its limits, and the names of its nodes.
+use Rattle.std.proofs.Common.{◌≡◌, ℕ, ◌<◌, List, [], length, slice_get, unwrap_or, Option, Some, sym, ap}
+use Rattle.tsn_model.specs.Network.{Network, IsWellFormed, IsLink, link_at}
+use Rattle.tsn_net.specs.Problem.{NamedNetwork}
+use Rattle.tsn_streams.specs.Table.{name_at}
+
+pub IsLink-at : (network : Network) → IsWellFormed network → (link : ℕ) → link < length network.links → IsLink network (link_at network link)
+unfolding link_at
+IsLink-at network formed link below = formed.links link (record { from = 0; to = 0; r = 0; prop = 0 }) below
+
+-- the name that was read
+pub name_found : (problem : NamedNetwork) (node : ℕ) (name : List ℕ) → slice_get problem.node_names node ≡ Some name → name ≡ name_at problem node
+name_found problem node name found = sym (ap (λ (o : Option (List ℕ)). unwrap_or o []) found)

@@ -1,0 +1,5 @@
+pub mod Shares
+pub mod Rest
+pub mod Table
+pub mod Json
+pub mod Csv

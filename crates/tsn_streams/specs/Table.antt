@@ -1,0 +1,46 @@
+-- The shares as a table.
+--     stream_line, link_line, table_text     its lines, and all of them
+--     stream_name, name_at                   names
+use Rattle.std.specs.Prelude.{ℕ, List, [], ◌∷◌, ◌++◌, slice_get, unwrap_or, codes}
+use Rattle.std.specs.List.{flat_map}
+use Rattle.std.specs.Fmt.{decimal}
+use Rattle.tsn_model.specs.Network.{link_at}
+use Rattle.tsn_net.specs.Problem.{NamedNetwork}
+use Rattle.tsn_streams.specs.declared.stream.StreamShare.{StreamShare}
+use Rattle.tsn_streams.specs.declared.link.LinkShare.{LinkShare}
+
+-- the names of a stream, and of a node; past the last one, none
+abbrev pub stream_name : NamedNetwork → ℕ → List ℕ
+stream_name problem stream = unwrap_or (slice_get problem.stream_names stream) []
+
+abbrev pub name_at : NamedNetwork → ℕ → List ℕ
+name_at problem node = unwrap_or (slice_get problem.node_names node) []
+
+-- a stream's numbers, each after its word
+unfoldable pub stream_numbers : StreamShare → List ℕ
+stream_numbers share =
+    codes " offset " ++ (decimal share.offset ++ (codes " latency " ++ (decimal share.latency ++ (codes " arrival " ++ (decimal share.arrival
+    ++ (codes " to_latest " ++ (decimal share.to_latest ++ (codes " to_cycle " ++ (decimal share.to_cycle ++ 10 ∷ [])))))))))
+
+-- the stream's name, and its numbers
+abbrev pub stream_line : NamedNetwork → StreamShare → List ℕ
+stream_line problem share = codes "stream " ++ (stream_name problem share.stream ++ stream_numbers share)
+
+-- a link's number, and the names of the nodes that it joins
+unfoldable pub link_head : ℕ → List ℕ → List ℕ → List ℕ
+link_head link from to = codes "link " ++ (decimal link ++ (codes " " ++ (from ++ (codes " " ++ to))))
+
+-- a link's numbers, each after its word
+unfoldable pub link_numbers : LinkShare → List ℕ
+link_numbers share =
+    codes " scheduled " ++ (decimal share.scheduled ++ (codes " guard " ++ (decimal share.guard
+    ++ (codes " open " ++ (decimal share.open ++ (codes " longest_open " ++ (decimal share.longest_open ++ 10 ∷ [])))))))
+
+abbrev pub link_line : NamedNetwork → LinkShare → List ℕ
+link_line problem share =
+    let link = link_at problem.network share.link in
+    link_head share.link (name_at problem link.from) (name_at problem link.to) ++ link_numbers share
+
+-- a line for each stream, then one for each link
+abbrev pub table_text : NamedNetwork → List StreamShare → List LinkShare → List ℕ
+table_text problem streams links = flat_map (stream_line problem) streams ++ flat_map (link_line problem) links

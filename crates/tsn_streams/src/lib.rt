@@ -1,0 +1,16 @@
+//! What each stream and each link gets by a schedule, in nanoseconds.
+#![tactic(auto)]
+
+mod csv;
+mod json;
+pub mod link;
+pub mod output;
+mod rest;
+pub mod stream;
+mod table;
+
+pub use link::{LinkShare, link_share, link_shares};
+pub use output::{to_csv, to_json, to_text};
+pub use rest::longest_open;
+pub use stream::{StreamShare, stream_share, stream_shares};
+pub use tsn_model::NoMemory;
