@@ -25,7 +25,7 @@ use tsn_device::device::{ReadFault, Sink, Source, read_all};
 use tsn_gate::{GateList, gate_lists, lists_by, to_taprio_within};
 use tsn_model::NoMemory;
 use tsn_net::{Problem, read_problem};
-use tsn_replay::{Background, ReplayFault, Trace, replay};
+use tsn_replay::{Background, ReplayFault, ReplayTable, replay_rows};
 use tsn_timing::{Timing, Valid};
 
 /// Reads a network file and a plan file, the first judged before the second is read, and writes the plan's gate control
@@ -282,11 +282,11 @@ fn replay_table(
     let background = Background::of(options.greedy);
     // The network is within its limits.
     let _limits = problem.cycle();
-    let trace = match replay(alloc, problem, valid, &lists, options.cycles, &background) {
-        Ok(trace) => trace,
+    let table = match replay_rows(alloc, problem, valid, &lists, options.cycles, &background) {
+        Ok(table) => table,
         Err(fault) => return Err(want_of_memory(fault)),
     };
-    let text = rows_text(alloc, problem, &trace, options.format)?;
+    let text = rows_text(alloc, problem, &table, options.format)?;
     Ok(Answer { status: DONE, text })
 }
 
@@ -294,15 +294,15 @@ fn replay_table(
 fn rows_text(
     alloc: Global,
     problem: &Problem,
-    trace: &Trace,
+    table: &ReplayTable,
     format: ReplayFormat,
 ) -> Result<String, NoMemory>
-    requires { All (λ (row : Row). row.stream < length problem.now.stream_names) trace.now.rows }
-    ensures { IfOk result (λ text. string_bytes text ≡ rows_text format problem.now trace.now.rows) }
+    requires { All (λ (row : Row). row.stream < length problem.now.stream_names) table.now }
+    ensures { IfOk result (λ text. string_bytes text ≡ rows_text format problem.now table.now) }
 {
     match format {
-        ReplayFormat::Table => trace.to_text(alloc, problem),
-        ReplayFormat::Csv => trace.to_csv(alloc, problem),
+        ReplayFormat::Table => table.to_text(alloc, problem),
+        ReplayFormat::Csv => table.to_csv(alloc, problem),
     }
 }
 
