@@ -1,5 +1,5 @@
 -- What is known once all tellers have come back.
-use Rattle.std.specs.Prelude.{◌≡◌, ℕ, ◌<◌, ◌≤◌, List, map, length, slice_index_or}
+use Rattle.std.specs.Prelude.{◌≡◌, ℕ, ◌<◌, ◌≤◌, List, map, length, slice_index_or, Any, IsPermutation}
 use Rattle.tsn_model.specs.Network.{Network}
 use Rattle.tsn_model.specs.Certificate.{beyond}
 use Rattle.tsn_model.specs.Search.{Settlement, tally_of}
@@ -10,6 +10,15 @@ use Rattle.tsn_share.specs.Teller.{Known}
 -- the tellers stand in the order of their numbers
 abbrev pub IsInOrder : List Known → Type 0
 IsInOrder tellers = (k : ℕ) (d : Known) → k < length tellers → (slice_index_or tellers k d).standing.number ≡ k
+
+-- each number below their count is a teller's
+abbrev pub AreAll : List Known → Type 0
+AreAll tellers = (number : ℕ) → number < length tellers → Any (λ known. known.standing.number ≡ number) tellers
+
+-- the same tellers in the order of their numbers
+pub record AreOrdered (tellers ordered : List Known) : Type 0 where
+  pub same : IsPermutation tellers ordered
+  pub in_order : IsInOrder ordered
 
 abbrev pub standings_of : List Known → List Standing
 standings_of tellers = map (λ known. known.standing) tellers

@@ -3,3 +3,4 @@ pub mod Teller
 pub mod Desk
 pub mod Parts
 pub mod Gathered
+pub mod Steps

@@ -1,5 +1,5 @@
 //! What tellers share.
-ghost use Rattle.std.specs.Prelude.{◌≡◌, ◌≤◌, ◌<◌, length, map, take, drop, All, IfOk, IfErr, OnOk, OnErr};
+ghost use Rattle.std.specs.Prelude.{◌≡◌, ◌≤◌, ◌<◌, ◌++◌, ◌∷◌, [], length, map, take, drop, All, IfOk, IfErr, OnOk, OnErr};
 ghost use Rattle.tsn_model.specs.Core.{IsAboveSeen};
 ghost use Rattle.tsn_timing.specs.Solution.{IsSolved};
 ghost use Rattle.tsn_branch.specs.Outcome.{outcome_of};
@@ -8,7 +8,9 @@ ghost use Rattle.tsn_incumbent.specs.Flowspans.{IsIncumbent};
 ghost use Rattle.tsn_incumbent.specs.Standings.{saw, put};
 ghost use Rattle.tsn_search_laws.specs.Gathering.{tally_with};
 ghost use Rattle.tsn_book.specs.Event.{event_of};
+ghost use Rattle.tsn_book.specs.Book.{IsLawful};
 ghost use Rattle.tsn_book.specs.Below.{path_after, events_below};
+ghost use Rattle.tsn_share.specs.Names.{IsBookOf};
 ghost use Rattle.tsn_share.specs.Teller.{IsEven, IsSolvedBy, settled, settled_all, OnlyLastSolved};
 ghost use Rattle.tsn_share.specs.Desk.{IsReading, IsBest, IsRefused, IsRefusedAt};
 
@@ -92,11 +94,33 @@ pub fn settle_as<K: Named>(
     ensures returned { IfErr result (λ refusal. refusal.1 ≡ event) }
     ensures fault { IfErr result (λ refusal. IsRefused K.names teller.new (event_of event) refusal.0) }
 {
+    let mut desk = shared.desk.lock(rt);
+    settle_at(&mut desk, &shared.halves, teller, event)
+}
+
+// Settles an event behind the lock, where it may be.
+fn settle_at<K: Named>(
+    desk: &mut Desk<K>,
+    halves: &Halves,
+    teller: &mut Teller<K>,
+    event: Event,
+) -> Result<(), (BookFault, Event)>
+    requires table { halves.now ≡ K.names.halves }
+    requires proof { HasProof K.names.race.network event.node (outcome_of event.look) }
+    requires seen { IsAboveSeen K.names.race.network teller.old.standing.seen (outcome_of event.look) }
+    ensures settled { OnOk result (teller.new ≡ settled (outcome_of event.look) teller.old) }
+    ensures history { OnOk result (desk.new.history ≡ desk.old.history ++ record { teller = teller.old.standing.number; event = event_of event } ∷ []) }
+    ensures book { IsBookOf K.names desk.new }
+    ensures lawful { IsLawful desk.new }
+    ensures refused { OnErr result (teller.new ≡ teller.old) }
+    ensures returned { IfErr result (λ refusal. refusal.1 ≡ event) }
+    ensures fault { IfErr result (λ refusal. IsRefused K.names teller.new (event_of event) refusal.0) }
+{
     let owner = Owner {
-        halves: &shared.halves,
+        halves,
         teller: teller.number,
     };
-    shared.desk.lock(rt).settle(owner, &mut teller.share, event)
+    desk.settle(owner, &mut teller.share, event)
 }
 
 /// Settles 1 to 64 events, of which at most the last is solved, in one critical section, in order, up to the first that may

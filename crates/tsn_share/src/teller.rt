@@ -1,4 +1,6 @@
 //! The right of one teller to observe, to post and to settle.
+ghost use Rattle.std.specs.Prelude.{◌≡◌};
+
 use crate::names::Named;
 use std::marker::{Model, PhantomData};
 use tsn_incumbent::{Half, Seat};
@@ -21,4 +23,13 @@ impl<K: Named> Model for Teller<K> {
     ghost view = { λ t. record { standing = head_of t.seat.standings; tally = t.share.tally } };
 
     ghost invariant = { λ t. Keeps K.names t.number t.seat t.share };
+}
+
+impl<K: Named> Teller<K> {
+    /// The teller's number, from 0.
+    pub fn number(&self) -> usize
+        ensures { result ≡ self.now.standing.number }
+    {
+        self.number
+    }
 }
