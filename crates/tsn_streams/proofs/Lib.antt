@@ -3,3 +3,4 @@ pub mod Octets
 pub mod Runs
 pub mod Longest
 pub mod Listing
+pub mod Wholes

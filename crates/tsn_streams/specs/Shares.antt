@@ -2,6 +2,7 @@
 --     stream_share, stream_shares           a stream's numbers, and those of all streams
 --     time_of                               how long a list shows an octet
 --     IsLinkShare, AreLinkShares            a link's numbers, by its list, and those of all lists
+--     AreSharesOfLinks                      those of the lists that a schedule asks for
 use Rattle.std.specs.Prelude.{◌≡◌, ℕ, ◌+◌, ◌-◌, ◌<◌, ◌==◌, if◌then◌else◌, List, map, length, slice_index_or, sum_by}
 use Rattle.std.specs.List.{range_with_len}
 use Rattle.tsn_model.specs.declared.GateEntry.{GateEntry}
@@ -10,6 +11,7 @@ use Rattle.tsn_model.specs.Timing.{arrival, span}
 use Rattle.tsn_model.specs.Schedule.{offset_of}
 use Rattle.tsn_model.specs.Gates.{scheduled_octet, closed_octet, background_octet}
 use Rattle.tsn_model.specs.Bridge.{LinkGates}
+use Rattle.tsn_gate.specs.GateLists.{AreWantedLists}
 use Rattle.tsn_streams.specs.declared.stream.StreamShare.{StreamShare}
 use Rattle.tsn_streams.specs.declared.link.LinkShare.{LinkShare}
 use Rattle.tsn_streams.specs.Rest.{IsLongestOpen}
@@ -48,3 +50,9 @@ pub record IsLinkShare (list : LinkGates) (share : LinkShare) : Type 0 where
 pub record AreLinkShares (lists : List LinkGates) (shares : List LinkShare) : Type 0 where
   pub count : length shares ≡ length lists
   pub right : (k : ℕ) (list : LinkGates) (share : LinkShare) → k < length lists → IsLinkShare (slice_index_or lists k list) (slice_index_or shares k share)
+
+-- shares of the lists that the schedule asks for
+pub record AreSharesOfLinks (network : Network) (offsets : List ℕ) (shares : List LinkShare) : Type 0 where
+  pub lists : List LinkGates
+  pub wanted : AreWantedLists network offsets lists
+  pub shared : AreLinkShares lists shares

@@ -6,11 +6,13 @@ mod json;
 pub mod link;
 pub mod output;
 mod rest;
+pub mod shares;
 pub mod stream;
 mod table;
 
 pub use link::{LinkShare, link_share, link_shares};
 pub use output::{to_csv, to_json, to_text};
 pub use rest::longest_open;
+pub use shares::{Shares, plan_shares};
 pub use stream::{StreamShare, stream_share, stream_shares};
 pub use tsn_model::NoMemory;

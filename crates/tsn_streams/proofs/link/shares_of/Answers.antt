@@ -1,4 +1,5 @@
-use Rattle.std.proofs.Common.{◌+◌, take, sym, subst}
+use Rattle.std.proofs.Common.{◌+◌, List, take, sym, subst}
+use Rattle.tsn_streams.specs.declared.link.LinkShare.{LinkShare}
 use Rattle.tsn_streams.specs.Shares.{AreLinkShares}
 use Rattle.tsn_streams.proofs.Listing.{AreLinkShares-push}
 use Rattle.tsn_streams.proofs.link.shares_of.Goals as goal
@@ -7,5 +8,5 @@ pub loop-list-preserved : goal.loop-list-preserved
 loop-list-preserved c =
     let lists = c.args.lists.now in
     let i = c.loop-list.list-index in
-    subst (λ xs. AreLinkShares (take (i + 1) lists) xs) (sym c.in_ok-push.ensures.items)
+    subst (λ xs. AreLinkShares (take (i + 1) lists) xs) (sym {A = List LinkShare} c.in_ok-push.ensures.items)
     (AreLinkShares-push lists c.loop-list.shares.items i c.list-item.result c.link_share.result c.loop-list-test.true c.list-item.is c.loop-list.invariant c.link_share.ensures)
