@@ -159,6 +159,7 @@ valid_found rows network offsets = record {
   gates = λ e. differ (codes "valid") (codes "gates") refl e;
   replay = λ e. differ (codes "valid") (codes "replay") refl e;
   chart = λ e. differ (codes "valid") (codes "chart") refl e;
+  streams = λ e. differ (codes "valid") (codes "streams") refl e;
   known = inl refl;
 }
 
@@ -171,6 +172,7 @@ plan_found rows network workers steps = record {
   gates = λ e. differ (codes "plan") (codes "gates") refl e;
   replay = λ e. differ (codes "plan") (codes "replay") refl e;
   chart = λ e. differ (codes "plan") (codes "chart") refl e;
+  streams = λ e. differ (codes "plan") (codes "streams") refl e;
   known = inr (inl refl);
 }
 
@@ -183,6 +185,7 @@ check_found rows network plan cert = record {
   gates = λ e. differ (codes "check") (codes "gates") refl e;
   replay = λ e. differ (codes "check") (codes "replay") refl e;
   chart = λ e. differ (codes "check") (codes "chart") refl e;
+  streams = λ e. differ (codes "check") (codes "streams") refl e;
   known = inr (inr (inl refl));
 }
 
@@ -195,6 +198,7 @@ prove_found rows network plan steps = record {
   gates = λ e. differ (codes "prove") (codes "gates") refl e;
   replay = λ e. differ (codes "prove") (codes "replay") refl e;
   chart = λ e. differ (codes "prove") (codes "chart") refl e;
+  streams = λ e. differ (codes "prove") (codes "streams") refl e;
   known = inr (inr (inr (inl refl)));
 }
 
@@ -208,6 +212,7 @@ gates_found rows network plan merge most least = record {
   gates = λ _. (network, plan, merge, most, least);
   replay = λ e. differ (codes "gates") (codes "replay") refl e;
   chart = λ e. differ (codes "gates") (codes "chart") refl e;
+  streams = λ e. differ (codes "gates") (codes "streams") refl e;
   known = inr (inr (inr (inr (inl refl))));
 }
 
@@ -220,6 +225,7 @@ replay_found rows network plan cycles merge = record {
   gates = λ e. differ (codes "replay") (codes "gates") refl e;
   replay = λ _. (network, plan, cycles, merge);
   chart = λ e. differ (codes "replay") (codes "chart") refl e;
+  streams = λ e. differ (codes "replay") (codes "streams") refl e;
   known = inr (inr (inr (inr (inr (inl refl)))));
 }
 
@@ -232,7 +238,21 @@ chart_found rows network plan until link = record {
   gates = λ e. differ (codes "chart") (codes "gates") refl e;
   replay = λ e. differ (codes "chart") (codes "replay") refl e;
   chart = λ _. (network, plan, until, link);
-  known = inr (inr (inr (inr (inr (inr refl)))));
+  streams = λ e. differ (codes "chart") (codes "streams") refl e;
+  known = inr (inr (inr (inr (inr (inr (inl refl))))));
+}
+
+streams_found : (rows : List Row) → IsGiven (codes "NET") rows → IsGiven (codes "PLAN") rows → HasCommand (codes "streams") rows
+streams_found rows network plan = record {
+  valid = λ e. differ (codes "streams") (codes "valid") refl e;
+  plan = λ e. differ (codes "streams") (codes "plan") refl e;
+  check = λ e. differ (codes "streams") (codes "check") refl e;
+  prove = λ e. differ (codes "streams") (codes "prove") refl e;
+  gates = λ e. differ (codes "streams") (codes "gates") refl e;
+  replay = λ e. differ (codes "streams") (codes "replay") refl e;
+  chart = λ e. differ (codes "streams") (codes "chart") refl e;
+  streams = λ _. (network, plan);
+  known = inr (inr (inr (inr (inr (inr (inr refl))))));
 }
 
 -- the command as it is built below the program
@@ -352,6 +372,17 @@ chart_known p answers no_help e =
     (apart, (apart, (apart, (apart, (λ _. fit_numbers _ _ _ refl (inl refl) refl refl, (apart, tt))))))) in
     chart_found rows network plan until link
 
+streams_known : Known (leaf grammar.streams.top)
+streams_known p answers no_help e =
+    let s = leaf grammar.streams.top in
+    let rows = rows_after s.rules [] p.1 in
+    let wanted = required s p.1 refl e in
+    let network : IsGiven (codes "NET") rows = first_given (codes "NET") Any rows
+    (rows_good s [] p.1 false [] e (codes "NET") Any (λ _. fit_file _ refl refl refl, (apart, (apart, (apart, tt))))) wanted.0 in
+    let plan : IsGiven (codes "PLAN") rows = first_given (codes "PLAN") Any rows
+    (rows_good s [] p.1 false [] e (codes "PLAN") Any (apart, (λ _. fit_file _ refl refl refl, (apart, (apart, tt))))) wanted.1.0 in
+    streams_found rows network plan
+
 or_false : (b : Bool) → (b || false) ≡ true → b ≡ true
 or_false true e = refl
 or_false false e = e
@@ -362,7 +393,7 @@ help_known p answers no_help e =
     absurd (true≢false (subst (λ t. bytes_eq t (codes "help") ≡ false) named no_help))
 
 each_known : Each Known (built grammar.tsn).subs
-each_known = (valid_known, (plan_known, (check_known, (prove_known, (gates_known, (replay_known, (chart_known, (help_known, tt))))))))
+each_known = (valid_known, (plan_known, (check_known, (prove_known, (gates_known, (replay_known, (chart_known, (streams_known, (help_known, tt)))))))))
 
 -- ---- the program
 

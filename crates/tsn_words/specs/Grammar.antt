@@ -1,7 +1,7 @@
 -- What the words of the command line ask for, by the grammar that `clap` reads them with.
---     tsn, valid, plan, check, prove, gates, replay, chart    the commands
+--     tsn, valid, plan, check, prove, gates, replay, chart, streams    the commands
 --     IsNumber, number_of, offsets_in      numbers
---     gates_format, replay_format, plan_search, has_format      formats and searches
+--     gates_format, replay_format, streams_format, plan_search, has_format      formats and searches
 --     AsksFor, takes_words, IsRefused      what the words ask for, and whether they are refused
 --     IsGiven, IsWithin, IsTime, IsLink, HasOffsets, HasCommand, IsWhole      what a parse without a fault finds
 use Rattle.std.specs.Prelude.{◌≡◌, ◌≤◌, ◌⊎◌, ◌&&◌, if◌then◌else◌, ℕ, List, map, length, codes, Option, Some, None, IfSome, MatchOption, is_some, option_map, Bool, true, false, All}
@@ -12,7 +12,7 @@ use Rattle.clap.specs.declared.builder.ArgAction.TheVariants.{Set, Append, SetTr
 use Rattle.clap.specs.declared.builder.value_parser.ValueParser.TheVariants.{Unsigned}
 use Rattle.tsn_words.specs.declared.words.TheConstants.{MAX_WORKERS}
 use Rattle.tsn_words.specs.declared.words.Words.{Words}
-use Rattle.tsn_words.specs.declared.words.Words.TheVariants.{Valid, Plan, Check, Prove, Gates, Replay, Chart}
+use Rattle.tsn_words.specs.declared.words.Words.TheVariants.{Valid, Plan, Check, Prove, Gates, Replay, Chart, Streams}
 use Rattle.tsn_words.specs.declared.words.ValidWords.{ValidWords}
 use Rattle.tsn_words.specs.declared.words.PlanWords.{PlanWords}
 use Rattle.tsn_words.specs.declared.words.CheckWords.{CheckWords}
@@ -20,10 +20,13 @@ use Rattle.tsn_words.specs.declared.words.ProveWords.{ProveWords}
 use Rattle.tsn_words.specs.declared.words.GatesWords.{GatesWords}
 use Rattle.tsn_words.specs.declared.words.ReplayWords.{ReplayWords}
 use Rattle.tsn_words.specs.declared.words.ChartWords.{ChartWords}
+use Rattle.tsn_words.specs.declared.words.StreamsWords.{StreamsWords}
 use Rattle.tsn_words.specs.declared.words.GatesFormat.{GatesFormat}
 use Rattle.tsn_words.specs.declared.words.GatesFormat.TheVariants as lists
 use Rattle.tsn_words.specs.declared.words.ReplayFormat.{ReplayFormat}
 use Rattle.tsn_words.specs.declared.words.ReplayFormat.TheVariants as replays
+use Rattle.tsn_words.specs.declared.words.StreamsFormat.{StreamsFormat}
+use Rattle.tsn_words.specs.declared.words.StreamsFormat.TheVariants as shares
 use Rattle.tsn_words.specs.declared.words.Search.{Search}
 use Rattle.tsn_words.specs.declared.words.Search.TheVariants as searches
 use Rattle.tsn_words.specs.declared.words.WordsFault.{WordsFault}
@@ -108,14 +111,18 @@ chart =
     with_rule (with_rule (with_rule (with_rule (with_rule (new_app (codes "chart")) (file (codes "NET"))) (file (codes "PLAN"))) (number_option (codes "until") 1000000000)) (flag (codes "all")))
     link_option
 
+-- streams NET PLAN [--format FORMAT]
+abbrev pub streams : App
+streams = with_rule (with_rule (with_rule (new_app (codes "streams")) (file (codes "NET"))) (file (codes "PLAN"))) (word_option (codes "format"))
+
 -- the program: a command is required, unless the version is asked for
 abbrev pub alone : App
 alone = record { top = record (new_app (codes "tsn")).top { has_version = true; subcommand_required = true }; subs = (new_app (codes "tsn")).subs }
 
 abbrev pub tsn : App
 tsn =
-    with_subcommand (with_subcommand (with_subcommand (with_subcommand (with_subcommand (with_subcommand (with_subcommand alone valid.top) plan.top) check.top) prove.top) gates.top) replay.top)
-    chart.top
+    with_subcommand (with_subcommand (with_subcommand (with_subcommand (with_subcommand (with_subcommand (with_subcommand (with_subcommand alone valid.top) plan.top) check.top) prove.top) gates.top) replay.top)
+    chart.top) streams.top
 
 -- a word that is a number: digits, where a plus may stand first
 abbrev pub IsNumber : Text → Type 0
@@ -158,6 +165,13 @@ gates_format (Some word) =
 abbrev pub replay_format : Option Text → Option ReplayFormat
 replay_format None = Some replays.Table
 replay_format (Some word) = if bytes_eq word (codes "table") then Some replays.Table else if bytes_eq word (codes "csv") then Some replays.Csv else None
+
+-- the same of `streams`
+abbrev pub streams_format : Option Text → Option StreamsFormat
+streams_format None = Some shares.Table
+streams_format (Some word) =
+    if bytes_eq word (codes "table") then Some shares.Table
+    else if bytes_eq word (codes "json") then Some shares.Json else if bytes_eq word (codes "csv") then Some shares.Csv else None
 
 -- the search of `plan` that a word names; `auto` where there is none
 abbrev pub plan_search : Option Text → Option Search
@@ -207,6 +221,11 @@ IsChartOf rows asked =
     × IsNumberOr (first_of (codes "until") rows) 1000000000 asked.until × IsFlag (one_of (codes "all") rows) asked.all
     × IsNumberIf (first_of (codes "link") rows) asked.link
 
+-- the files and the format of `streams`
+abbrev pub IsStreamsOf : List Row → StreamsWords → Type 0
+IsStreamsOf rows asked =
+    (first_of (codes "NET") rows ≡ Some asked.network.now) × (first_of (codes "PLAN") rows ≡ Some asked.plan.now) × (streams_format (first_of (codes "format") rows) ≡ Some asked.format)
+
 -- what is asked for by a command's name and the values of its arguments
 abbrev pub IsAsked : Option (Text × List Row) → Words → Type 0
 IsAsked found (Valid asked) = (rows : List Row) × (found ≡ Some (codes "valid", rows)) × IsValidOf rows asked
@@ -216,6 +235,7 @@ IsAsked found (Prove asked) = (rows : List Row) × (found ≡ Some (codes "prove
 IsAsked found (Gates asked) = (rows : List Row) × (found ≡ Some (codes "gates", rows)) × IsGatesOf rows asked
 IsAsked found (Replay asked) = (rows : List Row) × (found ≡ Some (codes "replay", rows)) × IsReplayOf rows asked
 IsAsked found (Chart asked) = (rows : List Row) × (found ≡ Some (codes "chart", rows)) × IsChartOf rows asked
+IsAsked found (Streams asked) = (rows : List Row) × (found ≡ Some (codes "streams", rows)) × IsStreamsOf rows asked
 
 -- the words ask for this
 abbrev pub AsksFor : List Text → Words → Type 0
@@ -227,7 +247,8 @@ has_format None = true
 has_format (Some command) =
     if bytes_eq command.0 (codes "plan") then is_some (plan_search (first_of (codes "search") command.1))
     else if bytes_eq command.0 (codes "gates") then is_some (gates_format (first_of (codes "format") command.1))
-    else if bytes_eq command.0 (codes "replay") then is_some (replay_format (first_of (codes "format") command.1)) else true
+    else if bytes_eq command.0 (codes "replay") then is_some (replay_format (first_of (codes "format") command.1))
+    else if bytes_eq command.0 (codes "streams") then is_some (streams_format (first_of (codes "format") command.1)) else true
 
 -- the words keep to the grammar, and name no other format or search
 abbrev pub takes_words : List Text → Bool
@@ -253,7 +274,7 @@ IsLink rows = IfSome (first_of (codes "link") rows) (IsUnsignedIn 0 1023)
 abbrev pub HasOffsets : List Row → Type 0
 HasOffsets rows = MatchOption (all_of (codes "OFFSET") rows) ⊥ (λ words. (1 ≤ length words) × All (IsUnsignedIn 0 2000000000) words)
 
--- a command that was met is one of the seven, and has what it requires, each value within its range
+-- a command that was met is one of the eight, and has what it requires, each value within its range
 pub record HasCommand (name : Text) (rows : List Row) : Type 0 where
   pub valid : name ≡ codes "valid" → IsGiven (codes "NET") rows × HasOffsets rows
   pub plan : name ≡ codes "plan" → IsGiven (codes "NET") rows × IsWithin (codes "workers") MAX_WORKERS rows × IsWithin (codes "steps") 1000000000 rows
@@ -262,7 +283,8 @@ pub record HasCommand (name : Text) (rows : List Row) : Type 0 where
   pub gates : name ≡ codes "gates" → IsGiven (codes "NET") rows × IsGiven (codes "PLAN") rows × IsTime (codes "merge") rows × IsWithin (codes "most") 1000000 rows × IsTime (codes "least") rows
   pub replay : name ≡ codes "replay" → IsGiven (codes "NET") rows × IsGiven (codes "PLAN") rows × IsWithin (codes "cycles") 16 rows × IsTime (codes "merge") rows
   pub chart : name ≡ codes "chart" → IsGiven (codes "NET") rows × IsGiven (codes "PLAN") rows × IsWithin (codes "until") 1000000000 rows × IsLink rows
-  pub known : (name ≡ codes "valid") ⊎ ((name ≡ codes "plan") ⊎ ((name ≡ codes "check") ⊎ ((name ≡ codes "prove") ⊎ ((name ≡ codes "gates") ⊎ ((name ≡ codes "replay") ⊎ (name ≡ codes "chart"))))))
+  pub streams : name ≡ codes "streams" → IsGiven (codes "NET") rows × IsGiven (codes "PLAN") rows
+  pub known : (name ≡ codes "valid") ⊎ ((name ≡ codes "plan") ⊎ ((name ≡ codes "check") ⊎ ((name ≡ codes "prove") ⊎ ((name ≡ codes "gates") ⊎ ((name ≡ codes "replay") ⊎ ((name ≡ codes "chart") ⊎ (name ≡ codes "streams")))))))
 
 -- what a parse without a fault finds
 abbrev pub IsWhole : Option (Text × List Row) → Type 0

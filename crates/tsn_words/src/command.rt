@@ -4,14 +4,14 @@ ghost use Rattle.std.specs.List.{fold};
 ghost use Rattle.std.specs.Option.{ForSome};
 ghost use Rattle.clap.specs.Words.{IsUnsignedIn, app_of, first_of, found_of, kind_of, new_app, rows_of, rule_of, subcommand_rows_of, with_rule, with_subcommand};
 ghost use Rattle.clap.specs.declared.builder.command.Command.TheViews.{out-Command as fields_of};
-ghost use Rattle.tsn_words.specs.Grammar.{AsksFor, HasOffsets, IsAsked, IsGiven, IsLink, IsNumberIf, IsNumberOr, IsRefused, IsTime, IsWhole, IsWithin, gates_format, has_format, number_of, plan_search, replay_format, takes_words};
+ghost use Rattle.tsn_words.specs.Grammar.{AsksFor, HasOffsets, IsAsked, IsGiven, IsLink, IsNumberIf, IsNumberOr, IsRefused, IsTime, IsWhole, IsWithin, gates_format, has_format, number_of, plan_search, replay_format, streams_format, takes_words};
 ghost use Rattle.tsn_words.specs.Grammar as grammar;
 
 use crate::words::{
     ChartWords, CheckWords, DEFAULT_ENTRIES, DEFAULT_ENTRY, DEFAULT_STEPS, GatesFormat, GatesWords,
     MAX_CYCLES, MAX_ENTRIES, MAX_LINK, MAX_OFFSET, MAX_STEPS, MAX_TIME, MAX_UNTIL, MAX_WORKERS,
-    PlanWords, ProveWords, ReplayFormat, ReplayWords, Search, VERSION, ValidWords, Words,
-    WordsFault,
+    PlanWords, ProveWords, ReplayFormat, ReplayWords, Search, StreamsFormat, StreamsWords, VERSION,
+    ValidWords, Words, WordsFault,
 };
 use clap::builder::ValueParser;
 use clap::error::ErrorKind;
@@ -52,7 +52,8 @@ fn program<'a>(alloc: Global) -> Result<Command<'a>, AllocError>
     let command = with_command(planner(alloc), prove_command(alloc));
     let command = with_command(command, gates_command(alloc));
     let command = with_command(command, replay_command(alloc));
-    with_command(command, chart_command(alloc))
+    let command = with_command(command, chart_command(alloc));
+    with_command(command, streams_command(alloc))
 }
 
 /// The program with the commands that judge offsets, plan and check.
@@ -204,6 +205,23 @@ fn chart_command<'a>(alloc: Global) -> Result<Command<'a>, AllocError>
         link_option(alloc),
     ]?;
     new_command(alloc, "chart", "Draws a plan as an SVG picture", arguments)
+}
+
+fn streams_command<'a>(alloc: Global) -> Result<Command<'a>, AllocError>
+    ensures app { IfOk result (λ c. app_of c ≡ grammar.streams) }
+    ensures local { IfOk result (λ c. (fields_of c).has_globals ≡ false) }
+{
+    let arguments = vec![in alloc;
+        network_argument(alloc),
+        plan_argument(alloc),
+        shares_format_option(alloc),
+    ]?;
+    new_command(
+        alloc,
+        "streams",
+        "Prints what each stream and each link gets by a plan",
+        arguments,
+    )
 }
 
 /// A command that takes some arguments.
@@ -449,6 +467,18 @@ fn replay_format_option<'a>(alloc: Global) -> Arg<'a>
     )
 }
 
+fn shares_format_option<'a>(alloc: Global) -> Arg<'a>
+    ensures rule { rule_of result ≡ grammar.word_option (codes "format") }
+    ensures local { result.global ≡ false }
+{
+    word_option(
+        alloc,
+        "format",
+        "FORMAT",
+        "How it is printed: table if not given, json or csv",
+    )
+}
+
 /// An option with a word, which help calls by a name.
 fn word_option<'a>(alloc: Global, name: &'a str, word: &'a str, help: &'a str) -> Arg<'a>
     ensures rule { rule_of result ≡ grammar.word_option name.entry.now }
@@ -540,6 +570,7 @@ fn command_of<'a>(alloc: Global, matches: &ArgMatches<'a>) -> Result<Words<'a>, 
         Some(("gates", words)) => gates_words(alloc, words),
         Some(("replay", words)) => replay_words(alloc, words),
         Some(("chart", words)) => Ok(chart_words(words)),
+        Some(("streams", words)) => streams_words(alloc, words),
         _ => unreachable!(),
     }
 }
@@ -771,6 +802,42 @@ fn chart_words<'a>(words: &ArgMatches<'a>) -> Words<'a>
         all: words.get_flag("all"),
         link: link_of(words.get_str("link")),
     })
+}
+
+fn streams_words<'a>(alloc: Global, words: &ArgMatches<'a>) -> Result<Words<'a>, WordsFault>
+    requires network { IsGiven (codes "NET") (rows_of (found_of words.now)) }
+    requires plan { IsGiven (codes "PLAN") (rows_of (found_of words.now)) }
+    ensures asked { IfOk result (IsAsked (Some (codes "streams", rows_of (found_of words.now)))) }
+    ensures known { IfOk result (λ _. is_some (streams_format (first_of (codes "format") (rows_of (found_of words.now)))) ≡ true) }
+    ensures refused { IfErr result (λ fault. IsRefused fault → streams_format (first_of (codes "format") (rows_of (found_of words.now))) ≡ None) }
+{
+    let word = words.get_str("format");
+    let Some(format) = streams_format(word) else {
+        return Err(unknown_word(alloc, "--format <FORMAT>", word, "table, json, csv"));
+    };
+    Ok(Words::Streams(StreamsWords {
+        network: text_of(words, "NET"),
+        plan: text_of(words, "PLAN"),
+        format,
+    }))
+}
+
+/// The format that a word names, if it names one.
+fn streams_format(word: Option<&str>) -> Option<StreamsFormat>
+    ensures { result ≡ streams_format (option_map (λ word. word.now) word.entry) }
+{
+    let Some(word) = word else {
+        return Some(StreamsFormat::Table);
+    };
+    if word == "table" {
+        Some(StreamsFormat::Table)
+    } else if word == "json" {
+        Some(StreamsFormat::Json)
+    } else if word == "csv" {
+        Some(StreamsFormat::Csv)
+    } else {
+        None
+    }
 }
 
 fn offsets_of(alloc: Global, words: &[&str]) -> Result<Vec<u64>, AllocError>

@@ -7,5 +7,5 @@ pub mod words;
 pub use command::words_from;
 pub use words::{
     ChartWords, CheckWords, GatesFormat, GatesWords, PlanWords, ProveWords, ReplayFormat,
-    ReplayWords, Search, ValidWords, Words, WordsFault,
+    ReplayWords, Search, StreamsFormat, StreamsWords, ValidWords, Words, WordsFault,
 };

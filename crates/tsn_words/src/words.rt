@@ -203,6 +203,28 @@ pub struct ReplayWords<'a> {
     pub ghost small: { ForSome merge (λ time. time ≤ 1000000000) },
 }
 
+/// How the shares of streams and links are printed.
+#[derive(Clone, Copy, Debug, PartialEq, Eq)]
+pub enum StreamsFormat {
+    /// `table`, which goes where the words name none.
+    Table,
+    /// `json`: an object a line.
+    Json,
+    /// `csv`: comma-separated values.
+    Csv,
+}
+
+/// `streams NET PLAN`: print what each stream and each link gets by a plan.
+#[derive(Clone, Copy)]
+pub struct StreamsWords<'a> {
+    /// The network file, or `-` for standard input.
+    pub network: &'a str,
+    /// The plan file.
+    pub plan: &'a str,
+    /// How it is printed.
+    pub format: StreamsFormat,
+}
+
 /// A command, with its words.
 #[derive(Drop)]
 pub enum Words<'a> {
@@ -213,6 +235,7 @@ pub enum Words<'a> {
     Gates(GatesWords<'a>),
     Replay(ReplayWords<'a>),
     Chart(ChartWords<'a>),
+    Streams(StreamsWords<'a>),
 }
 
 /// Why there is no command.

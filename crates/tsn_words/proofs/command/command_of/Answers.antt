@@ -4,7 +4,7 @@ use Rattle.std.proofs.lemmas.Result.{IfErr-weaker, IfOk-weaker}
 use Rattle.clap.specs.Words.{Row, Text, found_of, first_of, rows_of, subcommand_name_of, subcommand_rows_of}
 use Rattle.clap.specs.declared.parser.matches.ArgMatches.{ArgMatches}
 use Rattle.clap.specs.declared.parser.matches.ArgMatches.TheViews.{out-ArgMatches, out-SubCommand}
-use Rattle.tsn_words.specs.Grammar.{HasCommand, IsAsked, IsRefused, IsWhole, gates_format, has_format, plan_search, replay_format}
+use Rattle.tsn_words.specs.Grammar.{HasCommand, IsAsked, IsRefused, IsWhole, gates_format, has_format, plan_search, replay_format, streams_format}
 use Rattle.tsn_words.specs.declared.words.WordsFault.TheVariants.{Memory}
 use Rattle.tsn_words.proofs.command.command_of.Goals as goal
 
@@ -174,3 +174,21 @@ returns-in-Some-chart-default-clause-asked c = subst (λ o. IsAsked o c.chart_wo
 
 pub returns-in-Some-chart-default-clause-known : goal.returns-in-Some-chart-default-clause-known
 returns-in-Some-chart-default-clause-known c = ap has_format (chart c.before)
+
+streams : (c : goal.In-Some-streams-default) → subcommand_rows_of c.args.matches.now ≡ Some (codes "streams", rows_of (found_of c.in-Some-streams-default.words.now))
+streams c = met c.args.matches.now c.in-Some-streams-default.words.now c.in-Some-streams-default.field-0-0.now (codes "streams") (search rules) c.in-Some-streams-default.ensures.name c.in-Some-streams-default.ensures.rows
+
+pub streams_words-requires-clause-network : goal.streams_words-requires-clause-network
+streams_words-requires-clause-network c = ((has c.args.matches.now c.in-Some-streams-default.words.now (codes "streams") c.requires (streams c)).streams refl).0
+
+pub streams_words-requires-clause-plan : goal.streams_words-requires-clause-plan
+streams_words-requires-clause-plan c = ((has c.args.matches.now c.in-Some-streams-default.words.now (codes "streams") c.requires (streams c)).streams refl).1
+
+pub returns-in-Some-streams-default-clause-asked : goal.returns-in-Some-streams-default-clause-asked
+returns-in-Some-streams-default-clause-asked c = subst (λ o. IfOk c.streams_words.result (IsAsked o)) (sym (streams c.before)) c.streams_words.ensures.asked
+
+pub returns-in-Some-streams-default-clause-known : goal.returns-in-Some-streams-default-clause-known
+returns-in-Some-streams-default-clause-known c = IfOk-weaker c.streams_words.result (λ _. is_some (streams_format (first_of (codes "format") (rows_of (found_of c.in-Some-streams-default.words.now)))) ≡ true) _ (λ _ is. ap has_format (streams c.before) ∙ is) c.streams_words.ensures.known
+
+pub returns-in-Some-streams-default-clause-refused : goal.returns-in-Some-streams-default-clause-refused
+returns-in-Some-streams-default-clause-refused c = IfErr-weaker c.streams_words.result (λ fault. IsRefused fault → streams_format (first_of (codes "format") (rows_of (found_of c.in-Some-streams-default.words.now))) ≡ None) _ (λ fault none refused. ap has_format (streams c.before) ∙ ap is_some (none refused)) c.streams_words.ensures.refused
