@@ -1,8 +1,8 @@
--- What `gates`, `replay` and `chart` answer.
---     lists_text, rows_text                    texts in each format
---     ShowsLists, ShowsReplay, ShowsTable      the table of a plan
+-- What `gates`, `replay`, `chart` and `streams` answer.
+--     lists_text, rows_text, shares_text       texts in each format
+--     ShowsLists, ShowsReplay, ShowsShares, ShowsTable      the table of a plan
 --     RejectsPlan                              a plan that has none
---     TableAnswers, GatesAnswers, ReplayAnswers, ChartAnswers    the answer to the files read so far
+--     TableAnswers, GatesAnswers, ReplayAnswers, ChartAnswers, StreamsAnswers    the answer to the files read so far
 use Rattle.std.specs.Prelude.{◌≡◌, ◌⊎◌, ℕ, ◌≤◌, List, [], ◌∷◌, ◌++◌, codes, Ok}
 use Rattle.std.specs.List.{flat_map}
 use Rattle.tsn_model.specs.Network.{Network}
@@ -25,14 +25,22 @@ use Rattle.tsn_replay.specs.Rows as replay
 use Rattle.tsn_replay.specs.Rows.{AreRows}
 use Rattle.tsn_replay.specs.Csv.{csv_text}
 use Rattle.tsn_chart.specs.declared.picture.View.{View}
+use Rattle.tsn_streams.specs.declared.stream.StreamShare.{StreamShare}
+use Rattle.tsn_streams.specs.declared.link.LinkShare.{LinkShare}
+use Rattle.tsn_streams.specs.Shares.{stream_shares, AreSharesOfLinks}
+use Rattle.tsn_streams.specs.Table as streams
+use Rattle.tsn_streams.specs.Json as streams_json
+use Rattle.tsn_streams.specs.Csv as streams_csv
 use Rattle.tsn_cli.specs.declared.format.GatesFormat.{GatesFormat}
 use Rattle.tsn_cli.specs.declared.format.GatesFormat.TheVariants as lists
 use Rattle.tsn_cli.specs.declared.format.ReplayFormat.{ReplayFormat}
 use Rattle.tsn_cli.specs.declared.format.ReplayFormat.TheVariants as replays
+use Rattle.tsn_cli.specs.declared.format.StreamsFormat.{StreamsFormat}
+use Rattle.tsn_cli.specs.declared.format.StreamsFormat.TheVariants as shares
 use Rattle.tsn_cli.specs.declared.table.GatesOptions.{GatesOptions}
 use Rattle.tsn_cli.specs.declared.table.ReplayOptions.{ReplayOptions}
 use Rattle.tsn_cli.specs.declared.table.Table.{Table}
-use Rattle.tsn_cli.specs.declared.table.Table.TheVariants.{Gates, Replay, Chart}
+use Rattle.tsn_cli.specs.declared.table.Table.TheVariants.{Gates, Replay, Chart, Streams}
 use Rattle.tsn_cli.specs.Run.{Output, Command, IsLine}
 use Rattle.tsn_cli.specs.Valid.{RefusesNetwork}
 use Rattle.tsn_cli.specs.Check.{RefusesPlan, cause_text}
@@ -51,6 +59,12 @@ abbrev pub rows_text : ReplayFormat → NamedNetwork → List Row → List ℕ
 rows_text replays.Table problem rows = replay.table_text problem rows
 rows_text replays.Csv problem rows = csv_text problem rows
 
+-- the shares of the streams and links in a format
+abbrev pub shares_text : StreamsFormat → NamedNetwork → List StreamShare → List LinkShare → List ℕ
+shares_text shares.Table problem each links = streams.table_text problem each links
+shares_text shares.Json problem each links = streams_json.json_text problem each links
+shares_text shares.Csv problem each links = streams_csv.csv_text problem each links
+
 -- the output is the text of the gate lists of the schedule: those that it asks for, or merged lists
 abbrev pub ShowsLists : GatesOptions → NamedNetwork → List ℕ → Output → Type 0
 ShowsLists options problem offsets output = (all : List LinkGates) × AreListsBy options.merge problem.network offsets all × IsLine 0 (lists_text options problem all) output
@@ -66,17 +80,24 @@ ShowsReplay options problem offsets output =
 abbrev pub ShowsPicture : Output → Type 0
 ShowsPicture output = (picture : List ℕ) × IsLine 0 picture output
 
+-- the output is the text of what each stream gets by the schedule, and each link by the gates that it asks for
+abbrev pub ShowsShares : StreamsFormat → NamedNetwork → List ℕ → Output → Type 0
+ShowsShares format problem offsets output =
+    (links : List LinkShare) × AreSharesOfLinks problem.network offsets links × IsLine 0 (shares_text format problem (stream_shares problem.network offsets) links) output
+
 -- the output is what is asked for
 abbrev pub ShowsTable : Table → NamedNetwork → List ℕ → Output → Type 0
 ShowsTable (Gates options) problem offsets output = ShowsLists options problem offsets output
 ShowsTable (Replay options) problem offsets output = ShowsReplay options problem offsets output
 ShowsTable (Chart view) problem offsets output = ShowsPicture output
+ShowsTable (Streams format) problem offsets output = ShowsShares format problem offsets output
 
 -- a replay has 1 to 16 cycles
 abbrev pub CanShow : Table → Type 0
 CanShow (Gates options) = Unit {0}
 CanShow (Replay options) = (1 ≤ options.cycles) × (options.cycles ≤ 16)
 CanShow (Chart view) = Unit {0}
+CanShow (Streams format) = Unit {0}
 
 -- the plan is a valid schedule with its flowspan, and its table is shown
 abbrev pub ShowsPlan : Table → NamedNetwork → Plan → Output → Type 0
@@ -111,3 +132,6 @@ ReplayAnswers options = TableAnswers (Replay options)
 
 abbrev pub ChartAnswers : View → Command
 ChartAnswers view = TableAnswers (Chart view)
+
+abbrev pub StreamsAnswers : StreamsFormat → Command
+StreamsAnswers format = TableAnswers (Streams format)

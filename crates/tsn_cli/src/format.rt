@@ -19,3 +19,14 @@ pub enum ReplayFormat {
     /// Comma-separated values.
     Csv,
 }
+
+/// How the shares of streams and links are printed.
+#[derive(Clone, Copy, Debug, PartialEq, Eq)]
+pub enum StreamsFormat {
+    /// A line for each stream and each link.
+    Table,
+    /// A line of JSON for each.
+    Json,
+    /// Comma-separated values.
+    Csv,
+}

@@ -19,11 +19,11 @@ mod tables;
 mod valid;
 
 pub use check::check_run;
-pub use format::{GatesFormat, ReplayFormat};
+pub use format::{GatesFormat, ReplayFormat, StreamsFormat};
 pub use judge::judge_run;
 pub use plan::{NO_SCHEDULE, STOPPED, plan_run};
 pub use prove::prove_run;
 pub use table::{GatesOptions, ReplayOptions};
-pub use tables::{chart_run, gates_run, replay_run};
+pub use tables::{chart_run, gates_run, replay_run, streams_run};
 pub use tsn_device::{device, memory};
 pub use valid::valid_run;

@@ -1,6 +1,6 @@
 //! What a plan is shown by.
 
-use crate::format::{GatesFormat, ReplayFormat};
+use crate::format::{GatesFormat, ReplayFormat, StreamsFormat};
 use tsn_chart::View;
 use tsn_gate::DeviceLimits;
 
@@ -32,4 +32,6 @@ pub(crate) enum Table {
     Replay(ReplayOptions),
     /// A picture of it.
     Chart(View),
+    /// What each stream and each link gets.
+    Streams(StreamsFormat),
 }

@@ -1,4 +1,5 @@
-//! `gates`, `replay` and `chart`: print the gate control lists of a plan, a replay by them, and a picture.
+//! `gates`, `replay`, `chart` and `streams`: print the gate control lists of a plan, a replay by them, a picture, and what each
+//! stream and each link gets.
 ghost use Rattle.std.specs.Prelude.{◌≡◌, ◌≢◌, ◌≤◌, ◌<◌, ◌+◌, ◌-◌, ◌^◌, ◌⊎◌, ℕ, List, [], ◌∷◌, All, IfOk, IsErr, length, string_bytes};
 ghost use Rattle.std.specs.List.{flat_map};
 ghost use Rattle.std.specs.Io.KnownBytes.{Keeps};
@@ -9,11 +10,13 @@ ghost use Rattle.tsn_cli.specs.Outcome.{ComesTo, output_of};
 ghost use Rattle.tsn_gate.specs.Json.{json_text};
 ghost use Rattle.tsn_gate.specs.Table.{table_text};
 ghost use Rattle.tsn_replay.specs.declared.trace.Row.{Row};
-ghost use Rattle.tsn_cli.specs.Tables.{CanShow, ChartAnswers, GatesAnswers, JudgesPlan, RejectsPlan, ReplayAnswers, ShowsLists, ShowsPicture, ShowsPlan, ShowsReplay, ShowsTable, TableAnswers, lists_text, rejected_plan, rows_text};
+ghost use Rattle.tsn_streams.specs.declared.link.LinkShare.{LinkShare};
+ghost use Rattle.tsn_streams.specs.declared.stream.StreamShare.{StreamShare};
+ghost use Rattle.tsn_cli.specs.Tables.{CanShow, ChartAnswers, GatesAnswers, JudgesPlan, RejectsPlan, ReplayAnswers, ShowsLists, ShowsPicture, ShowsPlan, ShowsReplay, ShowsShares, ShowsTable, StreamsAnswers, TableAnswers, lists_text, rejected_plan, rows_text, shares_text};
 
 use crate::answer::Answer;
 use crate::check::{Cause, file_refusal};
-use crate::format::{GatesFormat, ReplayFormat};
+use crate::format::{GatesFormat, ReplayFormat, StreamsFormat};
 use crate::run::{DEVICE, DONE, MAX_FILE, REJECTED, respond};
 use crate::table::{GatesOptions, ReplayOptions, Table};
 use crate::valid::refusal;
@@ -26,6 +29,7 @@ use tsn_gate::{GateList, gate_lists, lists_by, to_taprio_within};
 use tsn_model::NoMemory;
 use tsn_net::{Problem, read_problem};
 use tsn_replay::{Background, ReplayFault, ReplayTable, replay_rows};
+use tsn_streams::{Shares, plan_shares, to_csv, to_json, to_text};
 use tsn_timing::{Timing, Valid};
 
 /// Reads a network file and a plan file, the first judged before the second is read, and writes the plan's gate control
@@ -138,6 +142,44 @@ pub fn chart_run<N: Source, P: Source, W: Sink>(
         (writing_of (W.taken sink.old) (W.taken sink.new) ∷ []) }
 {
     respond(sink, answer_of(alloc, network, plan, Table::Chart(view)))
+}
+
+/// Reads a network file and a plan file, the first judged before the second is read, and writes, in a format, what each stream
+/// and each link in use gets by the plan; or a line on what is refused. The answer is the status.
+pub fn streams_run<N: Source, P: Source, W: Sink>(
+    alloc: Global,
+    network: &mut N,
+    plan: &mut P,
+    format: StreamsFormat,
+    sink: &mut W,
+) -> u8
+    requires network_reads { N.failed network.old < 2 ^ 64 - 1 }
+    requires plan_reads { P.failed plan.old < 2 ^ 64 - 1 }
+    requires writes { W.failed sink.old < 2 ^ 64 - 1 }
+
+    ensures ended { result ≢ DEVICE → Ends (StreamsAnswers format)
+        (reading_of (N.given network.old) (N.given network.new) (N.is_at_end network.new)
+        ∷ reading_of (P.given plan.old) (P.given plan.new) (P.is_at_end plan.new) ∷ [])
+        (writing_of (W.taken sink.old) (W.taken sink.new) ∷ []) result }
+    ensures no_failure { result ≢ DEVICE → (N.failed network.new ≡ N.failed network.old)
+        × (P.failed plan.new ≡ P.failed plan.old) × (W.failed sink.new ≡ W.failed sink.old) }
+
+    ensures failure { result ≡ DEVICE → N.failed network.new + P.failed plan.new + W.failed sink.new
+        ≡ N.failed network.old + P.failed plan.old + W.failed sink.old + 1 }
+    ensures read_failed { N.failed network.new + P.failed plan.new
+        ≢ N.failed network.old + P.failed plan.old
+        → Keeps (W.taken sink.old) (W.taken sink.new) × BreaksOff (StreamsAnswers format) []
+        (reading_of (N.given network.old) (N.given network.new) (N.is_at_end network.new)
+        ∷ reading_of (P.given plan.old) (P.given plan.new) (P.is_at_end plan.new) ∷ []) }
+    ensures write_failed { W.failed sink.new ≢ W.failed sink.old → EndsEarly (StreamsAnswers format)
+        (reading_of (N.given network.old) (N.given network.new) (N.is_at_end network.new)
+        ∷ reading_of (P.given plan.old) (P.given plan.new) (P.is_at_end plan.new) ∷ [])
+        (writing_of (W.taken sink.old) (W.taken sink.new) ∷ []) }
+{
+    respond(
+        sink,
+        answer_of(alloc, network, plan, Table::Streams(format)),
+    )
 }
 
 /// What the run answers.
@@ -263,6 +305,7 @@ fn table_of(
         Table::Gates(options) => lists(alloc, problem, valid, options),
         Table::Replay(options) => replay_table(alloc, problem, valid, options),
         Table::Chart(view) => picture(alloc, problem, valid, view),
+        Table::Streams(format) => shares_table(alloc, problem, valid, format),
     }
 }
 
@@ -377,6 +420,43 @@ fn picture(alloc: Global, problem: &Problem, valid: &Valid, view: View) -> Resul
     let lists = gate_lists(alloc, problem, valid)?;
     let text = chart_of(alloc, problem, valid, &lists, view)?;
     Ok(Answer { status: DONE, text })
+}
+
+/// What each stream and each link gets by a valid schedule.
+fn shares_table(
+    alloc: Global,
+    problem: &Problem,
+    valid: &Valid,
+    format: StreamsFormat,
+) -> Result<Answer, NoMemory>
+    requires valid { IsValid problem.now.network valid.now }
+    ensures { IfOk result (λ a. ShowsShares format problem.now valid.now (output_of (Ok a))) }
+{
+    let shares = plan_shares(alloc, problem, valid)?;
+    let text = shares_text(alloc, problem, &shares, format);
+    drop(shares);
+    let text = text?;
+    Ok(Answer { status: DONE, text })
+}
+
+/// The text of the shares.
+fn shares_text(
+    alloc: Global,
+    problem: &Problem,
+    shares: &Shares,
+    format: StreamsFormat,
+) -> Result<String, NoMemory>
+    requires named { All (λ (share : StreamShare). share.stream < length problem.now.stream_names) shares.now.streams.items }
+    requires exist { All (λ (share : LinkShare). share.link < length problem.now.network.links) shares.now.links.items }
+    ensures { IfOk result (λ text. string_bytes text ≡ shares_text format problem.now shares.now.streams.items shares.now.links.items) }
+{
+    let streams = &shares.streams;
+    let links = &shares.links;
+    match format {
+        StreamsFormat::Table => to_text(alloc, problem, streams, links),
+        StreamsFormat::Json => to_json(alloc, problem, streams, links),
+        StreamsFormat::Csv => to_csv(alloc, problem, streams, links),
+    }
 }
 
 /// What is said of a plan with this fault.
