@@ -1,0 +1,76 @@
+#!/usr/bin/env python3
+"""Plans networks along a hint, has each certificate checked, and each plan proved.
+
+Usage: bench/guided.py FOLDER [--bin PROGRAM] [--steps N] [--workers W] [--only REGEX]
+
+For each network file of the folder, a line of a table: what `plan --search guided` says and in how many seconds from start to
+end, what `check` says of its certificate, and what `prove` says of the plan it wrote (the best one, where it was stopped).
+Ends with how many were decided and how many plans were proved, and with status 1 where a certificate or a proof is refused.
+"""
+
+import argparse
+import os
+import re
+import subprocess
+import sys
+import tempfile
+import time
+
+ROOT = os.path.dirname(os.path.dirname(os.path.abspath(__file__)))
+
+
+def said(words):
+    """The line that a command prints, its status, and the seconds that it took."""
+    begin = time.monotonic()
+    ended = subprocess.run(words, stdin=subprocess.DEVNULL, stdout=subprocess.PIPE, stderr=subprocess.DEVNULL, text=True)
+    return ended.stdout.strip(), ended.returncode, time.monotonic() - begin
+
+
+def tried(program, network, words, room):
+    """What is said of one network: of its plan, its certificate, and its plan's proof; and whether all of it is as it should be."""
+    plan, cert, proof = (os.path.join(room, it) for it in ("plan.json", "cert.json", "proof.json"))
+    for it in (plan, cert, proof):
+        if os.path.exists(it):
+            os.remove(it)
+    line, status, seconds = said([program, "plan", network, "--search", "guided", "--plan", plan, "--cert", cert, *words])
+    checked, proved, proof_seconds, right = "", "", 0.0, status in (0, 4, 5)
+    if os.path.exists(cert):
+        checked, check_status, _ = said([program, "check", network, plan, cert])
+        right = right and check_status == 0
+    if os.path.exists(plan):
+        proved, proof_status, proof_seconds = said([program, "prove", network, plan, "--cert", proof])
+        right = right and proof_status in (0, 5)
+        if proof_status == 0:
+            accepted, accept_status, _ = said([program, "check", network, plan, proof])
+            right = right and accept_status == 0 and accepted.startswith("accepted")
+    return line, seconds, checked, proved, proof_seconds, right
+
+
+def main():
+    parser = argparse.ArgumentParser(description=__doc__, formatter_class=argparse.RawDescriptionHelpFormatter)
+    parser.add_argument("folder")
+    parser.add_argument("--bin", default=os.path.join(ROOT, "crates", "tsn", "out", "tsn"))
+    parser.add_argument("--steps", default="1000000")
+    parser.add_argument("--workers", default="1")
+    parser.add_argument("--only", default="")
+    given = parser.parse_args()
+    words = ["--steps", given.steps, "--workers", given.workers]
+    names = sorted(it for it in os.listdir(given.folder) if it.endswith(".toml") and re.search(given.only, it))
+    decided, proofs, total, wrong = 0, 0, 0.0, []
+    print("| Network | `plan --search guided` | Seconds | `check` | `prove` | Seconds |\n|---|---|---|---|---|---|", flush=True)
+    with tempfile.TemporaryDirectory() as room:
+        for name in names:
+            line, seconds, checked, proved, proof_seconds, right = tried(given.bin, os.path.join(given.folder, name), words, room)
+            decided += not line.startswith("stopped")
+            proofs += proved.startswith("proved")
+            total += seconds
+            if not right:
+                wrong.append(name)
+            print(f"| {name[:-5]} | `{line}` | {seconds:.2f} | `{checked}` | `{proved}` | {proof_seconds:.2f} |", flush=True)
+    print(f"\n{decided} of {len(names)} decided, {proofs} plans proved, {total:.1f} s for the plans")
+    if wrong:
+        sys.exit("not as it should be: " + " ".join(wrong))
+
+
+if __name__ == "__main__":
+    main()
