@@ -16,6 +16,7 @@ pub mod Records
 pub mod States
 pub mod Stepping
 pub mod Sendings
+pub mod Startings
 pub mod Tables
 pub mod Settings
 pub mod Progress
