@@ -13,7 +13,7 @@ use Rattle.tsn_replay.specs.Feeding.{waiting_on, HasLink, IsFeedOf, IsSent}
 use Rattle.tsn_replay.specs.Ports.{IsPort, IsScheduledNext, IsFirstPort, port_in}
 use Rattle.tsn_replay.specs.Records.{noted}
 use Rattle.tsn_replay.specs.Progress.{Setting, IsSetting, IsUnderWay, IsState, IsSending}
-use Rattle.tsn_replay.proofs.Stepping.{link, given, until_short, send_in_time, send_still, sent_under_way, sent_state, sent_falls}
+use Rattle.tsn_replay.proofs.Stepping.{link, link_is, below, given, until_short, send_in_time, send_still, sent_under_way, sent_state, sent_falls}
 use Rattle.tsn_replay.proofs.Steps.{IsGiven}
 use Rattle.tsn_replay.proofs.States.{given_on}
 
@@ -32,19 +32,44 @@ module _ (setting : Setting) (state : State) (can : IsSetting setting) (is : IsS
   abbrev here : ℕ
   here = link setting state can is number first
 
-  -- what is computed of the frame fits into a number
-  module _ (waiting : Waiting) (waits : waiting_on state.feed here ≡ Some waiting) where
-    pub octets_few : waiting.octets ≤ 1522
-    octets_few = (given setting state can is number first port port_is order waiting waits).short
+  -- what is read and computed of the frame that waits on the link of the list
+  module _ (list : LinkGates) (at : ℕ) (at_is : at ≡ (get_or setting.gates number list).link) (waiting : Waiting) (waits : waiting_on state.feed at ≡ Some waiting) where
+    within : number < length setting.gates
+    within = below setting state can is number first
 
-    pub until_few : (rate : ℕ) → rate ≡ (link_at setting.network here).r → 1 ≤ rate → rate ≤ 800 → port.background + (waiting.octets + 20) * rate ≤ 2 ^ 40
-    until_few rate rate_is some few =
-        let short = until_short setting state can is number first port port_is order waiting waits (port.background + (waiting.octets + 20) * rate) (ap (λ r. port.background + (waiting.octets + 20) * r) rate_is) (omega arith) (omega arith) in
-        let upto = short.1 in
-        let soon = send_in_time setting state can is number first port port_is order in
-        let end_is = is.under_way.end in
-        let small = is.under_way.small in
-        omega arith
+    here_at : here ≡ at
+    here_at = sym (at_is ∙ link_is setting state can is number list within)
+
+    waits_here : waiting_on state.feed here ≡ Some waiting
+    waits_here = ap (waiting_on state.feed) here_at ∙ waits
+
+    pub octets_few : waiting.octets ≤ 1522
+    octets_few = (given setting state can is number first port port_is order waiting waits_here).short
+
+    module _ (rate : ℕ) (rate_is : rate ≡ (link_at setting.network at).r) (some : 1 ≤ rate) (few : rate ≤ 800) where
+      rate_here : rate ≡ (link_at setting.network here).r
+      rate_here = rate_is ∙ ap (λ l. (link_at setting.network l).r) (sym here_at)
+
+      pub until_few : port.background + (waiting.octets + 20) * rate ≤ 2 ^ 40
+      until_few =
+          let short = until_short setting state can is number first port port_is order waiting waits_here (port.background + (waiting.octets + 20) * rate) (ap (λ r. port.background + (waiting.octets + 20) * r) rate_here)
+          (subst (λ r. 1 ≤ r) rate_here some) (subst (λ r. r ≤ 800) rate_here few) in
+          let upto = short.1 in
+          let soon = send_in_time setting state can is number first port port_is order in
+          let end_is = is.under_way.end in
+          let small = is.under_way.small in
+          omega arith
+
+      pub is_sending : IsSending setting state number port (record { link = at; waiting = waiting; until = port.background + (waiting.octets + 20) * rate })
+      is_sending = record {
+        on = λ d. link_is setting state can is number d within ∙ here_at;
+        exists = subst (λ l. l < length setting.network.links) here_at (can.lists.links number no_list within);
+        waits = waits;
+        until = ap (λ r. port.background + (waiting.octets + 20) * r) rate_is;
+        some = subst (λ r. 1 ≤ r) rate_is some;
+        few = subst (λ r. r ≤ 800) rate_is few;
+        early = until_few;
+      }
 
   module _ (sending : Sending) (sends : IsSending setting state number port sending) where
     on : here ≡ sending.link
