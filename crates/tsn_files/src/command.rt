@@ -4,7 +4,7 @@ ghost use Rattle.std.specs.Prelude.{◌<◌, ◌-◌, ◌^◌};
 use crate::json::{end_as_json, line_keeper};
 use crate::planning::{plan, prove};
 use crate::report::{file_of, source_line};
-use crate::tables::{chart, gates, replay};
+use crate::tables::{chart, gates, replay, streams};
 use crate::told::{Ended, STANDARD_OUTPUT, cert_line, end_at, offsets_line};
 use std::alloc::Global;
 use std::io;
@@ -33,6 +33,7 @@ pub fn run<'a, R: Files + Input + Eprint + Clock + Threads + Wait + Sync, P: Pri
         Words::Gates(words) => gates(rt, alloc, output, told, words),
         Words::Replay(words) => replay(rt, alloc, output, told, words),
         Words::Chart(words) => chart(rt, alloc, output, told, words),
+        Words::Streams(words) => streams(rt, alloc, output, told, words),
     }
 }
 

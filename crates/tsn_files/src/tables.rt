@@ -1,4 +1,4 @@
-//! The commands that show a plan, over files: its gate control lists, a replay, a picture.
+//! The commands that show a plan, over files: its gate control lists, a replay, a picture, what each stream and link gets.
 
 use crate::report::{failure_line, file_of, source_line};
 use crate::told::{STANDARD_OUTPUT, plan_line, tell};
@@ -8,12 +8,13 @@ use std::rt::Files;
 use tsn_chart::{Shown, View};
 use tsn_cli::run::DONE;
 use tsn_cli::{
-    GatesFormat, GatesOptions, ReplayFormat, ReplayOptions, chart_run, gates_run, replay_run,
+    GatesFormat, GatesOptions, ReplayFormat, ReplayOptions, StreamsFormat, chart_run, gates_run,
+    replay_run, streams_run,
 };
 use tsn_device::{FileSource, WriterSink};
 use tsn_gate::DeviceLimits;
 use tsn_reason::{File, device_reason};
-use tsn_words::{ChartWords, GatesWords, ReplayWords};
+use tsn_words::{ChartWords, GatesWords, ReplayWords, StreamsWords};
 
 /// Prints gate lists; the network `-` is standard input. Of those that are printed as a script it is told what the device doesn't
 /// take.
@@ -83,6 +84,30 @@ pub fn chart<'a, R: Files + Input, P: Print, E: Eprint>(
     let mut plan = FileSource::file(rt, alloc, words.plan);
     let mut sink = WriterSink::new(STANDARD_OUTPUT, io::writer(output));
     let status = chart_run(alloc, &mut network, &mut plan, view_of(words), &mut sink);
+    let line = source_line(alloc, status, &network)
+        .or(source_line(alloc, status, &plan))
+        .or(failure_line(alloc, status, sink.failure()))
+        .or(plan_line(alloc, status, file_of(&network), file_of(&plan)));
+    drop(network);
+    drop(plan);
+    drop(sink);
+    tell(told, line);
+    status
+}
+
+/// Prints what each stream and each link gets by a plan; the network `-` is standard input.
+pub fn streams<'a, R: Files + Input, P: Print, E: Eprint>(
+    rt: &'a R,
+    alloc: Global,
+    output: &P,
+    told: &E,
+    words: StreamsWords<'a>,
+) -> u8 {
+    let mut network = FileSource::network(rt, alloc, words.network);
+    let mut plan = FileSource::file(rt, alloc, words.plan);
+    let mut sink = WriterSink::new(STANDARD_OUTPUT, io::writer(output));
+    let format = streams_format(words.format);
+    let status = streams_run(alloc, &mut network, &mut plan, format, &mut sink);
     let line = source_line(alloc, status, &network)
         .or(source_line(alloc, status, &plan))
         .or(failure_line(alloc, status, sink.failure()))
@@ -168,5 +193,14 @@ fn replay_format(format: tsn_words::ReplayFormat) -> ReplayFormat {
     match format {
         tsn_words::ReplayFormat::Table => ReplayFormat::Table,
         tsn_words::ReplayFormat::Csv => ReplayFormat::Csv,
+    }
+}
+
+/// The format of the shares that the words ask for.
+fn streams_format(format: tsn_words::StreamsFormat) -> StreamsFormat {
+    match format {
+        tsn_words::StreamsFormat::Table => StreamsFormat::Table,
+        tsn_words::StreamsFormat::Json => StreamsFormat::Json,
+        tsn_words::StreamsFormat::Csv => StreamsFormat::Csv,
     }
 }
