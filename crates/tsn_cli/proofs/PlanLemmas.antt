@@ -1,5 +1,5 @@
 -- What a run of `plan` prints tells what its search found.
-use Rattle.std.proofs.Common.{◌≡◌, ◌⊎◌, ◌≤◌, ℕ, Bool, inl, inr, List, [], ◌∷◌, length, string_bytes, Option, None, Some, is_some, Result, Ok, Err, OnErr, IfOk, MatchOption, sym, ap, ◌∙◌, subst}
+use Rattle.std.proofs.Common.{◌≡◌, ◌⊎◌, ℕ, Bool, inl, inr, List, [], ◌∷◌, length, string_bytes, Option, None, Some, Result, Ok, Err, OnErr, IfOk, MatchOption, sym, ap, ◌∙◌, subst}
 use Rattle.tsn_model.specs.Network.{Network}
 use Rattle.tsn_model.specs.Search.{kept_of}
 use Rattle.tsn_model.specs.declared.NoMemory.{NoMemory}
@@ -8,7 +8,6 @@ use Rattle.tsn_net.specs.Problem.{NamedNetwork}
 use Rattle.tsn_device.specs.declared.device.ReadFault.{ReadFault}
 use Rattle.tsn_device.specs.declared.device.ReadFault.TheVariants.{Broken}
 use Rattle.tsn_cert.specs.declared.cert.Cert.{Cert}
-use Rattle.tsn_cert.specs.declared.plan.Plan.{Plan}
 use Rattle.tsn_cert.specs.Plan.{plan_text}
 use Rattle.tsn_book.specs.Book.{Progress}
 use Rattle.tsn_worker.specs.declared.found.Found.{Found}

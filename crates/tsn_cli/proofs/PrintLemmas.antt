@@ -1,5 +1,5 @@
 -- What a run of `plan` prints is what it has to print.
-use Rattle.std.proofs.Common.{◌≡◌, ℕ, Bool, true, false, List, [], ◌∷◌, take, codes, Option, None, Some, IsSome, Result, Ok, Err, OnOk, OnErr, is_err, refl, sym, subst, All}
+use Rattle.std.proofs.Common.{◌≡◌, ℕ, true, false, List, [], ◌∷◌, take, codes, Option, None, Some, IsSome, Result, Ok, Err, OnOk, OnErr, is_err, refl, sym, subst, All}
 use Rattle.std.proofs.lemmas.List.Elements.{All-nil, All-cons}
 use Rattle.std.specs.Io.KnownBytes.{Appends}
 use Rattle.tsn_device.specs.declared.device.ReadFault.{ReadFault}

@@ -1,5 +1,4 @@
 use Rattle.std.proofs.Common.{rules, ◌≡◌, ◌++◌, string_bytes}
-use Rattle.tsn_cert.specs.Text.{head_text, tail_text}
 use Rattle.tsn_cli.proofs.PieceLemmas.{Appends-nothing, err_beginning, err_cert, err_last, last_whole, parted_cert}
 use Rattle.tsn_cli.proofs.certificate.write_cert.Goals as goal
 

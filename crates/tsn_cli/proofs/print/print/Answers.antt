@@ -1,4 +1,4 @@
-use Rattle.std.proofs.Common.{rules, ◌≡◌, Err, inl, inr, codes}
+use Rattle.std.proofs.Common.{rules, Err, inl, inr, codes}
 use Rattle.std.proofs.lemmas.List.Elements.{All-nil}
 use Rattle.tsn_device.specs.declared.device.ReadFault.TheVariants.{TooLong, Memory}
 use Rattle.tsn_cli.specs.PlanOutput.{printed}

@@ -1,4 +1,4 @@
-use Rattle.std.proofs.Common.{rules, ◌≡◌, Ok, inl, inr, refl, codes, string_bytes}
+use Rattle.std.proofs.Common.{rules, Ok, inl, inr, refl, codes, string_bytes}
 use Rattle.std.proofs.lemmas.List.Elements.{All-nil}
 use Rattle.tsn_cli.specs.PlanOutput.{printed}
 use Rattle.tsn_cli.proofs.PrintLemmas.{cut, is_cut, of_err, of_ok, one_unwritten, text_beginning, text_whole, two_unwritten}
