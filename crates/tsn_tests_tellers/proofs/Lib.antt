@@ -1,3 +1,4 @@
 pub mod Solving
+pub mod Orders
 pub mod Crossing
 pub mod Numbers

@@ -3,6 +3,7 @@
 mod batches;
 mod ends;
 mod networks;
+mod orders;
 mod settling;
 mod shares;
 mod steps;

@@ -219,7 +219,7 @@ fn expect_same_path(rt: &impl Abort, node: &Node, wanted: &Node) {
 }
 
 /// Splits the root, and counts.
-fn split_and_count<K: Named, R: Wait + Abort + AllocGlobal>(
+pub fn split_and_count<K: Named, R: Wait + Abort + AllocGlobal>(
     rt: &R,
     shared: &Shared<K>,
     teller: &mut Teller<K>,
@@ -249,7 +249,7 @@ fn post<K: Named>(
 }
 
 /// Two tellers observe, then both settle, and then both post.
-fn settle_by_two<K: Named, R: Wait + Abort + AllocGlobal>(
+pub fn settle_by_two<K: Named, R: Wait + Abort + AllocGlobal>(
     rt: &R,
     timing: &Timing,
     shared: &Shared<K>,
