@@ -5,9 +5,9 @@ refused.py [N]   N, 1 unless given: only each Nth call is refused.
 
 A small library (bench/refused/refuse.c, which needs a C compiler) stands before the allocator of the built program. Each run
 has to end with status 7 and the line `no memory`, or whole, where the call that was refused could be done without. Then the same
-with all calls refused from each one on; and `plan` with 4 workers on the star of ten, each call alone: no memory where it was
-the caller's, and else the optimum with a certificate that is accepted, never a stopped run. What is told at the end has how
-many calls were refused in all.
+with all calls refused from each one on; and `plan` with 4 workers and along a hint on the star of ten, each call alone: no memory,
+or the optimum with a certificate that is accepted, never a stopped run. What is told at the end has how many calls were refused
+in all.
 """
 
 import os
@@ -69,15 +69,19 @@ def commands(folder):
         yield ["valid", network, "0", "672"]
         yield ["plan", network, "--plan", os.path.join(folder, "plan"), "--cert", os.path.join(folder, "cert")]
         yield ["check", network, plan, cert]
+        yield ["prove", network, plan, "--cert", os.path.join(folder, "cert")]
         yield ["gates", network, plan]
+        yield ["gates", network, plan, "--merge", "2000", "--format", "taprio"]
         yield ["replay", network, plan, "--cycles", "2", "--greedy"]
+        yield ["streams", network, plan, "--format", "json"]
+        yield ["chart", network, plan]
 
 
-def refuse_workers(program):
-    """Four workers: no memory, or the optimum with a certificate that is accepted."""
+def refuse_search(program, search):
+    """A search by some words: no memory, or the optimum with a certificate that is accepted."""
     network = os.path.join(EXAMPLES, "ten-stream-star.toml")
     plan, cert = os.path.join(program.folder, "plan"), os.path.join(program.folder, "cert")
-    words = ["plan", network, "--workers", "4", "--plan", plan, "--cert", cert]
+    words = ["plan", network, *search, "--plan", plan, "--cert", cert]
     _, calls = program.run(words)
     optimal = 0
     for number in range(1, calls + 1, EVERY):
@@ -89,7 +93,7 @@ def refuse_workers(program):
             continue
         told = subprocess.run([PROGRAM, "check", network, plan, cert], capture_output=True, text=True).stdout.strip()
         if not end[0].startswith("optimal 8300 settled ") or end[1] != 0 or told != "accepted first 8300":
-            sys.exit(f"4 workers: with call {number} refused it ends with {end}, and the check says {told!r}")
+            sys.exit(f"{' '.join(search)}: with call {number} refused it ends with {end}, and the check says {told!r}")
         optimal += 1
     return calls, optimal
 
@@ -123,9 +127,10 @@ def main():
         calls, again = refuse_calls(folder)
         refused += calls
         print(f"calls that no command makes: {calls} calls, {again} made again")
-        calls, optimal = refuse_workers(program)
-        refused += calls
-        print(f"plan with 4 workers on the star of ten: {calls} calls, {optimal} runs optimal, the others with no memory")
+        for search in (["--workers", "4"], ["--search", "guided"], ["--search", "guided", "--workers", "4"]):
+            calls, optimal = refuse_search(program, search)
+            refused += calls
+            print(f"plan {' '.join(search)} on the star of ten: {calls} calls, {optimal} runs optimal, the others with no memory", flush=True)
         print(f"{refused} calls, {'each' if EVERY == 1 else f'one of {EVERY}'} refused, and each run ended as it has to")
 
 
