@@ -10,15 +10,15 @@ use tsn_chart::{Shown, View};
 use tsn_cli::memory::{MemorySink, MemorySource, NEVER};
 use tsn_cli::run::{DONE, WORDS};
 use tsn_cli::{
-    GatesFormat, GatesOptions, ReplayFormat, ReplayOptions, chart_run, check_run, gates_run,
-    plan_run, prove_run, replay_run, valid_run,
+    GatesFormat, GatesOptions, ReplayFormat, ReplayOptions, StreamsFormat, chart_run, check_run,
+    gates_run, plan_run, prove_run, replay_run, streams_run, valid_run,
 };
 use tsn_gate::DeviceLimits;
 use tsn_progress::Progress;
 use tsn_reason::{File, Reason, cert_reason, network_reason, offsets_reason, plan_reason};
 use tsn_words::{
-    ChartWords, CheckWords, GatesWords, PlanWords, ProveWords, ReplayWords, Search, ValidWords,
-    Words, WordsFault, words_from,
+    ChartWords, CheckWords, GatesWords, PlanWords, ProveWords, ReplayWords, Search, StreamsWords,
+    ValidWords, Words, WordsFault, words_from,
 };
 use tsn_worker::{Effort, Gate, Method, OpenGate};
 
@@ -111,6 +111,7 @@ pub fn run_over<R: AllocGlobal + Threads + Wait + Sync>(
         Ok(Words::Gates(words)) => Ok(gates(alloc, words, folder, devices)),
         Ok(Words::Replay(words)) => Ok(replay(alloc, words, folder, devices)),
         Ok(Words::Chart(words)) => Ok(chart(alloc, words, folder, devices)),
+        Ok(Words::Streams(words)) => Ok(streams(alloc, words, folder, devices)),
         Err(WordsFault::Refused(told)) => Ok(refused(alloc, told)),
         Err(WordsFault::Asked(text)) => Ok(asked(alloc, text)),
         Err(WordsFault::Memory) => Err(AllocError),
@@ -136,6 +137,7 @@ fn reason_for(alloc: Global, words: &[&str], folder: &Folder) -> Reason {
         Ok(Words::Gates(words)) => shown_reason(alloc, folder, words.network, words.plan),
         Ok(Words::Replay(words)) => shown_reason(alloc, folder, words.network, words.plan),
         Ok(Words::Chart(words)) => shown_reason(alloc, folder, words.network, words.plan),
+        Ok(Words::Streams(words)) => shown_reason(alloc, folder, words.network, words.plan),
         Err(_) => Ok(None),
     }
 }
@@ -335,6 +337,15 @@ fn chart(alloc: Global, words: ChartWords<'_>, folder: &Folder, devices: Devices
     done(alloc, status, sink)
 }
 
+fn streams(alloc: Global, words: StreamsWords<'_>, folder: &Folder, devices: Devices) -> Outcome {
+    let mut network = network_of(folder, words.network, devices);
+    let mut plan = source(folder, words.plan, Device::Plan, devices);
+    let mut sink = sink(alloc, Device::Output, devices);
+    let format = streams_format(words.format);
+    let status = streams_run(alloc, &mut network, &mut plan, format, &mut sink);
+    done(alloc, status, sink)
+}
+
 fn gates_format(format: tsn_words::GatesFormat) -> GatesFormat {
     match format {
         tsn_words::GatesFormat::Table => GatesFormat::Table,
@@ -347,6 +358,14 @@ fn replay_format(format: tsn_words::ReplayFormat) -> ReplayFormat {
     match format {
         tsn_words::ReplayFormat::Table => ReplayFormat::Table,
         tsn_words::ReplayFormat::Csv => ReplayFormat::Csv,
+    }
+}
+
+fn streams_format(format: tsn_words::StreamsFormat) -> StreamsFormat {
+    match format {
+        tsn_words::StreamsFormat::Table => StreamsFormat::Table,
+        tsn_words::StreamsFormat::Json => StreamsFormat::Json,
+        tsn_words::StreamsFormat::Csv => StreamsFormat::Csv,
     }
 }
 
