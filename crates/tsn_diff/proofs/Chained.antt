@@ -30,7 +30,7 @@ chain_some {last} kept stream step within is =
     let here : Rooted last stream = record { steps = step ∷ before.steps; root = before.root; path = Rattle.tsn_diff.specs.Forest.Path.back is before.path; ends = before.ends } in
     let short : length (step ∷ before.steps) < length last = length-path (length last) kept.from_in here.path here.ends within in
     let fewer : steps_back (length last - 1) last None step.from ≡ steps_back (length last) last None step.from =
-        steps_enough (length last - 1) step.from before (omega (arith, short)) ∙ sym (steps_enough (length last) step.from before (omega (arith, short))) in
+    steps_enough (length last - 1) step.from before (omega (arith, short)) ∙ sym (steps_enough (length last) step.from before (omega (arith, short))) in
     ap indexes_of (steps_some (length last) last stream step (omega (arith, within)) is ∙ ap (λ (steps : List Step). step ∷ steps) fewer)
     ∙ indexes_of-cons step (steps_back (length last) last None step.from)
 

@@ -61,7 +61,7 @@ loop-depth-preserved c =
       parted = (parts.after, parts.parts);
       summed = subst (λ start. SummedTo network path chain (length left) c.args.stream start more) (sym from)
           (one_summed network path chain (length left) c.args.stream c.loop-depth.start sum more decision within on
-              (subst (λ d. decision ≡ slice_index_or path d decision) (sym parts.here) (get_or_default path depth blank decision below)) (omega (arith, ints, weight)) summed);
+          (subst (λ d. decision ≡ slice_index_or path d decision) (sym parts.here) (get_or_default path depth blank decision below)) (omega (arith, ints, weight)) summed);
       counted = subst (λ start. start < stream_count network) (sym from) (arc_counted network decision conflict);
       low = omega (arith, ints);
       high = omega (arith, ints);
