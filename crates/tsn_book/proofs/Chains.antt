@@ -1,47 +1,18 @@
 -- The arcs of decisions, and a chain of a path's arcs, walked back from its end.
-use Rattle.std.proofs.Common.{◌≡◌, ℕ, ◌+◌, ◌<◌, List, [], ◌∷◌, ◌++◌, append_assoc, length-append, length, drop, get_or, All, Some, ℤ, pos, ◌+ℤ◌, refl, sym, ap, ◌∙◌, subst, arith}
-use Rattle.std.specs.Prelude.{◌-ℤ◌}
+use Rattle.std.proofs.Common.{◌≡◌, ℕ, ◌+◌, ◌<◌, List, [], ◌∷◌, ◌++◌, append_assoc, length-append, length, drop, get_or, All, ℤ, pos, ◌+ℤ◌, refl, sym, ap, ◌∙◌, subst, arith}
 use Rattle.std.proofs.lemmas.Int.{ints}
 use Rattle.std.proofs.lemmas.List.{drop_more, get_or-map, get_or_at, length_push}
 use Rattle.std.proofs.Math.ListN.{drop_of_length-le}
 use Rattle.tsn_model.specs.declared.Arc.{Arc}
-use Rattle.tsn_model.specs.declared.Side.TheVariants.{Left, Right}
 use Rattle.tsn_model.specs.declared.Decision.{Decision}
-use Rattle.tsn_model.specs.Network.{Network, stream_count, route_link, release_of}
-use Rattle.tsn_model.specs.Timing.{occupancy, start, hop_on, start_on}
+use Rattle.tsn_model.specs.Network.{Network, stream_count, release_of}
+use Rattle.tsn_model.specs.Timing.{start}
 use Rattle.tsn_model.specs.Schedule.{IsConflict}
 use Rattle.tsn_model.specs.Certificate.{LeadsTo, sum_on}
-use Rattle.tsn_model.specs.Arcs.{arc_between, arc_on, arc_of, arcs_of, arc_at, start_of, chain_sum}
-use Rattle.tsn_model.proofs.Routes.{hop_on_found, hop_on_link}
+use Rattle.tsn_model.specs.Arcs.{arc_of, arcs_of, arc_at, start_of, chain_sum}
 use Rattle.tsn_model.proofs.Decisions.{arc_on-counted, length-arcs_of}
 
--- ---- the arc of a decision
-
-pub arc_left : (network : Network) (decision : Decision) (pair : ℕ × ℕ) → decision.side ≡ Left → pair ≡ (decision.triple.left, decision.triple.right)
-    → arc_of network decision ≡ arc_between network pair.0 pair.1 decision.triple.link
-unfolding arc_of arc_on
-arc_left network decision pair is_left ends =
-    ap (arc_on network decision.triple) is_left ∙ ap (λ (p : ℕ × ℕ). arc_between network p.0 p.1 decision.triple.link) (sym ends)
-
-pub arc_right : (network : Network) (decision : Decision) (pair : ℕ × ℕ) → decision.side ≡ Right → pair ≡ (decision.triple.right, decision.triple.left)
-    → arc_of network decision ≡ arc_between network pair.0 pair.1 decision.triple.link
-unfolding arc_of arc_on
-arc_right network decision pair is_right ends =
-    ap (arc_on network decision.triple) is_right ∙ ap (λ (p : ℕ × ℕ). arc_between network p.0 p.1 decision.triple.link) (sym ends)
-
-pub arc_from : (network : Network) (i j link : ℕ) → (arc_between network i j link).from ≡ i
-unfolding arc_between
-arc_from network i j link = refl
-
--- by the hops on which its two streams use the link
-pub arc_weighs : (network : Network) (i j link first second : ℕ) → Some first ≡ hop_on network i link → Some second ≡ hop_on network j link
-    → pos (start network i first + occupancy network i (route_link network i first)) -ℤ pos (start network j second) ≡ (arc_between network i j link).weight
-unfolding arc_between
-arc_weighs network i j link first second on_first on_second =
-    let starts : start network i first ≡ start_on network i link = (hop_on_found network i link first (sym on_first)).2 in
-    let same_link : route_link network i first ≡ link = hop_on_link network i link first (sym on_first) in
-    let other_starts : start network j second ≡ start_on network j link = (hop_on_found network j link second (sym on_second)).2 in
-    λ k. pos (starts k + occupancy network i (same_link k)) -ℤ pos (other_starts k)
+-- ---- the arcs of decisions
 
 pub arc_counted : (network : Network) (decision : Decision) → IsConflict network decision.triple → (arc_of network decision).from < stream_count network
 unfolding arc_of

@@ -1,10 +1,10 @@
 //! The order of offsets, and what chains show of it.
-ghost use Rattle.std.specs.Prelude.{◌≡◌, ◌≤◌, length, All, MatchBool, pos, ◌≤ℤ◌, ◌+ℤ◌};
+ghost use Rattle.std.specs.Prelude.{◌≡◌, ◌≤◌, length, All, MatchBool};
 ghost use Rattle.tsn_model.specs.Schedule.{IsConflict, IsValid, comes_before};
 ghost use Rattle.tsn_model.specs.Certificate.{LeadsTo, AreChains, ShowsAfter, sum_on};
-ghost use Rattle.tsn_model.specs.Arcs.{arc_of};
 
-use tsn_branch::{Decision, Side};
+use tsn_branch::Decision;
+use tsn_check::{ChainSum, arc_of};
 use tsn_diff::{Forest, Walk};
 use tsn_timing::Timing;
 
@@ -49,35 +49,9 @@ fn sum_on(timing: &Timing, path: &[Decision], stream: usize, chain: Walk<'_>) ->
     ensures adds { result ≡ sum_on timing.now path.now chain.entry stream }
 {
     let mut left = chain;
-    let mut start = stream;
-    let mut sum: i64 = 0;
+    let mut walk = ChainSum::at(stream);
     while let Some(depth) = left.back() {
-        let (from, weight) = arc_of(timing, path[depth]);
-        start = from;
-        sum += weight;
+        walk = walk.over(arc_of(timing, path[depth]));
     }
-    timing.release(start) as i64 + sum
-}
-
-// Where the arc of a decision begins, and its weight, in nanoseconds.
-fn arc_of(timing: &Timing, decision: Decision) -> (usize, i64)
-    requires decided { IsConflict timing.now decision.triple }
-    ensures from { result.0 ≡ (arc_of timing.now decision).from }
-    ensures weight { result.1 ≡ (arc_of timing.now decision).weight }
-    ensures low { pos 0 ≤ℤ (result.1 +ℤ pos 100000000) }
-    ensures high { result.1 ≤ℤ pos 100000000 }
-{
-    let triple = decision.triple;
-    let (first, second) = match decision.side {
-        Side::Left => (triple.left, triple.right),
-        Side::Right => (triple.right, triple.left),
-    };
-    let Some(first_hop) = timing.hop_on(first, triple.link) else {
-        unreachable!();
-    };
-    let Some(second_hop) = timing.hop_on(second, triple.link) else {
-        unreachable!();
-    };
-    let end = timing.start(first, first_hop) + timing.occ(first, first_hop);
-    (first, end as i64 - timing.start(second, second_hop) as i64)
+    timing.release(walk.start) as i64 + walk.sum
 }

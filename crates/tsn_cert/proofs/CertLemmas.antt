@@ -26,7 +26,7 @@ each_parts None r x xs e = cc
 each_parts (Some y) None x xs e = cc
 each_parts (Some y) (Some ys) x xs e = (cc, cc)
 
-each_push : {A : Type 0} (f : Data → Option A) (g : A → Data) (xs : List A) (x : A)
+pub each_push : {A : Type 0} (f : Data → Option A) (g : A → Data) (xs : List A) (x : A)
     → each f (map g xs) ≡ Some xs → f (g x) ≡ Some x → each f (map g (xs ++ x ∷ [])) ≡ Some (xs ++ x ∷ [])
 each_push f g [] x h e = rw e refl
 each_push f g (y ∷ xs) x h e =
@@ -204,7 +204,7 @@ format_back : (f : Format) → format_of (number_value (format_number f)) ≡ So
 format_back One = refl
 format_back Two = refl
 
-cert_back : (c : Cert) → nodes_of (nodes_value c.nodes) ≡ Some c.nodes → are_of c.format c.nodes ≡ true → cert_of (cert_value c) ≡ Some c
+pub cert_back : (c : Cert) → nodes_of (nodes_value c.nodes) ≡ Some c.nodes → are_of c.format c.nodes ≡ true → cert_of (cert_value c) ≡ Some c
 cert_back c e of =
     ap (λ o. option_and_then (λ f. option_and_then (λ ns. when (are_of f ns) (Some (record { format = f; target = c.target; nodes = ns }))) (nodes_of (nodes_value c.nodes))) o) (format_back c.format)
     ∙ ap (λ o. option_and_then (λ ns. when (are_of c.format ns) (Some (record { format = c.format; target = c.target; nodes = ns }))) o) e

@@ -1,7 +1,9 @@
 pub mod Json
 pub mod Fault
 pub mod Plan
+pub mod Depths
 pub mod Entry
 pub mod Node
 pub mod Cert
 pub mod Text
+pub mod Spelled

@@ -8,20 +8,19 @@ ghost use Rattle.tsn_cert.specs.Fault.{Gives, Reads};
 ghost use Rattle.tsn_cert.specs.Json.{number_value, array_value, all_within};
 ghost use Rattle.tsn_cert.specs.Entry.{tree_entry};
 ghost use Rattle.tsn_cert.specs.Node.{tree_node};
+ghost use Rattle.tsn_cert.specs.Spelled.{unlimited_cert_in};
 ghost use Rattle.tsn_cert.specs.Cert.{chain_list, chains_of, tie_parts, tie_load_parts, chains_value, is_tie, are_of, format_of, format_number, chain_of, reason_parts, triple_parts, cycle_parts, entry_of, entry_list, entries_of, load_parts, entry_fits, leaf_fits, entry_value, entries_value, node_parts, other_node_parts, node_of, nodes_of, cert_of_values, cert_of, cert_in, node_fits, max_number, cert_fits, chain_value, node_value, nodes_value, cert_text};
 
-use crate::chain::{Chain, MAX_CHAIN};
+use crate::chain::{Chain, MAX_CHAIN, MAX_NUMBER};
 use crate::chains::{Chains, MAX_CHAINS};
 use crate::entries::{Entries, MAX_ENTRIES};
 use crate::plan::MAX_TIME;
+use crate::quick::{self, Unread};
 use crate::{FileFault, document};
 use serde_json::{ToValue, Value, json};
 use std::alloc::{AllocError, Global};
 use std::marker::Model;
 use tsn_model::{NoMemory, Triple};
-
-/// The greatest number of a node in a file.
-pub const MAX_NUMBER: usize = 4_294_967_295;
 
 /// A node of a certificate: a branch, or a leaf that shows why its path needs no look.
 #[derive(Debug, Drop)]
@@ -152,7 +151,7 @@ fn chain_from(alloc: Global, value: &Value) -> Result<Chain, FileFault>
     if depths.len() > MAX_CHAIN {
         return Err(FileFault::WrongShape);
     }
-    Ok(Chain::new(depths))
+    Ok(Chain::of(alloc, &depths)?)
 }
 
 /// A stream and a chain.
@@ -406,7 +405,7 @@ fn nodes_from(alloc: Global, value: &Value) -> Result<Nodes, FileFault>
 fn chain_fits(chain: &Chain) -> bool
     ensures { result ≡ all_within max_number chain.now }
 {
-    chain.depths().iter().all(|depth| *depth <= MAX_NUMBER)
+    chain.fits()
 }
 
 fn entry_fits(entry: &(usize, Chain)) -> bool
@@ -473,13 +472,31 @@ fn fits(cert: &Cert) -> bool
 pub fn cert_from_json(alloc: Global, bytes: &[u8]) -> Result<Cert, FileFault>
     ensures { Gives (λ cert. cert) result (cert_in bytes.now) }
 {
-    let value = document::value_from(alloc, bytes)?;
-    let cert = cert_from(alloc, &value)?;
+    let cert = unlimited_cert(alloc, bytes)?;
     if fits(&cert) {
         Ok(cert)
     } else {
         Err(FileFault::NumberTooLarge)
     }
+}
+
+/// The certificate of a file, whose numbers may be above their limits.
+fn unlimited_cert(alloc: Global, bytes: &[u8]) -> Result<Cert, FileFault>
+    ensures { Gives (λ cert. cert) result (unlimited_cert_in bytes.now) }
+{
+    match quick::cert_from_written(alloc, bytes) {
+        Ok(cert) => Ok(cert),
+        Err(Unread::OtherForm) => cert_of_any_form(alloc, bytes),
+        Err(Unread::Memory) => Err(FileFault::Memory),
+    }
+}
+
+/// The same, of a file in any form.
+fn cert_of_any_form(alloc: Global, bytes: &[u8]) -> Result<Cert, FileFault>
+    ensures { Gives (λ cert. cert) result (unlimited_cert_in bytes.now) }
+{
+    let value = document::value_from(alloc, bytes)?;
+    cert_from(alloc, &value)
 }
 
 /// The certificate that the value is.
@@ -727,5 +744,6 @@ fn chain_value(alloc: Global, chain: &Chain) -> Result<Value, AllocError>
     ensures value { IfOk result (λ v. view v ≡ chain_value chain.now) }
     ensures short { length chain.now ≤ MAX_CHAIN }
 {
-    document::array_of_indices(alloc, chain.depths())
+    let depths = chain.to_vec(alloc)?;
+    document::array_of_indices(alloc, &depths)
 }

@@ -3,6 +3,7 @@ ghost use Rattle.tsn_cert.specs.Fault.{number_of};
 
 use std::alloc::{AllocError, AllocFailed};
 use thiserror::Error;
+use tsn_model::NoMemory;
 
 /// Why a file is refused. The first cause that holds is told; want of memory may come in place of any other.
 #[derive(Clone, Copy, Debug, PartialEq, Eq, Error)]
@@ -42,6 +43,17 @@ impl From<AllocError> for FileFault {
     ghost from_gives = { λ _ e. e ≡ Memory };
 
     fn from(_refused: AllocError) -> FileFault {
+        FileFault::Memory
+    }
+}
+
+impl From<NoMemory> for FileFault {
+    ghost use Rattle.std.specs.Prelude.{◌≡◌};
+    ghost use Rattle.tsn_cert.specs.declared.fault.FileFault.TheVariants.{Memory};
+
+    ghost from_gives = { λ _ e. e ≡ Memory };
+
+    fn from(_refused: NoMemory) -> FileFault {
         FileFault::Memory
     }
 }

@@ -8,6 +8,7 @@ mod document;
 pub mod entries;
 pub mod fault;
 pub mod plan;
+mod quick;
 pub mod text;
 
 pub use cert::{Cert, Format, Node, Nodes, cert_from_json, cert_to_json};

@@ -11,7 +11,7 @@ use Rattle.tsn_model.specs.Arcs.{arc_of, IsChainTo, start_of, chain_sum}
 use Rattle.tsn_model.specs.Places.{pending}
 use Rattle.tsn_conflict.specs.Kept.{Kept, AreConflictsOf}
 use Rattle.tsn_check.specs.declared.path.Turn.{Turn}
-use Rattle.tsn_check.specs.declared.chain.Walk.{Walk}
+use Rattle.tsn_check.specs.declared.chain.ChainSum.{ChainSum}
 
 -- an arc's weight is far within what a sum of 128 of them may be
 pub record IsSmall (arc : Arc) : Type 0 where
@@ -46,7 +46,7 @@ abbrev pub arcs : List Turn → List Arc
 arcs turns = map (λ turn. turn.arc) turns
 
 -- a chain to a stream, where it begins, and its sum
-pub record IsWalk (network_arcs : List Arc) (chain : List ℕ) (i : ℕ) (walk : Walk) : Type 0 where
+pub record IsWalk (network_arcs : List Arc) (chain : List ℕ) (i : ℕ) (walk : ChainSum) : Type 0 where
   pub is_chain : IsChainTo network_arcs chain i
   pub begins : walk.start ≡ start_of network_arcs chain i
   pub adds : walk.sum ≡ chain_sum network_arcs chain

@@ -25,7 +25,7 @@ pub fn sum_to(
     if stream >= timing.streams() {
         return Err(NodeFault::ChainBroken);
     }
-    let Some(walk) = walk_back(path, chain.depths(), stream) else {
+    let Some(walk) = walk_back(path, chain, stream) else {
         return Err(NodeFault::ChainBroken);
     };
     Ok(timing.release(walk.start) as i64 + walk.sum)
@@ -67,7 +67,7 @@ pub fn judge_cycle(timing: &Timing, path: &[Turn], chain: &Chain) -> Result<bool
     requires { AreTurns timing.now path.now }
     ensures { (target : ℕ) → FindsBound timing.now target (decisions path.now) (positive_cycle chain.now) result }
 {
-    let Some(sum) = closed_sum(path, chain.depths()) else {
+    let Some(sum) = closed_sum(path, chain) else {
         return Err(NodeFault::ChainBroken);
     };
     Ok(sum > 0)

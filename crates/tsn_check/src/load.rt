@@ -64,7 +64,7 @@ fn entry_load(
 }
 
 /// What the entries of a leaf come to on its link.
-fn link_load(
+pub fn link_load(
     timing: &Timing,
     path: &[Turn],
     link: usize,

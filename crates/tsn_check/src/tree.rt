@@ -1,5 +1,5 @@
 //! The nodes of a certificate, walked in their order.
-ghost use Rattle.std.specs.Prelude.{◌≡◌, ◌⊎◌, ℕ, List, Option, [], ◌∷◌, map, IfOk, IfErr, OnOk};
+ghost use Rattle.std.specs.Prelude.{◌≡◌, ◌⊎◌, ℕ, List, Option, [], ◌∷◌, map, IfOk, IfErr, IsTrue, OnOk};
 ghost use Rattle.tsn_cert.specs.Node.{tree_node};
 ghost use Rattle.tsn_model.specs.declared.Decision.{Decision};
 ghost use Rattle.tsn_model.specs.Network.{Network};
@@ -117,5 +117,35 @@ pub fn check_tree(alloc: Global, claim: &Claim<'_>, nodes: &[Node]) -> Result<()
         Err(CheckFault::TreeUnfinished(nodes.len()))
     } else {
         Ok(())
+    }
+}
+
+/// The path to the node of this number; it ends sooner, where a branch before it is on no conflict.
+pub fn path_to(
+    alloc: Global,
+    conflicts: &Conflicts,
+    nodes: &[Node],
+    number: usize,
+) -> Result<Vec<Turn>, CheckFault>
+    ensures turns { IfOk result (λ path. AreTurnsOf conflicts.now path.items) }
+    ensures memory { IfErr result (λ fault. fault ≡ CheckFault.Memory) }
+{
+    let mut path = Vec::new(alloc);
+    for node in nodes.iter().take(number) {
+        if !is_branch_of(conflicts, node) {
+            break;
+        }
+        go_on(conflicts, &mut path, node)?;
+    }
+    Ok(path)
+}
+
+/// Whether the node is no branch, or one on a conflict.
+fn is_branch_of(conflicts: &Conflicts, node: &Node) -> bool
+    ensures { IsTrue result → IsBranchOf conflicts.now (tree_node node.now) }
+{
+    match node {
+        Node::Branch(triple) => conflicts.has(*triple),
+        _ => true,
     }
 }

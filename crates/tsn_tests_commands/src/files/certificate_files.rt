@@ -32,6 +32,19 @@ fn prints_cert(rt: &impl Abort, alloc: Global, file: &str) -> Result<(), Fail> {
     Ok(())
 }
 
+// The chain has these depths.
+fn has(chain: &Chain, depths: &[usize]) -> bool {
+    if chain.len() != depths.len() {
+        return false;
+    }
+    for number in 0..chain.len() {
+        if chain.at(number) != depths[number] {
+            return false;
+        }
+    }
+    true
+}
+
 // The plan is printed so.
 fn prints_plan(rt: &impl Abort, alloc: Global, plan: &Plan, file: &str) -> Result<(), Fail> {
     let text = plan_to_json(alloc, plan)?;
@@ -158,7 +171,7 @@ fn is_branch(rt: &impl Abort, node: &Node) {
 fn is_late(rt: &impl Abort, node: &Node) {
     match node {
         Node::Late(stream, chain) => {
-            assert!(rt; *stream == 1 && chain.depths() == [0].as_slice())
+            assert!(rt; *stream == 1 && has(chain, &[0]))
         }
         _ => panic!(rt; "no late leaf was read"),
     }
@@ -167,7 +180,7 @@ fn is_late(rt: &impl Abort, node: &Node) {
 fn is_overrun(rt: &impl Abort, node: &Node) {
     match node {
         Node::Overrun(stream, chain) => {
-            assert!(rt; *stream == 2 && chain.depths() == [0, 1].as_slice())
+            assert!(rt; *stream == 2 && has(chain, &[0, 1]))
         }
         _ => panic!(rt; "no overrun leaf was read"),
     }
@@ -175,7 +188,7 @@ fn is_overrun(rt: &impl Abort, node: &Node) {
 
 fn is_cycle(rt: &impl Abort, node: &Node) {
     match node {
-        Node::Cycle(chain) => assert!(rt; chain.depths() == [3].as_slice()),
+        Node::Cycle(chain) => assert!(rt; has(chain, &[3])),
         _ => panic!(rt; "no cycle leaf was read"),
     }
 }
@@ -205,8 +218,28 @@ fn certificates_are_made(rt: HostRuntime) -> Result<(), Fail> {
 #[test]
 fn chains_have_up_to_128_depths(rt: HostRuntime) -> Result<(), Fail> {
     let depths = [5usize; 128];
-    assert!(rt; Chain::of(rt.alloc(), &depths)?.depths() == depths.as_slice());
-    assert_eq!(rt; Chain::of(rt.alloc(), &[])?.depths().len(), 0);
+    assert!(rt; has(&Chain::of(rt.alloc(), &depths)?, &depths));
+    assert!(rt; has(&Chain::of(rt.alloc(), &[])?, &[]));
+    Ok(())
+}
+
+#[test]
+fn chains_have_depths_of_any_size(rt: HostRuntime) -> Result<(), Fail> {
+    let wide = [65_535, 65_536, 4_294_967_295, 4_294_967_296];
+    assert!(rt; has(&Chain::of(rt.alloc(), &[65_535])?, &[65_535]));
+    assert!(rt; has(&Chain::of(rt.alloc(), &wide)?, &wide));
+    assert!(rt; Chain::of(rt.alloc(), &[65_535, 4_294_967_295])?.fits());
+    assert!(rt; !Chain::of(rt.alloc(), &[0, 4_294_967_296])?.fits());
+    Ok(())
+}
+
+// A text that isn't laid out as certificates are written is read as one that is.
+#[test]
+fn other_layouts_are_read(rt: HostRuntime) -> Result<(), Fail> {
+    let file = "{\"target\": 9,\n \"nodes\": [[\"branch\",0,1,4], [\"late\",1,[ 0,65536 ]],[\"tie\",0,[0],[[],[0]]]], \"format\": 2}";
+    let text = "{\"format\":2,\"nodes\":[[\"branch\",0,1,4],[\"late\",1,[0,65536]],[\"tie\",0,[0],[[],[0]]]],\"target\":9}\n";
+    assert_eq!(rt; printed(rt.alloc(), file)?.as_str(), text);
+    assert_eq!(rt; printed(rt.alloc(), text)?.as_str(), text);
     Ok(())
 }
 
@@ -221,8 +254,8 @@ fn two_entries(alloc: Global) -> Result<Vec<(usize, Chain)>, Fail>
 fn are_given(rt: &impl Abort, entries: &Entries) {
     match entries.list() {
         [(first, none), (second, two)] => {
-            assert!(rt; *first == 3 && none.depths().is_empty());
-            assert!(rt; *second == 5 && two.depths() == [1, 0].as_slice());
+            assert!(rt; *first == 3 && has(none, &[]));
+            assert!(rt; *second == 5 && has(two, &[1, 0]));
         }
         _ => panic!(rt; "other entries were made"),
     }

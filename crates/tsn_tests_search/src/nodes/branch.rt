@@ -85,11 +85,11 @@ pub fn told_fitting<R: Abort + AllocGlobal>(rt: &R, timing: &Timing, path: &str)
 
 const FIRST_LOOKS: &str = "\
 1000000, look root: 1000001 = split 0 1 4
-1000000, look root: 2252 = pruned 2252 Late(0, Chain { depths: [] })
-1000000, look Left 4: 1000001 = solved [0, 672] 2924 Late(1, Chain { depths: [0] }) Chains { list: [Chain { depths: [] }, Chain { depths: [0] }] }
-1000000, look Left 4: 2925 = solved [0, 672] 2924 Late(1, Chain { depths: [0] }) Chains { list: [Chain { depths: [] }, Chain { depths: [0] }] }
-1000000, look Left 4: 2924 = pruned 2924 Late(1, Chain { depths: [0] })
-1000000, look Right 4: 2924 = pruned 2924 Late(0, Chain { depths: [0] })";
+1000000, look root: 2252 = pruned 2252 Late(0, Chain { depths: Narrow([]) })
+1000000, look Left 4: 1000001 = solved [0, 672] 2924 Late(1, Chain { depths: Narrow([0]) }) Chains { list: [Chain { depths: Narrow([]) }, Chain { depths: Narrow([0]) }] }
+1000000, look Left 4: 2925 = solved [0, 672] 2924 Late(1, Chain { depths: Narrow([0]) }) Chains { list: [Chain { depths: Narrow([]) }, Chain { depths: Narrow([0]) }] }
+1000000, look Left 4: 2924 = pruned 2924 Late(1, Chain { depths: Narrow([0]) })
+1000000, look Right 4: 2924 = pruned 2924 Late(0, Chain { depths: Narrow([0]) })";
 
 #[test]
 fn splits_solves_and_prunes(rt: HostRuntime) {
@@ -99,9 +99,9 @@ fn splits_solves_and_prunes(rt: HostRuntime) {
 /// The chains of a tie go up to the first stream at which the lists differ, and else to the last stream.
 const TIES: &str = "\
 1000000, look root: 2925 beside 0 672 = split 0 1 4
-1000000, look Right 4: 2925 beside 0 672 = tied 2924 Late(0, Chain { depths: [0] }) Chains { list: [Chain { depths: [0] }] }
-1000000, look Left 4: 2925 beside 0 672 = tied 2924 Late(1, Chain { depths: [0] }) Chains { list: [Chain { depths: [] }, Chain { depths: [0] }] }
-1000000, look Left 4: 2925 beside 672 0 = solved [0, 672] 2924 Late(1, Chain { depths: [0] }) Chains { list: [Chain { depths: [] }, Chain { depths: [0] }] }";
+1000000, look Right 4: 2925 beside 0 672 = tied 2924 Late(0, Chain { depths: Narrow([0]) }) Chains { list: [Chain { depths: Narrow([0]) }] }
+1000000, look Left 4: 2925 beside 0 672 = tied 2924 Late(1, Chain { depths: Narrow([0]) }) Chains { list: [Chain { depths: Narrow([]) }, Chain { depths: Narrow([0]) }] }
+1000000, look Left 4: 2925 beside 672 0 = solved [0, 672] 2924 Late(1, Chain { depths: Narrow([0]) }) Chains { list: [Chain { depths: Narrow([]) }, Chain { depths: Narrow([0]) }] }";
 
 #[test]
 fn ties_with_the_best_schedule(rt: HostRuntime) {
@@ -112,13 +112,13 @@ fn ties_with_the_best_schedule(rt: HostRuntime) {
 /// goes before a load, and a flowspan that is the target before both.
 const LOADS: &str = "\
 1000000, look root: 2925 = split 0 1 4
-1000000, look root: 2924 = pruned 2924 Load(4, Entries { list: [(0, Chain { depths: [] }), (1, Chain { depths: [] })] })
-1000000, look root: 2253 = pruned 2924 Load(4, Entries { list: [(0, Chain { depths: [] }), (1, Chain { depths: [] })] })
+1000000, look root: 2924 = pruned 2924 Load(4, Entries { list: [(0, Chain { depths: Narrow([]) }), (1, Chain { depths: Narrow([]) })] })
+1000000, look root: 2253 = pruned 2924 Load(4, Entries { list: [(0, Chain { depths: Narrow([]) }), (1, Chain { depths: Narrow([]) })] })
 2970, look root: 2971 = split 0 1 4
-2970, look root: 2924 = pruned 2924 Load(4, Entries { list: [(0, Chain { depths: [] }), (1, Chain { depths: [] })] })
-2969, look root: 2970 = refuted Overload(4, Entries { list: [(0, Chain { depths: [] }), (1, Chain { depths: [] })] })
-2969, look root: 2924 = refuted Overload(4, Entries { list: [(0, Chain { depths: [] }), (1, Chain { depths: [] })] })
-2969, look root: 2252 = pruned 2252 Late(0, Chain { depths: [] })";
+2970, look root: 2924 = pruned 2924 Load(4, Entries { list: [(0, Chain { depths: Narrow([]) }), (1, Chain { depths: Narrow([]) })] })
+2969, look root: 2970 = refuted Overload(4, Entries { list: [(0, Chain { depths: Narrow([]) }), (1, Chain { depths: Narrow([]) })] })
+2969, look root: 2924 = refuted Overload(4, Entries { list: [(0, Chain { depths: Narrow([]) }), (1, Chain { depths: Narrow([]) })] })
+2969, look root: 2252 = pruned 2252 Late(0, Chain { depths: Narrow([]) })";
 
 #[test]
 fn loads_of_shared_links_prune_and_refute(rt: HostRuntime) {
@@ -128,11 +128,11 @@ fn loads_of_shared_links_prune_and_refute(rt: HostRuntime) {
 /// On link 4 both streams are busy from 576 to 1920, and on link 6 from 1152 to 2496; either asks for a flowspan of 2400. A load
 /// of the first link goes before an overload of the second one.
 const LOADED_LINKS: &str = "\
-2496, look root: 2400 = pruned 2400 Load(4, Entries { list: [(0, Chain { depths: [] }), (1, Chain { depths: [] })] })
+2496, look root: 2400 = pruned 2400 Load(4, Entries { list: [(0, Chain { depths: Narrow([]) }), (1, Chain { depths: Narrow([]) })] })
 2496, look root: 2401 = split 0 1 4
-2495, look root: 2401 = refuted Overload(6, Entries { list: [(0, Chain { depths: [] }), (1, Chain { depths: [] })] })
-2495, look root: 2400 = pruned 2400 Load(4, Entries { list: [(0, Chain { depths: [] }), (1, Chain { depths: [] })] })
-1919, look root: 2400 = refuted Overload(4, Entries { list: [(0, Chain { depths: [] }), (1, Chain { depths: [] })] })";
+2495, look root: 2401 = refuted Overload(6, Entries { list: [(0, Chain { depths: Narrow([]) }), (1, Chain { depths: Narrow([]) })] })
+2495, look root: 2400 = pruned 2400 Load(4, Entries { list: [(0, Chain { depths: Narrow([]) }), (1, Chain { depths: Narrow([]) })] })
+1919, look root: 2400 = refuted Overload(4, Entries { list: [(0, Chain { depths: Narrow([]) }), (1, Chain { depths: Narrow([]) })] })";
 
 #[test]
 fn the_first_loaded_link_is_taken(rt: HostRuntime) {
@@ -141,9 +141,9 @@ fn the_first_loaded_link_is_taken(rt: HostRuntime) {
 
 /// An overrun goes before a flowspan that is the target.
 const SPANS: &str = "\
-2297, look root: 2298 = refuted Overrun(0, Chain { depths: [] })
-2297, look root: 2252 = refuted Overrun(0, Chain { depths: [] })
-2298, look root: 2299 = solved [0] 2252 Late(0, Chain { depths: [] }) Chains { list: [Chain { depths: [] }] }";
+2297, look root: 2298 = refuted Overrun(0, Chain { depths: Narrow([]) })
+2297, look root: 2252 = refuted Overrun(0, Chain { depths: Narrow([]) })
+2298, look root: 2299 = solved [0] 2252 Late(0, Chain { depths: Narrow([]) }) Chains { list: [Chain { depths: Narrow([]) }] }";
 
 #[test]
 fn spans_end_within_the_cycle(rt: HostRuntime) {
@@ -153,9 +153,9 @@ fn spans_end_within_the_cycle(rt: HostRuntime) {
 /// Of the first node the arcs weigh 672 and 2016: from stream 1 to 0, and back. Of the second they weigh 672 and -672, and a sum of 0
 /// refutes nothing.
 const CYCLES: &str = "\
-1000000, look Right 4;Left 12: 1000001 = refuted Cycle(Chain { depths: [0, 1] })
-1000000, look Left 4;Right 12: 1000001 = solved [0, 672] 3648 Late(0, Chain { depths: [] }) Chains { list: [Chain { depths: [] }, Chain { depths: [0] }] }
-1000000, look Left 4;Right 12: 3648 = pruned 3648 Late(0, Chain { depths: [] })";
+1000000, look Right 4;Left 12: 1000001 = refuted Cycle(Chain { depths: Narrow([0, 1]) })
+1000000, look Left 4;Right 12: 1000001 = solved [0, 672] 3648 Late(0, Chain { depths: Narrow([]) }) Chains { list: [Chain { depths: Narrow([]) }, Chain { depths: Narrow([0]) }] }
+1000000, look Left 4;Right 12: 3648 = pruned 3648 Late(0, Chain { depths: Narrow([]) })";
 
 #[test]
 fn cycles_of_positive_sum_refute(rt: HostRuntime) {

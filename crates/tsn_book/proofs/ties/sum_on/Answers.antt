@@ -1,6 +1,7 @@
-use Rattle.std.proofs.Common.{◌≡◌, ◌+ℤ◌, ◌+◌, ◌<◌, length, slice_index_or, pos, to_z, of_z, w64, rules, refl, sym, ap, subst, arith}
+use Rattle.std.proofs.Common.{◌≡◌, ◌+ℤ◌, ◌+◌, ◌<◌, length, slice_index_or, pos, rules, refl, sym, ap, ◌∙◌, subst, arith}
 use Rattle.std.proofs.lemmas.Int.{ints}
 use Rattle.std.proofs.lemmas.List.{get_or_default}
+use Rattle.tsn_model.specs.declared.Arc.{Arc}
 use Rattle.tsn_model.specs.declared.Decision.{Decision}
 use Rattle.tsn_model.specs.declared.Side.TheVariants.{Left}
 use Rattle.tsn_model.specs.Network.{stream_count, release_of}
@@ -25,13 +26,13 @@ bounds-path-depth c =
     let parts = parted chain c.loop-depth.left c.back.new.self c.in-Some.depth c.in-Some.ensures c.loop-depth.invariant.parted.0 c.loop-depth.invariant.parted.1 in
     subst (λ depth. depth < length c.args.path.now) parts.here (on_path c.args.timing.now c.args.path.now chain chain c.args.stream (length c.back.new.self) refl c.requires.leads parts.below)
 
-pub arc_of-from-requires : goal.arc_of-from-requires
+pub arc_of-requires : goal.arc_of-requires
 unfolding blank
-arc_of-from-requires c =
+arc_of-requires c =
     let chain = c.args.chain in
     let parts = parted chain c.loop-depth.left c.back.new.self c.in-Some.depth c.in-Some.ensures c.loop-depth.invariant.parted.0 c.loop-depth.invariant.parted.1 in
     let below = subst (λ depth. depth < length c.args.path.now) parts.here (on_path c.args.timing.now c.args.path.now chain chain c.args.stream (length c.back.new.self) refl c.requires.leads parts.below) in
-    record { decided = c.requires.decided c.in-Some.depth blank below }
+    c.requires.decided c.in-Some.depth blank below
 
 pub loop-depth-preserved : goal.loop-depth-preserved
 unfolding blank
@@ -46,36 +47,48 @@ loop-depth-preserved c =
     let more_left = walked_on c.loop-depth.left left depth c.in-Some.ensures in
     let on = on_path network path chain chain c.args.stream (length left) refl c.requires.leads parts.below in
     let below : depth < length path = subst (λ d. d < length path) parts.here on in
-    let sum = to_z w64 c.loop-depth.sum-bits in
-    let summed : SummedTo network path chain (length left + 1) c.args.stream c.loop-depth.start sum =
-    subst (λ k. SummedTo network path chain k c.args.stream c.loop-depth.start sum) more_left c.loop-depth.invariant.summed in
-    let from : c.arc_of-from.result.0 ≡ (arc_of network decision).from = c.arc_of-from.ensures.from in
-    let weight : c.arc_of-from.result.1 ≡ (arc_of network decision).weight = c.arc_of-from.ensures.weight in
-    let low = c.arc_of-from.ensures.low in
-    let high = c.arc_of-from.ensures.high in
+    let sum = c.loop-depth.walk.sum in
+    let summed : SummedTo network path chain (length left + 1) c.args.stream c.loop-depth.walk.start sum =
+    subst (λ k. SummedTo network path chain k c.args.stream c.loop-depth.walk.start sum) more_left c.loop-depth.invariant.summed in
+    let arc : c.arc_of.result ≡ arc_of network decision = c.arc_of.ensures.arc in
+    let from : c.over-walk.result.start ≡ (arc_of network decision).from = c.over-walk.ensures.start ∙ ap (λ (a : Arc). a.from) arc in
+    let weight : c.arc_of.result.weight ≡ (arc_of network decision).weight = ap (λ (a : Arc). a.weight) arc in
+    let adds = c.over-walk.ensures.sum in
+    let low = c.arc_of.ensures.small.low in
+    let high = c.arc_of.ensures.small.high in
     let conflict = c.requires.decided depth blank below in
     let short = c.requires.short in
     let within = parts.below in
-    let more = to_z w64 (of_z w64 (sum +ℤ to_z w64 (of_z w64 c.arc_of-from.result.1))) in
+    let more = c.over-walk.result.sum in
     record {
       parted = (parts.after, parts.parts);
       summed = subst (λ start. SummedTo network path chain (length left) c.args.stream start more) (sym from)
-          (one_summed network path chain (length left) c.args.stream c.loop-depth.start sum more decision within on
-          (subst (λ d. decision ≡ slice_index_or path d decision) (sym parts.here) (get_or_default path depth blank decision below)) (omega (arith, ints, weight)) summed);
+          (one_summed network path chain (length left) c.args.stream c.loop-depth.walk.start sum more decision within on
+          (subst (λ d. decision ≡ slice_index_or path d decision) (sym parts.here) (get_or_default path depth blank decision below)) (omega (arith, ints, weight, adds)) summed);
       counted = subst (λ start. start < stream_count network) (sym from) (arc_counted network decision conflict);
       low = omega (arith, ints);
       high = omega (arith, ints);
     }
+
+pub over-walk-requires-clause-low : goal.over-walk-requires-clause-low
+over-walk-requires-clause-low c =
+    let short = c.requires.short in
+    omega (arith, ints)
+
+pub over-walk-requires-clause-high : goal.over-walk-requires-clause-high
+over-walk-requires-clause-high c =
+    let short = c.requires.short in
+    omega (arith, ints)
 
 pub returns : goal.returns
 returns c =
     let network = c.args.timing.now in
     let path = c.args.path.now in
     let chain = c.args.chain in
-    let sum = to_z w64 c.loop-depth.sum-bits in
+    let sum = c.loop-depth.walk.sum in
     let none = ap length c.in_default.ensures in
-    let all : pos (release_of network c.loop-depth.start) +ℤ sum ≡ sum_on network path chain c.args.stream =
-    all_summed network path chain (length c.loop-depth.left) c.args.stream c.loop-depth.start sum (omega (arith, none)) c.loop-depth.invariant.summed in
+    let all : pos (release_of network c.loop-depth.walk.start) +ℤ sum ≡ sum_on network path chain c.args.stream =
+    all_summed network path chain (length c.loop-depth.left) c.args.stream c.loop-depth.walk.start sum (omega (arith, none)) c.loop-depth.invariant.summed in
     let released = c.release.ensures.value in
     let early = c.release.ensures.bound in
     let short = c.requires.short in

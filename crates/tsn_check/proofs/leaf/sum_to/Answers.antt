@@ -13,7 +13,7 @@ release-requires c =
     let below = c.if-stream-streams.false in
     let counted = c.streams.ensures.value in
     subst (λ start. start < stream_count network) (sym walk.begins)
-    (start_counted network c.args.path.now c.depths.result.now c.args.chain.now c.args.stream c.requires (omega arith) walk.is_chain.places)
+    (start_counted network c.args.path.now c.args.chain.now c.args.chain.now c.args.stream c.requires (omega arith) walk.is_chain.places)
 
 pub returns : goal.returns
 returns c =
@@ -24,7 +24,7 @@ returns c =
     let early = c.release.ensures.bound in
     let adds : pos c.release.result +ℤ c.in-Some.walk.sum ≡ sum_on network (decisions c.args.path.now) chain c.args.stream =
     ap (λ r. pos r +ℤ c.in-Some.walk.sum) release
-    ∙ sum_from network c.args.path.now c.depths.result.now chain c.args.stream c.in-Some.walk.start c.in-Some.walk.sum c.requires c.depths.ensures.depths walk.begins walk.adds in
+    ∙ sum_from network c.args.path.now c.args.chain.now chain c.args.stream c.in-Some.walk.start c.in-Some.walk.sum c.requires refl walk.begins walk.adds in
     let low = walk.low in
     let high = walk.high in
     let below = c.if-stream-streams.false in
@@ -32,7 +32,7 @@ returns c =
     record {
       leads = record {
         stream = omega arith;
-        chain_to = chain_to network c.args.path.now c.depths.result.now chain c.args.stream c.requires c.depths.ensures.depths walk.is_chain;
+        chain_to = chain_to network c.args.path.now c.args.chain.now chain c.args.stream c.requires refl walk.is_chain;
       };
       adds = omega (arith, ints);
       low = omega (arith, ints);
@@ -42,4 +42,4 @@ returns c =
 pub returns-in_default : goal.returns-in_default
 returns-in_default c =
     let network = c.args.timing.now in
-    (refl, λ leads. c.in_default.ensures (chain_back network c.args.path.now c.depths.result.now c.args.chain.now c.args.stream c.requires c.depths.ensures.depths leads.chain_to))
+    (refl, λ leads. c.in_default.ensures (chain_back network c.args.path.now c.args.chain.now c.args.chain.now c.args.stream c.requires refl leads.chain_to))
