@@ -10,3 +10,4 @@ pub mod Chains
 pub mod Ends
 pub mod Descent
 pub mod Guided
+pub mod Rates

@@ -11,7 +11,6 @@ ghost use Rattle.tsn_diff.specs.Answers.{Refutes};
 ghost use Rattle.tsn_conflict.specs.Kept.{AreConflictsOf};
 ghost use Rattle.tsn_branch.specs.Outcome.{outcome_of};
 ghost use Rattle.tsn_branch.specs.Path.{Fits, IsUndecided};
-ghost use Rattle.tsn_branch.specs.Loads.{AreLoadsOf};
 ghost use Rattle.tsn_branch.specs.Look.{HasNoOffsets, IsLook, HasProof, SplitsUndecided, SplitsAmong, PrunesFrom, SolvesBelow, TiesWith};
 ghost use Rattle.tsn_branch.specs.Releases.{releases_of};
 ghost use Rattle.tsn_branch.specs.Descent.{Stands, Splits, IsAfter, Leads, IsVerdict};
@@ -111,8 +110,6 @@ impl Descent {
         tables: Tables<'_>,
         aim: Aim<'_>,
     ) -> Result<Look, NoMemory>
-        requires conflicts { AreConflictsOf tables.timing.now tables.conflicts.now }
-        requires loads { AreLoadsOf tables.timing.now tables.loads.now }
         requires best { IfSome (option_copied aim.best) (IsSolved tables.timing.now) }
         requires fits { Fits tables.conflicts.now.triples self.old.path }
         requires stands { Stands tables.timing.now self.old }
@@ -155,8 +152,6 @@ impl Descent {
         guidance: &mut Guidance<'_>,
         aim: Aim<'_>,
     ) -> Result<Look, NoMemory>
-        requires conflicts { AreConflictsOf tables.timing.now tables.conflicts.now }
-        requires loads { AreLoadsOf tables.timing.now tables.loads.now }
         requires best { IfSome (option_copied aim.best) (IsSolved tables.timing.now) }
         requires fits { Fits tables.conflicts.now.triples self.old.path }
         requires stands { Stands tables.timing.now self.old }
@@ -297,8 +292,6 @@ impl Descent {
 
     // What is found at the node by its least offsets.
     fn find(&self, alloc: Global, tables: Tables<'_>, aim: Aim<'_>) -> Result<Verdict, NoMemory>
-        requires conflicts { AreConflictsOf tables.timing.now tables.conflicts.now }
-        requires loads { AreLoadsOf tables.timing.now tables.loads.now }
         requires best { IfSome (option_copied aim.best) (IsSolved tables.timing.now) }
         requires leads { Leads tables.timing.now self.now }
         ensures { IfOk result (IsVerdict tables.entry.timing.now self.now.path aim.entry.target (option_copied aim.entry.best)) }
@@ -316,8 +309,6 @@ impl Descent {
         guidance: &mut Guidance<'_>,
         aim: Aim<'_>,
     ) -> Result<Guess, NoMemory>
-        requires conflicts { AreConflictsOf tables.timing.now tables.conflicts.now }
-        requires loads { AreLoadsOf tables.timing.now tables.loads.now }
         requires best { IfSome (option_copied aim.best) (IsSolved tables.timing.now) }
         requires leads { Leads tables.timing.now self.now }
         ensures { IfOk result (IsGuess tables.entry.timing.now self.now.path aim.entry.target (option_copied aim.entry.best)) }

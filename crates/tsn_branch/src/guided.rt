@@ -1,7 +1,7 @@
 //! Where a node is split by choice.
 ghost use Rattle.std.specs.Prelude.{◌≡◌, ◌≤◌, ◌<◌, List, All, IfOk, IfSome, length, option_copied};
 ghost use Rattle.tsn_model.specs.declared.Decision.{Decision};
-ghost use Rattle.tsn_model.specs.Network.{Network, IsWellFormed};
+ghost use Rattle.tsn_model.specs.Network.{Network};
 ghost use Rattle.tsn_model.specs.Schedule.{Overlaps};
 ghost use Rattle.tsn_model.specs.Arcs.{arcs_of};
 ghost use Rattle.tsn_timing.specs.Solution.{IsSolved};
@@ -30,7 +30,6 @@ pub fn close(
     point: SplitPoint,
     aim: Aim<'_>,
 ) -> Result<Option<Look>, NoMemory>
-    requires formed { IsWellFormed tables.timing.now }
     requires best { IfSome (option_copied aim.best) (IsSolved tables.timing.now) }
     requires some_path { (path : List Decision) × Solves (releases_of tables.timing.now) (arcs_of tables.timing.now path) least.now × IsSplitPoint tables.timing.now path point }
     ensures { IfOk result (λ found. IfSome found (λ look. (path : List Decision) → Solves (releases_of tables.entry.timing.now) (arcs_of tables.entry.timing.now path) least.now

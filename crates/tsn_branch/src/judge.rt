@@ -4,7 +4,6 @@ ghost use Rattle.tsn_model.specs.declared.Decision.{Decision};
 ghost use Rattle.tsn_model.specs.Network.{IsWellFormed, stream_count};
 ghost use Rattle.tsn_model.specs.Schedule.{flowspan, AreApart};
 ghost use Rattle.tsn_model.specs.Arcs.{arcs_of};
-ghost use Rattle.tsn_conflict.specs.Kept.{AreConflictsOf};
 ghost use Rattle.tsn_conflict.specs.Raised.{OnlyRaisedOverlap};
 ghost use Rattle.tsn_timing.specs.Solution.{Solution, IsSolved};
 ghost use Rattle.tsn_diff.specs.Answers.{Answers, Solves};
@@ -12,7 +11,7 @@ ghost use Rattle.tsn_diff.specs.Offsets.{chain_of};
 ghost use Rattle.tsn_branch.specs.Outcome.{outcome_of};
 ghost use Rattle.tsn_branch.specs.Look.{IsLook, AllFit, IsFirstLast, IsUntied, ShowsLink};
 ghost use Rattle.tsn_branch.specs.Links.{shared_links, IsUnloaded};
-ghost use Rattle.tsn_branch.specs.Loads.{AreLoadsOf, IsFirstLoad, IsTightest, entry_by};
+ghost use Rattle.tsn_branch.specs.Loads.{IsFirstLoad, IsTightest, entry_by};
 ghost use Rattle.tsn_branch.specs.Ends.{AreEnds};
 ghost use Rattle.tsn_branch.specs.Descent.{Closes, IsVerdict, IsTieBy, WasSplitPoint, IsSolution};
 ghost use Rattle.tsn_branch.specs.declared.instants.Ends.TheVariants as ends;
@@ -60,8 +59,6 @@ pub fn judge(
     outcome: Outcome,
     aim: Aim<'_>,
 ) -> Result<(Look, Option<Least>), NoMemory>
-    requires conflicts { AreConflictsOf tables.timing.now tables.conflicts.now }
-    requires loads { AreLoadsOf tables.timing.now tables.loads.now }
     requires best { IfSome (option_copied aim.best) (IsSolved tables.timing.now) }
     requires some_path { (path : List Decision) × Answers (releases_of tables.timing.now) (arcs_of tables.timing.now path) outcome }
     ensures look { IfOk result (λ found. (path : List Decision) → Answers (releases_of tables.entry.timing.now) (arcs_of tables.entry.timing.now path) outcome
@@ -96,8 +93,6 @@ pub fn judge_least(
     least: &Least,
     aim: Aim<'_>,
 ) -> Result<Verdict, NoMemory>
-    requires conflicts { AreConflictsOf tables.timing.now tables.conflicts.now }
-    requires loads { AreLoadsOf tables.timing.now tables.loads.now }
     requires best { IfSome (option_copied aim.best) (IsSolved tables.timing.now) }
     requires some_path { (path : List Decision) × Solves (releases_of tables.timing.now) (arcs_of tables.timing.now path) least.now }
     ensures { IfOk result (λ verdict. (path : List Decision) → Solves (releases_of tables.entry.timing.now) (arcs_of tables.entry.timing.now path) least.now
@@ -119,8 +114,6 @@ pub fn judge_raised(
     parent: SplitPoint,
     aim: Aim<'_>,
 ) -> Result<Verdict, NoMemory>
-    requires conflicts { AreConflictsOf tables.timing.now tables.conflicts.now }
-    requires loads { AreLoadsOf tables.timing.now tables.loads.now }
     requires best { IfSome (option_copied aim.best) (IsSolved tables.timing.now) }
     requires releases { stack.now.least.releases ≡ releases_of tables.timing.now }
     requires some_path { (path : List Decision) × (stack.now.least.arcs ≡ arcs_of tables.timing.now path) }
@@ -153,8 +146,6 @@ fn judge_known(
     known: Known<'_>,
     aim: Aim<'_>,
 ) -> Result<Verdict, NoMemory>
-    requires conflicts { AreConflictsOf tables.timing.now tables.conflicts.now }
-    requires loads { AreLoadsOf tables.timing.now tables.loads.now }
     requires best { IfSome (option_copied aim.best) (IsSolved tables.timing.now) }
     requires some_path { (path : List Decision) × Solves (releases_of tables.timing.now) (arcs_of tables.timing.now path) least.now }
     requires ends { AreEnds tables.timing.now least.now.offsets known.ends }
@@ -250,8 +241,6 @@ fn find_tie(
     reach: Reach,
     best: Option<&Solved>,
 ) -> Result<Option<Look>, NoMemory>
-    requires formed { IsWellFormed tables.timing.now }
-    requires loads { AreLoadsOf tables.timing.now tables.loads.now }
     requires best { IfSome (option_copied best) (IsSolved tables.timing.now) }
     requires some_path { (path : List Decision) × Solves (releases_of tables.timing.now) (arcs_of tables.timing.now path) least.now }
     requires ends { AreEnds tables.timing.now least.now.offsets (ends.Within reach.last reach.end) }
@@ -274,8 +263,6 @@ fn judge_tie(
     reach: Reach,
     best: &Solved,
 ) -> Result<Option<Look>, NoMemory>
-    requires formed { IsWellFormed tables.timing.now }
-    requires loads { AreLoadsOf tables.timing.now tables.loads.now }
     requires best { IsSolved tables.timing.now best.now }
     requires some_path { (path : List Decision) × Solves (releases_of tables.timing.now) (arcs_of tables.timing.now path) least.now }
     requires ends { AreEnds tables.timing.now least.now.offsets (ends.Within reach.last reach.end) }
@@ -320,8 +307,6 @@ fn judge_load(
     least: &Least,
     found: FirstLoad,
 ) -> Result<Look, NoMemory>
-    requires formed { IsWellFormed tables.timing.now }
-    requires loads { AreLoadsOf tables.timing.now tables.loads.now }
     requires some_path { (path : List Decision) × Solves (releases_of tables.timing.now) (arcs_of tables.timing.now path) least.now }
     requires found { (target : ℕ) × IsFirstLoad tables.timing.now least.now.offsets target found }
     ensures look { IfOk result (λ look. (path : List Decision) (target : ℕ) → Solves (releases_of tables.entry.timing.now) (arcs_of tables.entry.timing.now path) least.now
@@ -349,8 +334,6 @@ fn entries_at(
     least: &Least,
     link_index: usize,
 ) -> Result<(usize, Entries), NoMemory>
-    requires formed { IsWellFormed tables.timing.now }
-    requires loads { AreLoadsOf tables.timing.now tables.loads.now }
     requires some_path { (path : List Decision) × Solves (releases_of tables.timing.now) (arcs_of tables.timing.now path) least.now }
     requires link_index { link_index < length (shared_links tables.timing.now) }
     ensures link { IfOk result (λ leaf. slice_get (shared_links tables.entry.timing.now) link_index ≡ Some leaf.0) }

@@ -32,7 +32,6 @@ pub fn judge_parts(
     least: &Least,
     aim: Aim<'_>,
 ) -> Result<Option<Look>, NoMemory>
-    requires formed { IsWellFormed tables.timing.now }
     requires best { IfSome (option_copied aim.best) (IsSolved tables.timing.now) }
     requires some_path { (path : List Decision) × Solves (releases_of tables.timing.now) (arcs_of tables.timing.now path) least.now }
     requires small { All (λ offset. offset ≤ 1_000_000_000) least.now.offsets }
@@ -144,7 +143,6 @@ fn judge_part(
     part: &LinkTable,
     aim: Aim<'_>,
 ) -> Result<Option<Look>, NoMemory>
-    requires formed { IsWellFormed tables.timing.now }
     requires best { IfSome (option_copied aim.best) (IsSolved tables.timing.now) }
     requires some_path { (path : List Decision) × Solves (releases_of tables.timing.now) (arcs_of tables.timing.now path) least.now }
     requires small { All (λ offset. offset ≤ 1_000_000_000) least.now.offsets }
@@ -180,7 +178,6 @@ fn tie_part(
     bound: u64,
     best: &Solved,
 ) -> Result<Option<Look>, NoMemory>
-    requires formed { IsWellFormed tables.timing.now }
     requires best { IsSolved tables.timing.now best.now }
     requires some_path { (path : List Decision) × Solves (releases_of tables.timing.now) (arcs_of tables.timing.now path) least.now }
     requires part { IsPartOf tables.timing.now (link_in part.now) }

@@ -1,4 +1,9 @@
 //! What looks at nodes read, and what they are to reach.
+ghost use Rattle.std.proofs.Props.{props};
+ghost use Rattle.tsn_conflict.specs.Kept.{AreConflictsOf};
+ghost use Rattle.tsn_branch.specs.Loads.{AreLoadsOf};
+ghost use Rattle.tsn_branch.specs.Rates.{rate-prop};
+
 use crate::loads::Loads;
 use tsn_conflict::sharing::Conflicts;
 use tsn_timing::{Solved, Timing};
@@ -9,6 +14,8 @@ pub struct Tables<'a> {
     pub timing: &'a Timing,
     pub conflicts: &'a Conflicts,
     pub loads: &'a Loads,
+    pub ghost right_conflicts: { AreConflictsOf timing.now conflicts.now } by { Prim.hlevel (props, rate-prop) },
+    pub ghost right_loads: { AreLoadsOf timing.now loads.now },
 }
 
 /// What a schedule is to reach: a flowspan below the target, and to be better than the best one so far.

@@ -2,10 +2,8 @@
 ghost use Rattle.std.specs.Prelude.{◌≡◌, ◌≤◌, ◌<◌, ℕ, length, IfOk};
 ghost use Rattle.tsn_model.specs.Network.{IsWellFormed};
 ghost use Rattle.tsn_model.specs.Schedule.{target_of};
-ghost use Rattle.tsn_conflict.specs.Kept.{AreConflictsOf};
 ghost use Rattle.tsn_cert.specs.declared.plan.Plan.{Plan};
 ghost use Rattle.tsn_check.specs.Faults.{IsPlanRight, offsets_in};
-ghost use Rattle.tsn_branch.specs.Loads.{AreLoadsOf};
 ghost use Rattle.tsn_timing.specs.Solution.{IsSolved};
 ghost use Rattle.tsn_prove.specs.Answer.{IsAnswer};
 ghost use Rattle.tsn_prove.specs.Walk.{HasFilled, nodes_in};
@@ -62,8 +60,6 @@ fn prove_by<G: Gate>(
     limit: usize,
     gate: &G,
 ) -> Result<Answer, NoMemory>
-    requires conflicts { AreConflictsOf tables.timing.now tables.conflicts.now }
-    requires loads { AreLoadsOf tables.timing.now tables.loads.now }
     requires right { IsPlanRight tables.timing.now plan.now }
     ensures { IfOk result (IsAnswer tables.entry.timing.now limit plan.now) }
 {

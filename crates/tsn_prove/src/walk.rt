@@ -3,10 +3,8 @@ ghost use Rattle.std.specs.Prelude.{◌≡◌, ℕ, List, [], IfOk, Contains, le
 ghost use Rattle.tsn_model.specs.declared.Triple.{Triple};
 ghost use Rattle.tsn_model.specs.Schedule.{IsConflict};
 ghost use Rattle.tsn_model.specs.Certificate.{Proves};
-ghost use Rattle.tsn_conflict.specs.Kept.{AreConflictsOf};
 ghost use Rattle.tsn_cert.specs.Node.{tree_node};
 ghost use Rattle.tsn_branch.specs.Leaf.{leaf_of};
-ghost use Rattle.tsn_branch.specs.Loads.{AreLoadsOf};
 ghost use Rattle.tsn_branch.specs.Path.{Fits, IsUndecided};
 ghost use Rattle.tsn_branch.specs.Descent.{Stands, Splits};
 ghost use Rattle.tsn_prove.specs.Filling.{IsFilling};
@@ -58,8 +56,6 @@ impl Walk {
         guidance: &mut Guidance<'_>,
         target: u64,
     ) -> Result<Step, NoMemory>
-        requires conflicts { AreConflictsOf tables.timing.now tables.conflicts.now }
-        requires loads { AreLoadsOf tables.timing.now tables.loads.now }
         requires walk { IsWalk tables.timing.now tables.conflicts.now.triples target self.old }
         ensures { IfOk result (Goes tables.entry.timing.now tables.entry.conflicts.now.triples target (length (nodes_in self.old)) self.new) }
     {
@@ -75,7 +71,6 @@ impl Walk {
 
     // Splits the node on a triple that its path doesn't decide.
     fn split(&mut self, tables: Tables<'_>, target: u64, triple: Triple) -> Result<Step, NoMemory>
-        requires conflicts { AreConflictsOf tables.timing.now tables.conflicts.now }
         requires fits { Fits tables.conflicts.now.triples self.old.descent.path }
         requires filling { IsFilling tables.timing.now target self.old.descent.path (nodes_in self.old) }
         requires splits { Splits tables.timing.now triple self.old.descent }
@@ -94,7 +89,6 @@ impl Walk {
 
     // Closes the node by a leaf that proves the target.
     fn close(&mut self, tables: Tables<'_>, target: u64, leaf: Leaf) -> Result<Step, NoMemory>
-        requires conflicts { AreConflictsOf tables.timing.now tables.conflicts.now }
         requires fits { Fits tables.conflicts.now.triples self.old.descent.path }
         requires filling { IsFilling tables.timing.now target self.old.descent.path (nodes_in self.old) }
         requires stands { Stands tables.timing.now self.old.descent }

@@ -3,7 +3,6 @@ ghost use Rattle.std.specs.Prelude.{◌≡◌, ◌≤◌, true, false, None, map
 ghost use Rattle.tsn_timing.specs.Solution.{IsSolved};
 ghost use Rattle.tsn_conflict.specs.Kept.{AreConflictsOf};
 ghost use Rattle.tsn_branch.specs.Outcome.{outcome_of};
-ghost use Rattle.tsn_branch.specs.Loads.{AreLoadsOf};
 ghost use Rattle.tsn_model.specs.Certificate.{beyond};
 ghost use Rattle.tsn_model.specs.Search.{split};
 ghost use Rattle.tsn_branch.specs.Look.{PrunesFrom};
@@ -126,7 +125,6 @@ impl Below {
         guide: Guide<'_>,
         bag: &mut B,
     ) -> Result<(), NoMemory>
-        requires conflicts { AreConflictsOf tables.timing.now tables.conflicts.now }
         requires below { IsBelow tables.timing.now tables.conflicts.now.triples self.old }
         ensures { OnOk result (IsBelow tables.entry.timing.now tables.entry.conflicts.now.triples self.new) }
     {
@@ -204,8 +202,6 @@ impl Below {
         incumbent: Incumbent<'_>,
         most: usize,
     ) -> Result<Batch, NoMemory>
-        requires conflicts { AreConflictsOf tables.timing.now tables.conflicts.now }
-        requires loads { AreLoadsOf tables.timing.now tables.loads.now }
         requires best { IfSome (option_copied incumbent.best) (IsSolved tables.timing.now) }
         requires below { IsBelow tables.timing.now tables.conflicts.now.triples self.old }
         requires most { (1 ≤ most) × (most ≤ BATCH) }
@@ -285,8 +281,6 @@ fn look_on(
     floor: usize,
     aim: Aim<'_>,
 ) -> Result<Found, NoMemory>
-    requires conflicts { AreConflictsOf tables.timing.now tables.conflicts.now }
-    requires loads { AreLoadsOf tables.timing.now tables.loads.now }
     requires best { IfSome (option_copied aim.best) (IsSolved tables.timing.now) }
     requires stands { StandsAt tables.timing.now tables.conflicts.now.triples descent.old.path descent.old }
     ensures proof { IfOk result (λ found. IsProved tables.entry.timing.now descent.old.path (outcome_of found.look)) }

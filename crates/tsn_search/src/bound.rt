@@ -1,8 +1,6 @@
 //! A flowspan that no schedule undercuts.
 ghost use Rattle.std.specs.Prelude.{◌≡◌, IfOk};
-ghost use Rattle.tsn_conflict.specs.Kept.{AreConflictsOf};
 ghost use Rattle.tsn_branch.specs.Outcome.{outcome_of};
-ghost use Rattle.tsn_branch.specs.Loads.{AreLoadsOf};
 ghost use Rattle.tsn_search.specs.Bound.{IsLowerBound, HasBoundAt};
 
 use std::alloc::Global;
@@ -15,8 +13,6 @@ const ROUNDS: usize = 1_000_000;
 /// What no valid schedule's flowspan is below, in nanoseconds: the latest arrival of a stream that starts at its release, or,
 /// where that is greater, the load of some streams of a shared link. The error says that there was no memory.
 pub fn lower_bound(alloc: Global, tables: Tables<'_>) -> Result<u64, NoMemory>
-    requires conflicts { AreConflictsOf tables.timing.now tables.conflicts.now }
-    requires loads { AreLoadsOf tables.timing.now tables.loads.now }
     ensures { IfOk result (IsLowerBound tables.entry.timing.now) }
 {
     let mut guidance = Guidance::of(alloc, tables.timing, tables.conflicts, None)?;
@@ -39,8 +35,6 @@ fn bound_at(
     guidance: &mut Guidance<'_>,
     target: u64,
 ) -> Result<u64, NoMemory>
-    requires conflicts { AreConflictsOf tables.timing.now tables.conflicts.now }
-    requires loads { AreLoadsOf tables.timing.now tables.loads.now }
     ensures { IfOk result (IsLowerBound tables.entry.timing.now) }
 {
     let mut descent = Descent::root(alloc, tables.timing)?;

@@ -1,7 +1,9 @@
 //! What a search reads.
 ghost use Rattle.std.specs.Prelude.{◌≡◌, IfOk};
+ghost use Rattle.std.proofs.Props.{props};
 ghost use Rattle.tsn_conflict.specs.Kept.{AreConflictsOf};
 ghost use Rattle.tsn_branch.specs.Loads.{AreLoadsOf};
+ghost use Rattle.tsn_branch.specs.Rates.{rate-prop};
 
 use crate::context::{Order, Setting};
 use std::alloc::Global;
@@ -17,6 +19,8 @@ pub struct Prepared {
     pub timing: Timing,
     pub conflicts: Conflicts,
     pub loads: Loads,
+    pub ghost right_conflicts: { AreConflictsOf timing conflicts } by { Prim.hlevel (props, rate-prop) },
+    pub ghost right_loads: { AreLoadsOf timing loads },
 }
 
 impl Prepared {

@@ -1,9 +1,7 @@
 //! By what rule nodes are looked at.
 ghost use Rattle.std.specs.Prelude.{◌≡◌, IfOk, IfSome, OnErr, option_copied};
 ghost use Rattle.tsn_timing.specs.Solution.{IsSolved};
-ghost use Rattle.tsn_conflict.specs.Kept.{AreConflictsOf};
 ghost use Rattle.tsn_branch.specs.Outcome.{outcome_of};
-ghost use Rattle.tsn_branch.specs.Loads.{AreLoadsOf};
 ghost use Rattle.tsn_branch.specs.Path.{Fits};
 ghost use Rattle.tsn_branch.specs.Look.{HasProof, SplitsUndecided, SplitsAmong, PrunesFrom, SolvesBelow};
 ghost use Rattle.tsn_branch.specs.Look.{TiesWith};
@@ -45,8 +43,6 @@ impl<'a> Rule<'a> {
         descent: &mut Descent,
         aim: Aim<'_>,
     ) -> Result<Look, NoMemory>
-        requires conflicts { AreConflictsOf tables.timing.now tables.conflicts.now }
-        requires loads { AreLoadsOf tables.timing.now tables.loads.now }
         requires best { IfSome (option_copied aim.best) (IsSolved tables.timing.now) }
         requires fits { Fits tables.conflicts.now.triples descent.old.path }
         requires stands { Stands tables.timing.now descent.old }

@@ -70,6 +70,8 @@ fn settle_all<G: Gate>(course: &Course<'_, '_, G>, book: &mut Book) -> Result<()
             dive(course, &mut rule, book, guide, &mut others)?;
         }
     }
+    // Each loop is proved to end. This one's measure is how many settlements are left, and the label names it in its proof.
+    // Where a loop has no measure at hand, as in `dive`, it goes over `0..u64::MAX`, which no run comes to the end of.
     'settlements: while book.count() < course.limit {
         if book.open_count() == 0 || !settle_more(course, &mut rule, book, &mut others)? {
             break;

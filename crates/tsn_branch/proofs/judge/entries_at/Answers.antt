@@ -22,18 +22,18 @@ module _ (network : Network) (tables : List LinkTable) (same : map link_in table
 
 pub entries_of-requires-clause-some_user : goal.entries_of-requires-clause-some_user
 entries_of-requires-clause-some_user c =
-    let found = measured c.args.tables.timing.now c.tables.result.now (c.tables.ensures ∙ c.requires.loads) c.args.link_index c.requires.link_index c.index-tables-link_index.result c.index-tables-link_index.is c.requires.formed in
+    let found = measured c.args.tables.timing.now c.tables.result.now (c.tables.ensures ∙ c.args.tables.right_loads) c.args.link_index c.requires.link_index c.index-tables-link_index.result c.index-tables-link_index.is c.args.tables.right_conflicts.formed in
     omega (arith, found.several, ap length c.deref.ensures.value)
 
 pub entries_of-requires-clause-few_users : goal.entries_of-requires-clause-few_users
 entries_of-requires-clause-few_users c =
-    let found = measured c.args.tables.timing.now c.tables.result.now (c.tables.ensures ∙ c.requires.loads) c.args.link_index c.requires.link_index c.index-tables-link_index.result c.index-tables-link_index.is c.requires.formed in
+    let found = measured c.args.tables.timing.now c.tables.result.now (c.tables.ensures ∙ c.args.tables.right_loads) c.args.link_index c.requires.link_index c.index-tables-link_index.result c.index-tables-link_index.is c.args.tables.right_conflicts.formed in
     omega (arith, found.few, ap length c.deref.ensures.value)
 
 pub entries_of-requires-clause-streams : goal.entries_of-requires-clause-streams
 entries_of-requires-clause-streams c k d below =
     let network = c.args.tables.timing.now in
-    let found = measured network c.tables.result.now (c.tables.ensures ∙ c.requires.loads) c.args.link_index c.requires.link_index c.index-tables-link_index.result c.index-tables-link_index.is c.requires.formed in
+    let found = measured network c.tables.result.now (c.tables.ensures ∙ c.args.tables.right_loads) c.args.link_index c.requires.link_index c.index-tables-link_index.result c.index-tables-link_index.is c.args.tables.right_conflicts.formed in
     let early = subst (All (IsEarly (stream_count network))) (sym c.deref.ensures.value) found.early in
     let path = c.requires.some_path in
     subst (λ n. (get_or c.deref.result.now k d).stream < n) (sym (count network path.0 c.args.least.now path.1)) (early k d below).counted
@@ -41,22 +41,22 @@ entries_of-requires-clause-streams c k d below =
 pub entries_of-requires-clause-short : goal.entries_of-requires-clause-short
 entries_of-requires-clause-short c k d below =
     let network = c.args.tables.timing.now in
-    let found = measured network c.tables.result.now (c.tables.ensures ∙ c.requires.loads) c.args.link_index c.requires.link_index c.index-tables-link_index.result c.index-tables-link_index.is c.requires.formed in
+    let found = measured network c.tables.result.now (c.tables.ensures ∙ c.args.tables.right_loads) c.args.link_index c.requires.link_index c.index-tables-link_index.result c.index-tables-link_index.is c.args.tables.right_conflicts.formed in
     let early = subst (All (IsEarly (stream_count network))) (sym c.deref.ensures.value) found.early in
     let path = c.requires.some_path in
-    short network path.0 c.args.least.now path.1 c.requires.formed (get_or c.deref.result.now k d).stream (early k d below).counted
+    short network path.0 c.args.least.now path.1 c.args.tables.right_conflicts.formed (get_or c.deref.result.now k d).stream (early k d below).counted
 
 pub returns-clause-link : goal.returns-clause-link
 returns-clause-link c =
     let network = c.args.tables.timing.now in
-    let is = there network c.tables.result.now (c.tables.ensures ∙ c.requires.loads) c.args.link_index c.requires.link_index c.index-tables-link_index.result c.index-tables-link_index.is in
+    let is = there network c.tables.result.now (c.tables.ensures ∙ c.args.tables.right_loads) c.args.link_index c.requires.link_index c.index-tables-link_index.result c.index-tables-link_index.is in
     let link = get_or (shared_links network) c.args.link_index 0 in
     slice_get-get_or (shared_links network) c.args.link_index 0 c.requires.link_index ∙ ap Some (sym (link_is network link (link_in c.index-tables-link_index.result) is))
 
 pub returns-clause-shown : goal.returns-clause-shown
 returns-clause-shown c path solves =
     let network = c.args.tables.timing.now in
-    let is = there network c.tables.result.now (c.tables.ensures ∙ c.requires.loads) c.args.link_index c.requires.link_index c.index-tables-link_index.result c.index-tables-link_index.is in
+    let is = there network c.tables.result.now (c.tables.ensures ∙ c.args.tables.right_loads) c.args.link_index c.requires.link_index c.index-tables-link_index.result c.index-tables-link_index.is in
     let link = get_or (shared_links network) c.args.link_index 0 in
     shown_by network path c.args.least.now solves link c.index-tables-link_index.result.link c.deref.result.now c.in_ok-entries_of.field-0
     (link_is network link (link_in c.index-tables-link_index.result) is) (c.deref.ensures.value ∙ users_are network link (link_in c.index-tables-link_index.result) is) c.in_ok-entries_of.ensures

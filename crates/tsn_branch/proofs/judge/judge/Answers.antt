@@ -30,7 +30,7 @@ bounds-triples-point c =
     let (path, answers) = c.requires.some_path in
     let solves = subst (Answers (releases_of network) (arcs_of network path)) c.in-Least.is answers in
     let found = subst (IsVerdict network path c.args.aim.target (option_copied c.args.aim.best)) c.in-Split.is (c.in_ok-verdict-in-Least.ensures path solves) in
-    subst (λ (ts : List Triple). c.in-Split.point.triple < length ts) (sym (c.triples.ensures ∙ c.requires.conflicts.triples)) found.0.within
+    subst (λ (ts : List Triple). c.in-Split.point.triple < length ts) (sym (c.triples.ensures ∙ c.args.tables.right_conflicts.triples)) found.0.within
 
 pub offset_bounds-triples-point : goal.offset_bounds-triples-point
 offset_bounds-triples-point c =
@@ -39,7 +39,7 @@ offset_bounds-triples-point c =
     let solves = subst (Answers (releases_of network) (arcs_of network path)) c.in-Least.is answers in
     let found = subst (IsVerdict network path c.args.aim.target (option_copied c.args.aim.best)) c.in-Split.is (c.in_ok-verdict-in-Least.ensures path solves) in
     let below : c.in-Split.point.triple < length c.triples.result.now =
-    subst (λ (ts : List Triple). c.in-Split.point.triple < length ts) (sym (c.triples.ensures ∙ c.requires.conflicts.triples)) found.0.within in
+    subst (λ (ts : List Triple). c.in-Split.point.triple < length ts) (sym (c.triples.ensures ∙ c.args.tables.right_conflicts.triples)) found.0.within in
     let long = c.triples.type_inv in
     omega arith
 
@@ -49,7 +49,7 @@ returns-in-Split-clause-look c =
     let network = c.args.tables.timing.now in
     let solves = subst (Answers (releases_of network) (arcs_of network path)) c.in-Least.is answers in
     let found = subst (IsVerdict network path c.args.aim.target (option_copied c.args.aim.best)) c.in-Split.is (c.in_ok-verdict-in-Least.ensures path solves) in
-    subst (λ (ts : List Triple). IsLook network path c.args.aim.target (option_copied c.args.aim.best) (split (triple_at ts c.in-Split.point.triple))) (sym (c.triples.ensures ∙ c.requires.conflicts.triples)) found.1
+    subst (λ (ts : List Triple). IsLook network path c.args.aim.target (option_copied c.args.aim.best) (split (triple_at ts c.in-Split.point.triple))) (sym (c.triples.ensures ∙ c.args.tables.right_conflicts.triples)) found.1
 
 pub returns-in-Closed-clause-look : goal.returns-in-Closed-clause-look
 returns-in-Closed-clause-look c =

@@ -62,7 +62,7 @@ find_loads-requires-clause-small c =
     let path = c.requires.some_path in
     let (fit, last, end) = subst (AreEnds network c.args.least.now.offsets) c.in-Within.is c.requires.ends in
     subst (All (λ offset. offset ≤ 1000000000)) (sym c.offsets.ensures)
-    (small_offsets network c.args.least.now.offsets c.requires.conflicts.formed (count network path.0 c.args.least.now path.1) fit)
+    (small_offsets network c.args.least.now.offsets c.args.tables.right_conflicts.formed (count network path.0 c.args.least.now path.1) fit)
 
 pub judge_load-requires-clause-found : goal.judge_load-requires-clause-found
 judge_load-requires-clause-found c =
@@ -83,7 +83,7 @@ first_violated_from-requires-clause-small c =
     let path = c.requires.some_path in
     let (fit, last, end) = subst (AreEnds network c.args.least.now.offsets) c.in-Within.is c.requires.ends in
     subst (All (λ offset. offset ≤ 1000000000)) (sym c.offsets-2.ensures)
-    (small_offsets network c.args.least.now.offsets c.requires.conflicts.formed (count network path.0 c.args.least.now path.1) fit)
+    (small_offsets network c.args.least.now.offsets c.args.tables.right_conflicts.formed (count network path.0 c.args.least.now path.1) fit)
 
 pub first_violated_from-requires-clause-apart_before : goal.first_violated_from-requires-clause-apart_before
 first_violated_from-requires-clause-apart_before c = subst (λ (offsets : List ℕ). OnlyRaisedOverlap c.args.tables.conflicts.now offsets c.args.known.raised.now c.args.known.start) (sym c.offsets-2.ensures) c.requires.apart
@@ -93,7 +93,7 @@ returns-in-Some-first_violated_from c =
     λ path solves.
     let network = c.args.tables.timing.now in
     let lowest = c.args.least.now in
-    let conflicts = c.requires.conflicts in
+    let conflicts = c.args.tables.right_conflicts in
     let ends = subst (AreEnds network lowest.offsets) c.in-Within.is c.requires.ends in
     let (fit, last, end) = ends in
     let found = c.in-Some-first_violated_from.ensures network conflicts in

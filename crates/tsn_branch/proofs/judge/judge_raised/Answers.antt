@@ -17,7 +17,7 @@ pub judge_known-requires-clause-apart : goal.judge_known-requires-clause-apart
 judge_known-requires-clause-apart c =
     let network = c.args.tables.timing.now in
     let parent = c.requires.parent in
-    let is = c.requires.conflicts in
+    let is = c.args.tables.right_conflicts in
     subst (λ (lowest : LeastOffsets). OnlyRaisedOverlap c.args.tables.conflicts.now lowest.offsets c.raised-raised.result.now c.args.parent.triple) (sym c.least-least.ensures.value)
     (subst (λ raised. OnlyRaisedOverlap c.args.tables.conflicts.now c.args.stack.now.least.offsets raised c.args.parent.triple) (sym c.raised-raised.ensures.value)
     (c.parents_overlap_starts.ensures network c.args.tables.conflicts.now parent.before c.args.stack.now.least.offsets c.args.stack.now.raised c.args.parent.triple is

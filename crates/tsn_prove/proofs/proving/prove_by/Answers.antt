@@ -30,5 +30,5 @@ returns g c =
     let past = c.loop-count-test.false in
     let counted = c.loop-count.invariant.counted in
     let full : length (nodes_in c.loop-count.walk) ≡ c.args.limit = omega (arith, past, counted) in
-    unfinished c.args.tables.timing.now c.requires.conflicts.formed c.args.limit c.target_of-target.result _ c.target_of-target.ensures _ (nodes_in c.loop-count.walk) _ c.loop-count.invariant.walk.filling
+    unfinished c.args.tables.timing.now c.args.tables.right_conflicts.formed c.args.limit c.target_of-target.result _ c.target_of-target.ensures _ (nodes_in c.loop-count.walk) _ c.loop-count.invariant.walk.filling
     (c.of-nodes.ensures ∙ c.into_nodes.ensures) full _ c.in_ok-bound.ensures

@@ -8,4 +8,4 @@ pub returns : goal.returns
 returns c =
     let network = c.args.tables.timing.now in
     let outcome = outcome_of c.in_ok-look.look in
-    lower_bound_by network c.requires.conflicts.formed outcome c.bound_of-bound.result (subst (λ p. HasProof network p outcome) c.in_ok-descent.ensures.path c.in_ok-look.ensures.proof) c.bound_of-bound.ensures
+    lower_bound_by network c.args.tables.right_conflicts.formed outcome c.bound_of-bound.result (subst (λ p. HasProof network p outcome) c.in_ok-descent.ensures.path c.in_ok-look.ensures.proof) c.bound_of-bound.ensures

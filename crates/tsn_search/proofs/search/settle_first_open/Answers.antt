@@ -9,7 +9,7 @@ pub look-requires-clause-fits : goal.look-requires-clause-fits
 look-requires-clause-fits g c =
     let tables = c.args.course.now.setting.now.tables in
     let of = c.requires.search.of_network in
-    open_fits tables.timing.now tables.conflicts.now of.conflicts c.args.book.now.history (rw (sym of.timing) at c.best.ensures.lawful.legal) c.in_ok-node.node c.in_ok-node.ensures
+    open_fits tables.timing.now tables.conflicts.now tables.right_conflicts c.args.book.now.history (rw (sym of.timing) at c.best.ensures.lawful.legal) c.in_ok-node.node c.in_ok-node.ensures
 
 pub record-requires-clause-met : goal.record-requires-clause-met
 record-requires-clause-met g c =

@@ -8,5 +8,5 @@ loop-preserved g c = record {
   below = c.in_ok-choose_side.ensures;
 }
 
-pub choose_side-requires-clause-below : goal.choose_side-requires-clause-below
-choose_side-requires-clause-below g c = c.in-GoesOn.ensures.below tt
+pub choose_side-requires : goal.choose_side-requires
+choose_side-requires g c = record { below = c.in-GoesOn.ensures.below tt }

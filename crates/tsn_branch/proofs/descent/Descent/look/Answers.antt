@@ -29,7 +29,7 @@ returns-in-Ok-Split-clause-undecided c =
     let target = c.args.aim.target in
     let found = subst (IsVerdict network c.lead.new.self.path target (option_copied c.args.aim.best)) c.in-Ok-Split.field-0-is c.in-Ok-Split.ensures in
     let path : c.lead.new.self.path ≡ c.args.self.now.path = c.lead.ensures.path in
-    let triples = c.triples.ensures ∙ c.requires.conflicts.triples in
+    let triples = c.triples.ensures ∙ c.args.tables.right_conflicts.triples in
     let right = SplitsUndecided-from network c.lead.new.self.path target (option_copied c.args.aim.best) (split (triple_at (conflicts_of network) c.in-Ok-Split.point.triple)) found.1 in
     subst (λ p. SplitsUndecided network p (split (triple_at c.triples.result.now c.in-Ok-Split.point.triple))) path
     (subst (λ (ts : List Triple). SplitsUndecided network c.lead.new.self.path (split (triple_at ts c.in-Ok-Split.point.triple))) (sym triples) right)
@@ -56,7 +56,7 @@ returns-in-Ok-Closed-clause-ties c =
 pub returns-in-Ok-Split-clause-among : goal.returns-in-Ok-Split-clause-among
 returns-in-Ok-Split-clause-among c =
     let network = c.args.tables.timing.now in
-    let conflicts = c.requires.conflicts in
+    let conflicts = c.args.tables.right_conflicts in
     subst (λ ts. SplitsAmong ts (split (triple_at c.triples.result.now c.in-Ok-Split.point.triple))) c.triples.ensures
     (SplitsAmong-from network c.args.self.now.path c.triples.result.now conflicts.formed (c.triples.ensures ∙ conflicts.triples) (split (triple_at c.triples.result.now c.in-Ok-Split.point.triple))
     (returns-in-Ok-Split-clause-undecided c))

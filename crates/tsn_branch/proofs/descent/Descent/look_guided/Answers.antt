@@ -14,4 +14,4 @@ returns-in-Ok-Split-clause-undecided c =
     let found = subst (IsGuess network c.lead.new.self.path c.args.aim.target (option_copied c.args.aim.best)) c.in-Ok-Split.field-0-is c.in-Ok-Split.ensures in
     let right = SplitsUndecided-at network c.lead.new.self.path c.in-Ok-Split.number found.1 in
     subst (λ p. SplitsUndecided network p (split (triple_at c.triples.result.now c.in-Ok-Split.number))) c.lead.ensures.path
-    (subst (λ (ts : List Triple). SplitsUndecided network c.lead.new.self.path (split (triple_at ts c.in-Ok-Split.number))) (sym (c.triples.ensures ∙ c.requires.conflicts.triples)) right)
+    (subst (λ (ts : List Triple). SplitsUndecided network c.lead.new.self.path (split (triple_at ts c.in-Ok-Split.number))) (sym (c.triples.ensures ∙ c.args.tables.right_conflicts.triples)) right)

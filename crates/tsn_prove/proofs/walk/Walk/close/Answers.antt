@@ -19,7 +19,7 @@ returns-then-next c =
       record {
         stands = c.next.ensures.stands network c.requires.stands;
         fits = c.next.ensures.fits c.args.tables.conflicts.now.triples c.requires.fits;
-        filling = closed_more network c.requires.conflicts.formed c.args.target c.args.self.now.descent.path (map tree_node old) c.requires.filling (leaf_of c.args.leaf) c.requires.proves
+        filling = closed_more network c.args.tables.right_conflicts.formed c.args.target c.args.self.now.descent.path (map tree_node old) c.requires.filling (leaf_of c.args.leaf) c.requires.proves
             c.next.new.self.path (map tree_node c.push.new.self.items) c.if-next.ensures.next nodes;
       },
       omega (arith, more, long),
@@ -34,7 +34,7 @@ returns-else-next c =
     ap (map tree_node) items ∙ map-append tree_node old (c.into.result ∷ []) ∙ ap (λ n. map tree_node old ++ n ∷ []) c.into.ensures in
     let more = length_push (map tree_node old) (leaf_node (leaf_of c.args.leaf)) in
     let long = ap length nodes in (
-      closed_last network c.requires.conflicts.formed c.args.target c.args.self.now.descent.path (map tree_node old) c.requires.filling (leaf_of c.args.leaf) c.requires.proves
+      closed_last network c.args.tables.right_conflicts.formed c.args.target c.args.self.now.descent.path (map tree_node old) c.requires.filling (leaf_of c.args.leaf) c.requires.proves
           (map tree_node c.push.new.self.items) c.if-next.ensures.next nodes,
       omega (arith, more, long),
     )

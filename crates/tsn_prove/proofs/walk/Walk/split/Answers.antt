@@ -20,7 +20,7 @@ returns c =
       record {
         stands = down.stands network c.requires.splits;
         fits = down.fits c.args.tables.conflicts.now.triples c.requires.among c.requires.fits;
-        filling = split_more network c.requires.conflicts.formed c.args.target c.args.self.now.descent.path (map tree_node old) c.requires.filling c.args.triple c.requires.conflict c.requires.undecided
+        filling = split_more network c.args.tables.right_conflicts.formed c.args.target c.args.self.now.descent.path (map tree_node old) c.requires.filling c.args.triple c.requires.conflict c.requires.undecided
             c.down.new.self.path (map tree_node c.push.new.self.items) down.path nodes;
       },
       omega (arith, more, long),
