@@ -1,5 +1,5 @@
 -- Several events of one teller in the book.
-use Rattle.std.proofs.Common.{◌≡◌, ◌≢◌, ℕ, ◌<◌, true, List, [], ◌∷◌, ◌++◌, length, map, take, set, refl, sym, ap, ◌∙◌, Result, Ok, Err}
+use Rattle.std.proofs.Common.{◌≡◌, ◌≢◌, ℕ, ◌<◌, true, List, [], ◌∷◌, ◌++◌, length, map, take, set, refl, sym, ap, ◌∙◌, subst, false, Result, Ok, Err}
 use Rattle.std.specs.Prelude.{OnOk, IfErr}
 use Rattle.std.proofs.lemmas.List.{append_assoc, append-nil, take-map}
 use Rattle.tsn_model.specs.Network.{Network}
@@ -23,7 +23,7 @@ abbrev pub outcomes_of : List Event → List Outcome
 outcomes_of events = map (λ event. event.outcome) events
 
 -- a teller's tally takes its own events
-pub tally-own : (network : Network) (k : ℕ) (history : List Settlement) (events : List Event) → tally_of network k (history ++ settlements_by k events) ≡ tally_with_all (tally_of network k history) (outcomes_of events)
+tally-own : (network : Network) (k : ℕ) (history : List Settlement) (events : List Event) → tally_of network k (history ++ settlements_by k events) ≡ tally_with_all (tally_of network k history) (outcomes_of events)
 tally-own network k history [] = ap (tally_of network k) (append-nil history)
 tally-own network k history (event ∷ events) =
     let settlement : Settlement = record { teller = k; event = event } in
@@ -32,7 +32,7 @@ tally-own network k history (event ∷ events) =
     ∙ ap (λ (tally : Tally). tally_with_all tally (outcomes_of events)) (tally-this network k history settlement refl)
 
 -- and none of another's
-pub tally-others : (network : Network) (k other : ℕ) → k ≢ other → (history : List Settlement) (events : List Event) → tally_of network other (history ++ settlements_by k events) ≡ tally_of network other history
+tally-others : (network : Network) (k other : ℕ) → k ≢ other → (history : List Settlement) (events : List Event) → tally_of network other (history ++ settlements_by k events) ≡ tally_of network other history
 tally-others network k other apart history [] = ap (tally_of network other) (append-nil history)
 tally-others network k other apart history (event ∷ events) =
     let settlement : Settlement = record { teller = k; event = event } in
@@ -41,7 +41,7 @@ tally-others network k other apart history (event ∷ events) =
     ∙ tally-another network other history settlement apart
 
 -- the halves behind the lock, once the teller's own is set
-pub halves_batch : (names : Names) (halves : List Half) (history : List Settlement) (teller : ℕ) (events : List Event) (new : Half) → Halved names halves history → teller < length halves
+halves_batch : (names : Names) (halves : List Half) (history : List Settlement) (teller : ℕ) (events : List Event) (new : Half) → Halved names halves history → teller < length halves
     → new ≡ half names.halves teller true (tally_of names.race.network teller (history ++ settlements_by teller events)) → Halved names (set halves teller new) (history ++ settlements_by teller events)
 halves_batch names halves history teller events new before within is =
     halves_set names halves history (history ++ settlements_by teller events) teller new before within is
@@ -71,15 +71,40 @@ pub history_taken : {U E : Type 0} (answer : Result U E) (count : E → ℕ) (so
 history_taken (Ok u) count some_of A C before after k events same all some = ap (λ (p : Progress). p.history) all
 history_taken (Err e) count some_of A C before after k events same all some = ap (λ (p : Progress). p.history) some.1 ∙ ap (λ more. before.history ++ settlements_by k more) (same e)
 
-pub share_all : {U E : Type 0} (answer : Result U E) (count : E → ℕ) (new : Half) (holding : Tally → Half) (tally : Tally) (events : List Event) (outcomes : List Outcome) → outcomes_of events ≡ outcomes
+share_all : {U E : Type 0} (answer : Result U E) (count : E → ℕ) (new : Half) (holding : Tally → Half) (tally : Tally) (events : List Event) (outcomes : List Outcome) → outcomes_of events ≡ outcomes
     → new ≡ holding (tally_with_all tally (outcomes_of (taken answer count events))) → OnOk answer (new ≡ holding (tally_with_all tally outcomes))
 share_all (Ok u) count new holding tally events outcomes same is = is ∙ ap (λ given. holding (tally_with_all tally given)) same
 share_all (Err e) count new holding tally events outcomes same is = tt
 
-pub share_some : {U E : Type 0} (answer : Result U E) (count : E → ℕ) (A B C : E → Type 0) (new : Half) (holding : Tally → Half) (tally : Tally) (events : List Event) (outcomes : List Outcome) → outcomes_of events ≡ outcomes
+share_some : {U E : Type 0} (answer : Result U E) (count : E → ℕ) (A B C : E → Type 0) (new : Half) (holding : Tally → Half) (tally : Tally) (events : List Event) (outcomes : List Outcome) → outcomes_of events ≡ outcomes
     → new ≡ holding (tally_with_all tally (outcomes_of (taken answer count events)))
     → IfErr answer (λ e. A e × B e × C e) → IfErr answer (λ e. A e × (new ≡ holding (tally_with_all tally (take (count e) outcomes))) × C e)
 share_some (Ok u) count A B C new holding tally events outcomes same is some = tt
 share_some (Err e) count A B C new holding tally events outcomes same is some =
     let fewer = sym (take-map (λ (event : Event). event.outcome) (count e) events) ∙ ap (take (count e)) same in
     (some.0, is ∙ ap (λ given. holding (tally_with_all tally given)) fewer, some.2)
+
+-- what that does to both halves of the teller's tally
+module _ {U E : Type 0} (answer : Result U E) (count : E → ℕ) (names : Names) (before after : Progress) (k : ℕ) (events : List Event)
+    (more : after.history ≡ before.history ++ settlements_by k (taken answer count events)) where
+  pub halves_taken : (halves : List Half) (new : Half) → Halved names halves before.history → k < length halves
+      → new ≡ half names.halves k true (tally_of names.race.network k after.history) → Halved names (set halves k new) after.history
+  halves_taken halves new halved within is =
+      subst (Halved names (set halves k new)) (sym more)
+      (halves_batch names halves before.history k (taken answer count events) new halved within
+      (is ∙ ap (λ history. half names.halves k true (tally_of names.race.network k history)) more))
+
+  module _ (share new : Half) (outcomes : List Outcome) (same : outcomes_of events ≡ outcomes) (mine : share.tally ≡ tally_of names.race.network k before.history)
+      (is : new ≡ half names.halves k false (tally_of names.race.network k after.history)) where
+    takes : new ≡ half names.halves k false (tally_with_all share.tally (outcomes_of (taken answer count events)))
+    takes =
+        let given = outcomes_of (taken answer count events) in
+        let tally = ap (tally_of names.race.network k) more ∙ tally-own names.race.network k before.history (taken answer count events) in
+        is ∙ ap (half names.halves k false) (tally ∙ ap (λ (t : Tally). tally_with_all t given) (sym mine))
+
+    pub takes_all : OnOk answer (new ≡ half names.halves k false (tally_with_all share.tally outcomes))
+    takes_all = share_all answer count new (half names.halves k false) share.tally events outcomes same takes
+
+    pub takes_some : (A B C : E → Type 0) → IfErr answer (λ e. A e × B e × C e)
+        → IfErr answer (λ e. A e × (new ≡ half names.halves k false (tally_with_all share.tally (take (count e) outcomes))) × C e)
+    takes_some A B C some = share_some answer count A B C new (half names.halves k false) share.tally events outcomes same takes some

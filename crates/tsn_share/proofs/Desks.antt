@@ -1,9 +1,8 @@
 -- The halves behind the lock.
-use Rattle.std.proofs.Common.{◌≡◌, ◌≢◌, ℕ, ◌<◌, List, ◌∷◌, [], ◌++◌, length, get_or, set, true, false, sym, ap, ◌∙◌, subst, inl, inr, refl, not, arith, Result, Ok, Err}
-use Rattle.std.specs.Prelude.{◌≤◌, ◌==◌, IfOk, IfErr, OnOk, OnErr, Option, Some, None, IsSomeAnd, slice_get}
+use Rattle.std.proofs.Common.{◌≡◌, ◌≢◌, ℕ, ◌<◌, List, ◌∷◌, [], ◌++◌, length, get_or, set, true, false, sym, ap, ◌∙◌, subst, inl, inr, refl, arith, Result, Ok, Err}
+use Rattle.std.specs.Prelude.{◌≤◌, IfOk, IfErr, OnOk, OnErr, Option, Some, None, IsSomeAnd, slice_get}
 use Rattle.std.proofs.lemmas.Bool.{cases_eq}
 use Rattle.std.proofs.lemmas.List.{length-set, get_or-set_same, get_or-set_other}
-use Rattle.std.proofs.lemmas.List.Filters.{length-filter_both}
 use Rattle.tsn_model.specs.Network.{Network}
 use Rattle.tsn_model.specs.Search.{Event, Settlement, tally_of, settled_by, solved_bounds, least_or_none}
 use Rattle.tsn_timing.specs.Solution.{Solution}
@@ -15,6 +14,7 @@ use Rattle.tsn_incumbent.specs.Halves.{Half, Tally, half}
 use Rattle.tsn_book.specs.Book.{Progress, IsLawful, IsFault}
 use Rattle.tsn_book.specs.Below.{IsFaultAt}
 use Rattle.tsn_book.specs.declared.fault.BookFault.{BookFault}
+use Rattle.tsn_book.proofs.Bookkeeping.{tally_few}
 use Rattle.tsn_share.specs.Names.{Names, progress_of, IsBookOf}
 use Rattle.tsn_share.specs.Teller.{Known}
 use Rattle.tsn_share.specs.Desk.{Halved, AreCounts, IsReading, IsKeptOf, IsNoWorse, IsBest, IsRefused, IsRefusedAt}
@@ -80,23 +80,23 @@ share_refused (Err e) names before after k share new same shares mine is =
     let tally = ap (λ (p : Progress). tally_of names.race.network k p.history) same ∙ sym mine in
     (same, is ∙ ap (half names.halves k false) tally ∙ sym shares)
 
--- a teller settled no more events than there are
-pub tally-le : (network : Network) (k : ℕ) (history : List Settlement) → (tally_of network k history).0 ≤ length history
-unfolding tally_of settled_by
-tally-le network k history = omega (arith, length-filter_both (λ (s : Settlement). s.teller == k) (λ (s : Settlement). not (s.teller == k)) (λ s. refl) history)
+-- a book of this search is lawful after its history
+pub lawful_of : (names : Names) (book : Progress) → IsBookOf names book → IsLawful book → IsLawful (progress_of names book.history)
+lawful_of names book of lawful =
+    let is : book ≡ progress_of names book.history = (λ i. record { network = of.network i; tellers = of.tellers i; limit = of.limit i; history = book.history }) in
+    subst IsLawful is lawful
 
 -- what was read of the book
 pub reads : {E : Type 0} (names : Names) (known : Known) (book : Progress) → IsBookOf names book → IsLawful book → tally_of names.race.network known.standing.number book.history ≡ known.tally
     → (answer : Result Counts E) → IfOk answer (AreCounts book.history) → IfOk answer (IsReading names known)
 reads names known book of lawful mine (Ok counts) told =
-    let is : book ≡ progress_of names book.history = (λ i. record { network = of.network i; tellers = of.tellers i; limit = of.limit i; history = book.history }) in
     let count = told.count in
     record {
       history = book.history;
-      lawful = subst IsLawful is lawful;
+      lawful = lawful_of names book of lawful;
       mine = mine;
       told = told;
-      at_least = omega (arith, tally-le names.race.network known.standing.number book.history, ap (λ (tally : Tally). tally.0) mine, count);
+      at_least = omega (arith, tally_few names.race.network book.history known.standing.number _ refl, ap (λ (tally : Tally). tally.0) mine, count);
     }
 reads names known book of lawful mine (Err e) told = tt
 
@@ -123,11 +123,10 @@ no_worse network known history mine (Some solution) kept =
 pub copies : {E : Type 0} (names : Names) (known : Known) (book : Progress) → IsBookOf names book → IsLawful book → tally_of names.race.network known.standing.number book.history ≡ known.tally
     → (answer : Result (Option Solution) E) → IfOk answer (IsKeptOf book.network book.history) → IfOk answer (IsBest names known)
 copies names known book of lawful mine (Ok best) kept =
-    let is : book ≡ progress_of names book.history = (λ i. record { network = of.network i; tellers = of.tellers i; limit = of.limit i; history = book.history }) in
     let kept' : IsKeptOf names.race.network book.history best = subst (λ (n : Network). IsKeptOf n book.history best) of.network kept in
     record {
       history = book.history;
-      lawful = subst IsLawful is lawful;
+      lawful = lawful_of names book of lawful;
       mine = mine;
       kept = kept';
       no_worse = no_worse names.race.network known book.history mine best kept';
@@ -137,9 +136,7 @@ copies names known book of lawful mine (Err e) kept = tt
 -- why an event wasn't settled
 module _ (names : Names) (known : Known) (book : Progress) (of : IsBookOf names book) (lawful : IsLawful book) (mine : tally_of names.race.network known.standing.number book.history ≡ known.tally) where
   refused : (event : Event) (fault : BookFault) → IsFault names.race.network names.limit book.history event fault → IsRefused names known event fault
-  refused event fault is =
-      let same : book ≡ progress_of names book.history = (λ i. record { network = of.network i; tellers = of.tellers i; limit = of.limit i; history = book.history }) in
-      record { history = book.history; lawful = subst IsLawful same lawful; mine = mine; first_reason = is }
+  refused event fault is = record { history = book.history; lawful = lawful_of names book of lawful; mine = mine; first_reason = is }
 
   pub refuses : {X E : Type 0} (answer : Result X E) (fault_of : E → BookFault) (event : Event)
       → IfErr answer (λ e. IsFault names.race.network names.limit book.history event (fault_of e)) → IfErr answer (λ e. IsRefused names known event (fault_of e))

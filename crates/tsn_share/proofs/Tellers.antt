@@ -1,7 +1,7 @@
 -- What a teller keeps to when it settles.
 use Rattle.std.proofs.Common.{◌≡◌, ℕ, ◌≤◌, min, sym, subst, arith, false, refl, List, [], ◌∷◌, take, All, Result, Ok, Err}
 use Rattle.std.specs.Prelude.{OnOk, OnErr, IfErr}
-use Rattle.std.proofs.lemmas.List.Elements.{All-head, All-tail, All-take}
+use Rattle.std.proofs.lemmas.List.Elements.{All-nil, All-cons, All-head, All-tail, All-take}
 use Rattle.tsn_model.specs.Network.{Network}
 use Rattle.tsn_model.specs.Certificate.{beyond}
 use Rattle.tsn_model.specs.Search.{Outcome, split, solved, pruned, tied, refuted}
@@ -34,25 +34,6 @@ solved_after posted tally (pruned bound leaf) high = high
 solved_after posted tally (tied bound leaf chains) high = high
 solved_after posted tally (refuted leaf) high = high
 
-pub keeps_settled : (names : Names) (number : ℕ) (seat : Seated) (share : Half) (outcome : Outcome) (new : Half) → Keeps names number seat share → IsAboveSeen names.race.network (head_of seat.standings).seen outcome
-    → new ≡ half names.halves number false (tally_with share.tally outcome) → Keeps names number seat new
-keeps_settled names number seat share outcome new keeps above is =
-    subst (Keeps names number seat) (sym is)
-    (record {
-      sits = keeps.sits;
-      shares = refl;
-      numbered = keeps.numbered;
-      within = keeps.within;
-      pruned = low_after names.race.network (head_of seat.standings).seen share.tally outcome keeps.pruned above;
-      solved = solved_after (head_of seat.standings).posted share.tally outcome keeps.solved;
-    })
-
--- the event was settled, or the share is as it was
-pub keeps_answer : {X E : Type 0} (P : Type 0) (names : Names) (number : ℕ) (seat : Seated) (share : Half) (outcome : Outcome) (new : Half) → Keeps names number seat share → IsAboveSeen names.race.network (head_of seat.standings).seen outcome
-    → (answer : Result X E) → OnOk answer (new ≡ half names.halves number false (tally_with share.tally outcome)) → OnErr answer (P × (new ≡ share)) → Keeps names number seat new
-keeps_answer P names number seat share outcome new keeps above (Ok x) ok err = keeps_settled names number seat share outcome new keeps above ok
-keeps_answer P names number seat share outcome new keeps above (Err e) ok err = subst (Keeps names number seat) (sym err.1) keeps
-
 -- nor do several events
 low_after_all : (network : Network) (seen : ℕ) (tally : Tally) (outcomes : List Outcome) → beyond network seen ≤ tally.1 → All (IsAboveSeen network seen) outcomes → beyond network seen ≤ (tally_with_all tally outcomes).1
 low_after_all network seen tally [] low above = low
@@ -83,6 +64,18 @@ module _ (names : Names) (number : ℕ) (seat : Seated) (share new : Half) (keep
       → Keeps names number seat new
   keeps_taken (Ok u) count A C outcomes above all some = keeps_settled_all outcomes above all
   keeps_taken (Err e) count A C outcomes above all some = keeps_settled_all (take (count e) outcomes) (All-take (IsAboveSeen names.race.network (head_of seat.standings).seen) (count e) outcomes above) some.1
+
+-- one event was settled
+keeps_settled : (names : Names) (number : ℕ) (seat : Seated) (share : Half) (outcome : Outcome) (new : Half) → Keeps names number seat share
+    → IsAboveSeen names.race.network (head_of seat.standings).seen outcome → new ≡ half names.halves number false (tally_with share.tally outcome) → Keeps names number seat new
+keeps_settled names number seat share outcome new keeps above is =
+    keeps_settled_all names number seat share new keeps (outcome ∷ []) (All-cons (IsAboveSeen names.race.network (head_of seat.standings).seen) outcome [] above (All-nil _)) is
+
+-- the event was settled, or the share is as it was
+pub keeps_answer : {X E : Type 0} (P : Type 0) (names : Names) (number : ℕ) (seat : Seated) (share : Half) (outcome : Outcome) (new : Half) → Keeps names number seat share → IsAboveSeen names.race.network (head_of seat.standings).seen outcome
+    → (answer : Result X E) → OnOk answer (new ≡ half names.halves number false (tally_with share.tally outcome)) → OnErr answer (P × (new ≡ share)) → Keeps names number seat new
+keeps_answer P names number seat share outcome new keeps above (Ok x) ok err = keeps_settled names number seat share outcome new keeps above ok
+keeps_answer P names number seat share outcome new keeps above (Err e) ok err = subst (Keeps names number seat) (sym err.1) keeps
 
 -- a solved leaf prunes by nothing, and is the least that its teller solved where it is no more than that was
 pub above_solved : (network : Network) (seen flowspan : ℕ) (outcome : Outcome) → IsSolvedBy flowspan outcome → IsAboveSeen network seen outcome

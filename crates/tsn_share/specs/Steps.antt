@@ -1,17 +1,19 @@
 -- What a teller does is a step of the shared search.
---     IsAmong, IsStep
---     ObservingIsAStep      a load of the word
---     PostingIsAStep        a fetch-min on it
---     SettlingIsAStep       one settlement more
-use Rattle.std.specs.Prelude.{◌≡◌, ℕ, ◌<◌, min, List, [], ◌∷◌, ◌++◌, length, slice_index_or, slice_set}
+--     IsAmong, IsStep, AreSteps
+--     ObservingIsAStep               a load of the word
+--     PostingIsAStep                 a fetch-min on it
+--     SettlingIsAStep                one settlement more
+--     TakesSettles, SettlingAllIsSteps    several settlements more, one step for each
+use Rattle.std.specs.Prelude.{◌≡◌, ℕ, ◌<◌, min, List, [], ◌∷◌, ◌++◌, map, length, slice_index_or, slice_set, All}
 use Rattle.tsn_model.specs.Network.{Network}
 use Rattle.tsn_model.specs.Search.{Event, Settlement, tally_of}
 use Rattle.tsn_model.specs.Core.{State, Step, observe, post, settle, MayTake, effect_of, IsAboveSeen}
 use Rattle.tsn_timing.specs.Solution.{Solution, IsSolved}
 use Rattle.tsn_incumbent.specs.Standings.{saw, put}
 use Rattle.tsn_book.specs.Book.{IsLawful}
+use Rattle.tsn_book.specs.Below.{settlements_by}
 use Rattle.tsn_share.specs.Names.{Names, progress_of}
-use Rattle.tsn_share.specs.Teller.{Known, settled}
+use Rattle.tsn_share.specs.Teller.{Known, settled, settled_all}
 use Rattle.tsn_share.specs.Gathered.{state_of}
 
 -- the teller stands at its number among them
@@ -21,6 +23,11 @@ IsAmong tellers known = (known.standing.number < length tellers) × (slice_index
 -- the step is allowed, and the state after it is its effect
 abbrev pub IsStep : Network → ℕ → State → Step → State → Type 0
 IsStep network limit before step after = MayTake network limit before step × (after ≡ effect_of before step)
+
+-- each step is allowed, and the state after it is its effect, one after another
+abbrev pub AreSteps : Network → ℕ → State → List Step → State → Type 0
+AreSteps network limit before [] after = after ≡ before
+AreSteps network limit before (step ∷ steps) after = (next : State) × IsStep network limit before step next × AreSteps network limit next steps after
 
 -- what `observe_as` says of a teller that found the word makes the step `observe`
 abbrev pub ObservingIsAStep : Type 0
@@ -44,3 +51,15 @@ SettlingIsAStep = (names : Names) (word : ℕ) (tellers : List Known) (history :
     IsLawful (progress_of names after) → IsAboveSeen names.race.network old.standing.seen event.outcome
     → new ≡ settled event.outcome old
     → IsStep names.race.network names.limit (state_of word tellers history) (settle old.standing.number event) (state_of word (slice_set tellers old.standing.number new) after)
+
+-- whatever the word and the other tellers are, one step `settle` for each event leads from the one history to the other, and from what the teller knew to what it knows
+abbrev pub TakesSettles : Names → Known → Known → List Settlement → List Event → List Settlement → Type 0
+TakesSettles names old new before events after = (word : ℕ) (tellers : List Known) → IsAmong tellers old
+    → AreSteps names.race.network names.limit (state_of word tellers before) (map (settle old.standing.number) events) (state_of word (slice_set tellers old.standing.number new) after)
+
+-- where the book is lawful with all these settlements, what `settle_all_as` and `settle_below_as` ask for and say of the events that they settle makes as many steps `settle`
+abbrev pub SettlingAllIsSteps : Type 0
+SettlingAllIsSteps = (names : Names) (history : List Settlement) (old new : Known) (events : List Event) → let after : List Settlement = history ++ settlements_by old.standing.number events in
+    IsLawful (progress_of names after) → All (λ event. IsAboveSeen names.race.network old.standing.seen event.outcome) events
+    → new ≡ settled_all (map (λ event. event.outcome) events) old
+    → TakesSettles names old new history events after

@@ -1,13 +1,11 @@
 //! What lies behind the lock: the book, and one half of each number's tally.
-ghost use Rattle.std.specs.Prelude.{◌≡◌, ◌<◌, ◌++◌, ◌∷◌, [], false, length, map, take, drop, All, IfOk, IfErr, OnOk, OnErr};
+ghost use Rattle.std.specs.Prelude.{◌≡◌, ◌<◌, ◌++◌, false, length, map, take, All, IfOk, IfErr, OnOk};
 ghost use Rattle.tsn_model.specs.Search.{tally_of};
-ghost use Rattle.tsn_search_laws.specs.Gathering.{tally_with};
 ghost use Rattle.tsn_branch.specs.Outcome.{outcome_of};
 ghost use Rattle.tsn_branch.specs.Look.{HasProof, SplitsUndecided};
 ghost use Rattle.tsn_incumbent.specs.Halves.{half};
-ghost use Rattle.tsn_book.specs.Event.{event_of};
-ghost use Rattle.tsn_book.specs.Book.{IsLawful, IsFault};
-ghost use Rattle.tsn_book.specs.Below.{path_after, events_below, IsFaultAt};
+ghost use Rattle.tsn_book.specs.Book.{IsLawful};
+ghost use Rattle.tsn_book.specs.Below.{path_after, events_below, settlements_by, IsFaultAt};
 ghost use Rattle.tsn_share.specs.Names.{IsBookOf};
 ghost use Rattle.tsn_share.specs.Desk.{AreCounts, IsKeptOf};
 ghost use Rattle.tsn_share.specs.Teller.{tally_with_all};
@@ -15,7 +13,7 @@ ghost use Rattle.tsn_share.specs.Teller.{tally_with_all};
 use crate::names::Named;
 use std::alloc::Global;
 use std::marker::{Model, PhantomData};
-use tsn_book::{Book, BookFault, Event, Looks};
+use tsn_book::{Book, BookFault, Looks};
 use tsn_branch::{NoMemory, Node};
 use tsn_incumbent::{Half, Halves};
 use tsn_timing::Solved;
@@ -56,60 +54,6 @@ impl<K: Named> Model for Desk<K> {
 }
 
 impl<K: Named> Desk<K> {
-    /// Settles an event, where it may be, and sets both halves of the teller's tally.
-    pub fn settle(
-        &mut self,
-        owner: Owner<'_>,
-        share: &mut Half,
-        event: Event,
-    ) -> Result<(), (BookFault, Event)>
-        requires table { owner.halves.now ≡ K.names.halves }
-        requires share { share.old ≡ half K.names.halves owner.teller false share.old.tally }
-        requires within { owner.teller < K.names.race.tellers }
-        requires proof { HasProof K.names.race.network event.node (outcome_of event.look) }
-        ensures history { OnOk result (self.new.history ≡ self.old.history ++ record { teller = owner.entry.teller; event = event_of event } ∷ []) }
-        ensures share { OnOk result (share.new ≡ half K.names.halves owner.entry.teller false (tally_with share.old.tally (outcome_of event.look))) }
-        ensures refused { OnErr result ((self.new ≡ self.old) × (share.new ≡ share.old)) }
-        ensures returned { IfErr result (λ refusal. refusal.1 ≡ event) }
-        ensures fault { IfErr result (λ refusal. IsFault K.names.race.network K.names.limit self.new.history (event_of event) refusal.0) }
-        ensures agrees { tally_of K.names.race.network owner.entry.teller self.new.history ≡ share.new.tally }
-        ensures book { IsBookOf K.names self.new }
-        ensures lawful { IsLawful self.new }
-    {
-        let settled = self.book.settle(owner.teller, event);
-        let tally = self.book.tally(owner.teller);
-        let mine = &mut self.halves[owner.teller];
-        owner.halves.set_in_place(share, mine, tally);
-        settled
-    }
-
-    /// Settles events in order, up to the first refusal, and sets both halves of the teller's tally.
-    pub fn settle_all(
-        &mut self,
-        owner: Owner<'_>,
-        share: &mut Half,
-        events: Vec<Event>,
-    ) -> Result<(), (usize, BookFault, Vec<Event>)>
-        requires table { owner.halves.now ≡ K.names.halves }
-        requires share { share.old ≡ half K.names.halves owner.teller false share.old.tally }
-        requires within { owner.teller < K.names.race.tellers }
-        requires proofs { All (λ event. HasProof K.names.race.network event.node (outcome_of event.look)) events.items }
-        ensures all { OnOk result (share.new ≡ half K.names.halves owner.entry.teller false (tally_with_all share.old.tally (map (λ event. outcome_of event.look) events.items))) }
-        ensures some { IfErr result (λ refusal. (refusal.0 < length events.items)
-            × (share.new ≡ half K.names.halves owner.entry.teller false (tally_with_all share.old.tally (take refusal.0 (map (λ event. outcome_of event.look) events.items))))
-            × (refusal.2.items ≡ drop refusal.0 events.items)) }
-        ensures fault { IfErr result (λ refusal. IsFaultAt K.names.race.network K.names.limit self.new.history (map event_of events.items) refusal.0 refusal.1) }
-        ensures agrees { tally_of K.names.race.network owner.entry.teller self.new.history ≡ share.new.tally }
-        ensures book { IsBookOf K.names self.new }
-        ensures lawful { IsLawful self.new }
-    {
-        let settled = self.book.settle_all(owner.teller, events);
-        let tally = self.book.tally(owner.teller);
-        let mine = &mut self.halves[owner.teller];
-        owner.halves.set_in_place(share, mine, tally);
-        settled
-    }
-
     /// Settles the nodes of a walk from a node on, up to the first refusal, and sets both halves of the teller's tally.
     pub fn settle_below(
         &mut self,
@@ -128,6 +72,9 @@ impl<K: Named> Desk<K> {
         ensures some { IfErr result (λ refusal. (refusal.0 < length looks)
             × (share.new ≡ half K.names.halves owner.entry.teller false (tally_with_all share.old.tally (take refusal.0 (map outcome_of looks))))
             × (from.new ≡ path_after from.old (take refusal.0 (map outcome_of looks)))) }
+        ensures history { OnOk result (self.new.history ≡ self.old.history ++ settlements_by owner.entry.teller (events_below from.old (map outcome_of looks))) }
+        ensures history_of_some { IfErr result (λ refusal. self.new.history
+            ≡ self.old.history ++ settlements_by owner.entry.teller (take refusal.0 (events_below from.old (map outcome_of looks)))) }
         ensures fault { IfErr result (λ refusal. IsFaultAt K.names.race.network K.names.limit self.new.history (events_below from.old (map outcome_of looks)) refusal.0 refusal.1) }
         ensures agrees { tally_of K.names.race.network owner.entry.teller self.new.history ≡ share.new.tally }
         ensures book { IsBookOf K.names self.new }

@@ -7,6 +7,7 @@ pub mod gathering;
 pub mod names;
 pub mod parts;
 pub mod shared;
+pub mod single;
 pub mod steps;
 pub mod teller;
 
@@ -14,9 +15,9 @@ pub use desk::Counts;
 pub use gathering::{gather, gather_unordered};
 pub use names::Named;
 pub use parts::Parts;
-pub use shared::{
-    Shared, best_as, observe_as, post_as, settle_all_as, settle_and_post, settle_as,
-    settle_below_as, with_book,
+pub use shared::{Shared, best_as, observe_as, post_as, settle_below_as};
+pub use single::{settle_all_as, settle_and_post, settle_as, with_book};
+pub use steps::{
+    observing_is_a_step, posting_is_a_step, settling_all_is_steps, settling_is_a_step,
 };
-pub use steps::{observing_is_a_step, posting_is_a_step, settling_is_a_step};
 pub use teller::Teller;

@@ -2,8 +2,6 @@
 ghost use Rattle.std.specs.Prelude.{◌≡◌, ◌≤◌, ◌⊎◌, [], length, IfOk};
 ghost use Rattle.tsn_model.specs.Network.{IsWellFormed};
 ghost use Rattle.tsn_model.specs.Search.{open_paths};
-ghost use Rattle.tsn_conflict.specs.Kept.{AreConflictsOf};
-ghost use Rattle.tsn_branch.specs.Loads.{AreLoadsOf};
 ghost use Rattle.tsn_worker.specs.Answer.{IsAnswer, IsFound};
 ghost use Rattle.tsn_search.specs.Search.{IsSearchOf};
 
@@ -152,8 +150,6 @@ fn found_by<R: Threads + Wait + Sync, G: Gate + Sync>(
     setting: &Setting<'_, '_, G>,
     effort: Effort,
 ) -> Result<Found, NoMemory>
-    requires conflicts { AreConflictsOf setting.now.tables.timing.now setting.now.tables.conflicts.now }
-    requires loads { AreLoadsOf setting.now.tables.timing.now setting.now.tables.loads.now }
     requires workers { (1 ≤ effort.workers) × (effort.workers ≤ MAX_WORKERS) }
     requires some { 1 ≤ effort.limit }
     requires few { effort.limit ≤ MAX_LIMIT }
@@ -176,8 +172,6 @@ fn found_auto<R: Threads + Wait + Sync, G: Gate + Sync>(
     workers: usize,
     limit: usize,
 ) -> Result<Found, NoMemory>
-    requires conflicts { AreConflictsOf setting.now.tables.timing.now setting.now.tables.conflicts.now }
-    requires loads { AreLoadsOf setting.now.tables.timing.now setting.now.tables.loads.now }
     requires workers { (1 ≤ workers) × (workers ≤ MAX_WORKERS) }
     requires some { 1 ≤ limit }
     requires few { limit ≤ MAX_LIMIT }
@@ -212,8 +206,6 @@ fn found_guided<R: Threads + Wait + Sync, G: Gate + Sync>(
     limit: usize,
     known: Option<Hint>,
 ) -> Result<Found, NoMemory>
-    requires conflicts { AreConflictsOf setting.now.tables.timing.now setting.now.tables.conflicts.now }
-    requires loads { AreLoadsOf setting.now.tables.timing.now setting.now.tables.loads.now }
     requires workers { (1 ≤ workers) × (workers ≤ MAX_WORKERS) }
     requires some { 1 ≤ limit }
     requires few { limit ≤ MAX_LIMIT }
@@ -238,10 +230,7 @@ fn found_guided<R: Threads + Wait + Sync, G: Gate + Sync>(
 }
 
 // Tells the gate what no schedule undercuts, where there is memory to find it.
-fn tell_bound<G: Gate>(setting: &Setting<'_, '_, G>)
-    requires conflicts { AreConflictsOf setting.now.tables.timing.now setting.now.tables.conflicts.now }
-    requires loads { AreLoadsOf setting.now.tables.timing.now setting.now.tables.loads.now }
-{
+fn tell_bound<G: Gate>(setting: &Setting<'_, '_, G>) {
     if let Ok(bound) = lower_bound(setting.alloc, setting.tables) {
         setting.gate.hear_bound(bound);
     }
@@ -278,8 +267,6 @@ fn found_with<R: Threads + Wait + Sync, G: Gate + Sync>(
     workers: usize,
     limit: usize,
 ) -> Result<Found, NoMemory>
-    requires conflicts { AreConflictsOf setting.now.tables.timing.now setting.now.tables.conflicts.now }
-    requires loads { AreLoadsOf setting.now.tables.timing.now setting.now.tables.loads.now }
     requires workers { (1 ≤ workers) × (workers ≤ MAX_WORKERS) }
     requires some { 1 ≤ limit }
     requires few { limit ≤ MAX_LIMIT }
@@ -299,8 +286,6 @@ fn found_over<R: Threads + Wait + Sync, G: Gate + Sync, B: Bag + Send>(
     limit: usize,
     bags: Vec<B>,
 ) -> Result<Found, NoMemory>
-    requires conflicts { AreConflictsOf setting.now.tables.timing.now setting.now.tables.conflicts.now }
-    requires loads { AreLoadsOf setting.now.tables.timing.now setting.now.tables.loads.now }
     requires workers { (2 ≤ length bags.items) × (length bags.items ≤ MAX_WORKERS) }
     requires some { 1 ≤ limit }
     requires few { limit ≤ MAX_LIMIT }
@@ -316,8 +301,6 @@ fn found_over<R: Threads + Wait + Sync, G: Gate + Sync, B: Bag + Send>(
 
 // What the caller finds alone.
 fn found_alone<G: Gate>(setting: &Setting<'_, '_, G>, limit: usize) -> Result<Found, NoMemory>
-    requires conflicts { AreConflictsOf setting.now.tables.timing.now setting.now.tables.conflicts.now }
-    requires loads { AreLoadsOf setting.now.tables.timing.now setting.now.tables.loads.now }
     requires some { 1 ≤ limit }
     requires few { limit ≤ MAX_LIMIT }
     ensures { IfOk result (IsFound setting.now.tables.timing.now limit) }

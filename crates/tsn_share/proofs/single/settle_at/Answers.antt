@@ -6,7 +6,7 @@ use Rattle.tsn_book.specs.Event.{event_of}
 use Rattle.tsn_share.specs.Teller.{Known, head_of}
 use Rattle.tsn_share.proofs.Desks.{refuses}
 use Rattle.tsn_share.proofs.Tellers.{keeps_answer}
-use Rattle.tsn_share.proofs.shared.settle_at.Goals as goal
+use Rattle.tsn_share.proofs.single.settle_at.Goals as goal
 
 pub invariant_of-teller : goal.invariant_of-teller
 invariant_of-teller g c =

@@ -5,7 +5,7 @@ use Rattle.tsn_book.specs.Book.{Progress}
 use Rattle.tsn_share.specs.Teller.{Known, head_of}
 use Rattle.tsn_share.specs.Desk.{IsReading}
 use Rattle.tsn_share.proofs.Desks.{reads}
-use Rattle.tsn_share.proofs.shared.with_book.Goals as goal
+use Rattle.tsn_share.proofs.single.with_book.Goals as goal
 
 pub returns-clause-reading : goal.returns-clause-reading
 returns-clause-reading g c =
