@@ -1,12 +1,9 @@
-//! The commands over files and standard streams, and the line on standard error that says why one is refused.
+//! The commands over files and standard streams.
 #![tactic(auto)]
 
-pub mod command;
+mod command;
 mod doubled;
-mod json;
-pub mod planning;
-mod report;
-pub mod tables;
+mod system;
 pub mod told;
 
 pub use command::run;

@@ -1,6 +1,7 @@
 //! Commands whose devices fail: each read and each write once, in turn.
 
-use crate::command::{Device, Devices, Outcome, run_over};
+use crate::command::run_over;
+use crate::devices::{Device, Devices, Outcome};
 use crate::folder::Folder;
 use anyhow::{Result, ensure};
 use std::sync::Wait;

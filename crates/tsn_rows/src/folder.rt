@@ -1,4 +1,6 @@
 //! Files in memory.
+ghost use Rattle.std.specs.Prelude.{◌≡◌, option_map};
+ghost use Rattle.tsn_rows.specs.Folder.{bytes_in};
 
 use std::alloc::{AllocError, Global};
 
@@ -33,13 +35,10 @@ impl Folder {
     }
 
     /// What the file of this name holds, where there is one.
-    pub fn bytes(&self, name: &str) -> Option<&[u8]> {
-        for file in &self.files {
-            if file.name.as_str() == name {
-                return Some(&file.bytes);
-            }
-        }
-        None
+    pub fn bytes(&self, name: &str) -> Option<&[u8]>
+        ensures { option_map (λ bytes. bytes.now) result ≡ bytes_in self.now.files.items name.now }
+    {
+        bytes_of(&self.files, name)
     }
 
     /// Puts a file in, in the place of one of its name.
@@ -83,5 +82,21 @@ impl Folder {
             }
         }
         None
+    }
+}
+
+/// What the first file of this name holds, where there is one.
+fn bytes_of<'a>(files: &'a [File], name: &str) -> Option<&'a [u8]>
+    ensures { option_map (λ bytes. bytes.now) result ≡ bytes_in files.now name.now }
+{
+    match files {
+        [] => None,
+        [file, rest @ ..] => {
+            if file.name.as_str() == name {
+                Some(&file.bytes)
+            } else {
+                bytes_of(rest, name)
+            }
+        }
     }
 }

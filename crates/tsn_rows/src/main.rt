@@ -4,6 +4,7 @@
 
 mod command;
 mod console;
+mod devices;
 mod failing;
 mod folder;
 mod session;

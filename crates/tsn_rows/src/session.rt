@@ -1,6 +1,7 @@
 //! A table's lines, followed one after another.
 
-use crate::command::{self, Outcome, reason_of};
+use crate::command;
+use crate::devices::{Devices, Outcome};
 use crate::failing::fail_each;
 use crate::folder::Folder;
 use crate::text::{changed, expanded, words_of};
@@ -321,10 +322,10 @@ impl<'a, R: Files + Print + AllocGlobal + Threads + Wait + Sync> Session<'a, R> 
         self.folder.put(self.varied, bytes)?;
         let owned = words_of(self.rt.alloc(), self.words)?;
         let words = lent(self.rt.alloc(), &owned)?;
-        let found = reason_of(self.rt.alloc(), words.as_slice(), &self.folder)?;
+        let outcome = command::run_over(self.rt, words.as_slice(), &self.folder, Devices::Good)?;
         let wanted = if reason == "none" { "" } else { reason };
-        if found.as_str() != wanted {
-            self.show(found.as_bytes())?;
+        if outcome.told.as_str() != wanted {
+            self.show(outcome.told.as_bytes())?;
             bail!("the reason is what is shown above");
         }
         self.tally.count(true);

@@ -1,13 +1,12 @@
 //! An answer as a line of JSON, in place of its own line.
 ghost use Rattle.std.specs.Prelude.{◌≡◌};
 
-use crate::report::failure_line;
-use crate::told::{Ended, STANDARD_OUTPUT, no_memory, tell};
+use crate::devices::{Given, Made};
+use crate::reason::failure_line;
+use crate::told::{Ended, no_memory, tell};
 use std::alloc::Global;
-use std::io;
 use tsn_cli::memory::{MemorySink, NEVER};
 use tsn_cli::run::DEVICE;
-use tsn_device::WriterSink;
 use tsn_device::device::write_all;
 use tsn_report::{NoMemory, Told, told_to_json};
 
@@ -22,26 +21,25 @@ pub(crate) fn line_keeper(alloc: Global) -> MemorySink
 }
 
 /// Writes how a run ended, with its line, as a line of JSON; tells on standard error what there is to tell; and says the status.
-pub(crate) fn end_as_json<P: Print, E: Eprint>(
+pub(crate) fn end_as_json<'a, G: Given<'a>>(
     alloc: Global,
-    output: &P,
-    told: &E,
+    given: &mut G,
     ended: Ended,
     line: MemorySink,
 ) -> u8 {
     if line.failures > 0 {
         drop(ended);
         drop(line);
-        return no_memory(output);
+        return no_memory(given);
     }
     let text = text_of(alloc, &ended, &line);
     drop(line);
     let Ended { status, line } = ended;
     match text {
-        Ok(text) => write(alloc, output, told, status, text.as_str(), line),
+        Ok(text) => write(alloc, given, status, text.as_str(), line),
         Err(NoMemory) => {
             drop(line);
-            no_memory(output)
+            no_memory(given)
         }
     }
 }
@@ -58,21 +56,20 @@ fn text_of(alloc: Global, ended: &Ended, line: &MemorySink) -> Result<String, No
 }
 
 /// Writes a text, and tells what there is to tell.
-fn write<P: Print, E: Eprint>(
+fn write<'a, G: Given<'a>>(
     alloc: Global,
-    output: &P,
-    told: &E,
+    given: &mut G,
     status: u8,
     text: &str,
     line: Option<String>,
 ) -> u8 {
-    let mut sink = WriterSink::new(STANDARD_OUTPUT, io::writer(output));
-    let written = match write_all(&mut sink, text.as_bytes()) {
+    let mut output = given.output();
+    let written = match write_all(&mut output, text.as_bytes()) {
         Ok(()) => status,
         Err(_) => DEVICE,
     };
-    let failed = failure_line(alloc, written, sink.failure());
-    drop(sink);
-    tell(told, line.or(failed));
+    let failed = failure_line(alloc, written, output.failure());
+    given.close_output(output);
+    tell(given, line.or(failed));
     written
 }

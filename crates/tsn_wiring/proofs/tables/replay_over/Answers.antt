@@ -1,0 +1,26 @@
+use Rattle.std.proofs.Common.{rules, ◌∙◌}
+use Rattle.tsn_cli.specs.Tables.{ReplayAnswers}
+use Rattle.tsn_wiring.proofs.RunsLemmas.{Runs-along}
+use Rattle.tsn_wiring.proofs.tables.replay_over.Goals as goal
+
+pub returns : goal.returns
+returns g c = (
+  c.network-network.result,
+  (
+    c.network-network.ensures.opened,
+    (
+      c.plan-plan.result,
+      (
+        c.plan-plan.ensures.opened,
+        Runs-along ReplayAnswers _ _ _ _ _ _ _ c.replay_options-options.ensures
+            (record {
+              ended = c.replay_run-status.ensures.ended;
+              unfailing = λ done. search rules;
+              failed = λ broken. search rules;
+              read_failed = λ broken. search rules;
+              write_failed = λ broken. c.replay_run-status.ensures.write_failed (λ same. broken (same ∙ c.requires));
+            }),
+      ),
+    ),
+  ),
+)

@@ -1,0 +1,429 @@
+//! The commands that search: a plan, and a proof of one.
+ghost use Rattle.std.specs.Prelude.{◌≡◌, ◌+◌, ◌-◌, ◌^◌, ◌<◌, [], ◌∷◌, IfOk, IfSome, is_some, option_map};
+ghost use Rattle.tsn_cli.specs.Run.{failed_in, reading_of, taken_in, writing_of};
+ghost use Rattle.tsn_cli.specs.Plan.{PlanAnswers};
+ghost use Rattle.tsn_cli.specs.Prove.{ProveAnswers};
+ghost use Rattle.tsn_wiring.specs.Runs.{WithSome, Runs};
+
+use crate::devices::{Given, Made};
+use crate::json::{end_as_json, line_keeper};
+use crate::judged::NetworkRun;
+use crate::options::effort_of;
+use crate::reason::{failure_line, network_line, plan_line, source_line};
+use crate::told::{Ended, end_at, no_memory};
+use std::alloc::Global;
+use std::io::{Eprint, ErrorKind};
+use std::sync::Wait;
+use std::thread::Threads;
+use std::time::Clock;
+use tsn_cli::device::Sink;
+use tsn_cli::run::{DEVICE, DONE};
+use tsn_cli::{STOPPED, judge_run, plan_run, prove_run};
+use tsn_device::Failure;
+use tsn_progress::{Known, Progress};
+use tsn_words::{PlanWords, ProveWords};
+use tsn_worker::Gate;
+
+/// What a plan and its certificate are written to.
+#[derive(Drop)]
+pub struct PlanFiles<F> {
+    pub plan: F,
+    pub cert: Option<F>,
+}
+
+/// What a better plan and a certificate are written to.
+#[derive(Drop)]
+pub struct ProofFiles<F> {
+    pub better: F,
+    pub cert: F,
+}
+
+/// How a run of `plan` ended, and its devices.
+#[derive(Drop)]
+pub struct PlanRun<S, F> {
+    pub status: u8,
+    pub network: S,
+    pub plan: F,
+    pub cert: Option<F>,
+}
+
+/// How a run of `prove` ended, and its devices.
+#[derive(Drop)]
+pub struct ProofRun<S, F> {
+    pub status: u8,
+    pub network: S,
+    pub given: S,
+    pub better: F,
+    pub cert: F,
+}
+
+/// Plans a network; the network `-` is standard input. Where the words ask for it, how far the plan has got is told at once, on a
+/// console. Where a file can't be written, that ends the run before the search, unless the network is refused.
+pub fn plan<'a, T: Threads + Wait + Sync, C: Clock + Eprint + Sync, G: Given<'a>>(
+    rt: &T,
+    console: &C,
+    alloc: Global,
+    given: &mut G,
+    words: PlanWords<'a>,
+) -> u8 {
+    match plan_files(given, words) {
+        Ok(files) => plan_to(rt, console, alloc, given, words, files),
+        Err(failure) => {
+            let unwritten = Unwritten {
+                network: words.network,
+                failure,
+                json: words.json,
+            };
+            unwritable(alloc, given, unwritten)
+        }
+    }
+}
+
+/// The files that the words of `plan` name, or why one of them can't be written.
+pub fn plan_files<'a, G: Given<'a>>(
+    given: &G,
+    words: PlanWords<'a>,
+) -> Result<PlanFiles<G::File>, Failure<'a>>
+    ensures plan { IfOk result (λ files. G.makes_plan given.now (option_map (λ path. path.now) words.entry.plan) files.plan) }
+    ensures cert { IfOk result (λ files. IfSome files.cert (λ cert.
+        G.makes_cert given.now (option_map (λ path. path.now) words.entry.cert) cert)) }
+    ensures wanted { IfOk result (λ files. is_some files.cert ≡ is_some words.entry.cert) }
+    ensures failures { IfOk result (λ files. (G.File.failed files.plan ≡ 0) × (failed_in G.File.failed files.cert ≡ 0)) }
+{
+    let plan = given.plan_file(words.plan)?;
+    let cert = match words.cert {
+        Some(path) => Some(given.cert_file(Some(path))?),
+        None => None,
+    };
+    Ok(PlanFiles { plan, cert })
+}
+
+/// Why no search began: a file can't be written.
+#[derive(Clone, Copy)]
+struct Unwritten<'a> {
+    network: &'a str,
+    failure: Failure<'a>,
+    /// Whether the line is to be one of JSON.
+    json: bool,
+}
+
+/// Tells that a file can't be written, where the network isn't refused.
+fn unwritable<'a, G: Given<'a>>(alloc: Global, given: &mut G, unwritten: Unwritten<'a>) -> u8 {
+    if unwritten.failure.cause.kind() == ErrorKind::OutOfMemory {
+        return no_memory(given);
+    }
+    if unwritten.json {
+        let mut line = line_keeper(alloc);
+        let ended = judge_to(alloc, given, &unwritten, &mut line);
+        return end_as_json(alloc, given, ended, line);
+    }
+    let mut output = given.output();
+    let ended = judge_to(alloc, given, &unwritten, &mut output);
+    end_at(alloc, given, ended, output)
+}
+
+/// Judges the network, and writes why it is refused to a sink.
+fn judge_to<'a, G: Given<'a>, W: Sink>(
+    alloc: Global,
+    given: &G,
+    unwritten: &Unwritten<'a>,
+    sink: &mut W,
+) -> Ended
+    requires { W.failed sink.old ≡ 0 }
+{
+    let mut network = given.network(unwritten.network);
+    let status = judge_run(alloc, &mut network, sink);
+    let ended = if status == DONE {
+        Ended {
+            status: DEVICE,
+            line: failure_line(alloc, DEVICE, Some(unwritten.failure)),
+        }
+    } else {
+        let line = source_line(alloc, status, &network).or(network_line(alloc, status, &network));
+        Ended { status, line }
+    };
+    drop(network);
+    ended
+}
+
+/// Plans a network to these files, and writes the line, or a line of JSON in its place.
+fn plan_to<'a, T: Threads + Wait + Sync, C: Clock + Eprint + Sync, G: Given<'a>>(
+    rt: &T,
+    console: &C,
+    alloc: Global,
+    given: &mut G,
+    words: PlanWords<'a>,
+    files: PlanFiles<G::File>,
+) -> u8
+    requires plan { G.makes_plan given.old (option_map (λ path. path.now) words.plan) files.plan }
+    requires cert { IfSome files.cert (λ cert. G.makes_cert given.old (option_map (λ path. path.now) words.cert) cert) }
+    requires wanted { is_some files.cert ≡ is_some words.cert }
+    requires failures { (G.File.failed files.plan ≡ 0) × (failed_in G.File.failed files.cert ≡ 0) }
+{
+    if words.json {
+        let mut line = line_keeper(alloc);
+        let ended = plan_told(rt, console, alloc, given, words, files, &mut line);
+        return end_as_json(alloc, given, ended, line);
+    }
+    let mut output = given.output();
+    let ended = plan_told(rt, console, alloc, given, words, files, &mut output);
+    end_at(alloc, given, ended, output)
+}
+
+/// Plans a network to these files, and tells of its progress where the words ask for that.
+fn plan_told<'a, T: Threads + Wait + Sync, C: Clock + Eprint + Sync, G: Given<'a>, W: Sink>(
+    rt: &T,
+    console: &C,
+    alloc: Global,
+    given: &mut G,
+    words: PlanWords<'a>,
+    files: PlanFiles<G::File>,
+    sink: &mut W,
+) -> Ended
+    requires plan { G.makes_plan given.old (option_map (λ path. path.now) words.plan) files.plan }
+    requires cert { IfSome files.cert (λ cert. G.makes_cert given.old (option_map (λ path. path.now) words.cert) cert) }
+    requires wanted { is_some files.cert ≡ is_some words.cert }
+    requires failures { (G.File.failed files.plan ≡ 0) × (failed_in G.File.failed files.cert ≡ 0) }
+    requires sink { W.failed sink.old ≡ 0 }
+{
+    if !words.progress {
+        let known = Known::new();
+        let run = plan_over(rt, alloc, given, words, files, &known, sink);
+        return end_plan(alloc, given, run, &known);
+    }
+    let progress = Progress::new(console);
+    let run = plan_over(rt, alloc, given, words, files, &progress, sink);
+    let ended = end_plan(alloc, given, run, progress.known());
+    progress.end();
+    ended
+}
+
+/// Plans the network of the words to their files at a gate, as the words ask for it, and writes the line to a sink.
+pub fn plan_over<'a, T: Threads + Wait + Sync, A: Gate + Sync, G: Given<'a>, W: Sink>(
+    rt: &T,
+    alloc: Global,
+    given: &G,
+    words: PlanWords<'a>,
+    files: PlanFiles<G::File>,
+    gate: &A,
+    sink: &mut W,
+) -> PlanRun<G::Source, G::File>
+    requires plan { G.makes_plan given.now (option_map (λ path. path.now) words.plan) files.plan }
+    requires cert { IfSome files.cert (λ cert. G.makes_cert given.now (option_map (λ path. path.now) words.cert) cert) }
+    requires wanted { is_some files.cert ≡ is_some words.cert }
+    requires failures { (G.File.failed files.plan ≡ 0) × (failed_in G.File.failed files.cert ≡ 0) }
+    requires sink { W.failed sink.old ≡ 0 }
+    ensures { WithSome (G.opens_network given.now words.entry.network.now) (λ network.
+        Runs (PlanAnswers words.entry.steps (is_some words.entry.cert))
+        (reading_of (G.Source.given network) (G.Source.given result.network) (G.Source.is_at_end result.network) ∷ [])
+        (writing_of (G.File.taken files.plan) (G.File.taken result.plan)
+        ∷ writing_of (taken_in G.File.taken files.cert) (taken_in G.File.taken result.cert)
+        ∷ writing_of (W.taken sink.old) (W.taken sink.new) ∷ [])
+        result.status (G.Source.failed result.network)
+        (G.File.failed result.plan + failed_in G.File.failed result.cert + W.failed sink.new)) }
+{
+    let PlanFiles { mut plan, mut cert } = files;
+    let mut network = given.network(words.network);
+    let effort = effort_of(words);
+    let status = plan_run(
+        rt,
+        alloc,
+        &mut network,
+        effort,
+        gate,
+        &mut plan,
+        &mut cert,
+        sink,
+    );
+    PlanRun {
+        status,
+        network,
+        plan,
+        cert,
+    }
+}
+
+/// How a run of `plan` ended; where the limit was met the line says what is known then.
+fn end_plan<'a, G: Given<'a>>(
+    alloc: Global,
+    given: &mut G,
+    run: PlanRun<G::Source, G::File>,
+    known: &Known,
+) -> Ended {
+    let PlanRun {
+        status,
+        network,
+        plan,
+        cert,
+    } = run;
+    let line = source_line(alloc, status, &network)
+        .or(failure_line(alloc, status, plan.failure()))
+        .or(file_line(alloc, status, &cert))
+        .or(network_line(alloc, status, &network));
+    drop(network);
+    given.close_plan(plan);
+    if let Some(cert) = cert {
+        given.close_cert(cert);
+    }
+    with_bound(alloc, Ended { status, line }, known)
+}
+
+/// The line on a file of which a write failed, where there is the file and that ended a run of this status.
+fn file_line<F: Made>(alloc: Global, status: u8, file: &Option<F>) -> Option<String> {
+    match file {
+        Some(file) => failure_line(alloc, status, file.failure()),
+        None => None,
+    }
+}
+
+/// How a run ended; where the limit was met the line says what is known then.
+fn with_bound(alloc: Global, ended: Ended, known: &Known) -> Ended {
+    if ended.status != STOPPED {
+        return ended;
+    }
+    drop(ended);
+    Ended {
+        status: STOPPED,
+        line: known.line(alloc),
+    }
+}
+
+/// Proves a plan, or finds a better one; the network `-` is standard input. What is said of `plan` holds of the words, the files
+/// and the lines on standard error.
+pub fn prove<'a, C: Clock + Eprint, G: Given<'a>>(
+    console: &C,
+    alloc: Global,
+    given: &mut G,
+    words: ProveWords<'a>,
+) -> u8 {
+    match proof_files(given, words) {
+        Ok(files) => prove_to(console, alloc, given, words, files),
+        Err(failure) => {
+            let unwritten = Unwritten {
+                network: words.network,
+                failure,
+                json: false,
+            };
+            unwritable(alloc, given, unwritten)
+        }
+    }
+}
+
+/// The files that the words of `prove` name, or why one of them can't be written.
+pub fn proof_files<'a, G: Given<'a>>(
+    given: &G,
+    words: ProveWords<'a>,
+) -> Result<ProofFiles<G::File>, Failure<'a>>
+    ensures better { IfOk result (λ files. G.makes_plan given.now (option_map (λ path. path.now) words.entry.plan) files.better) }
+    ensures cert { IfOk result (λ files. G.makes_cert given.now (option_map (λ path. path.now) words.entry.cert) files.cert) }
+    ensures failures { IfOk result (λ files. (G.File.failed files.better ≡ 0) × (G.File.failed files.cert ≡ 0)) }
+{
+    let better = given.plan_file(words.plan)?;
+    let cert = given.cert_file(words.cert)?;
+    Ok(ProofFiles { better, cert })
+}
+
+/// Proves a plan with these files, and tells of the progress where the words ask for that.
+fn prove_to<'a, C: Clock + Eprint, G: Given<'a>>(
+    console: &C,
+    alloc: Global,
+    given: &mut G,
+    words: ProveWords<'a>,
+    files: ProofFiles<G::File>,
+) -> u8
+    requires better { G.makes_plan given.old (option_map (λ path. path.now) words.plan) files.better }
+    requires cert { G.makes_cert given.old (option_map (λ path. path.now) words.cert) files.cert }
+    requires failures { (G.File.failed files.better ≡ 0) × (G.File.failed files.cert ≡ 0) }
+{
+    let mut output = given.output();
+    if !words.progress {
+        let known = Known::new();
+        let run = prove_over(alloc, given, words, files, &known, &mut output);
+        return end_proof(alloc, given, run, &known, output);
+    }
+    let progress = Progress::new(console);
+    let run = prove_over(alloc, given, words, files, &progress, &mut output);
+    let status = end_proof(alloc, given, run, progress.known(), output);
+    progress.end();
+    status
+}
+
+/// Proves the plan of the words for their network at a gate, to their files, and writes the line to a sink.
+pub fn prove_over<'a, A: Gate, G: Given<'a>, W: Sink>(
+    alloc: Global,
+    given: &G,
+    words: ProveWords<'a>,
+    files: ProofFiles<G::File>,
+    gate: &A,
+    sink: &mut W,
+) -> ProofRun<G::Source, G::File>
+    requires better { G.makes_plan given.now (option_map (λ path. path.now) words.plan) files.better }
+    requires cert { G.makes_cert given.now (option_map (λ path. path.now) words.cert) files.cert }
+    requires failures { (G.File.failed files.better ≡ 0) × (G.File.failed files.cert ≡ 0) }
+    requires sink { W.failed sink.old ≡ 0 }
+    ensures { WithSome (G.opens_network given.now words.entry.network.now) (λ network.
+        WithSome (G.opens_plan given.now words.entry.given.now) (λ plan. Runs (ProveAnswers words.entry.steps)
+        (reading_of (G.Source.given network) (G.Source.given result.network) (G.Source.is_at_end result.network)
+        ∷ reading_of (G.Source.given plan) (G.Source.given result.given) (G.Source.is_at_end result.given) ∷ [])
+        (writing_of (G.File.taken files.cert) (G.File.taken result.cert)
+        ∷ writing_of (G.File.taken files.better) (G.File.taken result.better)
+        ∷ writing_of (W.taken sink.old) (W.taken sink.new) ∷ [])
+        result.status (G.Source.failed result.network + G.Source.failed result.given)
+        (G.File.failed result.cert + G.File.failed result.better + W.failed sink.new))) }
+{
+    let ProofFiles {
+        mut better,
+        mut cert,
+    } = files;
+    let mut network = given.network(words.network);
+    let mut plan = given.plan(words.given);
+    let status = prove_run(
+        alloc,
+        &mut network,
+        &mut plan,
+        words.steps,
+        gate,
+        &mut cert,
+        &mut better,
+        sink,
+    );
+    ProofRun {
+        status,
+        network,
+        given: plan,
+        better,
+        cert,
+    }
+}
+
+/// Tells why a run of `prove` ended, where the limit was met what is known then, and says its status.
+fn end_proof<'a, G: Given<'a>>(
+    alloc: Global,
+    given: &mut G,
+    run: ProofRun<G::Source, G::File>,
+    known: &Known,
+    output: G::Output,
+) -> u8 {
+    let ProofRun {
+        status,
+        network,
+        given: plan,
+        better,
+        cert,
+    } = run;
+    let line = source_line(alloc, status, &network)
+        .or(source_line(alloc, status, &plan))
+        .or(failure_line(alloc, status, cert.failure()))
+        .or(failure_line(alloc, status, better.failure()))
+        .or(plan_line(alloc, status, &network, &plan));
+    drop(network);
+    drop(plan);
+    given.close_plan(better);
+    given.close_cert(cert);
+    end_at(
+        alloc,
+        given,
+        with_bound(alloc, Ended { status, line }, known),
+        output,
+    )
+}
