@@ -4,7 +4,7 @@
 workers.py runs [COUNT]   plans each network of bench/networks/suite COUNT times (200 unless given), with 2, 4, 8 and 16 workers
                           in turn. Each run has to end within two minutes; where the answer is optimal, the plan file has to
                           have the bytes of every other run's, and each certificate has to be accepted.
-workers.py speed [FILE..] settlements a second with 1, 2 and 4 workers, as ratios to one worker, up to 1,000,000 settlements: of
+workers.py speed [FILE..] settlements a second in the order of the file with 1, 2 and 4 workers, as ratios to one worker, up to 1,000,000 of them: of
                           the files given, else of random-40, random-128, bench/networks/large and bench/networks/suite. Runs with
                           one worker and with several take turns, five of each, and the least time counts.
 """
@@ -70,7 +70,7 @@ def runs(count):
 
 def rate(network, workers):
     """The settlements and the seconds of one run."""
-    line, _, taken = tsn(["plan", network, "--workers", str(workers), "--steps", str(STEPS)])
+    line, _, taken = tsn(["plan", network, "--search", "file", "--workers", str(workers), "--steps", str(STEPS)])
     return int(line.split()[-1]), taken
 
 
