@@ -170,18 +170,14 @@ fn is_branch(rt: &impl Abort, node: &Node) {
 
 fn is_late(rt: &impl Abort, node: &Node) {
     match node {
-        Node::Late(stream, chain) => {
-            assert!(rt; *stream == 1 && has(chain, &[0]))
-        }
+        Node::Late(stream, chain) => { assert!(rt; *stream == 1 && has(chain, &[0])) }
         _ => panic!(rt; "no late leaf was read"),
     }
 }
 
 fn is_overrun(rt: &impl Abort, node: &Node) {
     match node {
-        Node::Overrun(stream, chain) => {
-            assert!(rt; *stream == 2 && has(chain, &[0, 1]))
-        }
+        Node::Overrun(stream, chain) => { assert!(rt; *stream == 2 && has(chain, &[0, 1])) }
         _ => panic!(rt; "no overrun leaf was read"),
     }
 }
@@ -236,8 +232,10 @@ fn chains_have_depths_of_any_size(rt: HostRuntime) -> Result<(), Fail> {
 // A text that isn't laid out as certificates are written is read as one that is.
 #[test]
 fn other_layouts_are_read(rt: HostRuntime) -> Result<(), Fail> {
-    let file = "{\"target\": 9,\n \"nodes\": [[\"branch\",0,1,4], [\"late\",1,[ 0,65536 ]],[\"tie\",0,[0],[[],[0]]]], \"format\": 2}";
-    let text = "{\"format\":2,\"nodes\":[[\"branch\",0,1,4],[\"late\",1,[0,65536]],[\"tie\",0,[0],[[],[0]]]],\"target\":9}\n";
+    let file =
+        "{\"target\": 9,\n \"nodes\": [[\"branch\",0,1,4], [\"late\",1,[ 0,65536 ]],[\"tie\",0,[0],[[],[0]]]], \"format\": 2}";
+    let text =
+        "{\"format\":2,\"nodes\":[[\"branch\",0,1,4],[\"late\",1,[0,65536]],[\"tie\",0,[0],[[],[0]]]],\"target\":9}\n";
     assert_eq!(rt; printed(rt.alloc(), file)?.as_str(), text);
     assert_eq!(rt; printed(rt.alloc(), text)?.as_str(), text);
     Ok(())
