@@ -165,7 +165,7 @@ impl LinkTable {
         ensures short { OnOk result (self.new.work ≤ self.old.work + MAX_OCCUPANCY) }
     {
         let start = timing.start(stream, hop);
-        let work = timing.occ(stream, hop);
+        let work = timing.occupancy(stream, hop);
         let tail = timing.arrival(stream) as i64 - (start + work) as i64;
         let least = if self.users.is_empty() {
             tail

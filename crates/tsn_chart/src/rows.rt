@@ -150,7 +150,7 @@ fn write_bar(
     requires hop { hop < hop_count sheet.timing.now stream }
 {
     let start = sheet.offsets[stream].saturating_add(sheet.timing.start(stream, hop));
-    let end = start.saturating_add(sheet.timing.occ(stream, hop));
+    let end = start.saturating_add(sheet.timing.occupancy(stream, hop));
     if start >= sheet.scale.until() {
         return Ok(());
     }

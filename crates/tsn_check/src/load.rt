@@ -55,7 +55,7 @@ fn entry_load(
     }
     let sum = sum_to(timing, path, stream, &entry.1)?;
     let start = timing.start(stream, hop);
-    let work = timing.occ(stream, hop);
+    let work = timing.occupancy(stream, hop);
     Ok(LinkLoad {
         head: sum + start as i64,
         work,

@@ -30,7 +30,7 @@ fn use_of(timing: &Timing, stream: usize, link: usize) -> Use
     match timing.hop_on(stream, link) {
         Some(hop) => Use {
             start: timing.start(stream, hop),
-            occupancy: timing.occ(stream, hop),
+            occupancy: timing.occupancy(stream, hop),
         },
         None => Use {
             start: 0,

@@ -7,13 +7,13 @@ use Rattle.tsn_gate.specs.Table.{name_at}
 
 pub IsLink-at : (network : Network) → IsWellFormed network → (link : ℕ) → link < length network.links → IsLink network (link_at network link)
 unfolding link_at
-IsLink-at network formed link below = formed.links link (record { from = 0; to = 0; r = 0; prop = 0 }) below
+IsLink-at network formed link below = formed.links link (record { from = 0; to = 0; octet_time = 0; propagation = 0 }) below
 
-IsLink-rate : (network : Network) (link : Link) → IsLink network link → link.r ≤ 800
+IsLink-rate : (network : Network) (link : Link) → IsLink network link → link.octet_time ≤ 800
 IsLink-rate network link formed = grind (arith, formed.rate)
 
 -- an octet takes 800 ns at most
-pub rate-le : (network : Network) → IsWellFormed network → (link : ℕ) → link < length network.links → (link_at network link).r ≤ 800
+pub rate-le : (network : Network) → IsWellFormed network → (link : ℕ) → link < length network.links → (link_at network link).octet_time ≤ 800
 rate-le network formed link below = IsLink-rate network (link_at network link) (IsLink-at network formed link below)
 
 -- the name that was read

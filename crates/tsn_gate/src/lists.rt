@@ -83,5 +83,5 @@ fn guard(timing: &Timing, link: usize) -> u64
     requires formed { IsWellFormed timing.now }
     ensures { result ≡ guard_of timing.now link }
 {
-    MAX_OCTETS_ON_LINK * timing.link(link).r
+    MAX_OCTETS_ON_LINK * timing.link(link).octet_time
 }

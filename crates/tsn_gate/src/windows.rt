@@ -69,6 +69,6 @@ fn stream_window(timing: &Timing, offsets: &[u64], link: usize, stream: usize) -
     let start = offsets[stream] + timing.start(stream, hop);
     Some(Window {
         start,
-        end: start + timing.occ(stream, hop),
+        end: start + timing.occupancy(stream, hop),
     })
 }

@@ -41,13 +41,13 @@ module _ (network : Network) (formed : IsWellFormed network) where
 
   link_formed : (link : ℕ) → link < length network.links → IsLink network (link_at network link)
   unfolding link_at
-  link_formed link below = formed.links link (record { from = 0; to = 0; r = 0; prop = 0 }) below
+  link_formed link below = formed.links link (record { from = 0; to = 0; octet_time = 0; propagation = 0 }) below
 
-  pub rate-le : (link : ℕ) → link < length network.links → (link_at network link).r ≤ 800
+  pub rate-le : (link : ℕ) → link < length network.links → (link_at network link).octet_time ≤ 800
   rate-le link below = let is = (link_formed link below).rate in grind (arith, is)
 
-  pub prop-le : (link : ℕ) → link < length network.links → (link_at network link).prop ≤ 1000000
-  prop-le link below = (link_formed link below).prop
+  pub prop-le : (link : ℕ) → link < length network.links → (link_at network link).propagation ≤ 1000000
+  prop-le link below = (link_formed link below).propagation
 
   pub to-lt : (link : ℕ) → link < length network.links → (link_at network link).to < length network.procs
   to-lt link below = (link_formed link below).to
@@ -61,14 +61,14 @@ module _ (network : Network) (formed : IsWellFormed network) where
       let octets = octets-le i stream_below in
       let rate = rate-le link link_below in
       let sum : octets_of network i + 20 ≤ 1542 = omega arith in
-      let product : (octets_of network i + 20) * (link_at network link).r ≤ 1542 * 800 = mul-le-mul sum rate in
+      let product : (octets_of network i + 20) * (link_at network link).octet_time ≤ 1542 * 800 = mul-le-mul sum rate in
       omega arith
 
   pub occupancy-ge : (i link : ℕ) → link < length network.links → 1 ≤ occupancy network i link
   unfolding occupancy
   occupancy-ge i link below =
       let rate = rate-pos network formed link below in
-      let product : 0 < (octets_of network i + 20) * (link_at network link).r = mul-pos (omega arith) rate in
+      let product : 0 < (octets_of network i + 20) * (link_at network link).octet_time = mul-pos (omega arith) rate in
       omega arith
 
   pub transfer-le : (i link : ℕ) → i < stream_count network → link < length network.links → transfer network i link ≤ 2224000
@@ -78,7 +78,7 @@ module _ (network : Network) (formed : IsWellFormed network) where
       let rate = rate-le link link_below in
       let prop = prop-le link link_below in
       let sum : octets_of network i + 8 ≤ 1530 = omega arith in
-      let product : (octets_of network i + 8) * (link_at network link).r ≤ 1530 * 800 = mul-le-mul sum rate in
+      let product : (octets_of network i + 8) * (link_at network link).octet_time ≤ 1530 * 800 = mul-le-mul sum rate in
       omega arith
 
   pub hop_delay-le : (i link : ℕ) → i < stream_count network → link < length network.links → hop_delay network i link ≤ 3224000

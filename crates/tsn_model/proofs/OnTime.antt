@@ -122,7 +122,7 @@ module _ (network : Network) (formed : IsWellFormed network) (i : ℕ) (counted 
   unfolding hop_delay transfer occupancy
   hop_delay-pos k below =
       let rate = rate-pos network formed (route_link network i k) (link_exists k below) in
-      let product : 0 < (octets_of network i + 8) * (link_at network (route_link network i k)).r = mul-pos (omega arith) rate in
+      let product : 0 < (octets_of network i + 8) * (link_at network (route_link network i k)).octet_time = mul-pos (omega arith) rate in
       omega arith
 
 -- ---- the gates that a schedule asks for keep themselves
@@ -321,14 +321,14 @@ module _ (network : Network) (formed : IsWellFormed network) (offsets : List ℕ
       }
 
   no_background : (p : Passage) → IsPassage network cycles p → (begun : BackgroundStart) → Contains run.background begun → begun.link ≡ link_of network p
-      → begun.time < planned network offsets p → planned network offsets p < begun.time + (begun.octets + 20) * (link_at network begun.link).r → ⊥
+      → begun.time < planned network offsets p → planned network offsets p < begun.time + (begun.octets + 20) * (link_at network begun.link).octet_time → ⊥
   unfolding guard_of
   no_background p passage begun among same_link before still =
       let short = All-contains (λ (b : BackgroundStart). b.octets ≤ 1522) run.background begun is.background_length among in
       let opened = All-contains (λ (b : BackgroundStart). BackgroundOpen gates b.link b.time) run.background begun is.background_open among in
       let sum : begun.octets + 20 ≤ 1542 = omega arith in
-      let same_rate : (link_at network begun.link).r ≤ (link_at network begun.link).r = omega arith in
-      let product : (begun.octets + 20) * (link_at network begun.link).r ≤ 1542 * (link_at network begun.link).r = mul-le-mul sum same_rate in
+      let same_rate : (link_at network begun.link).octet_time ≤ (link_at network begun.link).octet_time = omega arith in
+      let product : (begun.octets + 20) * (link_at network begun.link).octet_time ≤ 1542 * (link_at network begun.link).octet_time = mul-le-mul sum same_rate in
       let near : planned network offsets p ≤ begun.time + guard_of network begun.link = omega arith in
       let guard = guarded_before p passage begun.time before (subst (λ l. planned network offsets p ≤ begun.time + guard_of network l) same_link near) in
       let item_link : (get_or gates opened.0 opened.1).link ≡ link_of network p = ap (λ (item : LinkGates). item.link) opened.3 ∙ (opened.4.0 ∙ same_link) in

@@ -68,7 +68,7 @@ unfoldable pub scheduled_use : Network → ScheduledStart → WireUse
 scheduled_use network begun = record { link = link_of network begun.passage; from = begun.time; until = begun.time + length_of network begun.passage }
 
 unfoldable pub background_use : Network → BackgroundStart → WireUse
-background_use network begun = record { link = begun.link; from = begun.time; until = begun.time + (begun.octets + 20) * (link_at network begun.link).r }
+background_use network begun = record { link = begun.link; from = begun.time; until = begun.time + (begun.octets + 20) * (link_at network begun.link).octet_time }
 
 -- all uses of wires in a run
 unfoldable pub wire_uses : Network → BridgeRun → List WireUse

@@ -33,7 +33,7 @@ background_octet = 0x7F
 
 -- how long before a window no background frame may start: as long as the greatest one (1522 octets and 20 more) occupies the link
 unfoldable pub guard_of : Network → ℕ → ℕ
-guard_of network link = 1542 * (link_at network link).r
+guard_of network link = 1542 * (link_at network link).octet_time
 
 -- instant t of the cycle is in a scheduled frame's occupancy of the link
 abbrev pub InWindow : Network → List ℕ → ℕ → ℕ → Type 0

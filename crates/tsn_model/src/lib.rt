@@ -19,13 +19,15 @@ impl From<AllocError> for NoMemory {
     }
 }
 
-/// A directed link. An octet takes `r` nanoseconds to send on it, and `prop` nanoseconds to its other end.
+/// One direction of a cable.
 #[derive(Clone, Copy, Debug, PartialEq, Eq)]
 pub struct Link {
     pub from: usize,
     pub to: usize,
-    pub r: u64,
-    pub prop: u64,
+    /// How long an octet takes to send, in nanoseconds.
+    pub octet_time: u64,
+    /// How long a signal takes to the other end, in nanoseconds.
+    pub propagation: u64,
 }
 
 /// Two streams, `left` below `right`, and a link that both use.

@@ -309,7 +309,7 @@ fn visit_of(timing: &Timing, stream: usize, link: usize) -> Option<Visit> {
         return None;
     }
     let start = signed(timing.start(stream, hop));
-    let work = signed(timing.occ(stream, hop));
+    let work = signed(timing.occupancy(stream, hop));
     let arrival = signed(timing.arrival(stream));
     Some(Visit {
         stream,

@@ -78,10 +78,10 @@ module _ (network : Network) (formed : IsWellFormed network) (offsets : List ℕ
   started_before : (begun : BackgroundStart) → Contains run.background begun → begun.link < length network.links → begun.time < free begun.link
   unfolding background_use
   started_before begun has exists =
-      let until : begun.time + (begun.octets + 20) * (link_at network begun.link).r ≤ free begun.link =
+      let until : begun.time + (begun.octets + 20) * (link_at network begun.link).octet_time ≤ free begun.link =
       All-contains (λ (wire : WireUse). wire.until ≤ free wire.link) (wire_uses network run) (background_use network begun) so_far.uses_end (has_use begun has) in
       let rate = rate-pos network formed begun.link exists in
-      let some : 0 < (begun.octets + 20) * (link_at network begun.link).r = mul-pos (omega arith) rate in
+      let some : 0 < (begun.octets + 20) * (link_at network begun.link).octet_time = mul-pos (omega arith) rate in
       omega arith
 
   -- what has started has so before any later instant

@@ -46,9 +46,9 @@ module _ (setting : Setting) (state : State) (can : IsSetting setting) (is : IsS
     pub octets_few : waiting.octets ≤ 1522
     octets_few = (given setting state can is number first port port_is order waiting waits_here).short
 
-    module _ (rate : ℕ) (rate_is : rate ≡ (link_at setting.network at).r) (some : 1 ≤ rate) (few : rate ≤ 800) where
-      rate_here : rate ≡ (link_at setting.network here).r
-      rate_here = rate_is ∙ ap (λ l. (link_at setting.network l).r) (sym here_at)
+    module _ (rate : ℕ) (rate_is : rate ≡ (link_at setting.network at).octet_time) (some : 1 ≤ rate) (few : rate ≤ 800) where
+      rate_here : rate ≡ (link_at setting.network here).octet_time
+      rate_here = rate_is ∙ ap (λ l. (link_at setting.network l).octet_time) (sym here_at)
 
       pub until_few : port.background + (waiting.octets + 20) * rate ≤ 2 ^ 40
       until_few =
@@ -78,16 +78,16 @@ module _ (setting : Setting) (state : State) (can : IsSetting setting) (is : IsS
     at_link : waiting_on state.feed here ≡ Some sending.waiting
     at_link = ap (waiting_on state.feed) on ∙ sends.waits
 
-    rate_is : (link_at setting.network sending.link).r ≡ (link_at setting.network here).r
-    rate_is = ap (λ l. (link_at setting.network l).r) (sym on)
+    rate_is : (link_at setting.network sending.link).octet_time ≡ (link_at setting.network here).octet_time
+    rate_is = ap (λ l. (link_at setting.network l).octet_time) (sym on)
 
-    until_is : sending.until ≡ port.background + (sending.waiting.octets + 20) * (link_at setting.network here).r
+    until_is : sending.until ≡ port.background + (sending.waiting.octets + 20) * (link_at setting.network here).octet_time
     until_is = sends.until ∙ ap (λ r. port.background + (sending.waiting.octets + 20) * r) rate_is
 
-    some : 1 ≤ (link_at setting.network here).r
+    some : 1 ≤ (link_at setting.network here).octet_time
     some = subst (λ r. 1 ≤ r) rate_is sends.some
 
-    few : (link_at setting.network here).r ≤ 800
+    few : (link_at setting.network here).octet_time ≤ 800
     few = subst (λ r. r ≤ 800) rate_is sends.few
 
     pub sending_still : (d : LinkGates) → sending.until ≤ port.scheduled → IsScheduledNext setting.network (get_or setting.gates number d).entries state.frames.items port.head sending.until state.end port.scheduled

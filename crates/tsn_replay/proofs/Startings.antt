@@ -30,22 +30,22 @@ module _ (setting : Setting) (state : State) (can : IsSetting setting) (is : IsS
     moved_stream = subst (λ n. n < stream_count setting.network) (sym (ap (λ (f : Frame). f.stream) moved_is)) starting_stream
 
     -- on the link of its list, until the wire is free again
-    module _ (early : moved.ready ≤ 2 ^ 50) (list : LinkGates) (at : ℕ) (at_is : at ≡ (get_or setting.gates number list).link) (occ : ℕ) (occ_is : occ ≡ occupancy setting.network frame.stream at) (some : 1 ≤ occ)
-        (short : occ ≤ 1233600) (starts : BridgeRun) (starts_are : starts ≡ with_passage state.starts (passage_of frame) time) where
+    module _ (early : moved.ready ≤ 2 ^ 50) (list : LinkGates) (at : ℕ) (at_is : at ≡ (get_or setting.gates number list).link) (duration : ℕ) (duration_is : duration ≡ occupancy setting.network frame.stream at) (some : 1 ≤ duration)
+        (short : duration ≤ 1233600) (starts : BridgeRun) (starts_are : starts ≡ with_passage state.starts (passage_of frame) time) where
       on : link setting state can is number first ≡ at
       on = sym (at_is ∙ link_is setting state can is number list (below setting state can is number first))
 
-      occupies : occ ≡ occupancy setting.network frame.stream (link setting state can is number first)
-      occupies = occ_is ∙ ap (occupancy setting.network frame.stream) (sym on)
+      occupies : duration ≡ occupancy setting.network frame.stream (link setting state can is number first)
+      occupies = duration_is ∙ ap (occupancy setting.network frame.stream) (sym on)
 
       abbrev after : State
-      after = record state { time = time; frames = with_item state.frames waiting moved; free = with_item state.free at (time + occ); starts = starts }
+      after = record state { time = time; frames = with_item state.frames waiting moved; free = with_item state.free at (time + duration); starts = starts }
 
       pub starting_under_way : IsUnderWay setting after
-      starting_under_way = started_under_way setting state can is number first waiting head time time_is order frame frame_is occ occupies some short moved moved_is early starts starts_are
-          (with_item state.frames waiting moved) refl (with_item state.free at (time + occ)) (ap (λ l. slice_set state.free.items l (time + occ)) (sym on))
+      starting_under_way = started_under_way setting state can is number first waiting head time time_is order frame frame_is duration occupies some short moved moved_is early starts starts_are
+          (with_item state.frames waiting moved) refl (with_item state.free at (time + duration)) (ap (λ l. slice_set state.free.items l (time + duration)) (sym on))
 
       pub starting_others : (other : ℕ) → other < length setting.gates → (number ≡ other → ⊥) → ((d : LinkGates) → Waits setting.network (get_or setting.gates other d).link moved → ⊥)
           → IsPortAt setting after other (port_in state.ports other)
-      starting_others = started_others setting state can is number first waiting head time time_is order frame frame_is occ occupies some short moved moved_is early starts starts_are
-          (with_item state.frames waiting moved) refl (with_item state.free at (time + occ)) (ap (λ l. slice_set state.free.items l (time + occ)) (sym on))
+      starting_others = started_others setting state can is number first waiting head time time_is order frame frame_is duration occupies some short moved moved_is early starts starts_are
+          (with_item state.frames waiting moved) refl (with_item state.free at (time + duration)) (ap (λ l. slice_set state.free.items l (time + duration)) (sym on))

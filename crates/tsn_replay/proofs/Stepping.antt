@@ -165,10 +165,10 @@ module _ (setting : Setting) (state : State) (can : IsSetting setting) (is : IsS
       forward = is_next.forward
 
       -- what the step computes
-      module _ (frame : Frame) (frame_is : frame ≡ frame_in state.frames.items waiting) (occ : ℕ) (occ_is : occ ≡ occupancy network frame.stream link) (some : 1 ≤ occ) (short : occ ≤ 1233600)
+      module _ (frame : Frame) (frame_is : frame ≡ frame_in state.frames.items waiting) (duration : ℕ) (duration_is : duration ≡ occupancy network frame.stream link) (some : 1 ≤ duration) (short : duration ≤ 1233600)
           (moved : Frame) (moved_is : moved ≡ advanced network frame time) (early : moved.ready ≤ 2 ^ 50)
           (trace : BridgeRun) (trace_is : trace ≡ with_passage state.starts (passage_of frame) time) (frames : Vec Frame Global) (frames_are : frames.items ≡ slice_set state.frames.items waiting moved)
-          (free : Vec ℕ Global) (free_is : free.items ≡ slice_set state.free.items link (time + occ)) where
+          (free : Vec ℕ Global) (free_is : free.items ≡ slice_set state.free.items link (time + duration)) where
         abbrev started : State
         started = record state { time = time; frames = frames; free = free; starts = trace }
 
@@ -176,7 +176,7 @@ module _ (setting : Setting) (state : State) (can : IsSetting setting) (is : IsS
         started_under_way =
             let run = with_passage made (passage_of frame) time in
             let step = passage_step network can.formed setting.offsets setting.gates can.lists setting.cycles setting.background can.background line state.time state.free.items made state.frames.items is.under_way.run is.under_way.fed is.under_way.tracked
-            next is_next in_time waiting refl frame frame_is run refl occ occ_is moved moved_is is.under_way.wires in
+            next is_next in_time waiting refl frame frame_is run refl duration duration_is moved moved_is is.under_way.wires in
             let end_is = is.under_way.end in
             let limit = is.under_way.small in
             let soon = in_time in
@@ -190,9 +190,9 @@ module _ (setting : Setting) (state : State) (can : IsSetting setting) (is : IsS
               fed = subst (λ fs. IsFedSoFar network setting.gates setting.cycles (free_on fs) time setting.background line run) (sym free_is) step.1;
               tracked = subst (IsTracked network setting.offsets setting.cycles run) (sym frames_are) step.2;
               feed = is.under_way.feed;
-              wires = ap length free_is ∙ (length-set state.free.items link (time + occ) ∙ is.under_way.wires);
+              wires = ap length free_is ∙ (length-set state.free.items link (time + duration) ∙ is.under_way.wires);
               numbers = is.under_way.numbers;
-              frees = subst (All (λ t. t ≤ 2 ^ 40)) (sym free_is) (All-set (λ t. t ≤ 2 ^ 40) state.free.items link (time + occ) (omega arith) is.under_way.frees);
+              frees = subst (All (λ t. t ≤ 2 ^ 40)) (sym free_is) (All-set (λ t. t ≤ 2 ^ 40) state.free.items link (time + duration) (omega arith) is.under_way.frees);
               readies = subst (All (λ (f : Frame). f.ready ≤ 2 ^ 50)) (sym frames_are) (All-set (λ (f : Frame). f.ready ≤ 2 ^ 50) state.frames.items waiting moved early is.under_way.readies);
             }
 
@@ -206,7 +206,7 @@ module _ (setting : Setting) (state : State) (can : IsSetting setting) (is : IsS
             (is.ports.each other other_below d) in
             let soon = least other other_below in
             let here = scheduled_time in
-            other_later time other d frames.items free.items state.feed forward (omega arith) (ap (λ fs. free_on fs at) free_is ∙ get_or-set_other state.free.items link at (time + occ) 0 away) refl
+            other_later time other d frames.items free.items state.feed forward (omega arith) (ap (λ fs. free_on fs at) free_is ∙ get_or-set_other state.free.items link at (time + duration) 0 away) refl
             (subst (λ fs. IsPort network (get_or setting.gates other d).entries fs (line at) at (max (free_on state.free.items at) state.time) state.end (port_at other)) (sym frames_are) kept)
 
         pub started_falls : time_left started < time_left state
@@ -217,7 +217,7 @@ module _ (setting : Setting) (state : State) (can : IsSetting setting) (is : IsS
             let exists = is_next.link in_time in
             let wires = is.under_way.wires in
             subst (λ fs. sum_by (λ t. state.end - t) fs < sum_by (λ t. state.end - t) state.free.items) (sym free_is)
-            (time_falls state.free.items link (time + occ) state.end (omega arith) (omega arith) (omega arith))
+            (time_falls state.free.items link (time + duration) state.end (omega arith) (omega arith) (omega arith))
 
     -- ---- a background frame
 
@@ -274,14 +274,14 @@ module _ (setting : Setting) (state : State) (can : IsSetting setting) (is : IsS
         pub given : IsGiven network link waiting
         given = line_given network setting.gates setting.cycles (free_on state.free.items) state.time line made setting.background can.background is.under_way.fed link (can.lists.links number no_list below) waiting waits
 
-        module _ (until : ℕ) (until_is : until ≡ port.background + (waiting.octets + 20) * (link_at network link).r) (some : 1 ≤ (link_at network link).r) (few : (link_at network link).r ≤ 800) where
+        module _ (until : ℕ) (until_is : until ≡ port.background + (waiting.octets + 20) * (link_at network link).octet_time) (some : 1 ≤ (link_at network link).octet_time) (few : (link_at network link).octet_time ≤ 800) where
           pub until_short : (port.background < until) × (until ≤ port.background + 1542 * 800)
           until_short =
               let limit = given.short in
               let octets : waiting.octets + 20 ≤ 1542 = omega arith in
-              let product : (waiting.octets + 20) * (link_at network link).r ≤ 1542 * 800 = mul-le-mul octets few in
+              let product : (waiting.octets + 20) * (link_at network link).octet_time ≤ 1542 * 800 = mul-le-mul octets few in
               let sent : 0 < waiting.octets + 20 = omega arith in
-              let pos : 0 < (waiting.octets + 20) * (link_at network link).r = mul-pos sent some in
+              let pos : 0 < (waiting.octets + 20) * (link_at network link).octet_time = mul-pos sent some in
               (omega arith, omega arith)
 
           pub send_still : (d : LinkGates) → until ≤ port.scheduled → IsScheduledNext network (get_or setting.gates number d).entries state.frames.items port.head until state.end port.scheduled

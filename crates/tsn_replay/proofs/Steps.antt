@@ -164,28 +164,28 @@ module _ (network : Network) (formed : IsWellFormed network) (offsets : List ℕ
         pub passage_tracked : IsTracked network offsets cycles (with_passage run (passage_of (frame_in frames number)) next.time) (slice_set frames number (advanced network (frame_in frames number) next.time))
         passage_tracked = tracked_next network offsets cycles run frames tracked number next.time can_start.0.0 can_start.0.1.waits
 
-      pub length_is : (occ : ℕ) → occ ≡ occupancy network (frame_in frames number).stream next.link → next.time + occ ≡ next.time + length_of network (passage_of (frame_in frames number))
-      length_is occ is_occ = ap (λ n. next.time + n) (is_occ ∙ (ap (occupancy network (frame_in frames number).stream) (sym on) ∙ length_at network (frame_in frames number)))
+      pub length_is : (duration : ℕ) → duration ≡ occupancy network (frame_in frames number).stream next.link → next.time + duration ≡ next.time + length_of network (passage_of (frame_in frames number))
+      length_is duration is_duration = ap (λ n. next.time + n) (is_duration ∙ (ap (occupancy network (frame_in frames number).stream) (sym on) ∙ length_at network (frame_in frames number)))
 
       -- the state after it, from what the program computed
-      pub passage_step : (frame : Frame) → frame ≡ frame_in frames number → (trace : BridgeRun) → trace ≡ with_passage run (passage_of frame) next.time → (occ : ℕ) → occ ≡ occupancy network frame.stream next.link
+      pub passage_step : (frame : Frame) → frame ≡ frame_in frames number → (trace : BridgeRun) → trace ≡ with_passage run (passage_of frame) next.time → (duration : ℕ) → duration ≡ occupancy network frame.stream next.link
           → (moved : Frame) → moved ≡ advanced network frame next.time → length free ≡ length network.links
-          → IsRunSoFar network offsets gates cycles (free_on (slice_set free next.link (next.time + occ))) next.time trace
-          × IsFedSoFar network gates cycles (free_on (slice_set free next.link (next.time + occ))) next.time background line trace
+          → IsRunSoFar network offsets gates cycles (free_on (slice_set free next.link (next.time + duration))) next.time trace
+          × IsFedSoFar network gates cycles (free_on (slice_set free next.link (next.time + duration))) next.time background line trace
           × IsTracked network offsets cycles trace (slice_set frames number moved)
-      passage_step frame same trace trace_is occ is_occ moved moved_is wires =
-          let occ_at : occ ≡ occupancy network (frame_in frames number).stream next.link = is_occ ∙ ap (λ (f : Frame). occupancy network f.stream next.link) same in
-          let until = length_is occ occ_at in
+      passage_step frame same trace trace_is duration is_duration moved moved_is wires =
+          let duration_at : duration ≡ occupancy network (frame_in frames number).stream next.link = is_duration ∙ ap (λ (f : Frame). occupancy network f.stream next.link) same in
+          let until = length_is duration duration_at in
           let run_is : trace ≡ with_passage run (passage_of (frame_in frames number)) next.time = trace_is ∙ ap (λ (f : Frame). with_passage run (passage_of f) next.time) same in
           let frame_at : moved ≡ advanced network (frame_in frames number) next.time = moved_is ∙ ap (λ (f : Frame). advanced network f next.time) same in (
-            subst (IsRunSoFar network offsets gates cycles (free_on (slice_set free next.link (next.time + occ))) next.time) (sym run_is) (passage_run (next.time + occ) until wires),
-            subst (IsFedSoFar network gates cycles (free_on (slice_set free next.link (next.time + occ))) next.time background line) (sym run_is) (passage_fed (next.time + occ) until wires),
+            subst (IsRunSoFar network offsets gates cycles (free_on (slice_set free next.link (next.time + duration))) next.time) (sym run_is) (passage_run (next.time + duration) until wires),
+            subst (IsFedSoFar network gates cycles (free_on (slice_set free next.link (next.time + duration))) next.time background line) (sym run_is) (passage_fed (next.time + duration) until wires),
             subst (λ r. IsTracked network offsets cycles r (slice_set frames number moved)) (sym run_is)
-                (subst (λ f. IsTracked network offsets cycles (with_passage run (passage_of (frame_in frames number)) next.time) (slice_set frames number f)) (sym frame_at) (passage_tracked (next.time + occ) until wires)),
+                (subst (λ f. IsTracked network offsets cycles (with_passage run (passage_of (frame_in frames number)) next.time) (slice_set frames number f)) (sym frame_at) (passage_tracked (next.time + duration) until wires)),
           )
 
     -- a background frame
-    module _ (frame_is : next.frame ≡ None) (waiting : Waiting) (first : line next.link ≡ Some waiting) (until : ℕ) (until_is : until ≡ next.time + (waiting.octets + 20) * (link_at network next.link).r) (wires : length free ≡ length network.links) where
+    module _ (frame_is : next.frame ≡ None) (waiting : Waiting) (first : line next.link ≡ Some waiting) (until : ℕ) (until_is : until ≡ next.time + (waiting.octets + 20) * (link_at network next.link).octet_time) (wires : length free ≡ length network.links) where
       can_send : CanStart network gates frames line next None
       can_send = subst (CanStart network gates frames line next) frame_is (is.can in_time)
 
@@ -204,7 +204,7 @@ module _ (network : Network) (formed : IsWellFormed network) (offsets : List ℕ
         quiet = quiet_from_silent network formed offsets gates cycles (free_on free) next.time run here_so_far frames tracked next.link next.time (omega arith) can_send.2;
       }
 
-      sent_here : free_on (slice_set free next.link until) next.link ≡ next.time + (waiting.octets + 20) * (link_at network next.link).r
+      sent_here : free_on (slice_set free next.link until) next.link ≡ next.time + (waiting.octets + 20) * (link_at network next.link).octet_time
       sent_here = let exists = is.link in_time in get_or-set_same free next.link until 0 (omega arith) ∙ until_is
 
       sent_elsewhere : (m : ℕ) → (m ≡ next.link → ⊥) → free_on (slice_set free next.link until) m ≡ free_on free m

@@ -164,9 +164,9 @@ pub record IsSending (setting : Setting) (state : State) (number : ℕ) (port : 
   pub on : (d : LinkGates) → (slice_index_or setting.gates number d).link ≡ sending.link
   pub exists : sending.link < length setting.network.links
   pub waits : waiting_on state.feed sending.link ≡ Some sending.waiting
-  pub until : sending.until ≡ port.background + (sending.waiting.octets + 20) * (link_at setting.network sending.link).r
-  pub some : 1 ≤ (link_at setting.network sending.link).r
-  pub few : (link_at setting.network sending.link).r ≤ 800
+  pub until : sending.until ≡ port.background + (sending.waiting.octets + 20) * (link_at setting.network sending.link).octet_time
+  pub some : 1 ≤ (link_at setting.network sending.link).octet_time
+  pub few : (link_at setting.network sending.link).octet_time ≤ 800
   pub early : sending.until ≤ latest_free
 
 -- the starts that are kept are those of a whole bridge run that the background feeds

@@ -297,10 +297,10 @@ fn numbers_by_link(
 /// How long an octet takes on a link.
 fn rate(network: &PlainNetwork, link: usize) -> u64
     requires { link < length network.now.links }
-    ensures value { result ≡ (link_at network.now link).r }
+    ensures value { result ≡ (link_at network.now link).octet_time }
     ensures some { 1 ≤ result }
     ensures limit { result ≤ 800 }
 {
     let _limits = network.cycle();
-    network.link(link).r
+    network.link(link).octet_time
 }

@@ -6,7 +6,7 @@ use Rattle.tsn_streams.specs.Table.{name_at}
 
 pub IsLink-at : (network : Network) → IsWellFormed network → (link : ℕ) → link < length network.links → IsLink network (link_at network link)
 unfolding link_at
-IsLink-at network formed link below = formed.links link (record { from = 0; to = 0; r = 0; prop = 0 }) below
+IsLink-at network formed link below = formed.links link (record { from = 0; to = 0; octet_time = 0; propagation = 0 }) below
 
 -- the name that was read
 pub name_found : (problem : NamedNetwork) (node : ℕ) (name : List ℕ) → slice_get problem.node_names node ≡ Some name → name ≡ name_at problem node

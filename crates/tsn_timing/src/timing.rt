@@ -146,7 +146,7 @@ impl Timing {
     }
 
     /// How long a stream's frame occupies the link of a hop, with the interframe gap, in nanoseconds, 1 to `MAX_OCCUPANCY`.
-    pub fn occ(&self, stream: usize, hop: usize) -> u64
+    pub fn occupancy(&self, stream: usize, hop: usize) -> u64
         requires stream { stream < stream_count self.now }
         requires hop { hop < hop_count self.now stream }
         ensures value { result ≡ occupancy self.now stream (route_link self.now stream hop) }
@@ -369,7 +369,7 @@ impl Timing {
         };
         let first = offsets[left] + self.start(left, hop);
         let second = offsets[right] + self.start(right, other);
-        first < second + self.occ(right, other) && second < first + self.occ(left, hop)
+        first < second + self.occupancy(right, other) && second < first + self.occupancy(left, hop)
     }
 }
 

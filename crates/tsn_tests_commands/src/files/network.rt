@@ -51,8 +51,8 @@ fn has_links(rt: &impl Abort, problem: &Problem) {
         let expected = Link {
             from,
             to,
-            r: 8,
-            prop: 50,
+            octet_time: 8,
+            propagation: 50,
         };
         assert_eq!(rt; problem.link(link), expected);
     }

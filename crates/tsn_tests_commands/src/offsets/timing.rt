@@ -203,7 +203,7 @@ fn hop_of(rt: &impl Abort, timing: &Timing, stream: usize, hop: usize) -> (usize
     assert!(rt; hop < timing.hops(stream));
     let link = timing.route_link(stream, hop);
     assert!(rt; is_at(timing.hop_on(stream, link), hop));
-    (link, timing.occ(stream, hop))
+    (link, timing.occupancy(stream, hop))
 }
 
 /// Whether the first stream uses one of these links.
@@ -223,7 +223,7 @@ fn link_of(rt: &impl Abort, timing: &Timing, link: usize) -> Link {
 }
 
 fn is_last_link(link: Link) -> bool {
-    link.from == 3 && link.to == 2 && link.r == 80 && link.prop == 50
+    link.from == 3 && link.to == 2 && link.octet_time == 80 && link.propagation == 50
 }
 
 /// The first stream uses none of the links that aren't on its route. Also compares the last link of it.

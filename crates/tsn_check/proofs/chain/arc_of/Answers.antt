@@ -15,8 +15,8 @@ start-requires-clause-hop c =
     let found = hop_on_found c.args.timing.now c.match-decision.first.0 c.args.decision.triple.link c.in-Some.first_hop (sym c.in-Some.ensures) in
     found.1
 
-pub occ-requires-clause-hop : goal.occ-requires-clause-hop
-occ-requires-clause-hop c =
+pub occupancy-requires-clause-hop : goal.occupancy-requires-clause-hop
+occupancy-requires-clause-hop c =
     let found = hop_on_found c.args.timing.now c.match-decision.first.0 c.args.decision.triple.link c.in-Some.first_hop (sym c.in-Some.ensures) in
     found.1
 
@@ -41,8 +41,8 @@ returns-clause-arc c =
     let ends = arc_ends network pair.0 pair.1 decision.triple.link in
     let begins = c.start.ensures.value in
     let early = c.start.ensures.bound in
-    let lasts = c.occ.ensures.value in
-    let short = c.occ.ensures.bound in
+    let lasts = c.occupancy.ensures.value in
+    let short = c.occupancy.ensures.bound in
     let other = c.start-2.ensures.value in
     let other_early = c.start-2.ensures.bound in
     arc_same _ _ (sym (ap (λ (a : Arc). a.from) arc ∙ ends.0)) (sym (ap (λ (a : Arc). a.to) arc ∙ ends.1)) (omega (arith, ints, weighs))
@@ -50,6 +50,6 @@ returns-clause-arc c =
 pub returns-clause-small : goal.returns-clause-small
 returns-clause-small c =
     let early = c.start.ensures.bound in
-    let short = c.occ.ensures.bound in
+    let short = c.occupancy.ensures.bound in
     let other_early = c.start-2.ensures.bound in
     record { low = omega (arith, ints); high = omega (arith, ints) }

@@ -30,8 +30,8 @@ returns-in_err-sum c =
 pub start-start-requires-clause-hop : goal.start-start-requires-clause-hop
 start-start-requires-clause-hop c = (hop_on_found c.args.timing.now c.args.entry.now.0 c.args.link c.in-Some.hop (sym c.in-Some.ensures)).1
 
-pub occ-work-requires-clause-hop : goal.occ-work-requires-clause-hop
-occ-work-requires-clause-hop c = (hop_on_found c.args.timing.now c.args.entry.now.0 c.args.link c.in-Some.hop (sym c.in-Some.ensures)).1
+pub occupancy-work-requires-clause-hop : goal.occupancy-work-requires-clause-hop
+occupancy-work-requires-clause-hop c = (hop_on_found c.args.timing.now c.args.entry.now.0 c.args.link c.in-Some.hop (sym c.in-Some.ensures)).1
 
 pub returns : goal.returns
 returns c =
@@ -40,13 +40,13 @@ returns c =
     let found = hop_on_found network stream c.args.link c.in-Some.hop (sym c.in-Some.ensures) in
     let same_link = hop_on_link network stream c.args.link c.in-Some.hop (sym c.in-Some.ensures) in
     let begins : c.start-start.result ≡ start_on network stream c.args.link = c.start-start.ensures.value ∙ found.2 in
-    let works : c.occ-work.result ≡ occupancy network stream c.args.link = c.occ-work.ensures.value ∙ ap (occupancy network stream) same_link in
+    let works : c.occupancy-work.result ≡ occupancy network stream c.args.link = c.occupancy-work.ensures.value ∙ ap (occupancy network stream) same_link in
     let short_begin = c.start-start.ensures.bound in
-    let short_work = c.occ-work.ensures.bound in
+    let short_work = c.occupancy-work.ensures.bound in
     let short_end = c.arrival.ensures.bound in
     let sum = c.in_ok-sum.ensures in (
       record { on_link = found.0; other_stream = not_repeated c.args.before.now stream (sym c.has_stream.ensures ∙ c.if-has_stream.false); leads = sum.leads },
-      one_load network (decisions c.args.path.now) c.args.link (tree_entry c.args.entry.now) _ c.in_ok-sum.sum c.start-start.result c.occ-work.result c.arrival.result
+      one_load network (decisions c.args.path.now) c.args.link (tree_entry c.args.entry.now) _ c.in_ok-sum.sum c.start-start.result c.occupancy-work.result c.arrival.result
           sum.adds begins works c.arrival.ensures.value sum.low sum.high short_begin short_work short_end
           (omega (arith, ints)) (omega (arith, ints)) (omega (arith, ints)),
     )

@@ -9,8 +9,8 @@ start-requires-clause-hop c =
     let on : hop_on c.args.timing.now c.args.stream c.args.link ≡ Some c.in-Some.hop = sym c.hop_on.ensures ∙ c.in-Some.is in
     (hop_on_found c.args.timing.now c.args.stream c.args.link c.in-Some.hop on).1
 
-pub occ-requires-clause-hop : goal.occ-requires-clause-hop
-occ-requires-clause-hop c =
+pub occupancy-requires-clause-hop : goal.occupancy-requires-clause-hop
+occupancy-requires-clause-hop c =
     let on : hop_on c.args.timing.now c.args.stream c.args.link ≡ Some c.in-Some.hop = sym c.hop_on.ensures ∙ c.in-Some.is in
     (hop_on_found c.args.timing.now c.args.stream c.args.link c.in-Some.hop on).1
 
@@ -18,7 +18,7 @@ pub returns-in-Some : goal.returns-in-Some
 returns-in-Some c =
     let on : hop_on c.args.timing.now c.args.stream c.args.link ≡ Some c.in-Some.hop = sym c.hop_on.ensures ∙ c.in-Some.is in
     let starts = c.start.ensures.value in
-    let occupies = c.occ.ensures.value ∙ ap (occupancy c.args.timing.now c.args.stream) (hop_on_link c.args.timing.now c.args.stream c.args.link c.in-Some.hop on) in
+    let occupies = c.occupancy.ensures.value ∙ ap (occupancy c.args.timing.now c.args.stream) (hop_on_link c.args.timing.now c.args.stream c.args.link c.in-Some.hop on) in
     (λ k. record { start = starts k; occupancy = occupies k }) ∙ sym (use_at-hop c.args.timing.now c.args.stream c.args.link c.in-Some.hop on)
 
 pub returns-in-None : goal.returns-in-None

@@ -10,8 +10,8 @@ start-requires-clause-hop c =
     let below = found.1 in
     omega arith
 
-pub occ-requires-clause-hop : goal.occ-requires-clause-hop
-occ-requires-clause-hop c =
+pub occupancy-requires-clause-hop : goal.occupancy-requires-clause-hop
+occupancy-requires-clause-hop c =
     let found = hop_on_found c.args.timing.now c.args.stream c.args.link c.in_ok-hop.hop (sym c.hop_on.ensures ∙ c.in_ok-hop.was) in
     let below = found.1 in
     omega arith
@@ -20,5 +20,5 @@ pub returns-clause-window : goal.returns-clause-window
 returns-clause-window c =
     let at = sym c.hop_on.ensures ∙ c.in_ok-hop.was in
     let found = hop_on_found c.args.timing.now c.args.stream c.args.link c.in_ok-hop.hop at in
-    window_is c.args.timing.now c.args.offsets.now c.args.link c.args.stream c.start.result c.occ.result (c.start.ensures.value ∙ found.2)
-    (c.occ.ensures.value ∙ ap (occupancy c.args.timing.now c.args.stream) (hop_on_link c.args.timing.now c.args.stream c.args.link c.in_ok-hop.hop at))
+    window_is c.args.timing.now c.args.offsets.now c.args.link c.args.stream c.start.result c.occupancy.result (c.start.ensures.value ∙ found.2)
+    (c.occupancy.ensures.value ∙ ap (occupancy c.args.timing.now c.args.stream) (hop_on_link c.args.timing.now c.args.stream c.args.link c.in_ok-hop.hop at))

@@ -7,7 +7,7 @@ use Rattle.tsn_replay.proofs.engine.rate.Goals as goal
 
 pub returns : goal.returns
 returns c =
-    let value : c.link.result.r ≡ (link_at c.args.network.now c.args.link).r = ap (λ (l : Link). l.r) c.link.ensures in
+    let value : c.link.result.octet_time ≡ (link_at c.args.network.now c.args.link).octet_time = ap (λ (l : Link). l.octet_time) c.link.ensures in
     let formed = c.cycle-limits.ensures.well_formed in
     let some = rate-pos c.args.network.now formed c.args.link c.requires in
     let few = rate-le c.args.network.now formed c.args.link c.requires in

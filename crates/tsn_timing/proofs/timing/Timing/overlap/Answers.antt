@@ -13,8 +13,8 @@ start-requires-2-clause-hop c =
     let below = found.1 in
     omega arith
 
-pub occ-requires-clause-hop : goal.occ-requires-clause-hop
-occ-requires-clause-hop c =
+pub occupancy-requires-clause-hop : goal.occupancy-requires-clause-hop
+occupancy-requires-clause-hop c =
     let on : hop_on c.args.self.now c.args.right c.route_link.result ≡ Some c.in-Some.other = sym c.hop_on.ensures ∙ c.in-Some.is in
     let found = hop_on_found c.args.self.now c.args.right c.route_link.result c.in-Some.other on in
     let below = found.1 in
@@ -30,8 +30,8 @@ returns-then-first-second c =
     let found = hop_on_found network c.args.right link c.in-Some.other on in
     let left_start = c.start.ensures.value ∙ sym (hop_start network formed c.args.left left_below c.args.hop c.requires.hop) in
     let right_start = c.start-2.ensures.value ∙ found.2 in
-    let left_occupancy = c.occ-then-first-second.ensures.value in
-    let right_occupancy = c.occ.ensures.value ∙ ap (occupancy network c.args.right) (hop_on_link network c.args.right link c.in-Some.other on) in (
+    let left_occupancy = c.occupancy-then-first-second.ensures.value in
+    let right_occupancy = c.occupancy.ensures.value ∙ ap (occupancy network c.args.right) (hop_on_link network c.args.right link c.in-Some.other on) in (
       λ passes.
           let second = ltb-true _ _ passes in
           overlap_from network c.args.offsets.now c.args.left c.args.right link formed c.requires.order c.requires.right
@@ -52,7 +52,7 @@ returns-else-first-second c =
     let found = hop_on_found network c.args.right link c.in-Some.other on in
     let left_start = c.start.ensures.value ∙ sym (hop_start network formed c.args.left left_below c.args.hop c.requires.hop) in
     let right_start = c.start-2.ensures.value ∙ found.2 in
-    let right_occupancy = c.occ.ensures.value ∙ ap (occupancy network c.args.right) (hop_on_link network c.args.right link c.in-Some.other on) in (
+    let right_occupancy = c.occupancy.ensures.value ∙ ap (occupancy network c.args.right) (hop_on_link network c.args.right link c.in-Some.other on) in (
       λ passes.
           let first = ltb-true _ _ passes in
           absurd (omega arith),
