@@ -6,11 +6,11 @@ use Rattle.std.proofs.Math.Nat.{eq-or-lt_of_le}
 use Rattle.std.proofs.lemmas.Bool.{false≢true, cases_lt}
 use Rattle.std.proofs.lemmas.Option.{same_Some}
 use Rattle.tsn_net.specs.declared.fault.Code.{Code}
-use Rattle.tsn_net.specs.declared.fault.Code.TheVariants.{NotToml, MissingKey, WrongKind, UnknownKey, Limit, DuplicateName, UnknownName, BadRate, DuplicateLink, BadRoute, NoLink, NoStream, Memory}
+use Rattle.tsn_net.specs.declared.fault.Code.TheVariants.{NotToml, MissingKey, WrongKind, UnknownKey, Limit, DuplicateName, UnknownName, BadRate, DuplicateCable, BadRoute, NoCable, NoStream, Memory}
 use Rattle.tsn_net.specs.declared.fault.Place.{Place}
-use Rattle.tsn_net.specs.declared.fault.Place.TheVariants.{Text, Top, Node, Link, Stream}
+use Rattle.tsn_net.specs.declared.fault.Place.TheVariants.{Text, Top, Node, Cable, Stream}
 use Rattle.tsn_net.specs.declared.fault.NetFault.{NetFault}
-use Rattle.tsn_net.specs.Document.{Document, node_places, link_places, stream_places}
+use Rattle.tsn_net.specs.Document.{Document, node_places, cable_places, stream_places}
 use Rattle.tsn_net.specs.Conditions.{holds, first_place, least_fault, conditions, fault_of}
 use Rattle.tsn_net.specs.Fault.{code_number}
 use Rattle.tsn_net.specs.Laws.{IsIn, IsBefore, IsFirstFault, kind_order, place_number, FaultsAreFirst, FaultlessIsClear}
@@ -67,7 +67,7 @@ clear_at : (code : Code) (d : Document) → IsClear code d → (place : Place) �
 clear_at code d clear Text within = absurd within
 clear_at code d clear Top within = clear.top
 clear_at code d clear (Node n) within = clear.nodes n within
-clear_at code d clear (Link k) within = clear.links k within
+clear_at code d clear (Cable k) within = clear.cables k within
 clear_at code d clear (Stream i) within = clear.streams i within
 
 module _ (code : Code) (d : Document) where
@@ -81,7 +81,7 @@ module _ (code : Code) (d : Document) where
       none Text within before = absurd within
       none Top within before = absurd (elim before [ inl h ↦ omega arith | inr h ↦ omega (arith, h.1) ])
       none (Node n) within before = absurd (elim before [ inl h ↦ omega arith | inr h ↦ omega (arith, h.0) ])
-      none (Link k) within before = absurd (elim before [ inl h ↦ omega arith | inr h ↦ omega (arith, h.0) ])
+      none (Cable k) within before = absurd (elim before [ inl h ↦ omega arith | inr h ↦ omega (arith, h.0) ])
       none (Stream i) within before = absurd (elim before [ inl h ↦ omega arith | inr h ↦ omega (arith, h.0) ])
 
   at_node : (found : Place) → test Top ≡ false → IsFirstNumber test (λ n. Node n) 0 (length d.nodes) found → IsFirstPlace code d found
@@ -91,34 +91,36 @@ module _ (code : Code) (d : Document) where
       none Text within before = absurd within
       none Top within before = top
       none (Node n) within before = f.first n (omega arith) (elim before [ inl h ↦ absurd (omega arith) | inr h ↦ h.1 ])
-      none (Link k) within before = absurd (elim before [ inl h ↦ omega arith | inr h ↦ omega (arith, h.0) ])
+      none (Cable k) within before = absurd (elim before [ inl h ↦ omega arith | inr h ↦ omega (arith, h.0) ])
       none (Stream i) within before = absurd (elim before [ inl h ↦ omega arith | inr h ↦ omega (arith, h.0) ])
 
-  at_link : (found : Place) → test Top ≡ false → find test (node_places d) ≡ None → IsFirstNumber test (λ k. Link k) 0 (length d.links) found → IsFirstPlace code d found
-  at_link found top nodes f = subst (IsFirstPlace code d) (sym f.is) (record { there = let w = f.within in omega arith; holding = ap test (sym f.is) ∙ f.passes; not_before = none })
+  at_cable : (found : Place) → test Top ≡ false → find test (node_places d) ≡ None → IsFirstNumber test (λ k. Cable k) 0 (length d.cables) found
+      → IsFirstPlace code d found
+  at_cable found top nodes f = subst (IsFirstPlace code d) (sym f.is) (record { there = let w = f.within in omega arith; holding = ap test (sym f.is) ∙ f.passes; not_before = none })
     where
-      none : (place : Place) → IsIn d place → IsBefore place (Link f.number) → holds code d place ≡ false
+      none : (place : Place) → IsIn d place → IsBefore place (Cable f.number) → holds code d place ≡ false
       none Text within before = absurd within
       none Top within before = top
       none (Node n) within before = find_none-range test (λ n. Node n) (length d.nodes) n nodes within
-      none (Link k) within before = f.first k (omega arith) (elim before [ inl h ↦ absurd (omega arith) | inr h ↦ h.1 ])
+      none (Cable k) within before = f.first k (omega arith) (elim before [ inl h ↦ absurd (omega arith) | inr h ↦ h.1 ])
       none (Stream i) within before = absurd (elim before [ inl h ↦ omega arith | inr h ↦ omega (arith, h.0) ])
 
-  at_stream : (found : Place) → test Top ≡ false → find test (node_places d) ≡ None → find test (link_places d) ≡ None → IsFirstNumber test (λ i. Stream i) 0 (length d.streams) found → IsFirstPlace code d found
-  at_stream found top nodes links f = subst (IsFirstPlace code d) (sym f.is) (record { there = let w = f.within in omega arith; holding = ap test (sym f.is) ∙ f.passes; not_before = none })
+  at_stream : (found : Place) → test Top ≡ false → find test (node_places d) ≡ None → find test (cable_places d) ≡ None
+      → IsFirstNumber test (λ i. Stream i) 0 (length d.streams) found → IsFirstPlace code d found
+  at_stream found top nodes cables f = subst (IsFirstPlace code d) (sym f.is) (record { there = let w = f.within in omega arith; holding = ap test (sym f.is) ∙ f.passes; not_before = none })
     where
       none : (place : Place) → IsIn d place → IsBefore place (Stream f.number) → holds code d place ≡ false
       none Text within before = absurd within
       none Top within before = top
       none (Node n) within before = find_none-range test (λ n. Node n) (length d.nodes) n nodes within
-      none (Link k) within before = find_none-range test (λ k. Link k) (length d.links) k links within
+      none (Cable k) within before = find_none-range test (λ k. Cable k) (length d.cables) k cables within
       none (Stream i) within before = f.first i (omega arith) (elim before [ inl h ↦ absurd (omega arith) | inr h ↦ h.1 ])
 
-  below_top : (found : Place) → test Top ≡ false → option_or (find test (node_places d)) (option_or (find test (link_places d)) (find test (stream_places d))) ≡ Some found → IsFirstPlace code d found
+  below_top : (found : Place) → test Top ≡ false → option_or (find test (node_places d)) (option_or (find test (cable_places d)) (find test (stream_places d))) ≡ Some found → IsFirstPlace code d found
   below_top found top h = elim (or_some (find test (node_places d)) _ found h) [
     | inl node ↦ at_node found top (find_some test (λ n. Node n) 0 (length d.nodes) found node)
-    | inr rest ↦ elim (or_some (find test (link_places d)) (find test (stream_places d)) found rest.1) [
-      | inl link ↦ at_link found top rest.0 (find_some test (λ k. Link k) 0 (length d.links) found link)
+    | inr rest ↦ elim (or_some (find test (cable_places d)) (find test (stream_places d)) found rest.1) [
+      | inl cable ↦ at_cable found top rest.0 (find_some test (λ k. Cable k) 0 (length d.cables) found cable)
       | inr last ↦ at_stream found top rest.0 last.0 (find_some test (λ i. Stream i) 0 (length d.streams) found last.1)
     ]
   ]
@@ -126,7 +128,7 @@ module _ (code : Code) (d : Document) where
   first_place-first : (found : Place) → first_place code d ≡ Some found → IsFirstPlace code d found
   first_place-first found h = by (test Top) refl (sym (first_place-in_turn code d) ∙ h)
     where
-      by : (b : Bool) → test Top ≡ b → cond b (Some Top) (option_or (find test (node_places d)) (option_or (find test (link_places d)) (find test (stream_places d)))) ≡ Some found → IsFirstPlace code d found
+      by : (b : Bool) → test Top ≡ b → cond b (Some Top) (option_or (find test (node_places d)) (option_or (find test (cable_places d)) (find test (stream_places d)))) ≡ Some found → IsFirstPlace code d found
       by true passes e = at_top found passes (same_Some Top found e)
       by false fails e = below_top found fails e
 
@@ -184,9 +186,9 @@ code_cases Limit = inr (inr (record { number = 3; within = omega arith; is = ref
 code_cases DuplicateName = inr (inr (record { number = 4; within = omega arith; is = refl; at = refl }))
 code_cases UnknownName = inr (inr (record { number = 5; within = omega arith; is = refl; at = refl }))
 code_cases BadRate = inr (inr (record { number = 6; within = omega arith; is = refl; at = refl }))
-code_cases DuplicateLink = inr (inr (record { number = 7; within = omega arith; is = refl; at = refl }))
+code_cases DuplicateCable = inr (inr (record { number = 7; within = omega arith; is = refl; at = refl }))
 code_cases BadRoute = inr (inr (record { number = 8; within = omega arith; is = refl; at = refl }))
-code_cases NoLink = inr (inr (record { number = 9; within = omega arith; is = refl; at = refl }))
+code_cases NoCable = inr (inr (record { number = 9; within = omega arith; is = refl; at = refl }))
 code_cases NoStream = inr (inr (record { number = 10; within = omega arith; is = refl; at = refl }))
 
 number_in_order : (i : ℕ) → i < 11 → code_number (get_or conditions i NotToml) ≡ i + 2
@@ -212,9 +214,9 @@ code_by_number Limit = refl
 code_by_number DuplicateName = refl
 code_by_number UnknownName = refl
 code_by_number BadRate = refl
-code_by_number DuplicateLink = refl
+code_by_number DuplicateCable = refl
 code_by_number BadRoute = refl
-code_by_number NoLink = refl
+code_by_number NoCable = refl
 code_by_number NoStream = refl
 code_by_number Memory = refl
 
@@ -225,14 +227,14 @@ abbrev place_by_number : ℕ → ℕ → Place
 place_by_number zero n = Text
 place_by_number (suc zero) n = Top
 place_by_number (suc (suc zero)) n = Node n
-place_by_number (suc (suc (suc zero))) n = Link n
+place_by_number (suc (suc (suc zero))) n = Cable n
 place_by_number _ n = Stream n
 
 place_by_number-place : (p : Place) → place_by_number (kind_order p) (place_number p) ≡ p
 place_by_number-place Text = refl
 place_by_number-place Top = refl
 place_by_number-place (Node n) = refl
-place_by_number-place (Link k) = refl
+place_by_number-place (Cable k) = refl
 place_by_number-place (Stream i) = refl
 
 in_order : (p q : Place) → IsBefore p q ⊎ (IsBefore q p ⊎ (p ≡ q))

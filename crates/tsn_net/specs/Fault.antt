@@ -1,9 +1,9 @@
 -- How a fault is printed.
 use Rattle.std.specs.Prelude.{ℕ, List, ◌++◌, codes, decimal}
 use Rattle.tsn_net.specs.declared.fault.Place.{Place}
-use Rattle.tsn_net.specs.declared.fault.Place.TheVariants.{Text, Top, Node, Link, Stream}
+use Rattle.tsn_net.specs.declared.fault.Place.TheVariants.{Text, Top, Node, Cable, Stream}
 use Rattle.tsn_net.specs.declared.fault.Code.{Code}
-use Rattle.tsn_net.specs.declared.fault.Code.TheVariants.{NotToml, MissingKey, WrongKind, UnknownKey, Limit, DuplicateName, UnknownName, BadRate, DuplicateLink, BadRoute, NoLink, NoStream, Memory}
+use Rattle.tsn_net.specs.declared.fault.Code.TheVariants.{NotToml, MissingKey, WrongKind, UnknownKey, Limit, DuplicateName, UnknownName, BadRate, DuplicateCable, BadRoute, NoCable, NoStream, Memory}
 use Rattle.tsn_net.specs.declared.fault.NetFault.{NetFault}
 
 -- the codes count from 1
@@ -16,9 +16,9 @@ code_number Limit = 5
 code_number DuplicateName = 6
 code_number UnknownName = 7
 code_number BadRate = 8
-code_number DuplicateLink = 9
+code_number DuplicateCable = 9
 code_number BadRoute = 10
-code_number NoLink = 11
+code_number NoCable = 11
 code_number NoStream = 12
 code_number Memory = 13
 
@@ -29,7 +29,7 @@ abbrev pub place_text : Place → List ℕ
 place_text Text = codes "text"
 place_text Top = codes "top"
 place_text (Node n) = codes "node " ++ decimal n
-place_text (Link k) = codes "link " ++ decimal k
+place_text (Cable k) = codes "link " ++ decimal k
 place_text (Stream i) = codes "stream " ++ decimal i
 
 -- the code, a space, the place

@@ -2,7 +2,7 @@
 -- that a file states one problem alone.
 use Rattle.std.specs.Prelude.{◌≡◌, ◌<◌, ◌⊎◌, ◌↔◌, ℕ, List, true, false, Some, None, length}
 use Rattle.tsn_net.specs.declared.fault.Place.{Place}
-use Rattle.tsn_net.specs.declared.fault.Place.TheVariants.{Text, Top, Node, Link, Stream}
+use Rattle.tsn_net.specs.declared.fault.Place.TheVariants.{Text, Top, Node, Cable, Stream}
 use Rattle.tsn_net.specs.declared.fault.Code.{Code}
 use Rattle.tsn_net.specs.declared.fault.NetFault.{NetFault}
 use Rattle.tsn_net.specs.Document.{Document}
@@ -16,7 +16,7 @@ abbrev pub IsIn : Document → Place → Type 0
 IsIn d Text = ⊥
 IsIn d Top = Unit {0}
 IsIn d (Node n) = n < length d.nodes
-IsIn d (Link k) = k < length d.links
+IsIn d (Cable k) = k < length d.cables
 IsIn d (Stream i) = i < length d.streams
 
 -- the kinds of places in order
@@ -24,7 +24,7 @@ abbrev pub kind_order : Place → ℕ
 kind_order Text = 0
 kind_order Top = 1
 kind_order (Node n) = 2
-kind_order (Link k) = 3
+kind_order (Cable k) = 3
 kind_order (Stream i) = 4
 
 -- the number of a place among those of its kind
@@ -32,7 +32,7 @@ abbrev pub place_number : Place → ℕ
 place_number Text = 0
 place_number Top = 0
 place_number (Node n) = n
-place_number (Link k) = k
+place_number (Cable k) = k
 place_number (Stream i) = i
 
 -- the top table stands before the nodes, these before the cables, these before the streams, each in file order
