@@ -10,7 +10,8 @@ use Rattle.atomic_table.proofs.Lists.{set_else}
 use Rattle.tsn_incumbent.specs.declared.share.Part.{Part}
 use Rattle.tsn_incumbent.specs.declared.share.Part.TheVariants.{Rest, First, Second, Pair, Spent}
 use Rattle.tsn_incumbent.specs.declared.share.Share.{Share}
-use Rattle.tsn_incumbent.specs.Halves.{Tally, share, rest_from, after_dealing, dealt, first_of, second_of, paired, spent_share, firsts_in, seconds_in, firsts, seconds, FitsPart, Fits, Fitting, Agreeing, Sets, half, halves_from, half_of, is_second_part, IsHalf, IsHalfPart}
+use Rattle.tsn_model.specs.declared.Tally.{Tally}
+use Rattle.tsn_incumbent.specs.Halves.{share, rest_from, after_dealing, dealt, first_of, second_of, paired, spent_share, firsts_in, seconds_in, firsts, seconds, FitsPart, Fits, Fitting, Agreeing, Sets, half, halves_from, half_of, is_second_part, IsHalf, IsHalfPart}
 use Rattle.tsn_incumbent.proofs.Lists.{all_at, sum_apart}
 
 -- a number among the rest is the first of them or among those after it

@@ -1,14 +1,15 @@
 //! Two halves for each teller's number, which hold one tally.
 ghost use Rattle.std.specs.Prelude.{◌≡◌, ℕ, ◌+◌, [], true, false, IfOk};
+ghost use Rattle.tsn_model.specs.Search.{tally_as};
 ghost use Rattle.tsn_incumbent.specs.Flowspans.{no_flowspan};
 ghost use Rattle.tsn_incumbent.specs.Halves.{half, halves_from, rest_from};
 
-use crate::share::{Agree, Deals, Pairs, Part, Parts, Sets, Share, Tallied, Tally};
+use crate::share::{Agree, Deals, Pairs, Part, Parts, Sets, Share, Tallied};
 use atomic_table::{Badge, Seat, Table};
 use std::alloc::{AllocError, Global};
 use std::marker::{Brand, Model};
 use std::mem;
-use tsn_model::NoMemory;
+use tsn_model::{NoMemory, Tally};
 use tsn_timing::Timing;
 
 /// The table of the halves. Contracts see which it is.
@@ -52,10 +53,14 @@ impl Halves {
         timing: &Timing,
         tellers: usize,
     ) -> Result<(Halves, Vec<(Half, Half)>), NoMemory>
-        ensures { IfOk result (λ r. r.1.items ≡ halves_from r.0 (0, no_flowspan timing.now, no_flowspan timing.now) 0 tellers) }
+        ensures { IfOk result (λ r. r.1.items ≡ halves_from r.0 (tally_as 0 (no_flowspan timing.now) (no_flowspan timing.now)) 0 tellers) }
     {
         let none = timing.cycle() + 1;
-        let about = (0, none, none);
+        let about = Tally {
+            events: 0,
+            pruned: none,
+            solved: none,
+        };
         let (table, rest) = Table::of_words(alloc, &[0], &about)?;
         let halves = Halves { table };
         let all = halves.deal_all(alloc, rest, tellers)?;

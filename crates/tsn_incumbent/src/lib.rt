@@ -8,5 +8,5 @@ mod view;
 
 pub use halves::{Half, Halves};
 pub use incumbent::{Incumbent, Seat};
-pub use share::Tally;
+pub use tsn_model::Tally;
 pub use tsn_timing::NoMemory;

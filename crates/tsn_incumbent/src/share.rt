@@ -1,9 +1,7 @@
 //! What the halves of a tally know, and what each step tells.
 use atomic_table::{Join, Play, Split, TableRule};
 use std::marker::{Brand, PhantomData};
-
-/// How many events, the least bound pruned and the least flowspan solved.
-pub type Tally = (u64, u64, u64);
+use tsn_model::Tally;
 
 pub enum Part {
     /// All numbers from this one on, at the tally at which they begin.
@@ -69,13 +67,15 @@ impl Join<Share> for Pairs {
 
 /// Names a tally. Each call of a program picks it.
 pub trait Tallied {
-    ghost use Rattle.std.specs.Prelude.{ℕ};
+    ghost use Rattle.tsn_model.specs.declared.Tally.{Tally};
 
-    ghost tally: { ℕ × ℕ × ℕ };
+    ghost tally: { Tally };
 }
 
 impl Tallied for Brand {
-    ghost tally = { (0, 0, 0) };
+    ghost use Rattle.tsn_model.specs.Search.{tally_as};
+
+    ghost tally = { tally_as 0 0 0 };
 }
 
 /// A load by a pair, which tells that its tallies are equal and sets them.

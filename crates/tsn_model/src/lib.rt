@@ -38,6 +38,17 @@ pub struct Triple {
     pub link: usize,
 }
 
+/// What one of those who search did.
+#[derive(Clone, Copy, Debug, PartialEq, Eq)]
+pub struct Tally {
+    /// How many events it settled.
+    pub events: u64,
+    /// The least bound that it pruned by, in nanoseconds; one more than the cycle where it didn't.
+    pub pruned: u64,
+    /// The least flowspan that it solved, in nanoseconds; one more than the cycle where it didn't.
+    pub solved: u64,
+}
+
 /// Which stream of a triple goes first on its link.
 #[derive(Clone, Copy, Debug, PartialEq, Eq)]
 pub enum Side {

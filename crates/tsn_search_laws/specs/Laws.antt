@@ -181,8 +181,8 @@ GatheredStatesAreSound = (network : Network) → IsWellFormed network → (state
 -- the tellers' counts add up to the history's, and the least solved flowspan is at most what each teller solved
 abbrev pub TalliesAddUp : Type 0
 TalliesAddUp = (network : Network) (tellers : ℕ) (history : List Settlement) → All (λ (settlement : Settlement). settlement.teller < tellers) history
-    → (sum_by (λ k. (tally_of network k history).0) (range_with_len 0 tellers) ≡ length history)
-    × ((k : ℕ) → best_bound network history ≤ (tally_of network k history).2)
+    → (sum_by (λ k. (tally_of network k history).events) (range_with_len 0 tellers) ≡ length history)
+    × ((k : ℕ) → best_bound network history ≤ (tally_of network k history).solved)
 
 -- an outcome is right exactly where its leaf is, and it fits to the history
 abbrev pub RightByParts : Type 0

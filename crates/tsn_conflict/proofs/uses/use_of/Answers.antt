@@ -18,7 +18,8 @@ pub returns-in-Some : goal.returns-in-Some
 returns-in-Some c =
     let on : hop_on c.args.timing.now c.args.stream c.args.link ≡ Some c.in-Some.hop = sym c.hop_on.ensures ∙ c.in-Some.is in
     let starts = c.start.ensures.value in
-    let occupies = c.occupancy.ensures.value ∙ ap (occupancy c.args.timing.now c.args.stream) (hop_on_link c.args.timing.now c.args.stream c.args.link c.in-Some.hop on) in
+    let occupies = c.occupancy.ensures.value ∙ ap (occupancy c.args.timing.now c.args.stream)
+    (hop_on_link c.args.timing.now c.args.stream c.args.link c.in-Some.hop on) in
     (λ k. record { start = starts k; occupancy = occupies k }) ∙ sym (use_at-hop c.args.timing.now c.args.stream c.args.link c.in-Some.hop on)
 
 pub returns-in-None : goal.returns-in-None
