@@ -14,7 +14,7 @@ use Rattle.tsn_model.specs.Network.{Network}
 use Rattle.tsn_model.specs.Arcs.{arcs_of}
 use Rattle.tsn_model.specs.Certificate.{decided}
 use Rattle.tsn_model.proofs.Decisions.{length-decided}
-use Rattle.tsn_branch.specs.declared.verdict.SplitPoint.{SplitPoint}
+use Rattle.tsn_branch.specs.declared.judgement.SplitPoint.{SplitPoint}
 use Rattle.tsn_branch.specs.Path.{DecidesOnce, Fits}
 use Rattle.tsn_branch.specs.Descent.{IsSplitPoint, AreSplitPoints}
 

@@ -4,7 +4,7 @@ pub mod Rights
 pub mod Descents
 pub mod Positions
 pub mod Raised
-pub mod Verdicts
+pub mod Judgements
 pub mod Loading
 pub mod Shown
 pub mod Calm

@@ -17,7 +17,7 @@ use Rattle.tsn_diff.specs.Answers.{Solves, Refutes}
 use Rattle.tsn_diff.specs.Stack.{Stack, RisesAt}
 use Rattle.tsn_branch.specs.Releases.{releases_of}
 use Rattle.tsn_branch.specs.Look.{HasNoOffsets}
-use Rattle.tsn_branch.specs.declared.verdict.SplitPoint.{SplitPoint}
+use Rattle.tsn_branch.specs.declared.judgement.SplitPoint.{SplitPoint}
 use Rattle.tsn_branch.specs.Descent.{Position, IsSplitPoint, WasSplitPoint, AreSplitPoints, Stands, Splits, Leads}
 use Rattle.tsn_model.proofs.Decisions.{length-arcs_of, arcs_of-decided, take-decided}
 use Rattle.tsn_branch.proofs.Leasts.{AreLeast-from}

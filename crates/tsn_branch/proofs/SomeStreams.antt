@@ -18,7 +18,7 @@ use Rattle.tsn_timing.specs.Solution.{Solution, IsSolved}
 use Rattle.tsn_branch.specs.Look.{IsShownBy, ShowsUpto}
 use Rattle.tsn_branch.proofs.Leasts.{count, AreLeast-from, small_offsets}
 use Rattle.tsn_branch.specs.Descent.{IsSplitPoint}
-use Rattle.tsn_branch.specs.declared.verdict.SplitPoint.{SplitPoint}
+use Rattle.tsn_branch.specs.declared.judgement.SplitPoint.{SplitPoint}
 use Rattle.tsn_diff.specs.Offsets.{LeastOffsets}
 use Rattle.tsn_diff.specs.Answers.{Solves}
 use Rattle.tsn_branch.specs.declared.loads.User.{User}

@@ -1,6 +1,6 @@
 -- A way down to a node that is looked at with what is known of its parents.
 --     IsSplitPointBy, IsSplitPoint     what a split node has by its least offsets
---     IsVerdict                        what is found at a node
+--     IsJudgement                        what is found at a node
 --     Stands, Splits                   a descent to a node that is to be looked at, or that is to be split
 use Rattle.std.specs.Prelude.{◌≡◌, ℕ, ◌+◌, ◌-◌, ◌<◌, List, All, length, take, slice_get, slice_index_or, Option, Some}
 use Rattle.tsn_model.specs.declared.Triple.{Triple}
@@ -20,9 +20,9 @@ use Rattle.tsn_branch.specs.Links.{shared_links, IsUnloaded}
 use Rattle.tsn_branch.specs.Ends.{Ended, AreRaised}
 use Rattle.tsn_branch.specs.Releases.{releases_of}
 use Rattle.tsn_branch.specs.declared.outcome.Look.{Look}
-use Rattle.tsn_branch.specs.declared.verdict.SplitPoint.{SplitPoint}
-use Rattle.tsn_branch.specs.declared.verdict.Verdict.{Verdict}
-use Rattle.tsn_branch.specs.declared.verdict.Verdict.TheVariants.{Split, Closed}
+use Rattle.tsn_branch.specs.declared.judgement.SplitPoint.{SplitPoint}
+use Rattle.tsn_branch.specs.declared.judgement.Judgement.{Judgement}
+use Rattle.tsn_branch.specs.declared.judgement.Judgement.TheVariants.{Split, Closed}
 
 -- the way down: the path, the arcs put in, and what the nodes that were split had
 pub record Position : Type 0 where
@@ -56,10 +56,10 @@ Closes (pruned bound leaf) = Unit {0}
 Closes (tied bound leaf chains) = Unit {0}
 Closes (refuted leaf) = Unit {0}
 
--- the verdict is the look's, with what a split node had
-abbrev pub IsVerdict : Network → List Decision → ℕ → Option Solution → Verdict → Type 0
-IsVerdict network path target best (Split point) = IsSplitPoint network path point × IsLook network path target best (split (triple_at (conflicts_of network) point.triple))
-IsVerdict network path target best (Closed look) = Closes (outcome_of look) × IsLook network path target best (outcome_of look)
+-- the judgement is the look's, with what a split node had
+abbrev pub IsJudgement : Network → List Decision → ℕ → Option Solution → Judgement → Type 0
+IsJudgement network path target best (Split point) = IsSplitPoint network path point × IsLook network path target best (split (triple_at (conflicts_of network) point.triple))
+IsJudgement network path target best (Closed look) = Closes (outcome_of look) × IsLook network path target best (outcome_of look)
 
 -- the least offsets of the path are a valid schedule of this flowspan
 abbrev pub IsSolution : Network → List Decision → ℕ → Outcome → Type 0

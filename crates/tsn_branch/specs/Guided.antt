@@ -17,8 +17,8 @@ use Rattle.tsn_branch.specs.Look.{AreLeast, HasProof, PrunesFrom, SolvesBelow, T
 use Rattle.tsn_branch.specs.Loads.{SharedLink, link_with, head_in}
 use Rattle.tsn_branch.specs.Outcome.{outcome_of}
 use Rattle.tsn_branch.specs.Descent.{Closes, IsSplitPoint}
-use Rattle.tsn_branch.specs.declared.verdict.Guess.{Guess}
-use Rattle.tsn_branch.specs.declared.verdict.Guess.TheVariants.{Split, Closed}
+use Rattle.tsn_branch.specs.declared.judgement.Guess.{Guess}
+use Rattle.tsn_branch.specs.declared.judgement.Guess.TheVariants.{Split, Closed}
 
 -- streams of the network that use the link, each once
 pub record AreOn (network : Network) (link : ℕ) (streams : List ℕ) : Type 0 where

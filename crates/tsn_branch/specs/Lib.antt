@@ -1,5 +1,4 @@
 pub mod Path
-pub mod Leaf
 pub mod Outcome
 pub mod Links
 pub mod Loads

@@ -12,7 +12,7 @@ ghost use Rattle.tsn_branch.specs.Least.{IsLeastAbove};
 use crate::node::Node;
 use std::alloc::{AllocError, Global};
 use tsn_conflict::sharing::Conflicts;
-use tsn_diff::{Least, Net, Outcome};
+use tsn_diff::{Feasibility, Least, Net};
 use tsn_model::{Arc, Decision, NoMemory};
 use tsn_timing::Timing;
 
@@ -68,7 +68,7 @@ pub fn least_at(
     conflicts: &Conflicts,
     node: &Node,
     parent: Option<&Least>,
-) -> Result<Outcome, NoMemory>
+) -> Result<Feasibility, NoMemory>
     requires conflicts { AreConflictsOf timing.now conflicts.now }
     requires fits { Fits conflicts.now.triples node.now }
     requires parent { IfSome (option_copied parent) (IsLeastAbove timing.now node.now) }

@@ -13,20 +13,20 @@ ghost use Rattle.tsn_branch.specs.Outcome.{outcome_of};
 ghost use Rattle.tsn_branch.specs.Path.{Fits, IsUndecided};
 ghost use Rattle.tsn_branch.specs.Look.{HasNoOffsets, IsLook, HasProof, SplitsUndecided, SplitsAmong, PrunesFrom, SolvesBelow, TiesWith};
 ghost use Rattle.tsn_branch.specs.Releases.{releases_of};
-ghost use Rattle.tsn_branch.specs.Descent.{Stands, Splits, IsAfter, Leads, IsVerdict};
+ghost use Rattle.tsn_branch.specs.Descent.{Stands, Splits, IsAfter, Leads, IsJudgement};
 ghost use Rattle.tsn_branch.specs.Guided.{IsGuess};
 
 use crate::arcs::net_of;
 use crate::guidance::Guidance;
 use crate::guided::{close, split_number};
 use crate::judge::{judge_least, judge_raised};
+use crate::judgement::{Guess, Judgement, SplitPoint};
 use crate::node::Node;
-use crate::outcome::{Leaf, Look};
+use crate::outcome::Look;
 use crate::tables::{Aim, Tables};
-use crate::verdict::{Guess, SplitPoint, Verdict};
 use std::alloc::Global;
 use std::marker::Model;
-use tsn_cert::Chain;
+use tsn_cert::{Chain, Leaf};
 use tsn_conflict::sharing::Conflicts;
 use tsn_diff::ArcStack;
 use tsn_model::{NoMemory, Side, Triple};
@@ -128,11 +128,11 @@ impl Descent {
             return Ok(Look::Refuted(Leaf::Cycle(Chain::of(alloc, &cycle)?)));
         }
         match self.find(alloc, tables, aim) {
-            Ok(Verdict::Split(point)) => {
+            Ok(Judgement::Split(point)) => {
                 self.found = Some(point);
                 Ok(Look::Split(tables.conflicts.triples()[point.triple]))
             }
-            Ok(Verdict::Closed(look)) => {
+            Ok(Judgement::Closed(look)) => {
                 self.draw_back();
                 Ok(look)
             }
@@ -291,10 +291,10 @@ impl Descent {
     }
 
     // What is found at the node by its least offsets.
-    fn find(&self, alloc: Global, tables: Tables<'_>, aim: Aim<'_>) -> Result<Verdict, NoMemory>
+    fn find(&self, alloc: Global, tables: Tables<'_>, aim: Aim<'_>) -> Result<Judgement, NoMemory>
         requires best { IfSome (option_copied aim.best) (IsSolved tables.timing.now) }
         requires leads { Leads tables.timing.now self.now }
-        ensures { IfOk result (IsVerdict tables.entry.timing.now self.now.path aim.entry.target (option_copied aim.entry.best)) }
+        ensures { IfOk result (IsJudgement tables.entry.timing.now self.now.path aim.entry.target (option_copied aim.entry.best)) }
     {
         match self.splits.last() {
             Some(parent) => judge_raised(alloc, tables, &self.stack, *parent, aim),
@@ -314,8 +314,8 @@ impl Descent {
         ensures { IfOk result (IsGuess tables.entry.timing.now self.now.path aim.entry.target (option_copied aim.entry.best)) }
     {
         let point = match self.find(alloc, tables, aim)? {
-            Verdict::Split(point) => point,
-            Verdict::Closed(look) => return Ok(Guess::Closed(look)),
+            Judgement::Split(point) => point,
+            Judgement::Closed(look) => return Ok(Guess::Closed(look)),
         };
         let least = self.stack.least();
         if let Some(look) = close(alloc, tables, least, point, aim)? {

@@ -13,10 +13,10 @@ ghost use Rattle.tsn_branch.specs.Outcome.{outcome_of};
 ghost use Rattle.tsn_branch.specs.Guided.{IsClosing, IsViolatedAt};
 ghost use Rattle.tsn_branch.specs.Releases.{releases_of};
 
+use crate::judgement::SplitPoint;
 use crate::outcome::Look;
 use crate::parts::judge_parts;
 use crate::tables::{Aim, Tables};
-use crate::verdict::SplitPoint;
 use std::alloc::Global;
 use tsn_conflict::sharing::Conflicts;
 use tsn_diff::Least;

@@ -13,27 +13,27 @@ ghost use Rattle.tsn_branch.specs.Look.{IsLook, AllFit, IsFirstLast, IsUntied, S
 ghost use Rattle.tsn_branch.specs.Links.{shared_links, IsUnloaded};
 ghost use Rattle.tsn_branch.specs.Loads.{IsFirstLoad, IsTightest, entry_by};
 ghost use Rattle.tsn_branch.specs.Ends.{AreEnds};
-ghost use Rattle.tsn_branch.specs.Descent.{Closes, IsVerdict, IsTieBy, WasSplitPoint, IsSolution};
+ghost use Rattle.tsn_branch.specs.Descent.{Closes, IsJudgement, IsTieBy, WasSplitPoint, IsSolution};
 ghost use Rattle.tsn_branch.specs.declared.instants.Ends.TheVariants as ends;
 ghost use Rattle.tsn_branch.specs.Releases.{releases_of};
 ghost use Rattle.tsn_branch.specs.Least.{ComesWithSplit};
 
 use crate::chains::{chain_to, chains_to, tie_chains};
 use crate::instants::{Ends, ends_after, ends_of};
+use crate::judgement::{Judgement, SplitPoint};
 use crate::loads::{FirstLoad, Loading, User, find_loads};
-use crate::outcome::{Leaf, Look};
+use crate::outcome::Look;
 use crate::tables::{Aim, Tables};
-use crate::verdict::{SplitPoint, Verdict};
 use std::alloc::Global;
-use tsn_cert::{Chain, Entries};
+use tsn_cert::{Chain, Entries, Leaf, LowerBound};
 use tsn_conflict::laws::parents_overlap_starts;
-use tsn_diff::{ArcStack, Least, Outcome};
+use tsn_diff::{ArcStack, Feasibility, Least};
 use tsn_model::NoMemory;
 use tsn_timing::{Solved, Timing};
 
 /// What is known of the least offsets of a node from those of the node above.
 #[derive(Clone, Copy)]
-struct Known<'a> {
+struct Inherited<'a> {
     /// When the streams are done by them.
     ends: Ends,
     /// Among the triples before `start` only those with one of these streams can overlap.
@@ -56,7 +56,7 @@ struct Reach {
 pub fn judge(
     alloc: Global,
     tables: Tables<'_>,
-    outcome: Outcome,
+    outcome: Feasibility,
     aim: Aim<'_>,
 ) -> Result<(Look, Option<Least>), NoMemory>
     requires best { IfSome (option_copied aim.best) (IsSolved tables.timing.now) }
@@ -67,19 +67,19 @@ pub fn judge(
         → ComesWithSplit tables.entry.timing.now path (outcome_of found.0) found.1) }
 {
     match outcome {
-        Outcome::Least(least) => {
-            let verdict = judge_least(alloc, tables, &least, aim)?;
-            match verdict {
-                Verdict::Split(point) => {
+        Feasibility::Least(least) => {
+            let judgement = judge_least(alloc, tables, &least, aim)?;
+            match judgement {
+                Judgement::Split(point) => {
                     Ok((
                         Look::Split(tables.conflicts.triples()[point.triple]),
                         Some(least),
                     ))
                 }
-                Verdict::Closed(look) => Ok((look, None)),
+                Judgement::Closed(look) => Ok((look, None)),
             }
         }
-        Outcome::Positive(cycle) => {
+        Feasibility::Positive(cycle) => {
             let leaf = Leaf::Cycle(Chain::of(alloc, &cycle)?);
             Ok((Look::Refuted(leaf), None))
         }
@@ -92,13 +92,13 @@ pub fn judge_least(
     tables: Tables<'_>,
     least: &Least,
     aim: Aim<'_>,
-) -> Result<Verdict, NoMemory>
+) -> Result<Judgement, NoMemory>
     requires best { IfSome (option_copied aim.best) (IsSolved tables.timing.now) }
     requires some_path { (path : List Decision) × Solves (releases_of tables.timing.now) (arcs_of tables.timing.now path) least.now }
-    ensures { IfOk result (λ verdict. (path : List Decision) → Solves (releases_of tables.entry.timing.now) (arcs_of tables.entry.timing.now path) least.now
-        → IsVerdict tables.entry.timing.now path aim.entry.target (option_copied aim.entry.best) verdict) }
+    ensures { IfOk result (λ judgement. (path : List Decision) → Solves (releases_of tables.entry.timing.now) (arcs_of tables.entry.timing.now path) least.now
+        → IsJudgement tables.entry.timing.now path aim.entry.target (option_copied aim.entry.best) judgement) }
 {
-    let known = Known {
+    let known = Inherited {
         ends: ends_of(tables.timing, least.offsets()),
         raised: &[],
         start: 0,
@@ -113,17 +113,17 @@ pub fn judge_raised(
     stack: &ArcStack,
     parent: SplitPoint,
     aim: Aim<'_>,
-) -> Result<Verdict, NoMemory>
+) -> Result<Judgement, NoMemory>
     requires best { IfSome (option_copied aim.best) (IsSolved tables.timing.now) }
     requires releases { stack.now.least.releases ≡ releases_of tables.timing.now }
     requires some_path { (path : List Decision) × (stack.now.least.arcs ≡ arcs_of tables.timing.now path) }
     requires parent { WasSplitPoint tables.timing.now stack.now.raised stack.now.least.offsets parent }
-    ensures { IfOk result (λ verdict. (path : List Decision) → stack.now.least.arcs ≡ arcs_of tables.entry.timing.now path
-        → IsVerdict tables.entry.timing.now path aim.entry.target (option_copied aim.entry.best) verdict) }
+    ensures { IfOk result (λ judgement. (path : List Decision) → stack.now.least.arcs ≡ arcs_of tables.entry.timing.now path
+        → IsJudgement tables.entry.timing.now path aim.entry.target (option_copied aim.entry.best) judgement) }
 {
     let least = stack.least();
     let raised = stack.raised();
-    let known = Known {
+    let known = Inherited {
         ends: ends_after(
             tables.timing,
             least.offsets(),
@@ -143,28 +143,28 @@ fn judge_known(
     alloc: Global,
     tables: Tables<'_>,
     least: &Least,
-    known: Known<'_>,
+    known: Inherited<'_>,
     aim: Aim<'_>,
-) -> Result<Verdict, NoMemory>
+) -> Result<Judgement, NoMemory>
     requires best { IfSome (option_copied aim.best) (IsSolved tables.timing.now) }
     requires some_path { (path : List Decision) × Solves (releases_of tables.timing.now) (arcs_of tables.timing.now path) least.now }
     requires ends { AreEnds tables.timing.now least.now.offsets known.ends }
     requires raised { All (λ stream. stream < stream_count tables.timing.now) known.raised.now }
     requires start { known.start ≤ length tables.conflicts.now.triples }
     requires apart { OnlyRaisedOverlap tables.conflicts.now least.now.offsets known.raised.now known.start }
-    ensures { IfOk result (λ verdict. (path : List Decision) → Solves (releases_of tables.entry.timing.now) (arcs_of tables.entry.timing.now path) least.now
-        → IsVerdict tables.entry.timing.now path aim.entry.target (option_copied aim.entry.best) verdict) }
+    ensures { IfOk result (λ judgement. (path : List Decision) → Solves (releases_of tables.entry.timing.now) (arcs_of tables.entry.timing.now path) least.now
+        → IsJudgement tables.entry.timing.now path aim.entry.target (option_copied aim.entry.best) judgement) }
 {
     let (last, end) = match known.ends {
         Ends::Overrun(stream) => {
             let leaf = Leaf::Overrun(stream, chain_to(alloc, least, stream)?);
-            return Ok(Verdict::Closed(Look::Refuted(leaf)));
+            return Ok(Judgement::Closed(Look::Refuted(leaf)));
         }
         Ends::Within { last, end } => (last, end),
     };
     if end >= aim.target {
-        let leaf = Leaf::Late(last, chain_to(alloc, least, last)?);
-        return Ok(Verdict::Closed(Look::Pruned { bound: end, leaf }));
+        let leaf = LowerBound::Late(last, chain_to(alloc, least, last)?);
+        return Ok(Judgement::Closed(Look::Pruned { bound: end, leaf }));
     }
     let limit = tie_limit(aim);
     let tightest = match find_loads(
@@ -176,7 +176,7 @@ fn judge_known(
     ) {
         Loading::Closed(found) => {
             let look = judge_load(alloc, tables, least, found)?;
-            return Ok(Verdict::Closed(look));
+            return Ok(Judgement::Closed(look));
         }
         Loading::Open(tightest) => tightest,
     };
@@ -187,16 +187,16 @@ fn judge_known(
     };
     let tie = find_tie(alloc, tables, least, reach, aim.best)?;
     if let Some(look) = tie {
-        return Ok(Verdict::Closed(look));
+        return Ok(Judgement::Closed(look));
     }
     if let Some(triple) = tables
         .conflicts
         .first_violated_from(least.offsets(), known.raised, known.start)
     {
-        return Ok(Verdict::Split(SplitPoint { triple, last, end }));
+        return Ok(Judgement::Split(SplitPoint { triple, last, end }));
     }
     let look = solved(alloc, tables.timing, least, last)?;
-    Ok(Verdict::Closed(look))
+    Ok(Judgement::Closed(look))
 }
 
 /// The least offsets of a path as its schedule, where no streams overlap.
@@ -212,7 +212,7 @@ fn solved(alloc: Global, timing: &Timing, least: &Least, last: usize) -> Result<
     let Ok(valid) = timing.valid(Vec::from_slice(alloc, least.offsets())?) else {
         unreachable!();
     };
-    let leaf = Leaf::Late(last, chain_to(alloc, least, last)?);
+    let leaf = LowerBound::Late(last, chain_to(alloc, least, last)?);
     let solved = Solved::of(timing, valid);
     let chains = chains_to(alloc, least, timing.streams())?;
     Ok(Look::Solved {
@@ -276,7 +276,7 @@ fn judge_tie(
         let Some(chains) = tie_chains(alloc, tables.timing, least, best.valid())? else {
             return Ok(None);
         };
-        let leaf = Leaf::Late(reach.last, chain_to(alloc, least, reach.last)?);
+        let leaf = LowerBound::Late(reach.last, chain_to(alloc, least, reach.last)?);
         return Ok(Some(Look::Tied {
             bound: reach.end,
             leaf,
@@ -295,7 +295,7 @@ fn judge_tie(
     let (link, entries) = entries_at(alloc, tables, least, link_index)?;
     Ok(Some(Look::Tied {
         bound,
-        leaf: Leaf::Load(link, entries),
+        leaf: LowerBound::Load(link, entries),
         chains,
     }))
 }
@@ -321,7 +321,7 @@ fn judge_load(
         }
         FirstLoad::Load(link_index, bound) => {
             let (link, entries) = entries_at(alloc, tables, least, link_index)?;
-            let leaf = Leaf::Load(link, entries);
+            let leaf = LowerBound::Load(link, entries);
             Ok(Look::Pruned { bound, leaf })
         }
     }

@@ -14,10 +14,10 @@ use crate::chains::tie_chains;
 use crate::crowds::{Crowd, Part, find_part};
 use crate::judge::entries_of;
 use crate::loads::{LinkTable, head};
-use crate::outcome::{Leaf, Look};
+use crate::outcome::Look;
 use crate::tables::{Aim, Tables};
 use std::alloc::{AllocError, Global};
-use tsn_cert::Entries;
+use tsn_cert::{Entries, Leaf, LowerBound};
 use tsn_diff::Least;
 use tsn_model::NoMemory;
 use tsn_timing::{Solved, Timing};
@@ -160,7 +160,7 @@ fn judge_part(
     }
     let bound = load as u64;
     if bound >= aim.target {
-        let leaf = Leaf::Load(part.link, entries_on(alloc, tables.timing, least, part)?);
+        let leaf = LowerBound::Load(part.link, entries_on(alloc, tables.timing, least, part)?);
         return Ok(Some(Look::Pruned { bound, leaf }));
     }
     match aim.best {
@@ -191,7 +191,7 @@ fn tie_part(
     let Some(chains) = tie_chains(alloc, tables.timing, least, best.valid())? else {
         return Ok(None);
     };
-    let leaf = Leaf::Load(part.link, entries_on(alloc, tables.timing, least, part)?);
+    let leaf = LowerBound::Load(part.link, entries_on(alloc, tables.timing, least, part)?);
     Ok(Some(Look::Tied {
         bound,
         leaf,

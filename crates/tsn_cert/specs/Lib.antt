@@ -3,6 +3,7 @@ pub mod Fault
 pub mod Plan
 pub mod Depths
 pub mod Entry
+pub mod Leaf
 pub mod Node
 pub mod Cert
 pub mod Text

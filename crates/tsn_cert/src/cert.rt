@@ -7,13 +7,15 @@ ghost use Rattle.tsn_model.specs.Certificate.{split_node, leaf_node, tie_node, l
 ghost use Rattle.tsn_cert.specs.Fault.{Gives, Reads};
 ghost use Rattle.tsn_cert.specs.Json.{number_value, array_value, all_within};
 ghost use Rattle.tsn_cert.specs.Entry.{tree_entry};
+ghost use Rattle.tsn_cert.specs.Leaf.{bound_leaf, leaf_of};
 ghost use Rattle.tsn_cert.specs.Node.{tree_node};
 ghost use Rattle.tsn_cert.specs.Spelled.{unlimited_cert_in};
-ghost use Rattle.tsn_cert.specs.Cert.{chain_list, chains_of, tie_parts, tie_load_parts, chains_value, is_tie, are_of, format_of, format_number, chain_of, reason_parts, triple_parts, cycle_parts, entry_of, entry_list, entries_of, load_parts, entry_fits, leaf_fits, entry_value, entries_value, node_parts, other_node_parts, node_of, nodes_of, cert_of_values, cert_of, cert_in, node_fits, max_number, cert_fits, chain_value, node_value, nodes_value, cert_text};
+ghost use Rattle.tsn_cert.specs.Cert.{chain_list, chains_of, tie_parts, tie_load_parts, chains_value, is_tie, are_of, format_of, format_number, chain_of, reason_parts, triple_parts, cycle_parts, entry_of, entry_list, entries_of, load_parts, entry_fits, leaf_fits, entry_value, entries_value, node_parts, other_node_parts, node_of, nodes_of, cert_of_values, cert_of, cert_in, node_fits, max_number, cert_fits, chain_value, leaf_value, tie_value, node_value, nodes_value, cert_text};
 
 use crate::chain::{Chain, MAX_CHAIN, MAX_NUMBER};
 use crate::chains::{Chains, MAX_CHAINS};
 use crate::entries::{Entries, MAX_ENTRIES};
+use crate::leaf::{Leaf, LowerBound};
 use crate::plan::MAX_TIME;
 use crate::quick::{self, Unread};
 use crate::{FileFault, document};
@@ -22,28 +24,16 @@ use std::alloc::{AllocError, Global};
 use std::marker::Model;
 use tsn_model::{NoMemory, Triple};
 
-/// A node of a certificate: a branch, or a leaf that shows why its path needs no look.
+/// A node of a certificate.
 #[derive(Debug, Drop)]
 pub enum Node {
     /// A branch on which of two streams goes first on a link.
     Branch(Triple),
-    /// The stream arrives too late: the chain's sum and its arrival are at least the target.
-    Late(usize, Chain),
-    /// The stream ends behind the cycle: the chain's sum and its span are above the cycle.
-    Overrun(usize, Chain),
-    /// The decisions contradict one another: the chain is closed, and its sum is above 0.
-    Cycle(Chain),
-    /// The link is busy for too long: the least head of the entries, their occupancies of the link and the least tail are
-    /// at least the target.
-    Load(usize, Entries),
-    /// The link is busy behind the cycle: the least head of the entries and their occupancies of the link are above the
-    /// cycle.
-    Overload(usize, Entries),
-    /// The stream arrives no sooner than the target, and each schedule on the path is the plan or comes after it: at the
+    /// A leaf that shows why its path needs no look.
+    Leaf(Leaf),
+    /// No flowspan on the path is below that of the plan, and each schedule on it is the plan or comes after it: at the
     /// first stream at which the sums of the chains aren't the plan's offsets the sum is greater, or there is none.
-    Tie(usize, Chain, Chains),
-    /// The link is busy for as long as the target, and each schedule on the path is the plan or comes after it.
-    TieLoad(usize, Entries, Chains),
+    Tie(LowerBound, Chains),
 }
 
 /// The format of a certificate.
@@ -88,7 +78,7 @@ impl Node {
     pub fn is_tie(&self) -> bool
         ensures { result ≡ is_tie (tree_node self.now) }
     {
-        matches!(self, Node::Tie(..) | Node::TieLoad(..))
+        matches!(self, Node::Tie(..))
     }
 }
 
@@ -326,7 +316,8 @@ fn closed_from_parts(alloc: Global, parts: &[Value]) -> Result<Node, FileFault>
     ensures { Reads tree_node result
         (option_map (λ chain. leaf_node (positive_cycle chain)) (cycle_parts (map view parts.now))) }
 {
-    Ok(Node::Cycle(cycle_from_parts(alloc, parts)?))
+    let chain = cycle_from_parts(alloc, parts)?;
+    Ok(Node::Leaf(Leaf::Cycle(chain)))
 }
 
 fn late_from_parts(alloc: Global, parts: &[Value]) -> Result<Node, FileFault>
@@ -334,7 +325,7 @@ fn late_from_parts(alloc: Global, parts: &[Value]) -> Result<Node, FileFault>
         (option_map (λ r. leaf_node (late r.0 r.1)) (reason_parts (map view parts.now))) }
 {
     let (stream, chain) = reason_from_parts(alloc, parts)?;
-    Ok(Node::Late(stream, chain))
+    Ok(Node::Leaf(Leaf::Bound(LowerBound::Late(stream, chain))))
 }
 
 fn overrun_from_parts(alloc: Global, parts: &[Value]) -> Result<Node, FileFault>
@@ -342,7 +333,7 @@ fn overrun_from_parts(alloc: Global, parts: &[Value]) -> Result<Node, FileFault>
         (option_map (λ r. leaf_node (overrun r.0 r.1)) (reason_parts (map view parts.now))) }
 {
     let (stream, chain) = reason_from_parts(alloc, parts)?;
-    Ok(Node::Overrun(stream, chain))
+    Ok(Node::Leaf(Leaf::Overrun(stream, chain)))
 }
 
 fn busy_from_parts(alloc: Global, parts: &[Value]) -> Result<Node, FileFault>
@@ -350,7 +341,7 @@ fn busy_from_parts(alloc: Global, parts: &[Value]) -> Result<Node, FileFault>
         (option_map (λ l. leaf_node (load l.0 l.1)) (load_parts (map view parts.now))) }
 {
     let (link, entries) = load_from_parts(alloc, parts)?;
-    Ok(Node::Load(link, entries))
+    Ok(Node::Leaf(Leaf::Bound(LowerBound::Load(link, entries))))
 }
 
 fn overload_from_parts(alloc: Global, parts: &[Value]) -> Result<Node, FileFault>
@@ -358,7 +349,7 @@ fn overload_from_parts(alloc: Global, parts: &[Value]) -> Result<Node, FileFault
         (option_map (λ l. leaf_node (overload l.0 l.1)) (load_parts (map view parts.now))) }
 {
     let (link, entries) = load_from_parts(alloc, parts)?;
-    Ok(Node::Overload(link, entries))
+    Ok(Node::Leaf(Leaf::Overload(link, entries)))
 }
 
 fn late_tie_from_parts(alloc: Global, parts: &[Value]) -> Result<Node, FileFault>
@@ -366,7 +357,7 @@ fn late_tie_from_parts(alloc: Global, parts: &[Value]) -> Result<Node, FileFault
         (option_map (λ t. tie_node (late t.0 t.1) t.2) (tie_parts (map view parts.now))) }
 {
     let (stream, chain, chains) = tie_from_parts(alloc, parts)?;
-    Ok(Node::Tie(stream, chain, chains))
+    Ok(Node::Tie(LowerBound::Late(stream, chain), chains))
 }
 
 fn load_tie_from_parts(alloc: Global, parts: &[Value]) -> Result<Node, FileFault>
@@ -374,7 +365,7 @@ fn load_tie_from_parts(alloc: Global, parts: &[Value]) -> Result<Node, FileFault
         (option_map (λ t. tie_node (load t.0 t.1) t.2) (tie_load_parts (map view parts.now))) }
 {
     let (link, entries, chains) = tie_load_from_parts(alloc, parts)?;
-    Ok(Node::TieLoad(link, entries, chains))
+    Ok(Node::Tie(LowerBound::Load(link, entries), chains))
 }
 
 /// The node that the value is.
@@ -432,6 +423,26 @@ fn load_fits(link: usize, entries: &Entries) -> bool
     link <= MAX_NUMBER && entries_fit(entries.list())
 }
 
+fn bound_fits(bound: &LowerBound) -> bool
+    ensures { result ≡ leaf_fits (bound_leaf bound.now) }
+{
+    match bound {
+        LowerBound::Late(stream, chain) => *stream <= MAX_NUMBER && chain_fits(chain),
+        LowerBound::Load(link, entries) => load_fits(*link, entries),
+    }
+}
+
+fn leaf_fits(leaf: &Leaf) -> bool
+    ensures { result ≡ leaf_fits (leaf_of leaf.now) }
+{
+    match leaf {
+        Leaf::Bound(bound) => bound_fits(bound),
+        Leaf::Overrun(stream, chain) => *stream <= MAX_NUMBER && chain_fits(chain),
+        Leaf::Cycle(chain) => chain_fits(chain),
+        Leaf::Overload(link, entries) => load_fits(*link, entries),
+    }
+}
+
 fn node_fits(node: &Node) -> bool
     ensures { result ≡ node_fits (tree_node node.now) }
 {
@@ -439,17 +450,8 @@ fn node_fits(node: &Node) -> bool
         Node::Branch(triple) => {
             triple.left <= MAX_NUMBER && triple.right <= MAX_NUMBER && triple.link <= MAX_NUMBER
         }
-        Node::Late(stream, chain) | Node::Overrun(stream, chain) => {
-            *stream <= MAX_NUMBER && chain_fits(chain)
-        }
-        Node::Cycle(chain) => chain_fits(chain),
-        Node::Load(link, entries) | Node::Overload(link, entries) => load_fits(*link, entries),
-        Node::Tie(stream, chain, chains) => {
-            *stream <= MAX_NUMBER && chain_fits(chain) && chains_fit(chains.list())
-        }
-        Node::TieLoad(link, entries, chains) => {
-            load_fits(*link, entries) && chains_fit(chains.list())
-        }
+        Node::Leaf(leaf) => leaf_fits(leaf),
+        Node::Tie(bound, chains) => bound_fits(bound) && chains_fit(chains.list()),
     }
 }
 
@@ -589,24 +591,56 @@ pub(crate) fn node_value(alloc: Global, node: &Node) -> Result<Value, AllocError
 {
     match node {
         Node::Branch(triple) => branch_value(alloc, triple),
-        Node::Late(stream, chain) => leaf_value(alloc, "late", *stream, chain_value(alloc, chain)),
-        Node::Overrun(stream, chain) => {
-            leaf_value(alloc, "overrun", *stream, chain_value(alloc, chain))
+        Node::Leaf(leaf) => leaf_value(alloc, leaf),
+        Node::Tie(bound, chains) => tie_value(alloc, bound, chains),
+    }
+}
+
+fn leaf_value(alloc: Global, leaf: &Leaf) -> Result<Value, AllocError>
+    ensures value { IfOk result (λ v. view v ≡ leaf_value (leaf_of leaf.now)) }
+    ensures reads_back { OnOk result
+        (node_of (leaf_value (leaf_of leaf.now)) ≡ Some (leaf_node (leaf_of leaf.now))) }
+{
+    match leaf {
+        Leaf::Bound(bound) => bound_value(alloc, bound),
+        Leaf::Overrun(stream, chain) => {
+            one_part_value(alloc, "overrun", *stream, chain_value(alloc, chain))
         }
-        Node::Cycle(chain) => pair_value(alloc, "cycle".to_value(alloc), chain_value(alloc, chain)),
-        Node::Load(link, entries) => {
-            leaf_value(alloc, "load", *link, entries_value(alloc, entries))
+        Leaf::Cycle(chain) => pair_value(alloc, "cycle".to_value(alloc), chain_value(alloc, chain)),
+        Leaf::Overload(link, entries) => {
+            one_part_value(alloc, "overload", *link, entries_value(alloc, entries))
         }
-        Node::Overload(link, entries) => {
-            leaf_value(alloc, "overload", *link, entries_value(alloc, entries))
+    }
+}
+
+fn bound_value(alloc: Global, bound: &LowerBound) -> Result<Value, AllocError>
+    ensures value { IfOk result (λ v. view v ≡ leaf_value (bound_leaf bound.now)) }
+    ensures reads_back { OnOk result
+        (node_of (leaf_value (bound_leaf bound.now)) ≡ Some (leaf_node (bound_leaf bound.now))) }
+{
+    match bound {
+        LowerBound::Late(stream, chain) => {
+            one_part_value(alloc, "late", *stream, chain_value(alloc, chain))
         }
-        Node::Tie(stream, chain, chains) => {
+        LowerBound::Load(link, entries) => {
+            one_part_value(alloc, "load", *link, entries_value(alloc, entries))
+        }
+    }
+}
+
+fn tie_value(alloc: Global, bound: &LowerBound, chains: &Chains) -> Result<Value, AllocError>
+    ensures value { IfOk result (λ v. view v ≡ tie_value (bound_leaf bound.now) chains.now) }
+    ensures reads_back { OnOk result (node_of (tie_value (bound_leaf bound.now) chains.now)
+        ≡ Some (tie_node (bound_leaf bound.now) chains.now)) }
+{
+    match bound {
+        LowerBound::Late(stream, chain) => {
             let chain = chain_value(alloc, chain);
-            tie_value(alloc, "tie", *stream, chain, chains_value(alloc, chains))
+            two_part_value(alloc, "tie", *stream, chain, chains_value(alloc, chains))
         }
-        Node::TieLoad(link, entries, chains) => {
+        LowerBound::Load(link, entries) => {
             let entries = entries_value(alloc, entries);
-            tie_value(
+            two_part_value(
                 alloc,
                 "tieload",
                 *link,
@@ -617,23 +651,23 @@ pub(crate) fn node_value(alloc: Global, node: &Node) -> Result<Value, AllocError
     }
 }
 
-/// A tie of a number, its leaf's part and chains.
-fn tie_value(
+/// An array of a word, a number and two parts, where these could be made.
+fn two_part_value(
     alloc: Global,
     word: &str,
     number: usize,
-    part: Result<Value, AllocError>,
-    chains: Result<Value, AllocError>,
+    first: Result<Value, AllocError>,
+    second: Result<Value, AllocError>,
 ) -> Result<Value, AllocError>
-    ensures { IfOk result (λ v. IsOkAnd part (λ p. IsOkAnd chains (λ c. view v
+    ensures { IfOk result (λ v. IsOkAnd first (λ p. IsOkAnd second (λ c. view v
         ≡ array_value (string word.now ∷ number_value number ∷ view p ∷ view c ∷ [])))) }
 {
-    let items = with_item(leaf_items(alloc, word, number), part);
-    Ok(Value::Array(with_item(items, chains)?))
+    let items = with_item(first_items(alloc, word, number), first);
+    Ok(Value::Array(with_item(items, second)?))
 }
 
-/// A leaf of a number and a part.
-fn leaf_value(
+/// An array of a word, a number and a part, where that could be made.
+fn one_part_value(
     alloc: Global,
     word: &str,
     number: usize,
@@ -642,10 +676,10 @@ fn leaf_value(
     ensures { IfOk result (λ v. IsOkAnd part (λ p. view v
         ≡ array_value (string word.now ∷ number_value number ∷ view p ∷ []))) }
 {
-    Ok(Value::Array(with_item(leaf_items(alloc, word, number), part)?))
+    Ok(Value::Array(with_item(first_items(alloc, word, number), part)?))
 }
 
-fn leaf_items(alloc: Global, word: &str, number: usize) -> Result<Vec<Value>, AllocError>
+fn first_items(alloc: Global, word: &str, number: usize) -> Result<Vec<Value>, AllocError>
     ensures { IfOk result (λ v. map view v.items
         ≡ string word.now ∷ number_value number ∷ []) }
 {
@@ -731,7 +765,7 @@ fn branch_value(alloc: Global, triple: &Triple) -> Result<Value, AllocError>
     ensures { IfOk result (λ v. view v ≡ node_value (split_node triple.now)) }
 {
     let right = Ok(Value::from(triple.right));
-    tie_value(
+    two_part_value(
         alloc,
         "branch",
         triple.left,

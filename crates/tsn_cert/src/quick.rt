@@ -17,6 +17,7 @@ use crate::cert::{Cert, Format, Node, Nodes};
 use crate::chain::{Chain, MAX_CHAIN};
 use crate::chains::{Chains, MAX_CHAINS};
 use crate::entries::{Entries, MAX_ENTRIES};
+use crate::leaf::{Leaf, LowerBound};
 use fast_float::Numeral;
 use json::{Reader, Scratch, Token};
 use std::alloc::{AllocError, AllocFailed, Global};
@@ -311,7 +312,7 @@ fn late_node(alloc: Global, reader: &mut Reader<'_>, list: &mut Vec<usize>) -> R
     ensures reads_back { IfOk result (λ node. node_of (node_value (tree_node node)) ≡ Some (tree_node node)) }
 {
     let found = reason(alloc, reader, list)?;
-    Ok(Node::Late(found.0, found.1))
+    Ok(Node::Leaf(Leaf::Bound(LowerBound::Late(found.0, found.1))))
 }
 
 fn overrun_node(
@@ -323,7 +324,7 @@ fn overrun_node(
     ensures reads_back { IfOk result (λ node. node_of (node_value (tree_node node)) ≡ Some (tree_node node)) }
 {
     let found = reason(alloc, reader, list)?;
-    Ok(Node::Overrun(found.0, found.1))
+    Ok(Node::Leaf(Leaf::Overrun(found.0, found.1)))
 }
 
 fn cycle_node(alloc: Global, reader: &mut Reader<'_>, list: &mut Vec<usize>) -> Result<Node, Unread>
@@ -331,7 +332,7 @@ fn cycle_node(alloc: Global, reader: &mut Reader<'_>, list: &mut Vec<usize>) -> 
     ensures reads_back { IfOk result (λ node. node_of (node_value (tree_node node)) ≡ Some (tree_node node)) }
 {
     let found = chain(alloc, reader, list)?;
-    Ok(Node::Cycle(found))
+    Ok(Node::Leaf(Leaf::Cycle(found)))
 }
 
 fn load_node(alloc: Global, reader: &mut Reader<'_>, list: &mut Vec<usize>) -> Result<Node, Unread>
@@ -339,7 +340,7 @@ fn load_node(alloc: Global, reader: &mut Reader<'_>, list: &mut Vec<usize>) -> R
     ensures reads_back { IfOk result (λ node. node_of (node_value (tree_node node)) ≡ Some (tree_node node)) }
 {
     let found = busy(alloc, reader, list)?;
-    Ok(Node::Load(found.0, found.1))
+    Ok(Node::Leaf(Leaf::Bound(LowerBound::Load(found.0, found.1))))
 }
 
 fn overload_node(
@@ -351,7 +352,7 @@ fn overload_node(
     ensures reads_back { IfOk result (λ node. node_of (node_value (tree_node node)) ≡ Some (tree_node node)) }
 {
     let found = busy(alloc, reader, list)?;
-    Ok(Node::Overload(found.0, found.1))
+    Ok(Node::Leaf(Leaf::Overload(found.0, found.1)))
 }
 
 fn tie(alloc: Global, reader: &mut Reader<'_>, list: &mut Vec<usize>) -> Result<Node, Unread>
@@ -360,7 +361,7 @@ fn tie(alloc: Global, reader: &mut Reader<'_>, list: &mut Vec<usize>) -> Result<
 {
     let found = reason(alloc, reader, list)?;
     let more = chains(alloc, reader, list)?;
-    Ok(Node::Tie(found.0, found.1, more))
+    Ok(Node::Tie(LowerBound::Late(found.0, found.1), more))
 }
 
 fn tie_load(alloc: Global, reader: &mut Reader<'_>, list: &mut Vec<usize>) -> Result<Node, Unread>
@@ -369,7 +370,7 @@ fn tie_load(alloc: Global, reader: &mut Reader<'_>, list: &mut Vec<usize>) -> Re
 {
     let found = busy(alloc, reader, list)?;
     let more = chains(alloc, reader, list)?;
-    Ok(Node::TieLoad(found.0, found.1, more))
+    Ok(Node::Tie(LowerBound::Load(found.0, found.1), more))
 }
 
 /// What stands behind the word of a node.

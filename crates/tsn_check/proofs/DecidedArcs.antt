@@ -1,5 +1,5 @@
 -- The arc of a decision, put together from the hops of its two streams.
-use Rattle.std.proofs.Common.{◌≡◌, ℕ, ◌+◌, Some, ℤ, pos, refl, sym, ap, ◌∙◌}
+use Rattle.std.proofs.Common.{◌≡◌, ℕ, ◌+◌, Some, pos, refl, sym, ap, ◌∙◌}
 use Rattle.std.specs.Prelude.{◌-ℤ◌}
 use Rattle.tsn_model.specs.declared.Arc.{Arc}
 use Rattle.tsn_model.specs.declared.Side.TheVariants.{Left, Right}

@@ -9,7 +9,7 @@ use crate::load::link_load;
 use crate::path::Turn;
 use crate::tree::path_to;
 use std::alloc::Global;
-use tsn_cert::{Chain, Entries, Node};
+use tsn_cert::{Chain, Entries, Leaf, LowerBound, Node};
 use tsn_conflict::conflicts;
 use tsn_timing::Timing;
 
@@ -51,22 +51,39 @@ fn bound_of(timing: &Timing, path: &[Turn], node: &Node) -> Result<Option<Bound>
 {
     match node {
         Node::Branch(_) => Ok(None),
-        Node::Late(stream, chain) | Node::Tie(stream, chain, _) => {
-            let arrival = arrival_of(timing, path, *stream, chain)?;
-            Ok(Some(Bound::Arrival(arrival)))
-        }
-        Node::Overrun(stream, chain) => Ok(Some(end_of(timing, path, *stream, chain)?)),
-        Node::Cycle(chain) => {
+        Node::Leaf(leaf) => Ok(Some(bound_of_leaf(timing, path, leaf)?)),
+        Node::Tie(bound, _) => Ok(Some(soonest_arrival(timing, path, bound)?)),
+    }
+}
+
+fn bound_of_leaf(timing: &Timing, path: &[Turn], leaf: &Leaf) -> Result<Bound, NodeFault>
+    requires { AreTurns timing.now path.now }
+{
+    match leaf {
+        Leaf::Bound(bound) => soonest_arrival(timing, path, bound),
+        Leaf::Overrun(stream, chain) => end_of(timing, path, *stream, chain),
+        Leaf::Cycle(chain) => {
             let sum = closed_sum(path, chain).ok_or(NodeFault::ChainBroken)?;
-            Ok(Some(Bound::Sum(sum)))
+            Ok(Bound::Sum(sum))
         }
-        Node::Load(link, entries) | Node::TieLoad(link, entries, _) => {
-            let arrival = load_arrival(timing, path, *link, entries)?;
-            Ok(Some(Bound::Arrival(arrival)))
-        }
-        Node::Overload(link, entries) => {
+        Leaf::Overload(link, entries) => {
             let all = link_load(timing, path, *link, entries)?;
-            Ok(Some(Bound::Use(all.head + all.work as i64)))
+            Ok(Bound::Use(all.head + all.work as i64))
+        }
+    }
+}
+
+fn soonest_arrival(timing: &Timing, path: &[Turn], bound: &LowerBound) -> Result<Bound, NodeFault>
+    requires { AreTurns timing.now path.now }
+{
+    match bound {
+        LowerBound::Late(stream, chain) => {
+            let arrival = arrival_of(timing, path, *stream, chain)?;
+            Ok(Bound::Arrival(arrival))
+        }
+        LowerBound::Load(link, entries) => {
+            let arrival = load_arrival(timing, path, *link, entries)?;
+            Ok(Bound::Arrival(arrival))
         }
     }
 }

@@ -1,10 +1,11 @@
 //! The nodes of a certificate, walked in their order.
-ghost use Rattle.std.specs.Prelude.{◌≡◌, ◌⊎◌, ℕ, List, Option, [], ◌∷◌, map, IfOk, IfErr, IsTrue, OnOk};
+ghost use Rattle.std.specs.Prelude.{◌≡◌, ◌⊎◌, ◌≤◌, ℕ, List, Option, [], ◌∷◌, map, IfOk, IfErr, IsTrue, OnOk};
+ghost use Rattle.tsn_cert.specs.Leaf.{bound_leaf, leaf_of};
 ghost use Rattle.tsn_cert.specs.Node.{tree_node};
 ghost use Rattle.tsn_model.specs.declared.Decision.{Decision};
 ghost use Rattle.tsn_model.specs.Network.{Network};
 ghost use Rattle.tsn_model.specs.Places.{Fills, next_places, pending};
-ghost use Rattle.tsn_model.specs.Certificate.{Leaf, IsNodeShown, leaf_node};
+ghost use Rattle.tsn_model.specs.Certificate.{Leaf as TreeLeaf, IsNodeShown, leaf_node};
 ghost use Rattle.tsn_check.specs.Claims.{IsWellPosed};
 ghost use Rattle.tsn_check.specs.Faults.{offsets_in, IsTreeFault};
 ghost use Rattle.tsn_check.specs.Turns.{AreTurns, AreTurnsOf, decisions, places_at};
@@ -17,13 +18,46 @@ use crate::load::{judge_load, judge_overload};
 use crate::path::{Turn, next_place, turn_to};
 use crate::tie::{judge_tie, span_of};
 use std::alloc::Global;
-use tsn_cert::Node;
+use tsn_cert::plan::MAX_TIME;
+use tsn_cert::{Leaf, LowerBound, Node};
 use tsn_conflict::sharing::Conflicts;
 use tsn_model::Side;
+use tsn_timing::Timing;
+
+/// Whether the bound is at least the target.
+fn judge_bound(
+    timing: &Timing,
+    target: u64,
+    path: &[Turn],
+    bound: &LowerBound,
+) -> Result<bool, NodeFault>
+    requires turns { AreTurns timing.now path.now }
+    requires target { target ≤ MAX_TIME }
+    ensures { FindsBound timing.now target (decisions path.now) (bound_leaf bound.now) result }
+{
+    match bound {
+        LowerBound::Late(stream, chain) => judge_late(timing, target, path, *stream, chain),
+        LowerBound::Load(link, entries) => judge_load(timing, target, path, *link, entries),
+    }
+}
+
+/// Whether the leaf's bound is at least the target, or it shows that there is no valid schedule on the path.
+fn judge_leaf(timing: &Timing, target: u64, path: &[Turn], leaf: &Leaf) -> Result<bool, NodeFault>
+    requires turns { AreTurns timing.now path.now }
+    requires target { target ≤ MAX_TIME }
+    ensures { FindsBound timing.now target (decisions path.now) (leaf_of leaf.now) result }
+{
+    match leaf {
+        Leaf::Bound(bound) => judge_bound(timing, target, path, bound),
+        Leaf::Overrun(stream, chain) => judge_overrun(timing, path, *stream, chain),
+        Leaf::Cycle(chain) => judge_cycle(timing, path, chain),
+        Leaf::Overload(link, entries) => judge_overload(timing, path, *link, entries),
+    }
+}
 
 /// Whether a leaf is right, of which this is found.
-fn judge_leaf(found: Result<bool, NodeFault>) -> Result<(), NodeFault>
-    ensures { (network : Network) (target : ℕ) (planned : Option (List ℕ)) (path : List Decision) (proof : Leaf) → FindsBound network target path proof found
+fn is_shown(found: Result<bool, NodeFault>) -> Result<(), NodeFault>
+    ensures { (network : Network) (target : ℕ) (planned : Option (List ℕ)) (path : List Decision) (proof : TreeLeaf) → FindsBound network target path proof found
         → Judges network target planned path (leaf_node proof) result }
 {
     match found {
@@ -53,17 +87,9 @@ fn judge(claim: &Claim<'_>, path: &[Turn], node: &Node) -> Result<(), NodeFault>
                 Err(NodeFault::NotConflict)
             }
         }
-        Node::Late(stream, chain) => judge_leaf(judge_late(timing, target, path, *stream, chain)),
-        Node::Overrun(stream, chain) => judge_leaf(judge_overrun(timing, path, *stream, chain)),
-        Node::Cycle(chain) => judge_leaf(judge_cycle(timing, path, chain)),
-        Node::Load(link, entries) => judge_leaf(judge_load(timing, target, path, *link, entries)),
-        Node::Overload(link, entries) => judge_leaf(judge_overload(timing, path, *link, entries)),
-        Node::Tie(stream, chain, chains) => {
-            let found = judge_late(timing, span_of(plan), path, *stream, chain);
-            judge_tie(timing, path, found, chains, plan)
-        }
-        Node::TieLoad(link, entries, chains) => {
-            let found = judge_load(timing, span_of(plan), path, *link, entries);
+        Node::Leaf(leaf) => is_shown(judge_leaf(timing, target, path, leaf)),
+        Node::Tie(bound, chains) => {
+            let found = judge_bound(timing, span_of(plan), path, bound);
             judge_tie(timing, path, found, chains, plan)
         }
     }
@@ -85,13 +111,7 @@ fn go_on(conflicts: &Conflicts, path: &mut Vec<Turn>, node: &Node) -> Result<boo
             path.push(turn_to(conflicts, *triple, Side::Left))?;
             Ok(true)
         }
-        Node::Late(..)
-        | Node::Overrun(..)
-        | Node::Cycle(_)
-        | Node::Load(..)
-        | Node::Overload(..)
-        | Node::Tie(..)
-        | Node::TieLoad(..) => Ok(next_place(conflicts, path)),
+        Node::Leaf(_) | Node::Tie(..) => Ok(next_place(conflicts, path)),
     }
 }
 

@@ -7,13 +7,13 @@ use Rattle.tsn_model.specs.declared.Arc.{Arc}
 use Rattle.tsn_model.specs.Schedule.{offset_of}
 use Rattle.tsn_model.specs.Arcs.{arc_at, Holds}
 use Rattle.tsn_diff.specs.declared.labels.Step.{Step}
-use Rattle.tsn_diff.specs.declared.spread.Standing.{Standing}
-use Rattle.tsn_diff.specs.declared.spread.Standing.TheVariants.{Fixed}
+use Rattle.tsn_diff.specs.declared.spread.Stage.{Stage}
+use Rattle.tsn_diff.specs.declared.spread.Stage.TheVariants.{Fixed}
 use Rattle.tsn_diff.specs.declared.spread.Wave.{Wave}
 use Rattle.tsn_diff.specs.Forest.{Labelling, last_of, Path}
 use Rattle.tsn_diff.specs.Forest.Path.{here, back}
 use Rattle.tsn_diff.specs.Progress.{passes_within, Closes}
-use Rattle.tsn_diff.specs.Spread.{Base, all_arcs, standing_of, IsWave}
+use Rattle.tsn_diff.specs.Spread.{Base, all_arcs, stage_of, IsWave}
 use Rattle.tsn_diff.proofs.Cases.{by_bool}
 use Rattle.tsn_diff.proofs.Paths.{Path-append, Path-steps_back, length-path_any}
 
@@ -31,13 +31,13 @@ arc_at-old base index l = get_or_append_left base.arcs (base.arc ∷ []) (record
 pub arc_at-new : (base : Base) (index : ℕ) → index < length (all_arcs base) → length base.arcs ≤ index → arc_at (all_arcs base) index ≡ base.arc
 arc_at-new base index l m = get_or_push base.arcs base.arc (record { from = 0; to = 0; weight = pos 0 }) index (omega (arith, length_push base.arcs base.arc))
 
-module _ (base : Base) (labels : Labelling) (standings : List Standing) (wave : Wave) (w : IsWave base labels standings wave) where
+module _ (base : Base) (labels : Labelling) (stages : List Stage) (wave : Wave) (w : IsWave base labels stages wave) where
   -- the labels from before meet the old arcs
   pub met_before : (index : ℕ) → index < length base.arcs → Holds base.labels.offsets (arc_at (all_arcs base) index)
   met_before index l = rw (arc_at-old base index l) (w.met index (record { from = 0; to = 0; weight = pos 0 }) l)
 
   -- what lies on the way back from a fixed stream is fixed
-  fixed_along : {i v : ℕ} {ss : List Step} → Path labels.last i ss v → standing_of standings i ≡ Fixed → standing_of standings v ≡ Fixed
+  fixed_along : {i v : ℕ} {ss : List Step} → Path labels.last i ss v → stage_of stages i ≡ Fixed → stage_of stages v ≡ Fixed
   fixed_along here f = f
   fixed_along {i} (back {step = s} h p) f = fixed_along p (w.fixed.closed i s f h)
 
@@ -48,14 +48,14 @@ module _ (base : Base) (labels : Labelling) (standings : List Standing) (wave : 
       sym f.begins ∙ ap (λ (a : Arc). a.from) (arc_at-new base s.index f.index_in l)
 
   -- no stream on a way back has gained less than those after it, before a fixed stream is reached
-  gains_along : {i v : ℕ} {ss : List Step} → Path labels.last i ss v → (standing_of standings v ≡ Fixed) ⊎ (offset_of labels.offsets i + offset_of base.labels.offsets v ≤ offset_of labels.offsets v + offset_of base.labels.offsets i)
+  gains_along : {i v : ℕ} {ss : List Step} → Path labels.last i ss v → (stage_of stages v ≡ Fixed) ⊎ (offset_of labels.offsets i + offset_of base.labels.offsets v ≤ offset_of labels.offsets v + offset_of base.labels.offsets i)
   gains_along here = inr (omega arith)
   gains_along {i} {v} (back {step = s} h p) =
       let f = w.forest.steps i s h in
       ⊎_elim
       (λ (old : s.index < length base.arcs).
       let m = met_before s.index old in
-      ⊎_elim (λ (fixed : standing_of standings v ≡ Fixed). inl fixed)
+      ⊎_elim (λ (fixed : stage_of stages v ≡ Fixed). inl fixed)
       (λ (g : offset_of labels.offsets s.from + offset_of base.labels.offsets v ≤ offset_of labels.offsets v + offset_of base.labels.offsets s.from).
       inr (omega (arith, ints, g, f.explains, rw (f.begins, f.ends) at m))) (gains_along p))
       (λ (new : length base.arcs ≤ s.index).
@@ -78,7 +78,8 @@ module _ (base : Base) (labels : Labelling) (standings : List Standing) (wave : 
 
   module _ (index : ℕ) (index_in : index < length (all_arcs base)) (unmet : pos (offset_of labels.offsets (arc_at (all_arcs base) index).to) <ℤ (pos (offset_of labels.offsets (arc_at (all_arcs base) index).from) +ℤ (arc_at (all_arcs base) index).weight)) where
     -- an arc that asks to raise a stream that isn't fixed closes no chain
-    pub aside : (standing_of standings (arc_at (all_arcs base) index).to ≡ Fixed → ⊥) → passes_within (length labels.last) labels.last (arc_at (all_arcs base) index).to (arc_at (all_arcs base) index).from ≡ false
+    pub aside : (stage_of stages (arc_at (all_arcs base) index).to ≡ Fixed → ⊥)
+        → passes_within (length labels.last) labels.last (arc_at (all_arcs base) index).to (arc_at (all_arcs base) index).from ≡ false
     aside loose =
         let arc = arc_at (all_arcs base) index in
         by_bool (passes_within (length labels.last) labels.last arc.to arc.from)
@@ -87,7 +88,7 @@ module _ (base : Base) (labels : Labelling) (standings : List Standing) (wave : 
         absurd (⊎_elim
         (λ (old : index < length base.arcs).
         let m = met_before index old in
-        ⊎_elim (λ (fixed : standing_of standings arc.to ≡ Fixed). loose fixed)
+        ⊎_elim (λ (fixed : stage_of stages arc.to ≡ Fixed). loose fixed)
         (λ (g : offset_of labels.offsets arc.from + offset_of base.labels.offsets arc.to ≤ offset_of labels.offsets arc.to + offset_of base.labels.offsets arc.from).
         omega (arith, ints, g, m, unmet)) (gains_along way))
         (λ (new : length base.arcs ≤ index).
@@ -96,7 +97,7 @@ module _ (base : Base) (labels : Labelling) (standings : List Standing) (wave : 
         (λ no. no)
 
     -- one that asks to raise a fixed stream closes one
-    pub closes : standing_of standings (arc_at (all_arcs base) index).to ≡ Fixed → Closes (all_arcs base) labels index
+    pub closes : stage_of stages (arc_at (all_arcs base) index).to ≡ Fixed → Closes (all_arcs base) labels index
     closes fixed =
         let arc = arc_at (all_arcs base) index in
         let ends = w.among index (record { from = 0; to = 0; weight = pos 0 }) index_in in

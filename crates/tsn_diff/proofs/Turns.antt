@@ -8,13 +8,13 @@ use Rattle.tsn_model.specs.Schedule.{offset_of}
 use Rattle.tsn_model.specs.Arcs.{arc_at, Holds}
 use Rattle.tsn_diff.specs.declared.listing.Listing.{Listing}
 use Rattle.tsn_diff.specs.declared.trail.Former.{Former}
-use Rattle.tsn_diff.specs.declared.spread.Standing.{Standing}
-use Rattle.tsn_diff.specs.declared.spread.Standing.TheVariants.{Calm, Fixed, Waiting, Settled}
+use Rattle.tsn_diff.specs.declared.spread.Stage.{Stage}
+use Rattle.tsn_diff.specs.declared.spread.Stage.TheVariants.{Calm, Fixed, Waiting, Settled}
 use Rattle.tsn_diff.specs.declared.spread.Wave.{Wave}
 use Rattle.tsn_diff.specs.Forest.{Labelling}
 use Rattle.tsn_diff.specs.Limits.{IsArcAmong}
 use Rattle.tsn_diff.specs.Listing.{IsListing}
-use Rattle.tsn_diff.specs.Spread.{Base, all_arcs, noted_by, standing_of, IsIndexed, IsLifted, AreFixed, IsNoted, IsQueued, IsWave, IsTurn, IsStart, IsWide, MeetsFrom, AreQueued, IsSeen, GoesOn}
+use Rattle.tsn_diff.specs.Spread.{Base, all_arcs, noted_by, stage_of, IsIndexed, IsLifted, AreFixed, IsNoted, IsQueued, IsWave, IsTurn, IsStart, IsWide, MeetsFrom, AreQueued, IsSeen, GoesOn}
 use Rattle.tsn_diff.proofs.Solutions.{IsForest-more}
 use Rattle.tsn_diff.proofs.Spreads.{arc_at-new, met_before}
 
@@ -46,8 +46,9 @@ module _ (base : Base) (labels : Labelling) (wave : Wave) (listing : Listing) (a
     last = rw (← start.labels_are) start.forest.count;
   }
 
-  pub IsWave-start : (standings : List Standing) → length base.labels.offsets ≤ length standings → AreFixed labels.last standings arc.from → ((stream : ℕ) → IsLifted (standing_of standings stream) → ⊥) → wave.queue.items ≡ [] → IsWave base labels standings wave
-  IsWave-start standings room fixed calm queue = record {
+  pub IsWave-start : (stages : List Stage) → length base.labels.offsets ≤ length stages → AreFixed labels.last stages arc.from
+      → ((stream : ℕ) → IsLifted (stage_of stages stream) → ⊥) → wave.queue.items ≡ [] → IsWave base labels stages wave
+  IsWave-start stages room fixed calm queue = record {
     among = start.among;
     met = start.met;
     noted = IsNoted-start;
@@ -60,7 +61,7 @@ module _ (base : Base) (labels : Labelling) (wave : Wave) (listing : Listing) (a
     kept = λ i f. rw start.labels_are refl;
     lifted = λ i l. absurd (calm i l);
     each = rw none_noted (All-nil (λ (f : Former). offset_of base.labels.offsets f.stream < offset_of labels.offsets f.stream));
-    queued = rw queue (All-nil (IsQueued (length base.labels.offsets) standings));
+    queued = rw queue (All-nil (IsQueued (length base.labels.offsets) stages));
   }
 
   -- where the new arc is met at once, the wave ends
@@ -80,11 +81,12 @@ module _ (base : Base) (labels : Labelling) (wave : Wave) (listing : Listing) (a
       record { index_in = in_all; arc = arc_at-new base index in_all (omega (arith, at)) ∙ start.arc_is }
 
 -- once the new arc is met, every arc is seen
-pub seen_first : (base : Base) (labels new : Labelling) (standings after : List Standing) (wave : Wave) (queue : List ℕ) → IsWave base labels standings wave → base.labels ≡ labels → GoesOn (all_arcs base) labels new standings after wave.queue.items queue → Holds new.offsets base.arc
+pub seen_first : (base : Base) (labels new : Labelling) (stages after : List Stage) (wave : Wave) (queue : List ℕ) → IsWave base labels stages wave
+    → base.labels ≡ labels → GoesOn (all_arcs base) labels new stages after wave.queue.items queue → Holds new.offsets base.arc
     → (index : ℕ) → index < length (all_arcs base) → IsSeen (all_arcs base) new after index
-seen_first base labels new standings after wave queue w same g met index l =
+seen_first base labels new stages after wave queue w same g met index l =
     ⊎_elim
-    (λ (old : index < length base.arcs). g.seen index l (inl (rw (← same) (met_before base labels standings wave w index old))))
+    (λ (old : index < length base.arcs). g.seen index l (inl (rw (← same) (met_before base labels stages wave w index old))))
     (λ (at : length base.arcs ≤ index). inl (rw (arc_at-new base index l at) met))
     (cases_lt index (length base.arcs))
 
@@ -93,30 +95,30 @@ contains_rest : (x i : ℕ) (xs : List ℕ) → x ≢ i → Contains (x ∷ xs) 
 contains_rest x i xs unlike (zero, l, e) = absurd (unlike e)
 contains_rest x i xs unlike (suc k, l, e) = (k, omega (arith, l), e)
 
-module _ (base : Base) (labels : Labelling) (standings : List Standing) (wave : Wave) (turn stream : ℕ) (w : IsWave base labels standings wave) (turn_in : turn < length wave.queue.items) (is : stream ≡ get_or wave.queue.items turn stream) where
-  abbrev after : List Standing
-  after = set standings stream Settled
+module _ (base : Base) (labels : Labelling) (stages : List Stage) (wave : Wave) (turn stream : ℕ) (w : IsWave base labels stages wave) (turn_in : turn < length wave.queue.items) (is : stream ≡ get_or wave.queue.items turn stream) where
+  abbrev after : List Stage
+  after = set stages stream Settled
 
-  index : IsQueued (length base.labels.offsets) standings stream
-  index = subst (λ (s : ℕ). IsQueued (length base.labels.offsets) standings s) (sym is) (w.queued turn stream turn_in)
+  index : IsQueued (length base.labels.offsets) stages stream
+  index = subst (λ (s : ℕ). IsQueued (length base.labels.offsets) stages s) (sym is) (w.queued turn stream turn_in)
 
-  stands : standing_of after stream ≡ Settled
-  stands = get_or-set_same standings stream Settled Calm (omega (arith, index.stream_in, w.room))
+  stands : stage_of after stream ≡ Settled
+  stands = get_or-set_same stages stream Settled Calm (omega (arith, index.stream_in, w.room))
 
-  stands_other : (i : ℕ) → i ≢ stream → standing_of after i ≡ standing_of standings i
-  stands_other i e = get_or-set_other standings stream i Settled Calm e
+  stands_other : (i : ℕ) → i ≢ stream → stage_of after i ≡ stage_of stages i
+  stands_other i e = get_or-set_other stages stream i Settled Calm e
 
-  fixed_other : (i : ℕ) → standing_of standings i ≡ Fixed → i ≢ stream
+  fixed_other : (i : ℕ) → stage_of stages i ≡ Fixed → i ≢ stream
   fixed_other i f e = rw (← e, f) at index.lifted
 
-  still_fixed : (i : ℕ) → standing_of after i ≡ Fixed → standing_of standings i ≡ Fixed
+  still_fixed : (i : ℕ) → stage_of after i ≡ Fixed → stage_of stages i ≡ Fixed
   still_fixed i f =
       ⊎_elim (λ (e : i ≡ stream). let g = rw (e, stands) at f in cc) (λ (e : i ≢ stream). sym (stands_other i e) ∙ f) (cases_eq i stream)
 
-  now_fixed : (i : ℕ) → standing_of standings i ≡ Fixed → standing_of after i ≡ Fixed
+  now_fixed : (i : ℕ) → stage_of stages i ≡ Fixed → stage_of after i ≡ Fixed
   now_fixed i f = stands_other i (fixed_other i f) ∙ f
 
-  queued_still : (i : ℕ) → IsQueued (length base.labels.offsets) standings i → IsQueued (length base.labels.offsets) after i
+  queued_still : (i : ℕ) → IsQueued (length base.labels.offsets) stages i → IsQueued (length base.labels.offsets) after i
   queued_still i q =
       record {
         stream_in = q.stream_in;
@@ -129,7 +131,7 @@ module _ (base : Base) (labels : Labelling) (standings : List Standing) (wave : 
       among = w.among;
       met = w.met;
       noted = w.noted;
-      room = omega (arith, w.room, length-set standings stream Settled);
+      room = omega (arith, w.room, length-set stages stream Settled);
       forest = w.forest;
       raised = w.raised;
       rises = w.rises;
@@ -142,23 +144,24 @@ module _ (base : Base) (labels : Labelling) (standings : List Standing) (wave : 
       kept = λ i f. w.kept i (still_fixed i f);
       lifted = λ i l. ⊎_elim (λ (e : i ≡ stream). w.lifted i (rw e index.lifted)) (λ (e : i ≢ stream). w.lifted i (rw (stands_other i e) at l)) (cases_eq i stream);
       each = w.each;
-      queued = All-weaker (IsQueued (length base.labels.offsets) standings) (IsQueued (length base.labels.offsets) after) queued_still wave.queue.items w.queued;
+      queued = All-weaker (IsQueued (length base.labels.offsets) stages) (IsQueued (length base.labels.offsets) after) queued_still wave.queue.items w.queued;
     };
     listed = listed;
     stream_in = index.stream_in;
     settled = stands;
   }
 
-  module _ (new : Labelling) (later : List Standing) (queue : List ℕ) (g : GoesOn (all_arcs base) labels new after later wave.queue.items queue) where
-    pub seen_then : MeetsFrom (all_arcs base) new.offsets stream → ((q : ℕ) → q < length (all_arcs base) → IsSeen (all_arcs base) labels standings q) → (q : ℕ) → q < length (all_arcs base) → IsSeen (all_arcs base) new later q
+  module _ (new : Labelling) (later : List Stage) (queue : List ℕ) (g : GoesOn (all_arcs base) labels new after later wave.queue.items queue) where
+    pub seen_then : MeetsFrom (all_arcs base) new.offsets stream → ((q : ℕ) → q < length (all_arcs base) → IsSeen (all_arcs base) labels stages q)
+        → (q : ℕ) → q < length (all_arcs base) → IsSeen (all_arcs base) new later q
     seen_then met seen q l =
         let arc = arc_at (all_arcs base) q in
         ⊎_elim (λ (e : arc.from ≡ stream). inl (met q l e))
         (λ (e : arc.from ≢ stream).
         g.seen q l
-        (⊎_elim (λ (m : Holds labels.offsets arc). inl m) (λ (waits : standing_of standings arc.from ≡ Waiting). inr (stands_other arc.from e ∙ waits)) (seen q l))) (cases_eq arc.from stream)
+        (⊎_elim (λ (m : Holds labels.offsets arc). inl m) (λ (waits : stage_of stages arc.from ≡ Waiting). inr (stands_other arc.from e ∙ waits)) (seen q l))) (cases_eq arc.from stream)
 
-    pub queued_then : AreQueued standings (drop turn wave.queue.items) → AreQueued later (drop (turn + 1) queue)
+    pub queued_then : AreQueued stages (drop turn wave.queue.items) → AreQueued later (drop (turn + 1) queue)
     queued_then queued =
         g.queued (turn + 1) (omega (arith, turn_in))
         (λ i waits.
@@ -170,14 +173,14 @@ module _ (base : Base) (labels : Labelling) (standings : List Standing) (wave : 
     turn_smaller same small = omega (arith, g.raises, g.more, same, small, turn_in)
 
 -- where no stream waits any more, every arc is met
-pub IsWide-end : (base : Base) (labels : Labelling) (standings : List Standing) (wave : Wave) (turn : ℕ) → IsWave base labels standings wave → length wave.queue.items ≤ turn → AreQueued standings (drop turn wave.queue.items) → ((q : ℕ) → q < length (all_arcs base) → IsSeen (all_arcs base) labels standings q) → IsWide base labels wave.trail
-IsWide-end base labels standings wave turn w ended queued seen = record {
+pub IsWide-end : (base : Base) (labels : Labelling) (stages : List Stage) (wave : Wave) (turn : ℕ) → IsWave base labels stages wave → length wave.queue.items ≤ turn → AreQueued stages (drop turn wave.queue.items) → ((q : ℕ) → q < length (all_arcs base) → IsSeen (all_arcs base) labels stages q) → IsWide base labels wave.trail
+IsWide-end base labels stages wave turn w ended queued seen = record {
   forest = w.forest;
   raised = w.raised;
   met = All-from_get_or (Holds labels.offsets) (all_arcs base) (record { from = 0; to = 0; weight = pos 0 })
       (λ q l.
       ⊎_elim (λ (m : Holds labels.offsets (arc_at (all_arcs base) q)). m)
-      (λ (waits : standing_of standings (arc_at (all_arcs base) q).from ≡ Waiting).
+      (λ (waits : stage_of stages (arc_at (all_arcs base) q).from ≡ Waiting).
       let among = rw (drop_all turn wave.queue.items ended) at (queued (arc_at (all_arcs base) q).from waits) in
       absurd (omega (arith, among.1))) (seen q l));
   each = w.each;

@@ -1,7 +1,7 @@
 use Rattle.std.specs.Prelude.{◌≡◌, ℕ, ◌<◌, ℤ, List, length, slice_index, All}
 use Rattle.tsn_model.specs.declared.Arc.{Arc}
-use Rattle.tsn_diff.specs.declared.solve.Outcome.{Outcome}
-use Rattle.tsn_diff.specs.declared.solve.Outcome.TheVariants.{Least, Positive}
+use Rattle.tsn_diff.specs.declared.solve.Feasibility.{Feasibility}
+use Rattle.tsn_diff.specs.declared.solve.Feasibility.TheVariants.{Least, Positive}
 use Rattle.tsn_model.specs.Arcs.{IsMet}
 use Rattle.tsn_diff.specs.Offsets.{IsLeast, Shows, LeastOffsets, chain_of, IsPositiveCycle}
 
@@ -19,6 +19,6 @@ pub record Refutes (n : ℕ) (arcs : List Arc) (chain : List ℕ) : Type 0 where
   pub none : (offset : ℕ → ℤ) → ¬ All (IsMet offset) arcs
 
 -- what an outcome says of a list of arcs
-abbrev pub Answers : List ℕ → List Arc → Outcome → Type 0
+abbrev pub Answers : List ℕ → List Arc → Feasibility → Type 0
 Answers releases arcs (Least least) = Solves releases arcs least
 Answers releases arcs (Positive chain) = Refutes (length releases) arcs chain.items

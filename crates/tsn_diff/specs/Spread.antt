@@ -8,8 +8,8 @@ use Rattle.tsn_diff.specs.declared.listing.Indexed.{Indexed}
 use Rattle.tsn_diff.specs.declared.listing.Listing.{Listing}
 use Rattle.tsn_diff.specs.declared.trail.Former.{Former}
 use Rattle.tsn_diff.specs.declared.trail.Trail.{Trail}
-use Rattle.tsn_diff.specs.declared.spread.Standing.{Standing}
-use Rattle.tsn_diff.specs.declared.spread.Standing.TheVariants.{Calm, Fixed, Waiting, Settled}
+use Rattle.tsn_diff.specs.declared.spread.Stage.{Stage}
+use Rattle.tsn_diff.specs.declared.spread.Stage.TheVariants.{Calm, Fixed, Waiting, Settled}
 use Rattle.tsn_diff.specs.declared.spread.Wave.{Wave}
 use Rattle.tsn_diff.specs.Limits.{IsArcAmong}
 use Rattle.tsn_diff.specs.Forest.{Labelling, IsForest, Path, last_of}
@@ -55,77 +55,77 @@ pub record IsNoted (base : Base) (labels : Labelling) (trail : Trail) : Type 0 w
   pub last : length labels.last ≡ length base.labels.offsets
 
 -- how a stream stands; those past the end are calm
-abbrev pub standing_of : List Standing → ℕ → Standing
-standing_of standings stream = slice_index_or standings stream Calm
+abbrev pub stage_of : List Stage → ℕ → Stage
+stage_of stages stream = slice_index_or stages stream Calm
 
 -- the queue, where the stream waits in it
-abbrev pub queue_with : Standing → List ℕ → ℕ → List ℕ
+abbrev pub queue_with : Stage → List ℕ → ℕ → List ℕ
 queue_with Calm queue stream = queue ++ stream ∷ []
 queue_with Fixed queue stream = queue
 queue_with Waiting queue stream = queue
 queue_with Settled queue stream = queue ++ stream ∷ []
 
 -- the former labels, where the stream's is among them
-abbrev pub formers_with : Standing → List Former → Former → List Former
+abbrev pub formers_with : Stage → List Former → Former → List Former
 formers_with Calm formers former = formers ++ former ∷ []
 formers_with Fixed formers former = formers
 formers_with Waiting formers former = formers
 formers_with Settled formers former = formers
 
 -- no stream was looked at so far
-abbrev pub AreCalm : List Standing → Type 0
-AreCalm standings = (stream : ℕ) → standing_of standings stream ≡ Calm
+abbrev pub AreCalm : List Stage → Type 0
+AreCalm stages = (stream : ℕ) → stage_of stages stream ≡ Calm
 
 -- the stream was raised
-abbrev pub IsLifted : Standing → Type 0
+abbrev pub IsLifted : Stage → Type 0
 IsLifted Calm = ⊥
 IsLifted Fixed = ⊥
 IsLifted Waiting = Unit {0}
 IsLifted Settled = Unit {0}
 
 -- exactly the streams on the way back from a stream are fixed
-pub record AreFixed (last : List (Option Step)) (standings : List Standing) (first : ℕ) : Type 0 where
-  pub begins : standing_of standings first ≡ Fixed
-  pub closed : (stream : ℕ) (step : Step) → standing_of standings stream ≡ Fixed → last_of last stream ≡ Some step → standing_of standings step.from ≡ Fixed
-  pub way : (stream : ℕ) → standing_of standings stream ≡ Fixed → (steps : List Step) × Path last first steps stream
+pub record AreFixed (last : List (Option Step)) (stages : List Stage) (first : ℕ) : Type 0 where
+  pub begins : stage_of stages first ≡ Fixed
+  pub closed : (stream : ℕ) (step : Step) → stage_of stages stream ≡ Fixed → last_of last stream ≡ Some step → stage_of stages step.from ≡ Fixed
+  pub way : (stream : ℕ) → stage_of stages stream ≡ Fixed → (steps : List Step) × Path last first steps stream
 
 -- the stream at an index of the queue
-pub record IsQueued (n : ℕ) (standings : List Standing) (stream : ℕ) : Type 0 where
+pub record IsQueued (n : ℕ) (stages : List Stage) (stream : ℕ) : Type 0 where
   pub stream_in : stream < n
-  pub lifted : IsLifted (standing_of standings stream)
+  pub lifted : IsLifted (stage_of stages stream)
 
 -- labels on the way from those that met the arcs to those that meet the new one too
-pub record IsWave (base : Base) (labels : Labelling) (standings : List Standing) (wave : Wave) : Type 0 where
+pub record IsWave (base : Base) (labels : Labelling) (stages : List Stage) (wave : Wave) : Type 0 where
   pub among : All (IsArcAmong (length base.labels.offsets)) (all_arcs base)
   pub met : HoldsAll base.labels.offsets base.arcs
   pub noted : IsNoted base labels wave.trail
-  pub room : length base.labels.offsets ≤ length standings
+  pub room : length base.labels.offsets ≤ length stages
   pub forest : IsForest (all_arcs base) labels
   pub raised : KeepsRaised base.labels labels
   pub rises : (stream : ℕ) → offset_of base.labels.offsets stream ≤ offset_of labels.offsets stream
   pub roots : (stream : ℕ) → last_of labels.last stream ≡ None → offset_of labels.offsets stream ≡ offset_of base.labels.offsets stream
-  pub fixed : AreFixed labels.last standings base.arc.from
-  pub kept : (stream : ℕ) → standing_of standings stream ≡ Fixed → offset_of labels.offsets stream ≡ offset_of base.labels.offsets stream
-  pub lifted : (stream : ℕ) → IsLifted (standing_of standings stream) → Contains (map (λ former. former.stream) (noted_by base wave.trail)) stream
+  pub fixed : AreFixed labels.last stages base.arc.from
+  pub kept : (stream : ℕ) → stage_of stages stream ≡ Fixed → offset_of labels.offsets stream ≡ offset_of base.labels.offsets stream
+  pub lifted : (stream : ℕ) → IsLifted (stage_of stages stream) → Contains (map (λ former. former.stream) (noted_by base wave.trail)) stream
   pub each : All (λ former. offset_of base.labels.offsets former.stream < offset_of labels.offsets former.stream) (noted_by base wave.trail)
-  pub queued : All (IsQueued (length base.labels.offsets) standings) wave.queue.items
+  pub queued : All (IsQueued (length base.labels.offsets) stages) wave.queue.items
 
 -- an arc of all arcs that asks for more than its last stream has
-pub record IsRise (base : Base) (labels : Labelling) (standings : List Standing) (wave : Wave) (indexed : Indexed) (offset : ℕ) : Type 0 where
-  pub moves : IsWave base labels standings wave
+pub record IsRise (base : Base) (labels : Labelling) (stages : List Stage) (wave : Wave) (indexed : Indexed) (offset : ℕ) : Type 0 where
+  pub moves : IsWave base labels stages wave
   pub there : IsIndexed (all_arcs base) indexed
   pub asked : IsAsked labels.offsets indexed.arc offset
 
 -- a stream whose arcs are to be looked at now
-pub record IsTurn (base : Base) (labels : Labelling) (standings : List Standing) (wave : Wave) (listing : Listing) (stream : ℕ) : Type 0 where
-  pub moves : IsWave base labels standings wave
+pub record IsTurn (base : Base) (labels : Labelling) (stages : List Stage) (wave : Wave) (listing : Listing) (stream : ℕ) : Type 0 where
+  pub moves : IsWave base labels stages wave
   pub listed : IsListing (length base.labels.offsets) base.arcs listing
   pub stream_in : stream < length base.labels.offsets
-  pub settled : standing_of standings stream ≡ Settled
+  pub settled : stage_of stages stream ≡ Settled
 
 -- every stream that waits has an index in the queue
-abbrev pub AreQueued : List Standing → List ℕ → Type 0
-AreQueued standings queue = (stream : ℕ) → standing_of standings stream ≡ Waiting → Contains queue stream
+abbrev pub AreQueued : List Stage → List ℕ → Type 0
+AreQueued stages queue = (stream : ℕ) → stage_of stages stream ≡ Waiting → Contains queue stream
 
 -- the arcs that begin at a stream are met
 abbrev pub MeetsFrom : List Arc → List ℕ → ℕ → Type 0
@@ -150,11 +150,11 @@ pub record IsWide (base : Base) (labels : Labelling) (trail : Trail) : Type 0 wh
   pub each : All (λ former. offset_of base.labels.offsets former.stream < offset_of labels.offsets former.stream) (noted_by base trail)
 
 -- an arc is met, or its first stream waits
-abbrev pub IsSeen : List Arc → Labelling → List Standing → ℕ → Type 0
-IsSeen arcs labels standings index = Holds labels.offsets (arc_at arcs index) ⊎ (standing_of standings (arc_at arcs index).from ≡ Waiting)
+abbrev pub IsSeen : List Arc → Labelling → List Stage → ℕ → Type 0
+IsSeen arcs labels stages index = Holds labels.offsets (arc_at arcs index) ⊎ (stage_of stages (arc_at arcs index).from ≡ Waiting)
 
 -- the wave goes on: no arc is lost from sight, and each raise has added at most one index to the queue
-pub record GoesOn (arcs : List Arc) (old new : Labelling) (before after : List Standing) (queue longer : List ℕ) : Type 0 where
+pub record GoesOn (arcs : List Arc) (old new : Labelling) (before after : List Stage) (queue longer : List ℕ) : Type 0 where
   pub seen : (index : ℕ) → index < length arcs → IsSeen arcs old before index → IsSeen arcs new after index
   pub queued : (turn : ℕ) → turn ≤ length queue → AreQueued before (drop turn queue) → AreQueued after (drop turn longer)
   pub more : length queue ≤ length longer

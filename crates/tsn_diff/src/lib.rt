@@ -11,5 +11,5 @@ mod stack;
 mod trail;
 
 pub use forest::{Forest, Walk};
-pub use solve::{Least, MAX_RELEASE, MAX_STREAMS, MAX_WEIGHT, Net, Outcome};
+pub use solve::{Feasibility, Least, MAX_RELEASE, MAX_STREAMS, MAX_WEIGHT, Net};
 pub use stack::ArcStack;

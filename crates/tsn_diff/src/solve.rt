@@ -36,7 +36,7 @@ enum Releases {
 
 /// What a system of arcs comes to.
 #[derive(Drop)]
-pub enum Outcome {
+pub enum Feasibility {
     /// The least offsets that meet every arc.
     Least(Least),
     /// No offsets meet every arc, as these arcs show: a closed chain of positive sum, by their indexes in the list.
@@ -117,7 +117,7 @@ impl Net {
     }
 
     /// The least offsets that meet the arcs, or a closed chain of positive sum. The error says that there was no memory.
-    pub fn least(&self, alloc: Global, arcs: &[Arc]) -> Result<Outcome, NoMemory>
+    pub fn least(&self, alloc: Global, arcs: &[Arc]) -> Result<Feasibility, NoMemory>
         requires { All (IsArcAmong (length self.now)) arcs.now }
         ensures { IfOk result (Answers self.now arcs.now) }
     {
@@ -205,7 +205,7 @@ impl Least {
     }
 
     /// The least offsets with one more arc put last, or a closed chain of positive sum. The error says that there was no memory.
-    pub fn with_arc(&self, alloc: Global, arc: Arc) -> Result<Outcome, NoMemory>
+    pub fn with_arc(&self, alloc: Global, arc: Arc) -> Result<Feasibility, NoMemory>
         requires { IsArcAmong (length self.now.releases) arc }
         ensures { IfOk result (Answers self.now.releases (self.now.arcs ++ arc ∷ [])) }
     {
@@ -241,7 +241,7 @@ fn settle(
     net: Net,
     arcs: Vec<Arc>,
     mut labels: Labels,
-) -> Result<Outcome, AllocError>
+) -> Result<Feasibility, AllocError>
     requires among { All (IsArcAmong (length net)) arcs.items }
     requires forest { IsForest arcs.items (labelling_of labels) }
     requires raised { IsRaised net (labelling_of labels) }
@@ -249,10 +249,10 @@ fn settle(
 {
     loop {
         match labels.round(&arcs) {
-            Progress::Steady => return Ok(Outcome::Least(Least { net, arcs, labels })),
+            Progress::Steady => return Ok(Feasibility::Least(Least { net, arcs, labels })),
             Progress::Raised => {}
             Progress::Closed(index) => {
-                return Ok(Outcome::Positive(labels.cycle(alloc, index, arcs[index])?));
+                return Ok(Feasibility::Positive(labels.cycle(alloc, index, arcs[index])?));
             }
         }
     }

@@ -5,7 +5,7 @@ ghost use Rattle.tsn_diff.specs.Forest.{HasSteps, Rooted, IsForest};
 ghost use Rattle.tsn_diff.specs.Progress.{Closes};
 ghost use Rattle.tsn_diff.specs.Listing.{IsListing};
 ghost use Rattle.tsn_diff.specs.Trail.{IsTrail, former_of};
-ghost use Rattle.tsn_diff.specs.Spread.{Base, queue_with, formers_with, IsClosing, IsRise, MeetsFrom, IsNoted, IsWave, IsTurn, IsStart, IsWide, GoesOn, AreCalm, AreFixed, IsLifted, standing_of, all_arcs};
+ghost use Rattle.tsn_diff.specs.Spread.{Base, queue_with, formers_with, IsClosing, IsRise, MeetsFrom, IsNoted, IsWave, IsTurn, IsStart, IsWide, GoesOn, AreCalm, AreFixed, IsLifted, stage_of, all_arcs};
 
 use crate::labels::Labels;
 use crate::listing::{Indexed, Listing};
@@ -16,7 +16,7 @@ use tsn_model::Arc;
 
 /// How a stream stands while one more arc is taken into account.
 #[derive(Clone, Copy)]
-pub enum Standing {
+pub enum Stage {
     /// Not raised so far.
     Calm,
     /// On the chain of the stream where the new arc begins: an arc that asks to raise it closes a chain.
@@ -53,59 +53,54 @@ impl Wave {
     fn raise(
         &mut self,
         labels: &mut Labels,
-        standings: &mut [Standing],
+        stages: &mut [Stage],
         indexed: Indexed,
         offset: u64,
     ) -> Result<bool, AllocError>
         ghost base: { Base }
-        requires { IsRise base (labelling_of labels.old) standings.old self.old indexed offset }
+        requires { IsRise base (labelling_of labels.old) stages.old self.old indexed offset }
         ensures noted { IsNoted base (labelling_of labels.new) self.new.trail }
-        ensures wave { OnOk result (IsWave base (labelling_of labels.new) standings.new self.new) }
+        ensures wave { OnOk result (IsWave base (labelling_of labels.new) stages.new self.new) }
         ensures goes_on { OnOk result
-            (GoesOn (all_arcs base) (labelling_of labels.old) (labelling_of labels.new) standings.old standings.new self.old.queue.items self.new.queue.items) }
-        ensures first { standing_of standings.new indexed.arc.from
-            ≡ standing_of standings.old indexed.arc.from }
+            (GoesOn (all_arcs base) (labelling_of labels.old) (labelling_of labels.new) stages.old stages.new self.old.queue.items self.new.queue.items) }
+        ensures first { stage_of stages.new indexed.arc.from
+            ≡ stage_of stages.old indexed.arc.from }
         ensures met { result ≡ Ok false → Holds labels.new.offsets.items indexed.arc }
         ensures closes { result ≡ Ok true
             → Closes (all_arcs base) (labelling_of labels.new) indexed.index }
     {
         let arc = indexed.arc;
-        let standing = standings[arc.to];
-        if let Standing::Fixed = standing {
+        let stage = stages[arc.to];
+        if let Stage::Fixed = stage {
             return Ok(true);
         }
-        self.enter(labels, standing, arc.to)?;
-        standings[arc.to] = Standing::Waiting;
+        self.enter(labels, stage, arc.to)?;
+        stages[arc.to] = Stage::Waiting;
         labels.raise(indexed.index, arc, offset);
         Ok(false)
     }
 
     /// Puts a stream that is about to be raised into the queue, unless it waits, and notes its label, unless that was done.
-    fn enter(
-        &mut self,
-        labels: &Labels,
-        standing: Standing,
-        stream: usize,
-    ) -> Result<(), AllocError>
+    fn enter(&mut self, labels: &Labels, stage: Stage, stream: usize) -> Result<(), AllocError>
         requires count { length labels.now.last.items ≡ length labels.now.offsets.items }
         requires stream { stream < length labels.now.offsets.items }
         requires trail { IsTrail (length labels.now.offsets.items) self.old.trail }
         ensures queue { OnOk result
-            (self.new.queue.items ≡ queue_with standing self.old.queue.items stream) }
+            (self.new.queue.items ≡ queue_with stage self.old.queue.items stream) }
         ensures formers { OnOk result
-            (self.new.trail.formers.items ≡ formers_with standing self.old.trail.formers.items (former_of (labelling_of labels.now) stream)) }
+            (self.new.trail.formers.items ≡ formers_with stage self.old.trail.formers.items (former_of (labelling_of labels.now) stream)) }
         ensures trail { IsTrail (length labels.now.offsets.items) self.new.trail }
         ensures err { OnErr result
             (self.new.trail.formers.items ≡ self.old.trail.formers.items) }
     {
-        match standing {
-            Standing::Calm => {
+        match stage {
+            Stage::Calm => {
                 self.queue.push(stream)?;
                 self.trail.note(labels, stream)
             }
-            Standing::Settled => Ok(self.queue.push(stream)?),
-            Standing::Fixed => Ok(()),
-            Standing::Waiting => Ok(()),
+            Stage::Settled => Ok(self.queue.push(stream)?),
+            Stage::Fixed => Ok(()),
+            Stage::Waiting => Ok(()),
         }
     }
 
@@ -113,16 +108,16 @@ impl Wave {
     fn relax(
         &mut self,
         labels: &mut Labels,
-        standings: &mut [Standing],
+        stages: &mut [Stage],
         listing: &Listing,
         stream: usize,
     ) -> Result<Option<Indexed>, AllocError>
         ghost base: { Base }
-        requires { IsTurn base (labelling_of labels.old) standings.old self.old listing.now stream }
+        requires { IsTurn base (labelling_of labels.old) stages.old self.old listing.now stream }
         ensures noted { IsNoted base (labelling_of labels.new) self.new.trail }
-        ensures wave { OnOk result (IsWave base (labelling_of labels.new) standings.new self.new) }
+        ensures wave { OnOk result (IsWave base (labelling_of labels.new) stages.new self.new) }
         ensures goes_on { OnOk result
-            (GoesOn (all_arcs base) (labelling_of labels.old) (labelling_of labels.new) standings.old standings.new self.old.queue.items self.new.queue.items) }
+            (GoesOn (all_arcs base) (labelling_of labels.old) (labelling_of labels.new) stages.old stages.new self.old.queue.items self.new.queue.items) }
         ensures met { result ≡ Ok None → MeetsFrom (all_arcs base) labels.new.offsets.items stream }
         ensures closing { IfOk result (λ closing. IfSome closing
             (IsClosing (all_arcs base) (labelling_of labels.new))) }
@@ -132,7 +127,7 @@ impl Wave {
             let Some(offset) = labels.asked(indexed.arc) else {
                 continue;
             };
-            if self.raise(labels, standings, *indexed, offset)? {
+            if self.raise(labels, stages, *indexed, offset)? {
                 return Ok(Some(*indexed));
             }
         }
@@ -160,17 +155,17 @@ impl Wave {
             index: listing.marks.len(),
             arc,
         };
-        let mut standings = [Standing::Calm; MAX_STREAMS];
-        fix_chain(labels, &mut standings, arc.from);
+        let mut stages = [Stage::Calm; MAX_STREAMS];
+        fix_chain(labels, &mut stages, arc.from);
         self.queue.clear();
-        if self.raise(labels, &mut standings, indexed, offset)? {
+        if self.raise(labels, &mut stages, indexed, offset)? {
             return Ok(Some(indexed));
         }
         let mut turn = 0;
         while turn < self.queue.len() {
             let stream = self.queue[turn];
-            standings[stream] = Standing::Settled;
-            match self.relax(labels, &mut standings, listing, stream)? {
+            stages[stream] = Stage::Settled;
+            match self.relax(labels, &mut stages, listing, stream)? {
                 Some(closing) => return Ok(Some(closing)),
                 None => turn += 1,
             }
@@ -180,17 +175,17 @@ impl Wave {
 }
 
 /// Fixes the streams on the chain of a stream.
-fn fix_chain(labels: &Labels, standings: &mut [Standing], mut stream: usize)
+fn fix_chain(labels: &Labels, stages: &mut [Stage], mut stream: usize)
     requires steps { HasSteps (labelling_of labels.now) }
     requires chains { (stream : ℕ) → Rooted labels.now.last.items stream }
     requires stream { stream < length labels.now.last.items }
-    requires room { length labels.now.last.items ≤ length standings.old }
-    requires calm { AreCalm standings.old }
-    ensures fixed { AreFixed labels.now.last.items standings.new stream }
-    ensures others { (stream : ℕ) → IsLifted (standing_of standings.new stream) → ⊥ }
+    requires room { length labels.now.last.items ≤ length stages.old }
+    requires calm { AreCalm stages.old }
+    ensures fixed { AreFixed labels.now.last.items stages.new stream }
+    ensures others { (stream : ℕ) → IsLifted (stage_of stages.new stream) → ⊥ }
 {
     for _ in 0..labels.last.len() {
-        standings[stream] = Standing::Fixed;
+        stages[stream] = Stage::Fixed;
         let Some(step) = labels.last[stream] else {
             return;
         };

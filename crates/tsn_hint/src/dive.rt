@@ -50,7 +50,7 @@ pub struct Sought<'a> {
 
 /// What a search came to.
 #[derive(Clone, Copy, PartialEq, Eq)]
-pub enum Verdict {
+pub enum Finding {
     /// A schedule was found.
     Found,
     /// There is none.
@@ -76,13 +76,13 @@ impl Dive {
     }
 
     /// Searches from the root on. What is found is noted.
-    pub fn seek(&mut self, sought: Sought<'_>) -> Result<Verdict, NoMemory> {
+    pub fn seek(&mut self, sought: Sought<'_>) -> Result<Finding, NoMemory> {
         self.set_limits(sought.flowspan, sought.caps);
-        let verdict = self.descend(sought);
+        let finding = self.descend(sought);
         for _ in 0..self.frames.len() {
             self.leave();
         }
-        verdict
+        finding
     }
 
     /// Puts arcs in at the root that every schedule of at most this flowspan and within the caps has, one after another, each with
@@ -137,7 +137,7 @@ impl Dive {
         }
     }
 
-    fn descend(&mut self, sought: Sought<'_>) -> Result<Verdict, NoMemory> {
+    fn descend(&mut self, sought: Sought<'_>) -> Result<Finding, NoMemory> {
         let mut look = self.look_at_root(sought.flowspan, sought.rule);
         let mut arc = None;
         for left in (0..sought.looks).rev() {
@@ -145,7 +145,7 @@ impl Dive {
                 Look::Closed => {}
                 Look::Solved => {
                     copy(&mut self.found, &self.next.offsets);
-                    return Ok(Verdict::Found);
+                    return Ok(Finding::Found);
                 }
                 Look::Split {
                     number,
@@ -163,10 +163,10 @@ impl Dive {
             match arc {
                 Some(_) if left == 0 => break,
                 Some(next) => look = self.look_below(next, sought),
-                None => return Ok(Verdict::Nothing),
+                None => return Ok(Finding::Nothing),
             }
         }
-        Ok(Verdict::Unknown)
+        Ok(Finding::Unknown)
     }
 
     fn look_at_root(&mut self, flowspan: i64, rule: Rule) -> Look {

@@ -1,6 +1,6 @@
 //! Lesser flowspans close to a schedule: all streams but a few keep their order. Times are in nanoseconds.
 use crate::dice::Dice;
-use crate::dive::{Dive, Sought, Verdict};
+use crate::dive::{Dive, Finding, Sought};
 use crate::plan::Plan;
 use std::alloc::Global;
 use tsn_model::{Arc, NoMemory};
@@ -94,11 +94,11 @@ impl Neighbours {
         } else {
             below
         };
-        let verdict = self.seek(dive, &plan.offsets, free, wanted.max(least))?;
-        if verdict == Verdict::Found {
+        let finding = self.seek(dive, &plan.offsets, free, wanted.max(least))?;
+        if finding == Finding::Found {
             plan.set(dive.survey.tables(), &dive.found);
         }
-        Ok(verdict == Verdict::Found)
+        Ok(finding == Finding::Found)
     }
 
     // Those that arrive last, one stream, and some that share links with it (three of four) or any.
@@ -155,9 +155,9 @@ impl Neighbours {
         offsets: &[i64],
         free: Set,
         flowspan: i64,
-    ) -> Result<Verdict, NoMemory> {
+    ) -> Result<Finding, NoMemory> {
         copy(&mut self.offsets, &dive.root.offsets);
-        let verdict = match self.keep(dive, offsets, free) {
+        let finding = match self.keep(dive, offsets, free) {
             Ok(true) => dive.seek(Sought {
                 flowspan,
                 caps: &self.caps,
@@ -165,12 +165,12 @@ impl Neighbours {
                 rule: Rule::GreaterSlack,
                 looks: LOOKS,
             }),
-            Ok(false) => Ok(Verdict::Unknown),
+            Ok(false) => Ok(Finding::Unknown),
             Err(refused) => Err(refused),
         };
         copy(&mut dive.root.offsets, &self.offsets);
         take_out(dive, &mut self.kept);
-        verdict
+        finding
     }
 
     // Puts the arcs in that keep the order. Whether they leave offsets for the root.

@@ -1,6 +1,6 @@
 //! An early schedule in list order: the streams' offsets are lowered one after another, and no flowspan grows by that. Times are in
 //! nanoseconds.
-use crate::dive::{Dive, Sought, Verdict};
+use crate::dive::{Dive, Finding, Sought};
 use crate::hint::{HintNews, Watch, news_of};
 use crate::plan::Plan;
 use tsn_model::{Arc, NoMemory};
@@ -75,17 +75,17 @@ fn lower(
         if below < least {
             break;
         }
-        let mut verdict = Verdict::Unknown;
+        let mut finding = Finding::Unknown;
         if least < below {
-            verdict = try_at(dive, caps, lowering, least, EARLIEST_LOOKS, plan)?;
-            if verdict == Verdict::Nothing {
+            finding = try_at(dive, caps, lowering, least, EARLIEST_LOOKS, plan)?;
+            if finding == Finding::Nothing {
                 least = least.wrapping_add(1);
             }
         }
-        if verdict != Verdict::Found {
+        if finding != Finding::Found {
             match try_at(dive, caps, lowering, below, LOOKS, plan)? {
-                Verdict::Found => {}
-                Verdict::Nothing | Verdict::Unknown => break,
+                Finding::Found => {}
+                Finding::Nothing | Finding::Unknown => break,
             }
         }
     }
@@ -100,25 +100,25 @@ fn try_at(
     cap: i64,
     looks: usize,
     plan: &mut Plan,
-) -> Result<Verdict, NoMemory> {
+) -> Result<Finding, NoMemory> {
     put(caps, lowering.stream, cap);
     for is_guided in [false, true] {
         let guide: &[i64] = &plan.offsets;
-        let verdict = dive.seek(Sought {
+        let finding = dive.seek(Sought {
             flowspan: lowering.flowspan,
             caps,
             guide: if is_guided { Some(guide) } else { None },
             rule: Rule::SumOfSlacks,
             looks,
         })?;
-        match verdict {
-            Verdict::Found => {
+        match finding {
+            Finding::Found => {
                 copy(&mut plan.offsets, &dive.found);
-                return Ok(Verdict::Found);
+                return Ok(Finding::Found);
             }
-            Verdict::Nothing => return Ok(Verdict::Nothing),
-            Verdict::Unknown => {}
+            Finding::Nothing => return Ok(Finding::Nothing),
+            Finding::Unknown => {}
         }
     }
-    Ok(Verdict::Unknown)
+    Ok(Finding::Unknown)
 }

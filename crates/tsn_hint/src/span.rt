@@ -1,5 +1,5 @@
 //! A schedule of little flowspan. Times are in nanoseconds.
-use crate::dive::{Dive, Sought, Verdict};
+use crate::dive::{Dive, Finding, Sought};
 use crate::neighbours::lower_by_neighbours;
 use crate::plan::Plan;
 use std::alloc::Global;
@@ -25,7 +25,7 @@ pub fn lower_flowspan(
         return Ok(());
     }
     let cycle = dive.survey.tables().cycle;
-    if least <= cycle && try_at(dive, caps, least, Rule::SumOfSlacks, plan)? == Verdict::Found {
+    if least <= cycle && try_at(dive, caps, least, Rule::SumOfSlacks, plan)? == Finding::Found {
         return Ok(());
     }
     if plan.flowspan.is_none() {
@@ -42,7 +42,7 @@ pub fn lower_flowspan(
 }
 
 fn find_any(dive: &mut Dive, caps: &[i64], cycle: i64, plan: &mut Plan) -> Result<(), NoMemory> {
-    if try_at(dive, caps, cycle, Rule::SumOfSlacks, plan)? == Verdict::Unknown {
+    if try_at(dive, caps, cycle, Rule::SumOfSlacks, plan)? == Finding::Unknown {
         let _ = try_at(dive, caps, cycle, Rule::LesserSlack, plan)?;
     }
     Ok(())
@@ -55,14 +55,14 @@ fn lower_by_steps(dive: &mut Dive, caps: &[i64], plan: &mut Plan) -> Result<bool
             return Ok(false);
         };
         let below = flowspan.wrapping_sub(1);
-        let mut verdict = try_at(dive, caps, below, Rule::SumOfSlacks, plan)?;
-        if verdict == Verdict::Unknown {
-            verdict = try_at(dive, caps, below, Rule::GreaterSlack, plan)?;
+        let mut finding = try_at(dive, caps, below, Rule::SumOfSlacks, plan)?;
+        if finding == Finding::Unknown {
+            finding = try_at(dive, caps, below, Rule::GreaterSlack, plan)?;
         }
-        match verdict {
-            Verdict::Found => {}
-            Verdict::Nothing => return Ok(true),
-            Verdict::Unknown => return Ok(false),
+        match finding {
+            Finding::Found => {}
+            Finding::Nothing => return Ok(true),
+            Finding::Unknown => return Ok(false),
         }
     }
     Ok(false)
@@ -74,16 +74,16 @@ fn try_at(
     flowspan: i64,
     rule: Rule,
     plan: &mut Plan,
-) -> Result<Verdict, NoMemory> {
-    let verdict = dive.seek(Sought {
+) -> Result<Finding, NoMemory> {
+    let finding = dive.seek(Sought {
         flowspan,
         caps,
         guide: None,
         rule,
         looks: LOOKS,
     })?;
-    if verdict == Verdict::Found {
+    if finding == Finding::Found {
         plan.set(dive.survey.tables(), &dive.found);
     }
-    Ok(verdict)
+    Ok(finding)
 }

@@ -4,16 +4,16 @@ ghost use Rattle.tsn_model.specs.declared.Triple.{Triple};
 ghost use Rattle.tsn_model.specs.Schedule.{IsConflict};
 ghost use Rattle.tsn_model.specs.Certificate.{Proves};
 ghost use Rattle.tsn_cert.specs.Node.{tree_node};
-ghost use Rattle.tsn_branch.specs.Leaf.{leaf_of};
+ghost use Rattle.tsn_cert.specs.Leaf.{leaf_of};
 ghost use Rattle.tsn_branch.specs.Path.{Fits, IsUndecided};
 ghost use Rattle.tsn_branch.specs.Descent.{Stands, Splits};
 ghost use Rattle.tsn_prove.specs.Filling.{IsFilling};
 ghost use Rattle.tsn_prove.specs.Walk.{IsWalk, Goes, nodes_in};
 
 use std::alloc::Global;
-use tsn_branch::outcome::{Leaf, Look};
+use tsn_branch::outcome::Look;
 use tsn_branch::{Aim, Descent, Guidance, NoMemory, Tables, Triple};
-use tsn_cert::Node;
+use tsn_cert::{Leaf, Node};
 use tsn_timing::{Solved, Timing};
 
 /// Where a walk stands, and the nodes that it has settled, in preorder.
@@ -62,7 +62,7 @@ impl Walk {
         let aim = Aim { target, best: None };
         match self.descent.look_guided(alloc, tables, guidance, aim)? {
             Look::Split(triple) => self.split(tables, target, triple),
-            Look::Pruned { leaf, .. } => self.close(tables, target, leaf),
+            Look::Pruned { leaf, .. } => self.close(tables, target, Leaf::Bound(leaf)),
             Look::Refuted(leaf) => self.close(tables, target, leaf),
             Look::Solved { solved, .. } => Ok(Step::Undercut(solved)),
             Look::Tied { .. } => unreachable!(),
@@ -98,7 +98,7 @@ impl Walk {
         // The network and the target stand in the contract alone.
         let _ = tables;
         let _ = target;
-        self.nodes.push(leaf.into()).map_err(|_| NoMemory)?;
+        self.nodes.push(Node::Leaf(leaf)).map_err(|_| NoMemory)?;
         if self.descent.next() {
             Ok(Step::Closed)
         } else {

@@ -2,7 +2,7 @@
 
 use std::alloc::{AllocError, Global};
 use std::fmt::Write;
-use tsn_cert::{Cert, Format, Node, Plan};
+use tsn_cert::{Cert, Format, Leaf, Node, Plan};
 use tsn_check::{Bound, bound_at};
 use tsn_model::NoMemory;
 use tsn_timing::Timing;
@@ -95,7 +95,7 @@ fn push_overrun(
     end: i64,
     arrival: i64,
 ) -> Result<(), AllocError> {
-    let Node::Overrun(stream, _) = node else {
+    let Node::Leaf(Leaf::Overrun(stream, _)) = node else {
         return Ok(());
     };
     if *stream >= timing.streams() {
@@ -119,7 +119,7 @@ fn push_overload(
     node: &Node,
     end: i64,
 ) -> Result<(), AllocError> {
-    let Node::Overload(link, _) = node else {
+    let Node::Leaf(Leaf::Overload(link, _)) = node else {
         return Ok(());
     };
     let cycle = timing.cycle();

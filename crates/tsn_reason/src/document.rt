@@ -7,7 +7,7 @@ use tsn_net::Place;
 pub fn value_at(top: &Value, place: Place) -> &Value {
     let found = match place {
         Place::Node(node) => elements_at(top, "node").get(node),
-        Place::Link(cable) => elements_at(top, "link").get(cable),
+        Place::Cable(cable) => elements_at(top, "link").get(cable),
         Place::Stream(stream) => elements_at(top, "stream").get(stream),
         Place::Text | Place::Top => None,
     };

@@ -11,7 +11,7 @@ use tsn_net::Place;
 fn keys_at(place: Place) -> &'static [&'static str] {
     match place {
         Place::Node(_) => &["name", "kind", "proc"],
-        Place::Link(_) => &["a", "b", "mbps", "prop"],
+        Place::Cable(_) => &["a", "b", "mbps", "prop"],
         Place::Stream(_) => &["name", "octets", "route", "release", "latest"],
         Place::Text | Place::Top => &["cycle", "node", "link", "stream"],
     }

@@ -11,7 +11,7 @@ use tsn_net::Place;
 pub fn push_limit(text: &mut String, table: &Value, place: Place) -> Result<(), AllocError> {
     let _is_told = match place {
         Place::Node(_) => push_node_limit(text, table)?,
-        Place::Link(_) => push_cable_limit(text, table)?,
+        Place::Cable(_) => push_cable_limit(text, table)?,
         Place::Stream(_) => push_stream_limit(text, table)?,
         Place::Text | Place::Top => push_top_limit(text, table)?,
     };

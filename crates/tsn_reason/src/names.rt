@@ -33,7 +33,7 @@ pub fn push_unknown_name(
 ) -> Result<(), AllocError> {
     let nodes = elements_at(top, "node");
     let unknown = match place {
-        Place::Link(_) => unknown_end(nodes, table),
+        Place::Cable(_) => unknown_end(nodes, table),
         _ => unknown_in_route(nodes, elements_at(table, "route")),
     };
     text.push_str("there is no node ")?;
@@ -68,7 +68,7 @@ pub fn push_bad_rate(text: &mut String, cable: &Value) -> Result<(), AllocError>
 }
 
 /// Writes that a cable joins a node to itself, or which cable before it joins its nodes.
-pub fn push_duplicate_link(
+pub fn push_duplicate_cable(
     text: &mut String,
     top: &Value,
     cable: &Value,

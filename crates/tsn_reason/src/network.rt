@@ -3,8 +3,8 @@
 use crate::document::{text_at, value_at};
 use crate::keys::{push_missing_key, push_unknown_key, push_wrong_kind};
 use crate::limits::push_limit;
-use crate::names::{push_bad_rate, push_duplicate_link, push_duplicate_name, push_unknown_name};
-use crate::routes::{push_bad_route, push_no_link};
+use crate::names::{push_bad_rate, push_duplicate_cable, push_duplicate_name, push_unknown_name};
+use crate::routes::{push_bad_route, push_no_cable};
 use crate::text::{is_name, line_of, push_name};
 use crate::{File, Reason};
 use std::alloc::{AllocError, Global};
@@ -57,9 +57,9 @@ fn push_fault(text: &mut String, top: &Value, fault: NetFault) -> Result<(), All
         Code::DuplicateName => push_duplicate_name(text, top, table, place),
         Code::UnknownName => push_unknown_name(text, top, table, place),
         Code::BadRate => push_bad_rate(text, table),
-        Code::DuplicateLink => push_duplicate_link(text, top, table),
+        Code::DuplicateCable => push_duplicate_cable(text, top, table),
         Code::BadRoute => push_bad_route(text, top, table),
-        Code::NoLink => push_no_link(text, top, table),
+        Code::NoCable => push_no_cable(text, top, table),
         Code::NoStream => text.push_str("there is no stream"),
         Code::NotToml | Code::Memory => Ok(()),
     }
@@ -69,7 +69,7 @@ fn push_fault(text: &mut String, top: &Value, fault: NetFault) -> Result<(), All
 fn push_place(text: &mut String, table: &Value, place: Place) -> Result<(), AllocError> {
     match place {
         Place::Node(node) => push_named(text, "node", node, table),
-        Place::Link(cable) => push_cable(text, cable, table),
+        Place::Cable(cable) => push_cable(text, cable, table),
         Place::Stream(stream) => push_named(text, "stream", stream, table),
         Place::Text | Place::Top => Ok(()),
     }

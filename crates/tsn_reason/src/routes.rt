@@ -97,7 +97,7 @@ fn station_inside<'a>(nodes: &[Value], route: &'a [Value]) -> &'a str {
 }
 
 /// Writes which neighbours of a route no cable joins.
-pub fn push_no_link(text: &mut String, top: &Value, stream: &Value) -> Result<(), AllocError> {
+pub fn push_no_cable(text: &mut String, top: &Value, stream: &Value) -> Result<(), AllocError> {
     let cables = elements_at(top, "link");
     let route = elements_at(stream, "route");
     for index in 1..route.len() {

@@ -170,27 +170,32 @@ fn is_branch(rt: &impl Abort, node: &Node) {
 
 fn is_late(rt: &impl Abort, node: &Node) {
     match node {
-        Node::Late(stream, chain) => { assert!(rt; *stream == 1 && has(chain, &[0])) }
+        Node::Leaf(Leaf::Bound(LowerBound::Late(stream, chain))) => {
+            assert!(rt; *stream == 1 && has(chain, &[0]))
+        }
         _ => panic!(rt; "no late leaf was read"),
     }
 }
 
 fn is_overrun(rt: &impl Abort, node: &Node) {
     match node {
-        Node::Overrun(stream, chain) => { assert!(rt; *stream == 2 && has(chain, &[0, 1])) }
+        Node::Leaf(Leaf::Overrun(stream, chain)) => {
+            assert!(rt; *stream == 2 && has(chain, &[0, 1]))
+        }
         _ => panic!(rt; "no overrun leaf was read"),
     }
 }
 
 fn is_cycle(rt: &impl Abort, node: &Node) {
     match node {
-        Node::Cycle(chain) => assert!(rt; has(chain, &[3])),
+        Node::Leaf(Leaf::Cycle(chain)) => assert!(rt; has(chain, &[3])),
         _ => panic!(rt; "no cycle leaf was read"),
     }
 }
 
 fn late(alloc: Global, stream: usize) -> Result<Node, Fail> {
-    Ok(Node::Late(stream, Chain::of(alloc, &[0])?))
+    let chain = Chain::of(alloc, &[0])?;
+    Ok(Node::Leaf(Leaf::Bound(LowerBound::Late(stream, chain))))
 }
 
 // The branch of the two streams' tree, and its leaves.
@@ -266,7 +271,8 @@ fn entries_are_made_and_given_back(rt: HostRuntime) -> Result<(), Fail> {
     let list = entries.into_list();
     assert_eq!(rt; list.len(), 2);
     let file = "{\"format\":1,\"nodes\":[[\"load\",7,[[3,[]],[5,[1,0]]]]],\"target\":9}\n";
-    let nodes = vec![in rt.alloc(); Node::Load(7, Entries::of(list))]?;
+    let load = LowerBound::Load(7, Entries::of(list));
+    let nodes = vec![in rt.alloc(); Node::Leaf(Leaf::Bound(load))]?;
     prints_nodes(&rt, rt.alloc(), Format::One, 9, nodes, file)
 }
 
@@ -283,7 +289,7 @@ fn chains_are_made_and_given_back(rt: HostRuntime) -> Result<(), Fail> {
     let chains = Chains::of(two_chains(rt.alloc())?);
     assert_eq!(rt; chains.list().len(), 2);
     let chain = Chain::of(rt.alloc(), &[2, 0])?;
-    let tie = Node::Tie(1, chain, Chains::of(chains.into_list()));
+    let tie = Node::Tie(LowerBound::Late(1, chain), Chains::of(chains.into_list()));
     let file = "{\"format\":2,\"nodes\":[[\"tie\",1,[2,0],[[],[2,0]]]],\"target\":9}\n";
     let nodes = vec![in rt.alloc(); tie]?;
     prints_nodes(&rt, rt.alloc(), Format::Two, 9, nodes, file)

@@ -98,7 +98,7 @@ fn printed_faults(rt: HostRuntime) -> Result<(), Fail> {
         (Code::NotToml, Place::Text, "N1 text"),
         (Code::NoStream, Place::Top, "N12 top"),
         (Code::DuplicateName, Place::Node(255), "N6 node 255"),
-        (Code::BadRate, Place::Link(2), "N8 link 2"),
+        (Code::BadRate, Place::Cable(2), "N8 link 2"),
         (Code::BadRoute, Place::Stream(0), "N10 stream 0"),
         (Code::Memory, Place::Text, "N13 text"),
     ];

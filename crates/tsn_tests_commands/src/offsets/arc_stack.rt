@@ -5,7 +5,7 @@ use crate::offsets::found::{expect_same, solved};
 use std::alloc::{AllocError, Global};
 use std::process::Abort;
 use std::test::Fail;
-use tsn_diff::{ArcStack, MAX_STREAMS, MAX_WEIGHT, Net, Outcome};
+use tsn_diff::{ArcStack, Feasibility, MAX_STREAMS, MAX_WEIGHT, Net};
 use tsn_model::{Arc, NoMemory};
 
 /// Puts an arc in, or finds the chain that it closes.
@@ -219,14 +219,14 @@ fn expect_as_from_nothing<R: Abort + AllocGlobal>(
     all.push(arc)?;
     let closed = put_in(rt, stack, arc)?;
     let found = solved(rt.alloc(), net, &all)?;
-    assert!(rt; closed.is_some() == matches!(found, Some(Outcome::Positive(_))));
+    assert!(rt; closed.is_some() == matches!(found, Some(Feasibility::Positive(_))));
     Ok(())
 }
 
-fn has_offsets(found: &Option<Outcome>, offsets: &[u64]) -> bool {
+fn has_offsets(found: &Option<Feasibility>, offsets: &[u64]) -> bool {
     match found {
-        Some(Outcome::Least(least)) => least.offsets() == offsets,
-        Some(Outcome::Positive(_)) | None => false,
+        Some(Feasibility::Least(least)) => least.offsets() == offsets,
+        Some(Feasibility::Positive(_)) | None => false,
     }
 }
 

@@ -6,7 +6,7 @@ ghost use Rattle.tsn_diff.specs.Limits.{IsArcAmong};
 use std::alloc::{AllocError, Global};
 use std::process::Abort;
 use std::test::Fail;
-use tsn_diff::{Least, Net, Outcome};
+use tsn_diff::{Feasibility, Least, Net};
 use tsn_model::{Arc, NoMemory};
 
 fn takes(net: &Net, arc: Arc) -> bool
@@ -16,7 +16,7 @@ fn takes(net: &Net, arc: Arc) -> bool
 }
 
 /// Solves the arcs at once. `None`: they aren't taken.
-pub fn solved(alloc: Global, net: &Net, arcs: &[Arc]) -> Result<Option<Outcome>, NoMemory> {
+pub fn solved(alloc: Global, net: &Net, arcs: &[Arc]) -> Result<Option<Feasibility>, NoMemory> {
     if !net.takes(arcs) {
         return Ok(None);
     }
@@ -29,22 +29,22 @@ pub fn solved_by_adding(
     net: &Net,
     others: &[Arc],
     last: Arc,
-) -> Result<Option<Outcome>, NoMemory> {
+) -> Result<Option<Feasibility>, NoMemory> {
     if !net.takes(others) || !takes(net, last) {
         return Ok(None);
     }
-    let Outcome::Least(least) = net.least(alloc, others)? else {
+    let Feasibility::Least(least) = net.least(alloc, others)? else {
         return Ok(None);
     };
     Ok(Some(least.with_arc(alloc, last)?))
 }
 
 /// The least offsets with the chain of each stream, or the length and the sum of a closed chain.
-fn text_of(alloc: Global, arcs: &[Arc], found: &Option<Outcome>) -> Result<String, Fail> {
+fn text_of(alloc: Global, arcs: &[Arc], found: &Option<Feasibility>) -> Result<String, Fail> {
     match found {
         None => Ok("unsolved".to_string(alloc)?),
-        Some(Outcome::Least(least)) => least_text(alloc, least),
-        Some(Outcome::Positive(chain)) => closed_text(alloc, chain.len(), sum_of(arcs, chain)),
+        Some(Feasibility::Least(least)) => least_text(alloc, least),
+        Some(Feasibility::Positive(chain)) => closed_text(alloc, chain.len(), sum_of(arcs, chain)),
     }
 }
 

@@ -8,7 +8,7 @@ use Rattle.tsn_model.specs.declared.Decision.{Decision}
 use Rattle.tsn_model.specs.Network.{Network}
 use Rattle.tsn_model.specs.Arcs.{arcs_of, arc_on}
 use Rattle.tsn_model.proofs.Decisions.{arcs_of-decided}
-use Rattle.tsn_diff.specs.declared.solve.Outcome.{Outcome}
+use Rattle.tsn_diff.specs.declared.solve.Feasibility.{Feasibility}
 use Rattle.tsn_diff.specs.Offsets.{LeastOffsets}
 use Rattle.tsn_diff.specs.Answers.{Answers, Solves}
 use Rattle.tsn_branch.specs.Releases.{releases_of}
@@ -18,7 +18,8 @@ use Rattle.tsn_branch.proofs.Descents.{by_last}
 use Rattle.tsn_branch.proofs.arcs.least_at.Goals as goal
 
 -- the arcs of all decisions but the last, and the last one's
-answers_below : (network : Network) (path : List Decision) (last : Decision) (above : LeastOffsets) (arc : Arc) (outcome : Outcome) → 0 < length path → last ≡ get_or path (length path - 1) last
+answers_below : (network : Network) (path : List Decision) (last : Decision) (above : LeastOffsets) (arc : Arc) (outcome : Feasibility)
+    → 0 < length path → last ≡ get_or path (length path - 1) last
     → IsLeastAbove network path above → arc ≡ arc_on network last.triple last.side → Answers above.releases (above.arcs ++ arc ∷ []) outcome → Answers (releases_of network) (arcs_of network path) outcome
 answers_below network path last above arc outcome some at least is answers =
     let front : List Decision = take (length path - 1) path in

@@ -12,7 +12,7 @@ use Rattle.tsn_branch.specs.Releases.{releases_of}
 use Rattle.tsn_branch.specs.Least.{ComesWithSplit}
 use Rattle.tsn_branch.specs.Outcome.{outcome_of}
 use Rattle.tsn_branch.specs.Look.{IsLook, IsRefutation}
-use Rattle.tsn_branch.specs.Descent.{Closes, IsVerdict}
+use Rattle.tsn_branch.specs.Descent.{Closes, IsJudgement}
 use Rattle.tsn_branch.proofs.Leasts.{IsRefutation-from}
 use Rattle.tsn_branch.proofs.judge.judge.Goals as goal
 
@@ -29,7 +29,8 @@ bounds-triples-point c =
     let network = c.args.tables.timing.now in
     let (path, answers) = c.requires.some_path in
     let solves = subst (Answers (releases_of network) (arcs_of network path)) c.in-Least.is answers in
-    let found = subst (IsVerdict network path c.args.aim.target (option_copied c.args.aim.best)) c.in-Split.is (c.in_ok-verdict-in-Least.ensures path solves) in
+    let found = subst (IsJudgement network path c.args.aim.target (option_copied c.args.aim.best)) c.in-Split.is
+    (c.in_ok-judgement-in-Least.ensures path solves) in
     subst (λ (ts : List Triple). c.in-Split.point.triple < length ts) (sym (c.triples.ensures ∙ c.args.tables.right_conflicts.triples)) found.0.within
 
 pub offset_bounds-triples-point : goal.offset_bounds-triples-point
@@ -37,7 +38,8 @@ offset_bounds-triples-point c =
     let network = c.args.tables.timing.now in
     let (path, answers) = c.requires.some_path in
     let solves = subst (Answers (releases_of network) (arcs_of network path)) c.in-Least.is answers in
-    let found = subst (IsVerdict network path c.args.aim.target (option_copied c.args.aim.best)) c.in-Split.is (c.in_ok-verdict-in-Least.ensures path solves) in
+    let found = subst (IsJudgement network path c.args.aim.target (option_copied c.args.aim.best)) c.in-Split.is
+    (c.in_ok-judgement-in-Least.ensures path solves) in
     let below : c.in-Split.point.triple < length c.triples.result.now =
     subst (λ (ts : List Triple). c.in-Split.point.triple < length ts) (sym (c.triples.ensures ∙ c.args.tables.right_conflicts.triples)) found.0.within in
     let long = c.triples.type_inv in
@@ -48,7 +50,8 @@ returns-in-Split-clause-look c =
     λ path answers.
     let network = c.args.tables.timing.now in
     let solves = subst (Answers (releases_of network) (arcs_of network path)) c.in-Least.is answers in
-    let found = subst (IsVerdict network path c.args.aim.target (option_copied c.args.aim.best)) c.in-Split.is (c.in_ok-verdict-in-Least.ensures path solves) in
+    let found = subst (IsJudgement network path c.args.aim.target (option_copied c.args.aim.best)) c.in-Split.is
+    (c.in_ok-judgement-in-Least.ensures path solves) in
     subst (λ (ts : List Triple). IsLook network path c.args.aim.target (option_copied c.args.aim.best) (split (triple_at ts c.in-Split.point.triple))) (sym (c.triples.ensures ∙ c.args.tables.right_conflicts.triples)) found.1
 
 pub returns-in-Closed-clause-look : goal.returns-in-Closed-clause-look
@@ -56,7 +59,8 @@ returns-in-Closed-clause-look c =
     λ path answers.
     let network = c.args.tables.timing.now in
     let solves = subst (Answers (releases_of network) (arcs_of network path)) c.in-Least.is answers in
-    let found = subst (IsVerdict network path c.args.aim.target (option_copied c.args.aim.best)) c.in-Closed.is (c.in_ok-verdict-in-Least.ensures path solves) in
+    let found = subst (IsJudgement network path c.args.aim.target (option_copied c.args.aim.best)) c.in-Closed.is
+    (c.in_ok-judgement-in-Least.ensures path solves) in
     found.1
 
 pub returns-in-Closed-clause-least : goal.returns-in-Closed-clause-least
@@ -64,7 +68,8 @@ returns-in-Closed-clause-least c =
     λ path answers.
     let network = c.args.tables.timing.now in
     let solves = subst (Answers (releases_of network) (arcs_of network path)) c.in-Least.is answers in
-    let found = subst (IsVerdict network path c.args.aim.target (option_copied c.args.aim.best)) c.in-Closed.is (c.in_ok-verdict-in-Least.ensures path solves) in
+    let found = subst (IsJudgement network path c.args.aim.target (option_copied c.args.aim.best)) c.in-Closed.is
+    (c.in_ok-judgement-in-Least.ensures path solves) in
     comes_alone network path (outcome_of c.in-Closed.look) found.0
 
 pub returns-in_ok-of-in-Positive-clause-look : goal.returns-in_ok-of-in-Positive-clause-look

@@ -45,4 +45,4 @@ judge_known-requires-clause-raised c =
 pub returns : goal.returns
 returns c =
     IfOk-weaker c.judge_known.result _ _
-    (λ verdict is path arcs. is path (solves_on c.args.tables.timing.now path c.args.stack.now c.least-least.result.now c.least-least.ensures.value c.least-least.ensures.solves c.requires.releases arcs)) c.judge_known.ensures
+    (λ judgement is path arcs. is path (solves_on c.args.tables.timing.now path c.args.stack.now c.least-least.result.now c.least-least.ensures.value c.least-least.ensures.solves c.requires.releases arcs)) c.judge_known.ensures

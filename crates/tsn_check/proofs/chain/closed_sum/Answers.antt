@@ -1,4 +1,4 @@
-use Rattle.std.proofs.Common.{◌-◌, length, slice_index_or, pos, refl, sym, ap, ◌∙◌}
+use Rattle.std.proofs.Common.{◌-◌, slice_index_or, pos, sym, ap, ◌∙◌}
 use Rattle.tsn_model.specs.declared.Side.TheVariants.{Left}
 use Rattle.tsn_check.specs.declared.path.Turn.{Turn}
 use Rattle.tsn_check.specs.Turns.{arcs}

@@ -1,7 +1,8 @@
 use Rattle.std.proofs.Common.{◌≡◌, [], ◌∷◌, ◌++◌, ap, sym, ◌∙◌, inl, inr}
 use Rattle.std.proofs.lemmas.List.{map-append}
 use Rattle.tsn_model.specs.declared.Side.TheVariants.{Left}
-use Rattle.tsn_model.specs.Certificate.{decided, late, overrun, positive_cycle, load, overload}
+use Rattle.tsn_model.specs.Certificate.{decided}
+use Rattle.tsn_cert.specs.Leaf.{bound_leaf, leaf_of}
 use Rattle.tsn_check.specs.declared.path.Turn.{Turn}
 use Rattle.tsn_model.specs.Places.{pending}
 use Rattle.tsn_check.specs.Turns.{decisions}
@@ -17,26 +18,11 @@ returns-in_ok-push-in-Branch-clause-places c =
     ∙ ap (λ d. path ++ d ∷ []) c.turn_to.ensures.decision in
     rw c.in-Branch.is (after_branch path c.in-Branch.triple ∙ (λ i. sym longer i ∷ pending (sym longer i)))
 
-pub returns-in-Late-clause-places : goal.returns-in-Late-clause-places
-returns-in-Late-clause-places c =
+pub returns-in-Leaf-clause-places : goal.returns-in-Leaf-clause-places
+returns-in-Leaf-clause-places c =
     let path = decisions c.args.path.now.items in
     let next = decisions c.next_place.new.path.items in
-    elim c.in-Late.is [
-      | inl is ↦ rw is.2 (after_leaf path (late is.0 is.1) c.next_place.result next c.next_place.ensures.next)
-      | inr other ↦ elim other [
-        | inl is ↦ rw is.2 (after_leaf path (overrun is.0 is.1) c.next_place.result next c.next_place.ensures.next)
-        | inr rest ↦ elim rest [
-          | inl is ↦ rw is.1 (after_leaf path (positive_cycle is.0) c.next_place.result next c.next_place.ensures.next)
-          | inr last ↦ elim last [
-            | inl is ↦ rw is.2 (after_leaf path (load is.0 is.1) c.next_place.result next c.next_place.ensures.next)
-            | inr more ↦ elim more [
-              | inl is ↦ rw is.2 (after_leaf path (overload is.0 is.1) c.next_place.result next c.next_place.ensures.next)
-              | inr ties ↦ elim ties [
-                | inl is ↦ rw is.3 (after_tie path (late is.0 is.1) is.2 c.next_place.result next c.next_place.ensures.next)
-                | inr is ↦ rw is.3 (after_tie path (load is.0 is.1) is.2 c.next_place.result next c.next_place.ensures.next)
-              ]
-            ]
-          ]
-        ]
-      ]
+    elim c.in-Leaf.is [
+      | inl is ↦ rw is.1 (after_leaf path (leaf_of is.0) c.next_place.result next c.next_place.ensures.next)
+      | inr is ↦ rw is.2 (after_tie path (bound_leaf is.0) is.1 c.next_place.result next c.next_place.ensures.next)
     ]

@@ -6,7 +6,7 @@ abbrev pub invariant-loop : goal.invariant-loop
 invariant-loop l =
     record {
       end_is : l.end ≡ length l.labels.last.items;
-      room : length l.standings ≡ length l.fn.standings;
+      room : length l.stages ≡ length l.fn.stages;
       stream_in : l.stream < length l.labels.last.items;
-      fixed : AreFixedTo l.labels.last.items l.standings l.fn.stream l.stream l.counter;
+      fixed : AreFixedTo l.labels.last.items l.stages l.fn.stream l.stream l.counter;
     }

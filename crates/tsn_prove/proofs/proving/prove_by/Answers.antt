@@ -1,6 +1,4 @@
-use Rattle.std.proofs.Common.{◌≡◌, ◌≤◌, length, ap, ◌∙◌, subst, arith}
-use Rattle.tsn_model.specs.Schedule.{target_of}
-use Rattle.tsn_check.specs.Faults.{offsets_in}
+use Rattle.std.proofs.Common.{◌≡◌, length, ap, ◌∙◌, subst, arith}
 use Rattle.tsn_prove.specs.Walk.{Goes, nodes_in}
 use Rattle.tsn_prove.proofs.Answering.{IfOk-weaker, unfinished}
 use Rattle.tsn_prove.proofs.proving.prove_by.Goals as goal

@@ -1,7 +1,7 @@
 use Rattle.std.proofs.Common.{subst}
 use Rattle.std.specs.Prelude.{option_copied}
 use Rattle.tsn_branch.specs.Outcome.{outcome_of}
-use Rattle.tsn_branch.specs.Descent.{IsVerdict}
+use Rattle.tsn_branch.specs.Descent.{IsJudgement}
 use Rattle.tsn_branch.proofs.Rights.{HasProof-from, PrunesFrom-from, SolvesBelow-from, TiesWith-from}
 use Rattle.tsn_branch.proofs.descent.Descent.find_guided.Goals as goal
 
@@ -11,7 +11,7 @@ returns-in-Closed c =
     let path = c.args.self.now.path in
     let target = c.args.aim.target in
     let best = option_copied c.args.aim.best in
-    let found = subst (IsVerdict network path target best) c.in-Closed.is c.in_ok-point.ensures in
+    let found = subst (IsJudgement network path target best) c.in-Closed.is c.in_ok-point.ensures in
     let outcome = outcome_of c.in-Closed.look in
     record {
       closes = found.0;

@@ -6,7 +6,7 @@ use Rattle.tsn_model.specs.Arcs.{conflicts_of}
 use Rattle.tsn_model.specs.Search.{split}
 use Rattle.tsn_conflict.specs.Raised.{triple_at}
 use Rattle.tsn_branch.specs.Outcome.{outcome_of}
-use Rattle.tsn_branch.specs.Descent.{IsVerdict}
+use Rattle.tsn_branch.specs.Descent.{IsJudgement}
 use Rattle.tsn_branch.specs.Look.{IsRefutation, HasProof, SplitsUndecided, SplitsAmong, TiesWith}
 use Rattle.tsn_branch.proofs.Leasts.{IsRefutation-from}
 use Rattle.tsn_branch.proofs.Rights.{HasProof-from, SplitsUndecided-from, SplitsAmong-from, SolvesBelow-from, TiesWith-from}
@@ -27,7 +27,7 @@ pub returns-in-Ok-Split-clause-undecided : goal.returns-in-Ok-Split-clause-undec
 returns-in-Ok-Split-clause-undecided c =
     let network = c.args.tables.timing.now in
     let target = c.args.aim.target in
-    let found = subst (IsVerdict network c.lead.new.self.path target (option_copied c.args.aim.best)) c.in-Ok-Split.field-0-is c.in-Ok-Split.ensures in
+    let found = subst (IsJudgement network c.lead.new.self.path target (option_copied c.args.aim.best)) c.in-Ok-Split.field-0-is c.in-Ok-Split.ensures in
     let path : c.lead.new.self.path ≡ c.args.self.now.path = c.lead.ensures.path in
     let triples = c.triples.ensures ∙ c.args.tables.right_conflicts.triples in
     let right = SplitsUndecided-from network c.lead.new.self.path target (option_copied c.args.aim.best) (split (triple_at (conflicts_of network) c.in-Ok-Split.point.triple)) found.1 in
@@ -37,19 +37,19 @@ returns-in-Ok-Split-clause-undecided c =
 pub returns-in-Ok-Closed-clause-proof : goal.returns-in-Ok-Closed-clause-proof
 returns-in-Ok-Closed-clause-proof c =
     let network = c.args.tables.timing.now in
-    let found = subst (IsVerdict network c.lead.new.self.path c.args.aim.target (option_copied c.args.aim.best)) c.in-Ok-Closed.field-0-is c.in-Ok-Closed.ensures in
+    let found = subst (IsJudgement network c.lead.new.self.path c.args.aim.target (option_copied c.args.aim.best)) c.in-Ok-Closed.field-0-is c.in-Ok-Closed.ensures in
     subst (λ p. HasProof network p (outcome_of c.in-Ok-Closed.look)) c.lead.ensures.path (HasProof-from network c.lead.new.self.path c.args.aim.target (option_copied c.args.aim.best) (outcome_of c.in-Ok-Closed.look) found.1)
 
 pub returns-in-Ok-Closed-clause-below : goal.returns-in-Ok-Closed-clause-below
 returns-in-Ok-Closed-clause-below c =
     let network = c.args.tables.timing.now in
-    let found = subst (IsVerdict network c.lead.new.self.path c.args.aim.target (option_copied c.args.aim.best)) c.in-Ok-Closed.field-0-is c.in-Ok-Closed.ensures in
+    let found = subst (IsJudgement network c.lead.new.self.path c.args.aim.target (option_copied c.args.aim.best)) c.in-Ok-Closed.field-0-is c.in-Ok-Closed.ensures in
     SolvesBelow-from network c.lead.new.self.path c.args.aim.target (option_copied c.args.aim.best) (outcome_of c.in-Ok-Closed.look) found.1
 
 pub returns-in-Ok-Closed-clause-ties : goal.returns-in-Ok-Closed-clause-ties
 returns-in-Ok-Closed-clause-ties c =
     let network = c.args.tables.timing.now in
-    let found = subst (IsVerdict network c.lead.new.self.path c.args.aim.target (option_copied c.args.aim.best)) c.in-Ok-Closed.field-0-is c.in-Ok-Closed.ensures in
+    let found = subst (IsJudgement network c.lead.new.self.path c.args.aim.target (option_copied c.args.aim.best)) c.in-Ok-Closed.field-0-is c.in-Ok-Closed.ensures in
     subst (λ p. TiesWith network p (option_copied c.args.aim.best) (outcome_of c.in-Ok-Closed.look)) c.lead.ensures.path
     (TiesWith-from network c.lead.new.self.path c.args.aim.target (option_copied c.args.aim.best) c.requires.best (outcome_of c.in-Ok-Closed.look) found.1)
 

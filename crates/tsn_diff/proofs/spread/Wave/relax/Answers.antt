@@ -3,8 +3,8 @@ use Rattle.std.proofs.lemmas.Bool.{cases_lt}
 use Rattle.std.proofs.lemmas.List.{get_or_default}
 use Rattle.tsn_diff.specs.declared.listing.Indexed.{Indexed}
 use Rattle.tsn_diff.specs.Labels.{labelling_of}
-use Rattle.tsn_diff.specs.Spread.{all_arcs, standing_of}
-use Rattle.tsn_diff.specs.declared.spread.Standing.TheVariants.{Settled}
+use Rattle.tsn_diff.specs.Spread.{all_arcs, stage_of}
+use Rattle.tsn_diff.specs.declared.spread.Stage.TheVariants.{Settled}
 use Rattle.tsn_diff.proofs.Listings.{leaving_is}
 use Rattle.tsn_diff.proofs.Waves.{GoesOn-same, GoesOn-then}
 use Rattle.tsn_diff.proofs.Forests.{all_small}
@@ -14,7 +14,7 @@ use Rattle.tsn_diff.proofs.spread.Wave.relax.Goals as goal
 pub loop-indexed-init : goal.loop-indexed-init
 loop-indexed-init g c = record {
   wave = c.requires.moves;
-  goes_on = GoesOn-same (all_arcs g.base) (labelling_of c.args.labels.now) c.args.standings.now c.args.self.now.queue.items;
+  goes_on = GoesOn-same (all_arcs g.base) (labelling_of c.args.labels.now) c.args.stages.now c.args.self.now.queue.items;
   settled = c.requires.settled;
   met = λ k d l. absurd (omega arith);
 }
@@ -22,7 +22,7 @@ loop-indexed-init g c = record {
 pub asked-requires-clause-arc : goal.asked-requires-clause-arc
 asked-requires-clause-arc g c =
     let items = leaving_is _ c.args.listing.now g.base.arcs c.args.stream c.index-leaving.result.now _ c.requires.listed c.requires.stream_in c.deref-indexed-items.ensures.value c.index-leaving.ensures in
-    among_indexed g.base (labelling_of c.loop-indexed.labels) c.loop-indexed.standings c.loop-indexed.self _ c.loop-indexed.invariant.wave (indexed_among g.base c.args.stream _ items c.loop-indexed.indexed-index _ c.loop-indexed-test.true).0
+    among_indexed g.base (labelling_of c.loop-indexed.labels) c.loop-indexed.stages c.loop-indexed.self _ c.loop-indexed.invariant.wave (indexed_among g.base c.args.stream _ items c.loop-indexed.indexed-index _ c.loop-indexed-test.true).0
 
 pub asked-requires-clause-small : goal.asked-requires-clause-small
 asked-requires-clause-small g c = let w = c.loop-indexed.invariant.wave in all_small w.forest (rw w.noted.offsets w.among)
@@ -57,13 +57,13 @@ loop-indexed-preserved g c =
     let old = labelling_of c.loop-indexed.labels in
     let new = labelling_of c.raise.new.labels in
     let goes_on = c.in_ok-raise.ensures.goes_on in
-    let settled : standing_of c.raise.new.standings c.args.stream ≡ Settled = (rw here.1 at c.in_ok-raise.ensures.first) ∙ c.loop-indexed.invariant.settled in
+    let settled : stage_of c.raise.new.stages c.args.stream ≡ Settled = (rw here.1 at c.in_ok-raise.ensures.first) ∙ c.loop-indexed.invariant.settled in
     record {
       wave = c.in_ok-raise.ensures.wave;
       goes_on = GoesOn-then _ _ _ _ _ _ _ _ _ _ c.loop-indexed.invariant.goes_on goes_on;
       settled = settled;
       met = λ i d l. ⊎_elim
-          (λ (before : i < k). met_still g.base old new c.loop-indexed.standings c.raise.new.standings c.loop-indexed.self.queue.items c.raise.new.self.queue.items c.args.stream _ goes_on settled (indexed_among g.base c.args.stream _ items i d (omega (arith, c.loop-indexed-test.true))) (c.loop-indexed.invariant.met i d before))
+          (λ (before : i < k). met_still g.base old new c.loop-indexed.stages c.raise.new.stages c.loop-indexed.self.queue.items c.raise.new.self.queue.items c.args.stream _ goes_on settled (indexed_among g.base c.args.stream _ items i d (omega (arith, c.loop-indexed-test.true))) (c.loop-indexed.invariant.met i d before))
           (λ (at : k ≤ i).
           let same : i ≡ k = omega arith in
           rw (same, get_or_default c.deref-indexed-items.result.now k d none c.loop-indexed-test.true) (c.in_ok-raise.ensures.met (ap Ok c.if-branch.false)))
@@ -73,4 +73,4 @@ loop-indexed-preserved g c =
 pub returns-clause-met : goal.returns-clause-met
 returns-clause-met g c =
     let items = leaving_is _ c.args.listing.now g.base.arcs c.args.stream c.index-leaving.result.now _ c.requires.listed c.requires.stream_in c.deref-indexed-items.ensures.value c.index-leaving.ensures in
-    λ e. MeetsFrom-leaving g.base (labelling_of c.loop-indexed.labels) c.loop-indexed.standings c.loop-indexed.self c.args.stream c.loop-indexed.invariant.wave c.loop-indexed.invariant.settled (rw (← items) (λ k d l. c.loop-indexed.invariant.met k d (omega (arith, c.loop-indexed-test.false))))
+    λ e. MeetsFrom-leaving g.base (labelling_of c.loop-indexed.labels) c.loop-indexed.stages c.loop-indexed.self c.args.stream c.loop-indexed.invariant.wave c.loop-indexed.invariant.settled (rw (← items) (λ k d l. c.loop-indexed.invariant.met k d (omega (arith, c.loop-indexed-test.false))))

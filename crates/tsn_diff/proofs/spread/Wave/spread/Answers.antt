@@ -34,7 +34,7 @@ pub raise-requires : goal.raise-requires
 raise-requires g c =
     let wave : Wave = record { trail = c.args.self.now.trail; queue = c.clear.new.self } in
     record {
-      moves = IsWave-start g.base _ wave c.args.listing.now c.args.arc c.requires c.fix_chain.new.standings (omega (arith, c.requires.forest.few, c.fix_chain.auto.standings)) c.fix_chain.ensures.fixed c.fix_chain.ensures.others c.clear.ensures.items;
+      moves = IsWave-start g.base _ wave c.args.listing.now c.args.arc c.requires c.fix_chain.new.stages (omega (arith, c.requires.forest.few, c.fix_chain.auto.stages)) c.fix_chain.ensures.fixed c.fix_chain.ensures.others c.clear.ensures.items;
       there = IsIndexed-new g.base _ wave c.args.listing.now c.args.arc c.requires c.len.result (c.len.ensures ∙ c.args.listing.now.marks.ok.0);
       asked = c.in-Some.ensures;
     }
@@ -42,11 +42,12 @@ raise-requires g c =
 pub loop-turn-init : goal.loop-turn-init
 loop-turn-init g c =
     let wave : Wave = record { trail = c.args.self.now.trail; queue = c.clear.new.self } in
-    let moves = IsWave-start g.base _ wave c.args.listing.now c.args.arc c.requires c.fix_chain.new.standings (omega (arith, c.requires.forest.few, c.fix_chain.auto.standings)) c.fix_chain.ensures.fixed c.fix_chain.ensures.others c.clear.ensures.items in
+    let moves = IsWave-start g.base _ wave c.args.listing.now c.args.arc c.requires c.fix_chain.new.stages
+    (omega (arith, c.requires.forest.few, c.fix_chain.auto.stages)) c.fix_chain.ensures.fixed c.fix_chain.ensures.others c.clear.ensures.items in
     let goes_on = c.in_ok-raise.ensures.goes_on in
     record {
       wave = c.in_ok-raise.ensures.wave;
-      seen = seen_first g.base _ _ c.fix_chain.new.standings c.raise.new.standings wave c.raise.new.self.queue.items moves c.requires.labels_are goes_on (rw c.requires.arc_is (c.in_ok-raise.ensures.met (ap Ok c.if-branch.false)));
+      seen = seen_first g.base _ _ c.fix_chain.new.stages c.raise.new.stages wave c.raise.new.self.queue.items moves c.requires.labels_are goes_on (rw c.requires.arc_is (c.in_ok-raise.ensures.met (ap Ok c.if-branch.false)));
       queued = goes_on.queued 0 (omega arith) (λ i waits. absurd (rw waits at (c.fix_chain.ensures.others i) tt));
       turn_in = omega arith;
     }
@@ -54,14 +55,14 @@ loop-turn-init g c =
 pub relax-requires : goal.relax-requires
 relax-requires g c =
     let w = c.loop-turn.invariant.wave in
-    IsTurn-settled g.base _ c.loop-turn.standings c.loop-turn.self c.loop-turn.turn c.index-stream.result.now w (omega (arith, c.loop-turn-test.true, c.len-in-loop-turn.ensures, c.loop-turn.self.queue.ok.0)) c.index-stream.ensures c.args.listing.now c.requires.listed
+    IsTurn-settled g.base _ c.loop-turn.stages c.loop-turn.self c.loop-turn.turn c.index-stream.result.now w (omega (arith, c.loop-turn-test.true, c.len-in-loop-turn.ensures, c.loop-turn.self.queue.ok.0)) c.index-stream.ensures c.args.listing.now c.requires.listed
 
 pub loop-turn-smaller : goal.loop-turn-smaller
 loop-turn-smaller g c =
     let w = c.loop-turn.invariant.wave in
     let v = c.in_ok-closing.ensures.wave in
     let same : length c.relax.new.labels.offsets.items ≡ length c.loop-turn.labels.offsets.items = omega (arith, w.noted.offsets, v.noted.offsets) in
-    turn_smaller g.base _ c.loop-turn.standings c.loop-turn.self c.loop-turn.turn c.index-stream.result.now w (omega (arith, c.loop-turn-test.true, c.len-in-loop-turn.ensures, c.loop-turn.self.queue.ok.0)) c.index-stream.ensures _ c.relax.new.standings c.relax.new.self.queue.items c.in_ok-closing.ensures.goes_on same (offsets_small v.forest (rw v.noted.offsets v.among))
+    turn_smaller g.base _ c.loop-turn.stages c.loop-turn.self c.loop-turn.turn c.index-stream.result.now w (omega (arith, c.loop-turn-test.true, c.len-in-loop-turn.ensures, c.loop-turn.self.queue.ok.0)) c.index-stream.ensures _ c.relax.new.stages c.relax.new.self.queue.items c.in_ok-closing.ensures.goes_on same (offsets_small v.forest (rw v.noted.offsets v.among))
 
 pub loop-turn-preserved : goal.loop-turn-preserved
 loop-turn-preserved g c =
@@ -69,10 +70,10 @@ loop-turn-preserved g c =
     let g' = c.in_ok-closing.ensures.goes_on in
     record {
       wave = c.in_ok-closing.ensures.wave;
-      seen = seen_then g.base _ c.loop-turn.standings c.loop-turn.self c.loop-turn.turn c.index-stream.result.now w (omega (arith, c.loop-turn-test.true, c.len-in-loop-turn.ensures, c.loop-turn.self.queue.ok.0)) c.index-stream.ensures _ c.relax.new.standings c.relax.new.self.queue.items g' (c.in_ok-closing.ensures.met (ap Ok c.in-None.is)) c.loop-turn.invariant.seen;
-      queued = queued_then g.base _ c.loop-turn.standings c.loop-turn.self c.loop-turn.turn c.index-stream.result.now w (omega (arith, c.loop-turn-test.true, c.len-in-loop-turn.ensures, c.loop-turn.self.queue.ok.0)) c.index-stream.ensures _ c.relax.new.standings c.relax.new.self.queue.items g' c.loop-turn.invariant.queued;
+      seen = seen_then g.base _ c.loop-turn.stages c.loop-turn.self c.loop-turn.turn c.index-stream.result.now w (omega (arith, c.loop-turn-test.true, c.len-in-loop-turn.ensures, c.loop-turn.self.queue.ok.0)) c.index-stream.ensures _ c.relax.new.stages c.relax.new.self.queue.items g' (c.in_ok-closing.ensures.met (ap Ok c.in-None.is)) c.loop-turn.invariant.seen;
+      queued = queued_then g.base _ c.loop-turn.stages c.loop-turn.self c.loop-turn.turn c.index-stream.result.now w (omega (arith, c.loop-turn-test.true, c.len-in-loop-turn.ensures, c.loop-turn.self.queue.ok.0)) c.index-stream.ensures _ c.relax.new.stages c.relax.new.self.queue.items g' c.loop-turn.invariant.queued;
       turn_in = omega (arith, g'.more, c.loop-turn-test.true, c.len-in-loop-turn.ensures, c.loop-turn.self.queue.ok.0);
     }
 
 pub returns-clause-wide : goal.returns-clause-wide
-returns-clause-wide g c = λ e. IsWide-end g.base _ c.loop-turn.standings c.loop-turn.self c.loop-turn.turn c.loop-turn.invariant.wave (omega (arith, c.loop-turn-test.false, c.len-in-loop-turn.ensures, c.loop-turn.self.queue.ok.0)) c.loop-turn.invariant.queued c.loop-turn.invariant.seen
+returns-clause-wide g c = λ e. IsWide-end g.base _ c.loop-turn.stages c.loop-turn.self c.loop-turn.turn c.loop-turn.invariant.wave (omega (arith, c.loop-turn-test.false, c.len-in-loop-turn.ensures, c.loop-turn.self.queue.ok.0)) c.loop-turn.invariant.queued c.loop-turn.invariant.seen

@@ -12,9 +12,9 @@ ghost-relax g a = g.base
 abbrev pub invariant-loop-turn : goal.invariant-loop-turn
 invariant-loop-turn g l =
     record {
-      wave : IsWave g.base (labelling_of l.labels) l.standings l.self;
-      seen : (index : ℕ) → index < length (all_arcs g.base) → IsSeen (all_arcs g.base) (labelling_of l.labels) l.standings index;
-      queued : AreQueued l.standings (drop l.turn l.self.queue.items);
+      wave : IsWave g.base (labelling_of l.labels) l.stages l.self;
+      seen : (index : ℕ) → index < length (all_arcs g.base) → IsSeen (all_arcs g.base) (labelling_of l.labels) l.stages index;
+      queued : AreQueued l.stages (drop l.turn l.self.queue.items);
       turn_in : l.turn ≤ length l.self.queue.items;
     }
 

@@ -2,8 +2,9 @@ use Rattle.std.proofs.Common.{◌≡◌, [], ◌∷◌, ◌++◌, map, length, i
 use Rattle.std.proofs.lemmas.Bool.{cond-true}
 use Rattle.std.proofs.lemmas.List.{map-append, length_push}
 use Rattle.tsn_model.specs.Certificate.{leaf_node}
+use Rattle.tsn_cert.specs.declared.cert.Node.TheVariants.{Leaf}
 use Rattle.tsn_cert.specs.Node.{tree_node}
-use Rattle.tsn_branch.specs.Leaf.{leaf_of}
+use Rattle.tsn_cert.specs.Leaf.{leaf_of}
 use Rattle.tsn_prove.proofs.Filling.{closed_more, closed_last}
 use Rattle.tsn_prove.proofs.walk.Walk.close.Goals as goal
 
@@ -11,9 +12,9 @@ pub returns-then-next : goal.returns-then-next
 returns-then-next c =
     let network = c.args.tables.timing.now in
     let old = c.args.self.now.nodes.items in
-    let items : c.push.new.self.items ≡ old ++ c.into.result ∷ [] = c.push.ensures.items ∙ cond-true (is_ok c.push.result) (old ++ c.into.result ∷ []) old (sym c.in_ok-map_err.ensures.variant) in
+    let items : c.push.new.self.items ≡ old ++ (Leaf c.args.leaf) ∷ [] = c.push.ensures.items ∙ cond-true (is_ok c.push.result) (old ++ (Leaf c.args.leaf) ∷ []) old (sym c.in_ok-map_err.ensures.variant) in
     let nodes : map tree_node c.push.new.self.items ≡ map tree_node old ++ leaf_node (leaf_of c.args.leaf) ∷ [] =
-    ap (map tree_node) items ∙ map-append tree_node old (c.into.result ∷ []) ∙ ap (λ n. map tree_node old ++ n ∷ []) c.into.ensures in
+    ap (map tree_node) items ∙ map-append tree_node old ((Leaf c.args.leaf) ∷ []) in
     let more = length_push (map tree_node old) (leaf_node (leaf_of c.args.leaf)) in
     let long = ap length nodes in (
       record {
@@ -29,9 +30,9 @@ pub returns-else-next : goal.returns-else-next
 returns-else-next c =
     let network = c.args.tables.timing.now in
     let old = c.args.self.now.nodes.items in
-    let items : c.push.new.self.items ≡ old ++ c.into.result ∷ [] = c.push.ensures.items ∙ cond-true (is_ok c.push.result) (old ++ c.into.result ∷ []) old (sym c.in_ok-map_err.ensures.variant) in
+    let items : c.push.new.self.items ≡ old ++ (Leaf c.args.leaf) ∷ [] = c.push.ensures.items ∙ cond-true (is_ok c.push.result) (old ++ (Leaf c.args.leaf) ∷ []) old (sym c.in_ok-map_err.ensures.variant) in
     let nodes : map tree_node c.push.new.self.items ≡ map tree_node old ++ leaf_node (leaf_of c.args.leaf) ∷ [] =
-    ap (map tree_node) items ∙ map-append tree_node old (c.into.result ∷ []) ∙ ap (λ n. map tree_node old ++ n ∷ []) c.into.ensures in
+    ap (map tree_node) items ∙ map-append tree_node old ((Leaf c.args.leaf) ∷ []) in
     let more = length_push (map tree_node old) (leaf_node (leaf_of c.args.leaf)) in
     let long = ap length nodes in (
       closed_last network c.args.tables.right_conflicts.formed c.args.target c.args.self.now.descent.path (map tree_node old) c.requires.filling (leaf_of c.args.leaf) c.requires.proves

@@ -1,5 +1,5 @@
 use Rattle.std.proofs.Common.{sym, subst}
-use Rattle.tsn_branch.specs.Leaf.{leaf_of}
+use Rattle.tsn_cert.specs.Leaf.{bound_leaf}
 use Rattle.tsn_branch.specs.Outcome.{outcome_of}
 use Rattle.tsn_branch.specs.Path.{Fits}
 use Rattle.tsn_branch.specs.Look.{HasProof, PrunesFrom}
@@ -18,7 +18,7 @@ close-requires-clause-proves c =
     let path = c.args.self.now.descent.path in
     let proof = subst (λ look. HasProof network path (outcome_of look)) c.in-Pruned.is c.in_ok-triple.ensures.proof in
     let met = subst (λ look. PrunesFrom c.args.target (outcome_of look)) c.in-Pruned.is c.in_ok-triple.ensures.met in
-    rw c.look_guided.ensures.path (Proves-lesser network path (leaf_of c.in-Pruned.leaf) c.args.target _ met proof)
+    rw c.look_guided.ensures.path (Proves-lesser network path (bound_leaf c.in-Pruned.leaf) c.args.target _ met proof)
 
 pub close-requires-in-Refuted-clause-fits : goal.close-requires-in-Refuted-clause-fits
 close-requires-in-Refuted-clause-fits c = subst (Fits c.args.tables.conflicts.now.triples) (sym c.look_guided.ensures.path) c.requires.walk.fits

@@ -15,7 +15,7 @@ pub struct SplitPoint {
 
 /// What is found at a node: where to split it, or what closes it.
 #[derive(Drop)]
-pub enum Verdict {
+pub enum Judgement {
     Split(SplitPoint),
     Closed(Look),
 }
