@@ -41,7 +41,8 @@ fault_here network limit history before event after fault is =
     slice_get-get_or (before ++ event ∷ after) (length before) event within ∙ ap (λ (e : Event). Some e) (get_or-append_seam before event after event) in
     subst (λ (found : Option Event). IsSomeAnd found (λ (e : Event). IsFault network limit history e fault)) (sym there) is
 
-pub fault_number : (network : Network) (limit : ℕ) (history : List Settlement) (all before : List Event) (event : Event) (after : List Event) (n : ℕ) (fault : BookFault)
+pub fault_number : (network : Network) (limit : ℕ) (history : List Settlement) (all before : List Event) (event : Event) (after : List Event) (n : ℕ)
+    (fault : BookFault)
     → all ≡ before ++ event ∷ after → n ≡ length before → IsFault network limit history event fault → IsFaultAt network limit history all n fault
 fault_number network limit history all before event after n fault parts at is =
     subst (λ k. IsFaultAt network limit history all k fault) (sym at)
@@ -60,7 +61,8 @@ cut all before x after n is at = (
 
 -- the book after these events of a teller
 abbrev pub book_after : Progress → ℕ → List Event → Progress
-book_after book teller events = record { network = book.network; tellers = book.tellers; limit = book.limit; history = book.history ++ settlements_by teller events }
+book_after book teller events =
+    record { network = book.network; tellers = book.tellers; limit = book.limit; history = book.history ++ settlements_by teller events }
 
 pub nothing_settled : (book : Progress) (teller : ℕ) → book ≡ book_after book teller []
 nothing_settled book teller = λ i. record { network = book.network; tellers = book.tellers; limit = book.limit; history = sym (append-nil book.history) i }
@@ -75,9 +77,15 @@ settled_more book now next teller events event is settled =
     let history : now.history ++ one ∷ [] ≡ book.history ++ settlements_by teller (events ++ event ∷ []) =
     ap (λ (p : Progress). p.history ++ one ∷ []) is
     ∙ append_assoc book.history (settlements_by teller events) (one ∷ [])
-    ∙ ap (λ more. book.history ++ more) (sym (map-append (λ (e : Event). let s : Settlement = record { teller = teller; event = e } in s) events (event ∷ []))) in
+    ∙ ap (λ more. book.history ++ more)
+    (sym (map-append (λ (e : Event). let s : Settlement = record { teller = teller; event = e } in s) events (event ∷ []))) in
     settled
-    ∙ (λ i. record { network = (ap (λ (p : Progress). p.network) is) i; tellers = (ap (λ (p : Progress). p.tellers) is) i; limit = (ap (λ (p : Progress). p.limit) is) i; history = history i })
+    ∙ (λ i. record {
+      network = (ap (λ (p : Progress). p.network) is) i;
+      tellers = (ap (λ (p : Progress). p.tellers) is) i;
+      limit = (ap (λ (p : Progress). p.limit) is) i;
+      history = history i;
+    })
 
 -- how many were settled
 pub settled_count : (book now : Progress) (teller : ℕ) (events : List Event)
@@ -89,7 +97,8 @@ settled_count book now teller events is =
 
 -- ---- a walk
 
-pub events_below-append : (path : List Decision) (first more : List Outcome) → events_below path (first ++ more) ≡ events_below path first ++ events_below (path_after path first) more
+pub events_below-append : (path : List Decision) (first more : List Outcome)
+    → events_below path (first ++ more) ≡ events_below path first ++ events_below (path_after path first) more
 unfolding events_below path_after
 events_below-append path [] more = refl
 events_below-append path (outcome ∷ first) more =
@@ -112,7 +121,8 @@ pub events_below-more : (path : List Decision) (outcomes : List Outcome) (outcom
 unfolding events_below
 events_below-more path outcomes outcome = events_below-append path outcomes (outcome ∷ [])
 
-pub path_after-more : (path : List Decision) (outcomes : List Outcome) (outcome : Outcome) → path_after path (outcomes ++ outcome ∷ []) ≡ next_path (path_after path outcomes) outcome
+pub path_after-more : (path : List Decision) (outcomes : List Outcome) (outcome : Outcome)
+    → path_after path (outcomes ++ outcome ∷ []) ≡ next_path (path_after path outcomes) outcome
 unfolding path_after
 path_after-more path outcomes outcome = path_after-append path outcomes (outcome ∷ [])
 
@@ -132,7 +142,8 @@ take_events path first more =
 
 -- ---- where a walk goes on
 
-pub after_turn : (old walk front : List Decision) (triple : Triple) → pending walk ≡ pending old → walk ≡ decided front triple Left → decided front triple Right ≡ after_leaf old
+pub after_turn : (old walk front : List Decision) (triple : Triple) → pending walk ≡ pending old → walk ≡ decided front triple Left
+    → decided front triple Right ≡ after_leaf old
 unfolding after_leaf
 after_turn old walk front triple same is =
     ap (λ paths. get_or paths 0 []) (sym (sym same ∙ ap pending is ∙ pending-left front triple))
@@ -142,7 +153,8 @@ unfolding after_leaf
 after_root old walk same is = is ∙ ap (λ paths. get_or paths 0 []) (sym (sym same ∙ ap pending is ∙ pending-nil))
 
 -- taking back a right turn leaves what waits
-pub right_taken : (walk front : List Decision) (triple : Triple) → walk ≡ decided front triple Right → (take (length walk - 1) walk ≡ front) × (pending front ≡ pending walk)
+pub right_taken : (walk front : List Decision) (triple : Triple) → walk ≡ decided front triple Right
+    → (take (length walk - 1) walk ≡ front) × (pending front ≡ pending walk)
 right_taken walk front triple is = (
   ap (λ (path : List Decision). take (length path - 1) path) is ∙ take-decided front triple Right,
   sym (ap pending is ∙ pending-right front triple),
@@ -177,7 +189,8 @@ left_place history now teller path triple made is count =
       omega (arith, total, count),
       record {
         within = omega (arith, total, count);
-        is = ap (λ paths. get_or paths (made - 2) []) longer ∙ ap (λ n. get_or (made_paths history ++ left ∷ right ∷ []) n []) last ∙ get_or-append-add (made_paths history) (left ∷ right ∷ []) 0 [];
+        is = ap (λ paths. get_or paths (made - 2) []) longer ∙ ap (λ n. get_or (made_paths history ++ left ∷ right ∷ []) n []) last
+            ∙ get_or-append-add (made_paths history) (left ∷ right ∷ []) 0 [];
       },
     )
 
@@ -205,47 +218,64 @@ pub refused_event : (book now : Progress) (teller : ℕ) (events taken : List Fo
 refused_event book now teller events taken event rest n fault parts settled counted is =
     let many = settled_count book now teller (map event_of taken) settled in
     let at : n ≡ length (map event_of taken) = omega (arith, counted, many) in
-    let mapped : map event_of events ≡ map event_of taken ++ event_of event ∷ map event_of rest = ap (map event_of) parts ∙ map-append event_of taken (event ∷ rest) in
-    fault_number book.network book.limit now.history (map event_of events) (map event_of taken) (event_of event) (map event_of rest) n fault mapped at (same_fault book now teller (map event_of taken) (event_of event) fault settled is)
+    let mapped : map event_of events ≡ map event_of taken ++ event_of event ∷ map event_of rest =
+    ap (map event_of) parts ∙ map-append event_of taken (event ∷ rest) in
+    fault_number book.network book.limit now.history (map event_of events) (map event_of taken) (event_of event) (map event_of rest) n fault mapped at
+    (same_fault book now teller (map event_of taken) (event_of event) fault settled is)
 
 pub refused_looks : (book now : Progress) (teller : ℕ) (from walk : List Decision) (looks taken rest : List Look) (found : Look) (n : ℕ) (fault : BookFault)
-    → looks ≡ taken ++ found ∷ rest → now ≡ book_after book teller (events_below from (map outcome_of taken)) → walk ≡ path_after from (map outcome_of taken) → length now.history ≡ n + length book.history
+    → looks ≡ taken ++ found ∷ rest → now ≡ book_after book teller (events_below from (map outcome_of taken)) → walk ≡ path_after from (map outcome_of taken)
+    → length now.history ≡ n + length book.history
     → IsFault now.network now.limit now.history (record { path = walk; outcome = outcome_of found }) fault
-    → ((n < length looks) × (now ≡ book_after book teller (take n (events_below from (map outcome_of looks)))) × (walk ≡ path_after from (take n (map outcome_of looks))))
+    → ((n < length looks) × (now ≡ book_after book teller (take n (events_below from (map outcome_of looks))))
+    × (walk ≡ path_after from (take n (map outcome_of looks))))
     × IsFaultAt book.network book.limit now.history (events_below from (map outcome_of looks)) n fault
 refused_looks book now teller from walk looks taken rest found n fault parts settled stands counted is =
     let outcomes = map outcome_of taken in
     let many = settled_count book now teller (events_below from outcomes) settled in
     let at : n ≡ length outcomes = omega (arith, counted, many, length-events_below from outcomes) in
-    let mapped : map outcome_of looks ≡ outcomes ++ outcome_of found ∷ map outcome_of rest = ap (map outcome_of) parts ∙ map-append outcome_of taken (found ∷ rest) in
+    let mapped : map outcome_of looks ≡ outcomes ++ outcome_of found ∷ map outcome_of rest =
+    ap (map outcome_of) parts ∙ map-append outcome_of taken (found ∷ rest) in
     let whole = cut (map outcome_of looks) outcomes (outcome_of found) (map outcome_of rest) n mapped at in
     let first : take n (events_below from (map outcome_of looks)) ≡ events_below from outcomes =
-    ap (λ os. take n (events_below from os)) mapped ∙ ap (λ k. take k (events_below from (outcomes ++ outcome_of found ∷ map outcome_of rest))) at ∙ take_events from outcomes (outcome_of found ∷ map outcome_of rest) in
+    ap (λ os. take n (events_below from os)) mapped ∙ ap (λ k. take k (events_below from (outcomes ++ outcome_of found ∷ map outcome_of rest))) at
+    ∙ take_events from outcomes (outcome_of found ∷ map outcome_of rest) in
     let event : Event = record { path = path_after from outcomes; outcome = outcome_of found } in
-    let all : events_below from (map outcome_of looks) ≡ events_below from outcomes ++ event ∷ events_below (next_path (path_after from outcomes) (outcome_of found)) (map outcome_of rest) =
+    let all : events_below from (map outcome_of looks)
+    ≡ events_below from outcomes ++ event ∷ events_below (next_path (path_after from outcomes) (outcome_of found)) (map outcome_of rest) =
     ap (events_below from) mapped ∙ events_below-parts from outcomes (outcome_of found) (map outcome_of rest) in
     let here_now : IsFault now.network now.limit now.history event fault =
     subst (λ (path : List Decision). IsFault now.network now.limit now.history (record { path = path; outcome = outcome_of found }) fault) stands is in (
       (omega (arith, whole.0, length-map looks outcome_of), settled ∙ ap (book_after book teller) (sym first), stands ∙ ap (path_after from) (sym whole.1)),
-      fault_number book.network book.limit now.history (events_below from (map outcome_of looks)) (events_below from outcomes) event (events_below (next_path (path_after from outcomes) (outcome_of found)) (map outcome_of rest)) n fault all
+      fault_number book.network book.limit now.history (events_below from (map outcome_of looks)) (events_below from outcomes) event
+          (events_below (next_path (path_after from outcomes) (outcome_of found)) (map outcome_of rest)) n fault all
           (at ∙ sym (length-events_below from outcomes)) (same_fault book now teller (events_below from outcomes) event fault settled here_now),
     )
 
 -- what holds of all events of a walk holds where it stands
-pub here_below : (P : Event → Type 0) (from walk : List Decision) (looks taken : List Look) (found : Look) (rest : List Look) → looks ≡ taken ++ found ∷ rest → walk ≡ path_after from (map outcome_of taken)
+pub here_below : (P : Event → Type 0) (from walk : List Decision) (looks taken : List Look) (found : Look) (rest : List Look) → looks ≡ taken ++ found ∷ rest
+    → walk ≡ path_after from (map outcome_of taken)
     → All P (events_below from (map outcome_of looks)) → P (record { path = walk; outcome = outcome_of found })
 here_below P from walk looks taken found rest parts stands all =
     let outcomes = map outcome_of taken in
-    let mapped : map outcome_of looks ≡ outcomes ++ outcome_of found ∷ map outcome_of rest = ap (map outcome_of) parts ∙ map-append outcome_of taken (found ∷ rest) in
+    let mapped : map outcome_of looks ≡ outcomes ++ outcome_of found ∷ map outcome_of rest =
+    ap (map outcome_of) parts ∙ map-append outcome_of taken (found ∷ rest) in
     let event : Event = record { path = path_after from outcomes; outcome = outcome_of found } in
     let more = events_below (next_path (path_after from outcomes) (outcome_of found)) (map outcome_of rest) in
-    let around : events_below from (map outcome_of looks) ≡ events_below from outcomes ++ event ∷ more = ap (events_below from) mapped ∙ events_below-parts from outcomes (outcome_of found) (map outcome_of rest) in
-    subst (λ (path : List Decision). P (record { path = path; outcome = outcome_of found })) (sym stands) (here P (events_below from outcomes) event more (subst (All P) around all))
+    let around : events_below from (map outcome_of looks) ≡ events_below from outcomes ++ event ∷ more =
+    ap (events_below from) mapped ∙ events_below-parts from outcomes (outcome_of found) (map outcome_of rest) in
+    subst (λ (path : List Decision). P (record { path = path; outcome = outcome_of found })) (sym stands)
+    (here P (events_below from outcomes) event more (subst (All P) around all))
 
 -- one more look
 pub settled_below : (book now next : Progress) (teller : ℕ) (from walk : List Decision) (taken : List Look) (found : Look)
     → now ≡ book_after book teller (events_below from (map outcome_of taken)) → walk ≡ path_after from (map outcome_of taken)
-    → next ≡ record { network = now.network; tellers = now.tellers; limit = now.limit; history = now.history ++ record { teller = teller; event = record { path = walk; outcome = outcome_of found } } ∷ [] }
+    → next ≡ record {
+      network = now.network;
+      tellers = now.tellers;
+      limit = now.limit;
+      history = now.history ++ record { teller = teller; event = record { path = walk; outcome = outcome_of found } } ∷ [];
+    }
     → next ≡ book_after book teller (events_below from (map outcome_of (taken ++ found ∷ [])))
 settled_below book now next teller from walk taken found is stands settled =
     let outcomes = map outcome_of taken in
@@ -255,7 +285,8 @@ settled_below book now next teller from walk taken found is stands settled =
     ∙ ap (λ (path : List Decision). let e : Event = record { path = path; outcome = outcome_of found } in events_below from outcomes ++ e ∷ []) (sym stands) in
     settled_more book now next teller (events_below from outcomes) event is settled ∙ ap (book_after book teller) (sym more)
 
-pub walked : (from walk next : List Decision) (taken : List Look) (found : Look) → walk ≡ path_after from (map outcome_of taken) → next ≡ next_path walk (outcome_of found) → next ≡ path_after from (map outcome_of (taken ++ found ∷ []))
+pub walked : (from walk next : List Decision) (taken : List Look) (found : Look) → walk ≡ path_after from (map outcome_of taken)
+    → next ≡ next_path walk (outcome_of found) → next ≡ path_after from (map outcome_of (taken ++ found ∷ []))
 walked from walk next taken found stands is =
     is ∙ ap (λ path. next_path path (outcome_of found)) stands
     ∙ sym (path_after-more from (map outcome_of taken) (outcome_of found)) ∙ ap (path_after from) (sym (map-append outcome_of taken (found ∷ [])))
@@ -271,11 +302,27 @@ no_step from = refl
 -- nothing is settled where the first node's place isn't open
 pub refused_first : (book : Progress) (teller : ℕ) (from : List Decision) (looks : List Look) (fault : BookFault) → looks ≢ []
     → ((outcome : Outcome) → IsFault book.network book.limit book.history (record { path = from; outcome = outcome }) fault)
-    → ((0 < length looks) × (book ≡ book_after book teller (take 0 (events_below from (map outcome_of looks)))) × (from ≡ path_after from (take 0 (map outcome_of looks))))
+    → ((0 < length looks) × (book ≡ book_after book teller (take 0 (events_below from (map outcome_of looks))))
+    × (from ≡ path_after from (take 0 (map outcome_of looks))))
     × IsFaultAt book.network book.limit book.history (events_below from (map outcome_of looks)) 0 fault
 unfolding events_below path_after
 refused_first book teller from [] fault some is = absurd (some refl)
 refused_first book teller from (found ∷ looks) fault some is = ((omega arith, nothing_settled book teller, refl), is (outcome_of found))
+
+-- what holds of all events of a walk holds of the first look's
+pub first_below : (P : Event → Type 0) (from : List Decision) (looks : List Look) (found : Look) → looks ≡ found ∷ drop 1 looks
+    → All P (events_below from (map outcome_of looks)) → P (record { path = from; outcome = outcome_of found })
+first_below P from looks found parts all = here_below P from from looks [] found (drop 1 looks) parts (no_step from) all
+
+-- nothing is settled where the first look is refused
+pub first_refused : (book now : Progress) (teller : ℕ) (from : List Decision) (looks : List Look) (found : Look) (fault : BookFault)
+    → looks ≡ found ∷ drop 1 looks → now ≡ book → IsFault now.network now.limit now.history (record { path = from; outcome = outcome_of found }) fault
+    → ((0 < length looks) × (now ≡ book_after book teller (take 0 (events_below from (map outcome_of looks))))
+    × (from ≡ path_after from (take 0 (map outcome_of looks))))
+    × IsFaultAt book.network book.limit now.history (events_below from (map outcome_of looks)) 0 fault
+first_refused book now teller from looks found fault parts same is =
+    refused_looks book now teller from from looks [] (drop 1 looks) found 0 fault parts (same ∙ not_walked book teller from) (no_step from)
+    (omega (arith, ap (λ (p : Progress). length p.history) same)) is
 
 -- with no looks nothing is settled
 pub none_below : (book : Progress) (teller : ℕ) (from : List Decision) (looks : List Look) → looks ≡ []
@@ -285,9 +332,11 @@ none_below book teller from looks none =
     (not_walked book teller from ∙ ap (λ os. book_after book teller (events_below from os)) same, no_step from ∙ ap (path_after from) same)
 
 -- the path above the decision that a walk went down last
-pub above_push : (long path walk : List Decision) (triple : Triple) → long ≡ decided walk triple Left → path ≡ decided walk triple Left → take (length long - 1) path ≡ walk
+pub above_push : (long path walk : List Decision) (triple : Triple) → long ≡ decided walk triple Left → path ≡ decided walk triple Left
+    → take (length long - 1) path ≡ walk
 above_push long path walk triple first second =
-    ap (λ (p : List Decision). take (length p - 1) path) first ∙ ap (λ (p : List Decision). take (length (decided walk triple Left) - 1) p) second ∙ take-decided walk triple Left
+    ap (λ (p : List Decision). take (length p - 1) path) first ∙ ap (λ (p : List Decision). take (length (decided walk triple Left) - 1) p) second
+    ∙ take-decided walk triple Left
 
 -- ---- what waits
 

@@ -38,7 +38,8 @@ none_summed network path chain k i past =
     record { begins = ap (λ rest. start_of (arcs_of network path) rest i) nothing; adds = ap (chain_sum (arcs_of network path)) nothing }
 
 -- one more arc
-pub one_summed : (network : Network) (path : List Decision) (chain : List ℕ) (k i start : ℕ) (sum more : ℤ) (decision : Decision) → k < length chain → get_or chain k 0 < length path
+pub one_summed : (network : Network) (path : List Decision) (chain : List ℕ) (k i start : ℕ) (sum more : ℤ) (decision : Decision) → k < length chain
+    → get_or chain k 0 < length path
     → decision ≡ get_or path (get_or chain k 0) decision → more ≡ sum +ℤ (arc_of network decision).weight
     → SummedTo network path chain (k + 1) i start sum → SummedTo network path chain k i (arc_of network decision).from more
 one_summed network path chain k i start sum more decision below on_path is added summed =
@@ -64,9 +65,11 @@ all_summed network path chain k i start sum none summed =
     λ k. pos (release_of network (begins k)) +ℤ adds k
 
 -- the depths of a chain of the path are within it
-pub on_path : (network : Network) (path : List Decision) (chain depths : List ℕ) (i k : ℕ) → depths ≡ chain → LeadsTo network path chain i → k < length depths → get_or depths k 0 < length path
+pub on_path : (network : Network) (path : List Decision) (chain depths : List ℕ) (i k : ℕ) → depths ≡ chain → LeadsTo network path chain i → k < length depths
+    → get_or depths k 0 < length path
 on_path network path chain depths i k same leads below =
-    let places : All (λ place. place < length (arcs_of network path)) depths = subst (All (λ place. place < length (arcs_of network path))) (sym same) leads.chain_to.places in
+    let places : All (λ place. place < length (arcs_of network path)) depths =
+    subst (All (λ place. place < length (arcs_of network path))) (sym same) leads.chain_to.places in
     let within = places k 0 below in
     omega (arith, within, length-arcs_of network path)
 

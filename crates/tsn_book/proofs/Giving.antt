@@ -17,7 +17,8 @@ use Rattle.tsn_book.proofs.Preorder.{Taken, spelling_goes_on, nodes_go_on}
 nothing : Settled
 nothing = record { teller = 0; place = 0; look = Split (record { left = 0; right = 0; link = 0 }) }
 
-module _ (network : Network) (plan : Option Solution) (before : List Settled) (order : List ℕ) (given number : ℕ) (known : IsSpelling network plan before (drop given order)) (low : given < length order) (read : number ≡ get_or order given number) where
+module _ {network : Network} {plan : Option Solution} {before : List Settled} (order : List ℕ) (given number : ℕ)
+    (known : IsSpelling network plan before (drop given order)) (low : given < length order) (read : number ≡ get_or order given number) where
   this : drop given order ≡ number ∷ drop (given + 1) order
   this = drop_more order given number low ∙ ap (λ n. n ∷ drop (given + 1) order) (sym read)
 
@@ -30,7 +31,7 @@ module _ (network : Network) (plan : Option Solution) (before : List Settled) (o
   pub next_tie : (d : Settled) → HasTie network plan (outcome_of (slice_index_or before number d).look)
   next_tie = All-head (λ n. (d : Settled) → HasTie network plan (outcome_of (slice_index_or before n d).look)) number (drop (given + 1) order) now.ties
 
-  module _ (after : List Settled) (taken : Taken before after number) where
+  module _ {after : List Settled} (taken : Taken before after number) where
     pub next_known : IsSpelling network plan after (drop (given + 1) order)
     next_known = spelling_goes_on network plan before after number (drop (given + 1) order) now taken
 

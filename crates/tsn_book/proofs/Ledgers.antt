@@ -13,27 +13,35 @@ use Rattle.tsn_book.proofs.Bookkeeping.{lawful}
 module _ (ledger : Ledger) (agrees : IsLedger ledger) (place : ℕ) where
   -- the path of a place, by the places and by the history
   pub same_path : path_at (paths_of ledger.tree.places.origins) place ≡ path_made (settled_in ledger.tree) place
-  same_path = path_made-at ledger.tree.network ledger.tree.places.origins ledger.tree.places.standings ledger.tree.events.items agrees.tree place
+  same_path = path_made-at agrees.tree place
 
   pub within_places : place < length (made_paths (settled_in ledger.tree)) → place < length ledger.tree.places.origins
-  within_places within = omega (arith, within, length-made ledger.tree.network ledger.tree.places.origins ledger.tree.places.standings ledger.tree.events.items agrees.tree)
+  within_places within = omega (arith, within, length-made agrees.tree)
 
-  pub allowed_at : (outcome : Outcome) → IsAllowed ledger.tree.network (settled_in ledger.tree) (record { path = path_made (settled_in ledger.tree) place; outcome = outcome })
+  pub allowed_at : (outcome : Outcome) → IsAllowed ledger.tree.network (settled_in ledger.tree)
+      (record { path = path_made (settled_in ledger.tree) place; outcome = outcome })
       → IsAllowed ledger.tree.network (settled_in ledger.tree) (record { path = path_at (paths_of ledger.tree.places.origins) place; outcome = outcome })
-  allowed_at outcome allowed = subst (λ path. IsAllowed ledger.tree.network (settled_in ledger.tree) (record { path = path; outcome = outcome })) (sym same_path) allowed
+  allowed_at outcome allowed =
+      subst (λ path. IsAllowed ledger.tree.network (settled_in ledger.tree) (record { path = path; outcome = outcome })) (sym same_path) allowed
 
 -- there are as many places as the history made
 pub places_made : (ledger : Ledger) → IsLedger ledger → length ledger.tree.places.origins ≡ length (made_paths (settled_in ledger.tree))
-places_made ledger agrees = length-made ledger.tree.network ledger.tree.places.origins ledger.tree.places.standings ledger.tree.events.items agrees.tree
+places_made ledger agrees = length-made agrees.tree
 
 pub ledger_lawful : (ledger : Ledger) → IsLedger ledger → IsLawful (progress_of ledger)
 ledger_lawful ledger agrees =
     let tree = ledger.tree in
-    lawful tree.network tree.places.origins tree.places.standings tree.events.items ledger.closed.items ledger.bounds.limit ledger.open_nodes ledger.bounds.best ledger.bounds.kept ledger.tallies.items agrees
+    lawful agrees
 
 -- the progress, where the log has these events
 abbrev pub progress_by : Ledger → List Settled → Progress
-progress_by ledger events = record { network = ledger.tree.network; tellers = length ledger.tallies.items; limit = ledger.bounds.limit; history = history_of ledger.tree.places.origins events }
+progress_by ledger events =
+    record {
+      network = ledger.tree.network;
+      tellers = length ledger.tallies.items;
+      limit = ledger.bounds.limit;
+      history = history_of ledger.tree.places.origins events;
+    }
 
 -- what waits changes nothing of it
 pub same_progress : (ledger : Ledger) (events : List Settled) → events ≡ ledger.tree.events.items → progress_by ledger events ≡ progress_of ledger

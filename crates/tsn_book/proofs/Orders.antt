@@ -13,7 +13,8 @@ module _ (xs ys : List ℕ) (k : ℕ) (same : (i : ℕ) → i < k → offset_of 
 
   pub greater_at : k < length xs → k < length ys → offset_of ys k < offset_of xs k → comes_before xs ys ≡ false
   greater_at in_first in_second greater =
-      not_true (comes_before xs ys) (λ is. before_one_way xs ys (comes_before-true xs ys is) (before_at ys xs k in_second in_first (λ i below. sym (same i below)) greater))
+      not_true (comes_before xs ys) (λ is. before_one_way xs ys (comes_before-true xs ys is)
+      (before_at ys xs k in_second in_first (λ i below. sym (same i below)) greater))
 
   pub same_till : min (length xs) (length ys) ≤ k → comes_before xs ys ≡ false
   same_till all = not_true (comes_before xs ys) (λ is.

@@ -1,4 +1,4 @@
--- Places and their paths: how paths grow, what a place's standing tells of a path, and where a walk leaves the tree.
+-- Places and their paths: how paths grow, what a place's status tells of a path, and where a walk leaves the tree.
 use Rattle.std.proofs.Common.{◌≡◌, ◌≢◌, ℕ, ◌+◌, ◌≤◌, ◌<◌, List, [], ◌∷◌, ◌++◌, length, take, drop, get_or, Contains, Bool, true, false, refl, sym, ap, ◌∙◌, subst, arith, append_assoc, inl, inr, Some, None}
 use Rattle.std.specs.Prelude.{position, slice_get}
 use Rattle.std.specs.List.{flat_map, slice_index_or, position_or_len}
@@ -18,10 +18,10 @@ use Rattle.tsn_model.proofs.Lists.{Contains-cons_cases, from_flat_map}
 use Rattle.tsn_search_laws.proofs.Lists.{snoc_induction}
 use Rattle.tsn_search_laws.proofs.Paths.{path_eq-true, path_eq-refl, path_eq-false, decided-parts, nil-ne-decided}
 use Rattle.tsn_search_laws.proofs.Histories.{settled_at, parent_settled, settled_is_made, settled_once, open_is_made, open_not_settled, child_of}
-use Rattle.tsn_book.specs.declared.standings.Origin.{Origin}
-use Rattle.tsn_book.specs.declared.standings.Origin.TheVariants.{Root, Child}
-use Rattle.tsn_book.specs.declared.standings.Standing.{Standing}
-use Rattle.tsn_book.specs.declared.standings.Standing.TheVariants.{Open, Split, Leaf}
+use Rattle.tsn_book.specs.declared.statuses.Origin.{Origin}
+use Rattle.tsn_book.specs.declared.statuses.Origin.TheVariants.{Root, Child}
+use Rattle.tsn_book.specs.declared.statuses.Status.{Status}
+use Rattle.tsn_book.specs.declared.statuses.Status.TheVariants.{Open, Split, Leaf}
 use Rattle.tsn_book.specs.declared.log.Settled.{Settled}
 use Rattle.tsn_book.specs.declared.arena.Stop.TheVariants.{Settled as AtSettled, Outside}
 use Rattle.tsn_book.specs.Arena.{path_at, path_from, with_path, paths_of, history_of, IsEvent, IsPlaced, IsTree, IsStop}
@@ -51,29 +51,36 @@ path_at-right paths more k = get_or-append-add paths more k []
 
 -- ---- what one settlement tells
 
-pub event_among : (history : List Settlement) (settlement : Settlement) (event : ℕ) → event < length history → slice_get history event ≡ Some settlement → Contains history settlement
+pub event_among : (history : List Settlement) (settlement : Settlement) (event : ℕ) → event < length history → slice_get history event ≡ Some settlement
+    → Contains history settlement
 event_among history settlement event below is = (event, below, get_or_from_slice_get history event settlement settlement is)
 
--- two settlements of one path are one settlement
-pub same_settlement : (network : Network) (history : List Settlement) → IsLegal network history → (a b : Settlement) → Contains history a → Contains history b → a.event.path ≡ b.event.path → a ≡ b
-same_settlement network history legal a b first second same =
-    let once = settled_once network history legal in
-    elim (cases_lt first.0 second.0) [
-      | inl less ↦ absurd (once first.0 second.0 a less second.1 (ap (λ (s : Settlement). s.event.path) first.2 ∙ same ∙ sym (ap (λ (s : Settlement). s.event.path) (moved second a))))
-      | inr more ↦
-          elim (cases_lt second.0 first.0) [
-            | inl less ↦ absurd (once second.0 first.0 b less first.1 (ap (λ (s : Settlement). s.event.path) second.2 ∙ sym same ∙ sym (ap (λ (s : Settlement). s.event.path) (moved first b))))
-            | inr least ↦
-                let at : first.0 ≡ second.0 = omega arith in
-                sym first.2 ∙ ap (λ k. get_or history k a) at ∙ moved second a
-          ]
-    ]
-  where
-    moved : {x : Settlement} (found : Contains history x) (d : Settlement) → get_or history found.0 d ≡ x
-    moved {x} found d = get_or_default history found.0 d x found.1 ∙ found.2
+module _ {network : Network} {history : List Settlement} (legal : IsLegal network history) where
+  -- two settlements of one path are one settlement
+  pub same_settlement : (a b : Settlement) → Contains history a → Contains history b → a.event.path ≡ b.event.path → a ≡ b
+  same_settlement a b first second same =
+      let once = settled_once network history legal in
+      elim (cases_lt first.0 second.0) [
+        | inl less ↦
+            absurd (once first.0 second.0 a less second.1
+            (ap (λ (s : Settlement). s.event.path) first.2 ∙ same ∙ sym (ap (λ (s : Settlement). s.event.path) (moved second a))))
+        | inr more ↦
+            elim (cases_lt second.0 first.0) [
+              | inl less ↦
+                  absurd (once second.0 first.0 b less first.1
+                  (ap (λ (s : Settlement). s.event.path) second.2 ∙ sym same ∙ sym (ap (λ (s : Settlement). s.event.path) (moved first b))))
+              | inr least ↦
+                  let at : first.0 ≡ second.0 = omega arith in
+                  sym first.2 ∙ ap (λ k. get_or history k a) at ∙ moved second a
+            ]
+      ]
+    where
+      moved : {x : Settlement} (found : Contains history x) (d : Settlement) → get_or history found.0 d ≡ x
+      moved {x} found d = get_or_default history found.0 d x found.1 ∙ found.2
 
 -- a made child's parent was split on its triple
-pub split_of_made : (history : List Settlement) (path : List Decision) (triple : Triple) (side : Side) → Contains (made_paths history) (decided path triple side)
+pub split_of_made : (history : List Settlement) (path : List Decision) (triple : Triple) (side : Side)
+    → Contains (made_paths history) (decided path triple side)
     → (settlement : Settlement) × Contains history settlement × (settlement.event.path ≡ path) × (settlement.event.outcome ≡ split triple)
 unfolding made_paths
 split_of_made history path triple side found =
@@ -86,17 +93,19 @@ split_of_made history path triple side found =
           (from.0, from.1, parts.0, child.was_split ∙ ap split parts.1)
     ]
 
--- where the path was settled otherwise, that child wasn't made
-pub no_child : (network : Network) (history : List Settlement) → IsLegal network history → (path : List Decision) (outcome : Outcome) (event : ℕ) → IsEvent history event path outcome
-    → (triple : Triple) (side : Side) → outcome ≢ split triple → Contains (made_paths history) (decided path triple side) → ⊥
-no_child network history legal path outcome event is triple side other found =
-    let from = split_of_made history path triple side found in
-    let settlement : Settlement = record { teller = is.there.0; event = record { path = path; outcome = outcome } } in
-    let same = same_settlement network history legal settlement from.0 (event_among history settlement event is.within is.there.1) from.1 (sym from.2) in
-    other (ap (λ (s : Settlement). s.event.outcome) same ∙ from.3)
+module _ {network : Network} {history : List Settlement} (legal : IsLegal network history) where
+  -- where the path was settled otherwise, that child wasn't made
+  pub no_child : (path : List Decision) (outcome : Outcome) (event : ℕ) → IsEvent history event path outcome
+      → (triple : Triple) (side : Side) → outcome ≢ split triple → Contains (made_paths history) (decided path triple side) → ⊥
+  no_child path outcome event is triple side other found =
+      let from = split_of_made history path triple side found in
+      let settlement : Settlement = record { teller = is.there.0; event = record { path = path; outcome = outcome } } in
+      let same = same_settlement legal settlement from.0 (event_among history settlement event is.within is.there.1) from.1 (sym from.2) in
+      other (ap (λ (s : Settlement). s.event.outcome) same ∙ from.3)
 
 -- a path that wasn't settled has no child
-pub no_child_of_open : (history : List Settlement) (path : List Decision) → is_settled history path ≡ false → (triple : Triple) (side : Side) → Contains (made_paths history) (decided path triple side) → ⊥
+pub no_child_of_open : (history : List Settlement) (path : List Decision) → is_settled history path ≡ false → (triple : Triple) (side : Side)
+    → Contains (made_paths history) (decided path triple side) → ⊥
 no_child_of_open history path unsettled triple side found =
     both_ways (is_settled history path) unsettled (parent_settled history path triple side found)
 
@@ -110,34 +119,37 @@ leaf_is_no_split path outcome triple ends same =
 
 -- ---- where a walk ends
 
--- a beginning of a made path was made
-pub made_beginning : (network : Network) (history : List Settlement) → IsLegal network history → (first rest : List Decision) → Contains (made_paths history) (first ++ rest) → Contains (made_paths history) first
-unfolding decided
-made_beginning network history legal first =
-    snoc_induction (λ rest. Contains (made_paths history) (first ++ rest) → Contains (made_paths history) first)
-    (λ found. subst (Contains (made_paths history)) (append-nil first) found)
-    (λ rest decision known found.
-    let child : Contains (made_paths history) (decided (first ++ rest) decision.triple decision.side) = subst (Contains (made_paths history)) (sym (append_assoc first rest (decision ∷ []))) found in
-    known (settled_is_made network history legal (first ++ rest) (parent_settled history (first ++ rest) decision.triple decision.side child)))
+module _ {network : Network} {history : List Settlement} (legal : IsLegal network history) where
+  -- a beginning of a made path was made
+  pub made_beginning : (first rest : List Decision) → Contains (made_paths history) (first ++ rest) → Contains (made_paths history) first
+  unfolding decided
+  made_beginning first =
+      snoc_induction (λ rest. Contains (made_paths history) (first ++ rest) → Contains (made_paths history) first)
+      (λ found. subst (Contains (made_paths history)) (append-nil first) found)
+      (λ rest decision known found.
+      let child : Contains (made_paths history) (decided (first ++ rest) decision.triple decision.side) =
+      subst (Contains (made_paths history)) (sym (append_assoc first rest (decision ∷ []))) found in
+      known (settled_is_made network history legal (first ++ rest) (parent_settled history (first ++ rest) decision.triple decision.side child)))
 
--- the settlement of a path is the first one of it
-pub event_position : (network : Network) (history : List Settlement) → IsLegal network history → (path : List Decision) (outcome : Outcome) (event : ℕ) → IsEvent history event path outcome
-    → position (λ (s : Settlement). path_eq s.event.path path) history ≡ Some event
-event_position network history legal path outcome event is =
-    let settlement : Settlement = record { teller = is.there.0; event = record { path = path; outcome = outcome } } in
-    let test : Settlement → Bool = λ s. path_eq s.event.path path in
-    let there = get_or_from_slice_get history event settlement settlement is.there.1 in
-    let once = settled_once network history legal in
-    let at : position_or_len test history ≡ event =
-    position_or_len_is test history event settlement (omega (arith, is.within))
-    (λ k before. path_eq-false (get_or history k settlement).event.path path (λ same.
-    once k event settlement before is.within (same ∙ sym (ap (λ (s : Settlement). s.event.path) there))))
-    (λ within. subst (λ (s : Settlement). test s ≡ true) (sym there) (path_eq-refl path)) in
-    let below : position_or_len test history < length history = omega (arith, at, is.within) in
-    cond-true _ _ _ (lt-ltb (position_or_len test history) (length history) below) ∙ ap (λ k. Some k) at
+  -- the settlement of a path is the first one of it
+  pub event_position : (path : List Decision) (outcome : Outcome) (event : ℕ) → IsEvent history event path outcome
+      → position (λ (s : Settlement). path_eq s.event.path path) history ≡ Some event
+  event_position path outcome event is =
+      let settlement : Settlement = record { teller = is.there.0; event = record { path = path; outcome = outcome } } in
+      let test : Settlement → Bool = λ s. path_eq s.event.path path in
+      let there = get_or_from_slice_get history event settlement settlement is.there.1 in
+      let once = settled_once network history legal in
+      let at : position_or_len test history ≡ event =
+      position_or_len_is test history event settlement (omega (arith, is.within))
+      (λ k before. path_eq-false (get_or history k settlement).event.path path (λ same.
+      once k event settlement before is.within (same ∙ sym (ap (λ (s : Settlement). s.event.path) there))))
+      (λ within. subst (λ (s : Settlement). test s ≡ true) (sym there) (path_eq-refl path)) in
+      let below : position_or_len test history < length history = omega (arith, at, is.within) in
+      cond-true _ _ _ (lt-ltb (position_or_len test history) (length history) below) ∙ ap (λ k. Some k) at
 
 -- a path that wasn't settled has no settlement
-pub no_position : (history : List Settlement) (path : List Decision) → is_settled history path ≡ false → position (λ (s : Settlement). path_eq s.event.path path) history ≡ None
+pub no_position : (history : List Settlement) (path : List Decision) → is_settled history path ≡ false
+    → position (λ (s : Settlement). path_eq s.event.path path) history ≡ None
 no_position history path unsettled =
     let test : Settlement → Bool = λ s. path_eq s.event.path path in
     elim (cases_lt (position_or_len test history) (length history)) [
@@ -151,57 +163,66 @@ no_position history path unsettled =
     ]
 
 -- a settled path isn't open
-pub settled_not_open : (history : List Settlement) (path : List Decision) (outcome : Outcome) (event : ℕ) → IsEvent history event path outcome → Contains (open_paths history) path → ⊥
+pub settled_not_open : (history : List Settlement) (path : List Decision) (outcome : Outcome) (event : ℕ) → IsEvent history event path outcome
+    → Contains (open_paths history) path → ⊥
 settled_not_open history path outcome event is found =
     let settlement : Settlement = record { teller = is.there.0; event = record { path = path; outcome = outcome } } in
-    both_ways (is_settled history path) (open_not_settled history path found) (settled_at history settlement (event_among history settlement event is.within is.there.1))
+    both_ways (is_settled history path) (open_not_settled history path found)
+    (settled_at history settlement (event_among history settlement event is.within is.there.1))
 
--- a path that wasn't made wasn't settled
-pub unmade_unsettled : (network : Network) (history : List Settlement) → IsLegal network history → (path : List Decision) → (Contains (made_paths history) path → ⊥) → is_settled history path ≡ false
-unmade_unsettled network history legal path unmade =
-    elim (cases_Bool (is_settled history path)) [
-      | inl is ↦ absurd (unmade (settled_is_made network history legal path is))
-      | inr is ↦ is
-    ]
+module _ {network : Network} {history : List Settlement} (legal : IsLegal network history) where
+  -- a path that wasn't made wasn't settled
+  pub unmade_unsettled : (path : List Decision) → (Contains (made_paths history) path → ⊥) → is_settled history path ≡ false
+  unmade_unsettled path unmade =
+      elim (cases_Bool (is_settled history path)) [
+        | inl is ↦ absurd (unmade (settled_is_made network history legal path is))
+        | inr is ↦ is
+      ]
 
 -- ---- the places of a tree
 
--- what a place's standing says, as it is read
-pub standing_at : (network : Network) (origins : List Origin) (standings : List Standing) (events : List Settled) → IsTree network origins standings events → (place : ℕ) → place < length origins
-    → (standing : Standing) → standing ≡ get_or standings place standing → IsPlaced (paths_of origins) (history_of origins events) place standing
-standing_at network origins standings events tree place below standing read =
-    let within : place < length standings = omega (arith, tree.counted) in
-    subst (IsPlaced (paths_of origins) (history_of origins events) place) (get_or_default standings place Open standing within ∙ sym read) (tree.placed place below)
+module _ {network : Network} {origins : List Origin} {statuses : List Status} {events : List Settled} (tree : IsTree network origins statuses events) where
+  -- what a place's status says, as it is read
+  pub status_at : (place : ℕ) → place < length origins
+      → (status : Status) → status ≡ get_or statuses place status → IsPlaced (paths_of origins) (history_of origins events) place status
+  status_at place below status read =
+      let within : place < length statuses = omega (arith, tree.counted) in
+      subst (IsPlaced (paths_of origins) (history_of origins events) place) (get_or_default statuses place Open status within ∙ sym read)
+      (tree.placed place below)
 
 -- a decision as a step of a path
 pub decided_by : (path : List Decision) (decision : Decision) → decided path decision.triple decision.side ≡ path ++ decision ∷ []
 unfolding decided
 decided_by path decision = refl
 
--- the root is the first place
-pub root_place : (network : Network) (origins : List Origin) (standings : List Standing) (events : List Settled) → IsTree network origins standings events
-    → (0 < length origins) × (path_at (paths_of origins) 0 ≡ [])
-unfolding made_paths path_at
-root_place network origins standings events tree =
-    let longer = ap length tree.made in
-    (omega (arith, longer, length-paths_of origins), ap (λ paths. slice_index_or paths 0 []) tree.made)
+module _ {network : Network} {origins : List Origin} {statuses : List Status} {events : List Settled} (tree : IsTree network origins statuses events) where
+  -- the root is the first place
+  pub root_place : (0 < length origins) × (path_at (paths_of origins) 0 ≡ [])
+  unfolding made_paths path_at
+  root_place =
+      let longer = ap length tree.made in
+      (omega (arith, longer, length-paths_of origins), ap (λ paths. slice_index_or paths 0 []) tree.made)
 
--- the place below a split, by the decision's side
-pub left_child : (network : Network) (origins : List Origin) (standings : List Standing) (events : List Settled) → IsTree network origins standings events → (place : ℕ) (triple : Triple) (children event : ℕ)
-    → IsPlaced (paths_of origins) (history_of origins events) place (Split triple children event) → (decision : Decision) → triple ≡ decision.triple → decision.side ≡ Left
-    → (children < length origins) × (path_at (paths_of origins) children ≡ path_at (paths_of origins) place ++ decision ∷ [])
-left_child network origins standings events tree place triple children event placed decision same side = (
-  omega (arith, placed.1, length-paths_of origins),
-  placed.2 ∙ ap (λ t. decided (path_at (paths_of origins) place) t Left) same ∙ ap (decided (path_at (paths_of origins) place) decision.triple) (sym side) ∙ decided_by (path_at (paths_of origins) place) decision,
-)
+  -- the place below a split, by the decision's side
+  pub left_child : (place : ℕ) (triple : Triple) (children event : ℕ)
+      → IsPlaced (paths_of origins) (history_of origins events) place (Split triple children event) → (decision : Decision) → triple ≡ decision.triple
+      → decision.side ≡ Left
+      → (children < length origins) × (path_at (paths_of origins) children ≡ path_at (paths_of origins) place ++ decision ∷ [])
+  left_child place triple children event placed decision same side = (
+    omega (arith, placed.1, length-paths_of origins),
+    placed.2 ∙ ap (λ t. decided (path_at (paths_of origins) place) t Left) same ∙ ap (decided (path_at (paths_of origins) place) decision.triple) (sym side)
+        ∙ decided_by (path_at (paths_of origins) place) decision,
+  )
 
-pub right_child : (network : Network) (origins : List Origin) (standings : List Standing) (events : List Settled) → IsTree network origins standings events → (place : ℕ) (triple : Triple) (children event : ℕ)
-    → IsPlaced (paths_of origins) (history_of origins events) place (Split triple children event) → (decision : Decision) → triple ≡ decision.triple → decision.side ≡ Right
-    → (children + 1 < length origins) × (path_at (paths_of origins) (children + 1) ≡ path_at (paths_of origins) place ++ decision ∷ [])
-right_child network origins standings events tree place triple children event placed decision same side = (
-  omega (arith, placed.1, length-paths_of origins),
-  placed.3 ∙ ap (λ t. decided (path_at (paths_of origins) place) t Right) same ∙ ap (decided (path_at (paths_of origins) place) decision.triple) (sym side) ∙ decided_by (path_at (paths_of origins) place) decision,
-)
+  pub right_child : (place : ℕ) (triple : Triple) (children event : ℕ)
+      → IsPlaced (paths_of origins) (history_of origins events) place (Split triple children event) → (decision : Decision) → triple ≡ decision.triple
+      → decision.side ≡ Right
+      → (children + 1 < length origins) × (path_at (paths_of origins) (children + 1) ≡ path_at (paths_of origins) place ++ decision ∷ [])
+  right_child place triple children event placed decision same side = (
+    omega (arith, placed.1, length-paths_of origins),
+    placed.3 ∙ ap (λ t. decided (path_at (paths_of origins) place) t Right) same ∙ ap (decided (path_at (paths_of origins) place) decision.triple) (sym side)
+        ∙ decided_by (path_at (paths_of origins) place) decision,
+  )
 
 -- there is no child by another triple
 pub split_other : (triple other : Triple) → triple ≢ other → split triple ≢ split other
@@ -214,77 +235,86 @@ split_other triple other different same = different (ap triple_of same)
     triple_of (tied bound leaf chains) = triple
     triple_of (refuted leaf) = triple
 
--- the standing is no split on the triple
-abbrev pub IsOtherThan : Triple → Standing → Type 0
+-- the status is no split on the triple
+abbrev pub IsOtherThan : Triple → Status → Type 0
 IsOtherThan other Open = Unit {0}
 IsOtherThan other (Split triple children event) = triple ≢ other
 IsOtherThan other (Leaf event) = Unit {0}
 
--- no child where none is kept
-pub nothing_below : (network : Network) (origins : List Origin) (standings : List Standing) (events : List Settled) → IsTree network origins standings events → (place : ℕ) (decision : Decision)
-    → (standing : Standing) → IsPlaced (paths_of origins) (history_of origins events) place standing → IsOtherThan decision.triple standing
-    → Contains (made_paths (history_of origins events)) (path_at (paths_of origins) place ++ decision ∷ []) → ⊥
-nothing_below network origins standings events tree place decision Open placed other found =
-    no_child_of_open (history_of origins events) (path_at (paths_of origins) place) placed decision.triple decision.side
-    (subst (Contains (made_paths (history_of origins events))) (sym (decided_by (path_at (paths_of origins) place) decision)) found)
-nothing_below network origins standings events tree place decision (Split triple children event) placed other found =
-    no_child network (history_of origins events) tree.legal (path_at (paths_of origins) place) (split triple) event placed.0 decision.triple decision.side
-    (split_other triple decision.triple other)
-    (subst (Contains (made_paths (history_of origins events))) (sym (decided_by (path_at (paths_of origins) place) decision)) found)
-nothing_below network origins standings events tree place decision (Leaf event) placed other found =
-    no_child network (history_of origins events) tree.legal (path_at (paths_of origins) place) placed.0 event placed.1 decision.triple decision.side
-    (leaf_is_no_split (path_at (paths_of origins) place) placed.0 decision.triple placed.2)
-    (subst (Contains (made_paths (history_of origins events))) (sym (decided_by (path_at (paths_of origins) place) decision)) found)
+module _ {network : Network} {origins : List Origin} {statuses : List Status} {events : List Settled} (tree : IsTree network origins statuses events) where
+  -- no child where none is kept
+  pub nothing_below : (place : ℕ) (decision : Decision)
+      → (status : Status) → IsPlaced (paths_of origins) (history_of origins events) place status → IsOtherThan decision.triple status
+      → Contains (made_paths (history_of origins events)) (path_at (paths_of origins) place ++ decision ∷ []) → ⊥
+  nothing_below place decision Open placed other found =
+      no_child_of_open (history_of origins events) (path_at (paths_of origins) place) placed decision.triple decision.side
+      (subst (Contains (made_paths (history_of origins events))) (sym (decided_by (path_at (paths_of origins) place) decision)) found)
+  nothing_below place decision (Split triple children event) placed other found =
+      no_child tree.legal (path_at (paths_of origins) place) (split triple) event placed.0 decision.triple decision.side
+      (split_other triple decision.triple other)
+      (subst (Contains (made_paths (history_of origins events))) (sym (decided_by (path_at (paths_of origins) place) decision)) found)
+  nothing_below place decision (Leaf event) placed other found =
+      no_child tree.legal (path_at (paths_of origins) place) placed.0 event placed.1 decision.triple decision.side
+      (leaf_is_no_split (path_at (paths_of origins) place) placed.0 decision.triple placed.2)
+      (subst (Contains (made_paths (history_of origins events))) (sym (decided_by (path_at (paths_of origins) place) decision)) found)
 
--- ---- the walk's answers
+  -- ---- the walk's answers
 
--- a path with a beginning that wasn't made is outside the tree
-pub stops_outside : (network : Network) (origins : List Origin) (standings : List Standing) (events : List Settled) → IsTree network origins standings events → (path first rest : List Decision)
-    → path ≡ first ++ rest → (Contains (made_paths (history_of origins events)) first → ⊥) → IsStop origins standings events path Outside
-stops_outside network origins standings events tree path first rest parts unmade =
-    let history = history_of origins events in
-    let none : Contains (made_paths history) path → ⊥ = λ found. unmade (made_beginning network history tree.legal first rest (subst (Contains (made_paths history)) parts found)) in
-    (λ found. none (open_is_made history path found), no_position history path (unmade_unsettled network history tree.legal path none))
+  -- a path with a beginning that wasn't made is outside the tree
+  pub stops_outside : (path first rest : List Decision)
+      → path ≡ first ++ rest → (Contains (made_paths (history_of origins events)) first → ⊥) → IsStop origins statuses events path Outside
+  stops_outside path first rest parts unmade =
+      let history = history_of origins events in
+      let none : Contains (made_paths history) path → ⊥ =
+      λ found. unmade (made_beginning tree.legal first rest (subst (Contains (made_paths history)) parts found)) in
+      (λ found. none (open_is_made history path found), no_position history path (unmade_unsettled tree.legal path none))
 
--- a settled place
-pub stops_settled : (network : Network) (origins : List Origin) (standings : List Standing) (events : List Settled) → IsTree network origins standings events → (place : ℕ) (outcome : Outcome) (event : ℕ)
-    → IsEvent (history_of origins events) event (path_at (paths_of origins) place) outcome → (path : List Decision) → path_at (paths_of origins) place ≡ path → IsStop origins standings events path (AtSettled event)
-stops_settled network origins standings events tree place outcome event is path same =
-    let history = history_of origins events in
-    let there : IsEvent history event path outcome = subst (λ p. IsEvent history event p outcome) same is in
-    (settled_not_open history path outcome event there, event_position network history tree.legal path outcome event there)
+  -- a settled place
+  pub stops_settled : (place : ℕ) (outcome : Outcome) (event : ℕ)
+      → IsEvent (history_of origins events) event (path_at (paths_of origins) place) outcome → (path : List Decision) → path_at (paths_of origins) place ≡ path
+      → IsStop origins statuses events path (AtSettled event)
+  stops_settled place outcome event is path same =
+      let history = history_of origins events in
+      let there : IsEvent history event path outcome = subst (λ p. IsEvent history event p outcome) same is in
+      (settled_not_open history path outcome event there, event_position tree.legal path outcome event there)
 
--- a place that reads so stands so
-pub placed_as : (network : Network) (origins : List Origin) (standings : List Standing) (events : List Settled) → IsTree network origins standings events → (place : ℕ) → place < length origins
-    → (standing is : Standing) → standing ≡ get_or standings place standing → standing ≡ is → IsPlaced (paths_of origins) (history_of origins events) place is
-placed_as network origins standings events tree place below standing is read same =
-    subst (IsPlaced (paths_of origins) (history_of origins events) place) same (standing_at network origins standings events tree place below standing read)
+  -- a place that reads so stands so
+  pub placed_as : (place : ℕ) → place < length origins
+      → (status is : Status) → status ≡ get_or statuses place status → status ≡ is → IsPlaced (paths_of origins) (history_of origins events) place is
+  placed_as place below status is read same =
+      subst (IsPlaced (paths_of origins) (history_of origins events) place) same (status_at tree place below status read)
 
 -- a walk along all of a path
 pub walked : (path reached : List Decision) (k : ℕ) → reached ≡ take k path → length path ≤ k → reached ≡ path
 walked path reached k so_far past = so_far ∙ take_all k path past
 
--- a walk that finds no place below the one that it has reached
-pub stops_below : (network : Network) (origins : List Origin) (standings : List Standing) (events : List Settled) → IsTree network origins standings events → (path : List Decision) (place k : ℕ) (decision : Decision)
-    → k < length path → path_at (paths_of origins) place ≡ take k path
-    → (Contains (made_paths (history_of origins events)) (path_at (paths_of origins) place ++ get_or path k decision ∷ []) → ⊥) → IsStop origins standings events path Outside
-stops_below network origins standings events tree path place k decision below so_far unmade =
-    stops_outside network origins standings events tree path (path_at (paths_of origins) place ++ get_or path k decision ∷ []) (drop (k + 1) path)
-    (sym (take-append-drop (k + 1) path) ∙ ap (λ p. p ++ drop (k + 1) path) (take_more path k decision below ∙ ap (λ p. p ++ get_or path k decision ∷ []) (sym so_far)))
-    unmade
+module _ {network : Network} {origins : List Origin} {statuses : List Status} {events : List Settled} (tree : IsTree network origins statuses events) where
+  -- a walk that finds no place below the one that it has reached
+  pub stops_below : (path : List Decision) (place k : ℕ) (decision : Decision)
+      → k < length path → path_at (paths_of origins) place ≡ take k path
+      → (Contains (made_paths (history_of origins events)) (path_at (paths_of origins) place ++ get_or path k decision ∷ []) → ⊥)
+      → IsStop origins statuses events path Outside
+  stops_below path place k decision below so_far unmade =
+      stops_outside tree path (path_at (paths_of origins) place ++ get_or path k decision ∷ []) (drop (k + 1) path)
+      (sym (take-append-drop (k + 1) path) ∙ ap (λ p. p ++ drop (k + 1) path)
+      (take_more path k decision below ∙ ap (λ p. p ++ get_or path k decision ∷ []) (sym so_far)))
+      unmade
 
 -- a place that reads so stands so
-pub stands_as : (standings : List Standing) (place : ℕ) → place < length standings → (standing is : Standing) → standing ≡ get_or standings place standing → standing ≡ is → slice_index_or standings place Open ≡ is
-stands_as standings place within standing is read same = get_or_default standings place Open standing within ∙ sym read ∙ same
+pub stands_as : (statuses : List Status) (place : ℕ) → place < length statuses → (status is : Status) → status ≡ get_or statuses place status → status ≡ is
+    → slice_index_or statuses place Open ≡ is
+stands_as statuses place within status is read same = get_or_default statuses place Open status within ∙ sym read ∙ same
 
 -- ---- parents
 
 -- a child's path is its parent's, and one decision
-pub child_path : (origins : List Origin) (place parent : ℕ) (decision : Decision) → place < length origins → slice_index_or origins place Root ≡ Child parent decision → parent < place
+pub child_path : (origins : List Origin) (place parent : ℕ) (decision : Decision) → place < length origins
+    → slice_index_or origins place Root ≡ Child parent decision → parent < place
     → path_at (paths_of origins) place ≡ path_at (paths_of origins) parent ++ decision ∷ []
 unfolding path_at path_from
 child_path =
-    snoc_induction (λ origins. (place parent : ℕ) (decision : Decision) → place < length origins → slice_index_or origins place Root ≡ Child parent decision → parent < place
+    snoc_induction (λ origins. (place parent : ℕ) (decision : Decision) → place < length origins → slice_index_or origins place Root ≡ Child parent decision
+    → parent < place
     → path_at (paths_of origins) place ≡ path_at (paths_of origins) parent ++ decision ∷ [])
     (λ place parent decision within is before. absurd (omega (arith, within)))
     (λ origins origin known place parent decision within is before.
@@ -302,17 +332,20 @@ child_path =
           ∙ ap (λ p. p ++ decision ∷ []) (sym (path_at-left paths extra parent its) ∙ ap (λ ps. path_at ps parent) (sym one))
       | inr past ↦
           let last : place ≡ length origins + 0 = omega (arith, total, past) in
-          let here : origin ≡ Child parent decision = sym (get_or-append-add origins (origin ∷ []) 0 Root) ∙ ap (λ k. get_or (origins ++ origin ∷ []) k Root) (sym last) ∙ is in
+          let here : origin ≡ Child parent decision =
+          sym (get_or-append-add origins (origin ∷ []) 0 Root) ∙ ap (λ k. get_or (origins ++ origin ∷ []) k Root) (sym last) ∙ is in
           let at : place ≡ length paths + 0 = omega (arith, last, many) in
           let its : parent < length paths = omega (arith, at, before) in
-          ap (λ ps. path_at ps place) one ∙ ap (path_at (paths ++ extra)) at ∙ path_at-right paths extra 0 ∙ first_at (path_from paths origin) ∙ from_parent paths origin parent decision here
+          ap (λ ps. path_at ps place) one ∙ ap (path_at (paths ++ extra)) at ∙ path_at-right paths extra 0 ∙ first_at (path_from paths origin)
+          ∙ from_parent paths origin parent decision here
           ∙ ap (λ p. p ++ decision ∷ []) (sym (path_at-left paths extra parent its) ∙ ap (λ ps. path_at ps parent) (sym one))
     ])
   where
     first_at : (path : List Decision) → path_at (path ∷ []) 0 ≡ path
     first_at path = refl
 
-    from_parent : (paths : List (List Decision)) (origin : Origin) (parent : ℕ) (decision : Decision) → origin ≡ Child parent decision → path_from paths origin ≡ path_at paths parent ++ decision ∷ []
+    from_parent : (paths : List (List Decision)) (origin : Origin) (parent : ℕ) (decision : Decision) → origin ≡ Child parent decision
+        → path_from paths origin ≡ path_at paths parent ++ decision ∷ []
     from_parent paths origin parent decision is = ap (path_from paths) is
 
 -- the root's path is empty
@@ -336,7 +369,8 @@ root_path =
           let last : place ≡ length origins + 0 = omega (arith, total, past) in
           let here : origin ≡ Root = sym (get_or-append-add origins (origin ∷ []) 0 Root) ∙ ap (λ k. get_or (origins ++ origin ∷ []) k Root) (sym last) ∙ is in
           let at : place ≡ length paths + 0 = omega (arith, last, many) in
-          ap (λ ps. path_at ps place) one ∙ ap (path_at (paths ++ extra)) at ∙ path_at-right paths extra 0 ∙ first_at (path_from paths origin) ∙ from_root paths origin here
+          ap (λ ps. path_at ps place) one ∙ ap (path_at (paths ++ extra)) at ∙ path_at-right paths extra 0 ∙ first_at (path_from paths origin)
+          ∙ from_root paths origin here
     ])
   where
     first_at : (path : List Decision) → path_at (path ∷ []) 0 ≡ path

@@ -14,10 +14,10 @@ use Rattle.tsn_model.specs.Certificate.{decided}
 use Rattle.tsn_model.specs.Search as search
 use Rattle.tsn_model.specs.Search.{Settlement, path_eq, made_paths, open_paths, is_settled, ends_of, PathBefore, IsLegal}
 use Rattle.tsn_branch.specs.Outcome.{outcome_of}
-use Rattle.tsn_book.specs.declared.standings.Origin.{Origin}
-use Rattle.tsn_book.specs.declared.standings.Origin.TheVariants.{Root, Child}
-use Rattle.tsn_book.specs.declared.standings.Standing.{Standing}
-use Rattle.tsn_book.specs.declared.standings.Standing.TheVariants.{Open, Split, Leaf}
+use Rattle.tsn_book.specs.declared.statuses.Origin.{Origin}
+use Rattle.tsn_book.specs.declared.statuses.Origin.TheVariants.{Root, Child}
+use Rattle.tsn_book.specs.declared.statuses.Status.{Status}
+use Rattle.tsn_book.specs.declared.statuses.Status.TheVariants.{Open, Split, Leaf}
 use Rattle.tsn_book.specs.declared.log.Settled.{Settled}
 use Rattle.tsn_book.specs.declared.arena.Stop.{Stop}
 use Rattle.tsn_book.specs.declared.arena.Stop.TheVariants.{Open as AtOpen, Settled as AtSettled, Outside}
@@ -54,7 +54,7 @@ pub record IsEvent (history : List Settlement) (event : ℕ) (path : List Decisi
   pub there : (teller : ℕ) × (slice_get history event ≡ Some (record { teller = teller; event = record { path = path; outcome = outcome } }))
 
 -- what is known of a place
-abbrev pub IsPlaced : List (List Decision) → List Settlement → ℕ → Standing → Type 0
+abbrev pub IsPlaced : List (List Decision) → List Settlement → ℕ → Status → Type 0
 IsPlaced paths history place Open = is_settled history (path_at paths place) ≡ false
 IsPlaced paths history place (Split triple children event) =
     IsEvent history event (path_at paths place) (search.split triple) × (children + 1 < length paths)
@@ -69,17 +69,17 @@ IsAfterParent place Root = Unit {0}
 IsAfterParent place (Child parent decision) = parent < place
 
 -- the settlements are a legal history, the places are the paths that it made, and each stands as it says
-pub record IsTree (network : Network) (origins : List Origin) (standings : List Standing) (events : List Settled) : Type 0 where
+pub record IsTree (network : Network) (origins : List Origin) (statuses : List Status) (events : List Settled) : Type 0 where
   pub legal : IsLegal network (history_of origins events)
   pub made : paths_of origins ≡ made_paths (history_of origins events)
-  pub counted : length standings ≡ length origins
-  pub placed : (place : ℕ) → place < length origins → IsPlaced (paths_of origins) (history_of origins events) place (slice_index_or standings place Open)
+  pub counted : length statuses ≡ length origins
+  pub placed : (place : ℕ) → place < length origins → IsPlaced (paths_of origins) (history_of origins events) place (slice_index_or statuses place Open)
   pub within : All (λ settled. settled.place < length origins) events
   pub parents : (place : ℕ) → place < length origins → IsAfterParent place (slice_index_or origins place Root)
 
 -- the same of an arena
 abbrev pub IsArena : Tree → Type 0
-IsArena tree = IsTree tree.network tree.places.origins tree.places.standings tree.events.items
+IsArena tree = IsTree tree.network tree.places.origins tree.places.statuses tree.events.items
 
 -- what was settled in an arena, and the path of a place
 abbrev pub settled_in : Tree → List Settlement
@@ -97,16 +97,16 @@ IsLeafOutcome (search.tied bound leaf chains) = Unit {0}
 IsLeafOutcome (search.refuted leaf) = Unit {0}
 
 -- the place exists and is open
-pub record IsOpenPlace (standings : List Standing) (place : ℕ) : Type 0 where
-  pub within : place < length standings
-  pub is_open : slice_index_or standings place Open ≡ Open
+pub record IsOpenPlace (statuses : List Status) (place : ℕ) : Type 0 where
+  pub within : place < length statuses
+  pub is_open : slice_index_or statuses place Open ≡ Open
 
 -- where a walk along the path ends; outside an open place the path isn't open, and the number is that of the settlement which settled it, if one did
-abbrev pub IsStop : List Origin → List Standing → List Settled → List Decision → Stop → Type 0
-IsStop origins standings events path (AtOpen place) = IsOpenPlace standings place × (path_at (paths_of origins) place ≡ path)
-IsStop origins standings events path (AtSettled event) =
+abbrev pub IsStop : List Origin → List Status → List Settled → List Decision → Stop → Type 0
+IsStop origins statuses events path (AtOpen place) = IsOpenPlace statuses place × (path_at (paths_of origins) place ≡ path)
+IsStop origins statuses events path (AtSettled event) =
     (Contains (open_paths (history_of origins events)) path → ⊥) × (position (λ settlement. path_eq settlement.event.path path) (history_of origins events) ≡ Some event)
-IsStop origins standings events path Outside =
+IsStop origins statuses events path Outside =
     (Contains (open_paths (history_of origins events)) path → ⊥) × (position (λ settlement. path_eq settlement.event.path path) (history_of origins events) ≡ None)
 
 -- a look waits, and there is room for a split
@@ -120,47 +120,54 @@ abbrev pub flag_at : List Bool → ℕ → Bool
 flag_at closed place = slice_index_or closed place false
 
 -- whether nothing is open at a place and below it: a leaf is closed, and a split where both its children are
-abbrev pub ClosedAt : List Bool → ℕ → Standing → Type 0
+abbrev pub ClosedAt : List Bool → ℕ → Status → Type 0
 ClosedAt closed place Open = flag_at closed place ≡ false
 ClosedAt closed place (Split triple children event) = flag_at closed place ≡ (flag_at closed children && flag_at closed (children + 1))
 ClosedAt closed place (Leaf event) = flag_at closed place ≡ true
 
-pub record AreClosed (standings : List Standing) (closed : List Bool) : Type 0 where
-  pub counted : length closed ≡ length standings
-  pub each : (place : ℕ) → place < length standings → ClosedAt closed place (slice_index_or standings place Open)
+pub record AreClosed (statuses : List Status) (closed : List Bool) : Type 0 where
+  pub counted : length closed ≡ length statuses
+  pub each : (place : ℕ) → place < length statuses → ClosedAt closed place (slice_index_or statuses place Open)
 
 -- the open paths that don't begin with the path come after it
 abbrev pub IsAhead : List Settlement → List Decision → Type 0
 IsAhead history path = (other : List Decision) → Contains (open_paths history) other → ((rest : List Decision) × (other ≡ path ++ rest)) ⊎ PathBefore path other
 
 -- the child is one of the two that the place was split into
-pub record IsChildOf (standings : List Standing) (place child : ℕ) : Type 0 where
+pub record IsChildOf (statuses : List Status) (place child : ℕ) : Type 0 where
   pub triple : Triple
   pub children : ℕ
   pub event : ℕ
-  pub stands : slice_index_or standings place Open ≡ Split triple children event
+  pub stands : slice_index_or statuses place Open ≡ Split triple children event
   pub which : (child ≡ children) ⊎ (child ≡ children + 1)
 
+-- the place was split into two, of which the child is one, and the first has the number `children`
+pub record IsParent (statuses : List Status) (place children child : ℕ) : Type 0 where
+  pub of : IsChildOf statuses place child
+  pub first : of.children ≡ children
+  pub before : place < children
+  pub within : children + 1 < length statuses
+
 -- the place became a leaf, and isn't marked as closed yet
-pub record IsNewLeaf (standings : List Standing) (closed : List Bool) (place : ℕ) : Type 0 where
-  pub counted : length closed ≡ length standings
-  pub within : place < length standings
+pub record IsNewLeaf (statuses : List Status) (closed : List Bool) (place : ℕ) : Type 0 where
+  pub counted : length closed ≡ length statuses
+  pub within : place < length statuses
   pub event : ℕ
-  pub stands : slice_index_or standings place Open ≡ Leaf event
+  pub stands : slice_index_or statuses place Open ≡ Leaf event
   pub unmarked : flag_at closed place ≡ false
-  pub others : (other : ℕ) → other < length standings → other ≢ place → ClosedAt closed other (slice_index_or standings other Open)
+  pub others : (other : ℕ) → other < length statuses → other ≢ place → ClosedAt closed other (slice_index_or statuses other Open)
 
 -- the place was marked last, and what is above it isn't looked at yet
-pub record IsClosing (standings : List Standing) (closed : List Bool) (place : ℕ) : Type 0 where
-  pub counted : length closed ≡ length standings
-  pub within : place < length standings
+pub record IsClosing (statuses : List Status) (closed : List Bool) (place : ℕ) : Type 0 where
+  pub counted : length closed ≡ length statuses
+  pub within : place < length statuses
   pub marked : flag_at closed place ≡ true
-  pub others : (other : ℕ) → other < length standings → (IsChildOf standings other place → ⊥) → ClosedAt closed other (slice_index_or standings other Open)
-  pub above : (other : ℕ) → IsChildOf standings other place → flag_at closed other ≡ false
+  pub others : (other : ℕ) → other < length statuses → (IsChildOf statuses other place → ⊥) → ClosedAt closed other (slice_index_or statuses other Open)
+  pub above : (other : ℕ) → IsChildOf statuses other place → flag_at closed other ≡ false
 
 -- the place was split into two, which are both closed
-pub record IsParentClosed (standings : List Standing) (closed : List Bool) (parent place : ℕ) : Type 0 where
-  pub of : IsChildOf standings parent place
+pub record IsParentClosed (statuses : List Status) (closed : List Bool) (parent place : ℕ) : Type 0 where
+  pub of : IsChildOf statuses parent place
   pub before : parent < of.children
   pub left : flag_at closed of.children ≡ true
   pub right : flag_at closed (of.children + 1) ≡ true

@@ -1,18 +1,19 @@
 -- What a book knows, and why it refuses an event.
 use Rattle.std.specs.Prelude.{Bool, false, ◌≢◌, MatchOption, ◌||◌, ◌&&◌, nat_eq, ◌≡◌, ℕ, ◌<◌, ◌≤◌, ◌+◌, ◌-◌, ◌^◌, min, fold, List, [], length, map, All, AllPairs, Contains, IsPermutation, Option, Some, None, nat_lt, if◌then◌else◌}
 use Rattle.std.specs.List.{slice_index_or}
+use Rattle.tsn_model.specs.declared.Tally.{Tally}
 use Rattle.tsn_model.specs.declared.Decision.{Decision}
 use Rattle.tsn_model.specs.Network.{Network, IsWellFormed}
 use Rattle.tsn_model.specs.Schedule.{comes_before}
 use Rattle.tsn_model.specs.Certificate.{Leaf, beyond, HasBound, Tree, AcceptsFirst, Node, Spells}
 use Rattle.tsn_model.specs.Arcs.{conflicts_of}
-use Rattle.tsn_model.specs.Search.{Outcome, split, solved, pruned, tied, refuted, Event, Settlement, open_paths, best_bound, kept_of, solved_bound, pruned_bound, tally_of, IsNoBetter, IsAllowed, IsLegal}
+use Rattle.tsn_model.specs.Search.{Outcome, split, solved, pruned, tied, refuted, Event, Settlement, open_paths, best_bound, kept_of, solved_bound, pruned_bound, tally_of, IsNoBetter, IsAllowed, IsLegal, tally_as}
 use Rattle.tsn_timing.specs.Solution.{Solution, IsSolved}
 use Rattle.tsn_search_laws.specs.Order.{Precedes, node_of}
 use Rattle.tsn_search_laws.specs.Replies.{not_open, limit_met, not_conflict, already_decided, not_met, IsFirstRefusal}
 use Rattle.tsn_book.specs.Arena.{IsEvent, IsTree, AreClosed, history_of}
-use Rattle.tsn_book.specs.declared.standings.Origin.{Origin}
-use Rattle.tsn_book.specs.declared.standings.Standing.{Standing}
+use Rattle.tsn_book.specs.declared.statuses.Origin.{Origin}
+use Rattle.tsn_book.specs.declared.statuses.Status.{Status}
 use Rattle.tsn_book.specs.declared.log.Settled.{Settled}
 use Rattle.tsn_book.specs.declared.fault.BookFault.{BookFault}
 use Rattle.tsn_book.specs.declared.fault.BookFault.TheVariants.{NotOpen, Limit, NotConflict, AlreadyDecided, NotMet, Memory}
@@ -111,8 +112,8 @@ abbrev pub kept_after : Bool → Option ℕ → ℕ → Option ℕ
 kept_after better kept number = (if better then Some number else kept)
 
 -- a teller's tally, after one more of its events
-abbrev pub tally_after : ℕ × ℕ × ℕ → Outcome → ℕ × ℕ × ℕ
-tally_after tally outcome = (tally.0 + 1, fold min tally.1 (pruned_bound outcome), fold min tally.2 (solved_bound outcome))
+abbrev pub tally_after : Tally → Outcome → Tally
+tally_after tally outcome = tally_as (tally.events + 1) (fold min tally.pruned (pruned_bound outcome)) (fold min tally.solved (solved_bound outcome))
 
 -- the event of that number has the offsets that are kept
 abbrev pub IsKept : Network → List Settlement → Option ℕ → Type 0
@@ -121,17 +122,17 @@ IsKept network history (Some number) =
     (path : List Decision) × (offsets : List ℕ) × (bound : ℕ) × (leaf : Leaf) × (chains : List (List ℕ)) × IsEvent history number path (solved offsets bound leaf chains) × (kept_of network history ≡ Some offsets)
 
 -- the numbers beside the places are those of the history
-pub record IsSummary (network : Network) (history : List Settlement) (open_count best : ℕ) (kept_number : Option ℕ) (tallies : List (ℕ × ℕ × ℕ)) : Type 0 where
+pub record IsSummary (network : Network) (history : List Settlement) (open_count best : ℕ) (kept_number : Option ℕ) (tallies : List Tally) : Type 0 where
   pub counted : open_count ≡ length (open_paths history)
   pub lowest : best ≡ best_bound network history
   pub kept : IsKept network history kept_number
-  pub tallied : (k : ℕ) → k < length tallies → slice_index_or tallies k (0, 0, 0) ≡ tally_of network k history
+  pub tallied : (k : ℕ) → k < length tallies → slice_index_or tallies k (tally_as 0 0 0) ≡ tally_of network k history
   pub tellers : All (λ settlement. settlement.teller < length tallies) history
 
 -- the fields of a book stand for what was settled of a search for that network
-pub record IsBook (network : Network) (origins : List Origin) (standings : List Standing) (events : List Settled) (flags : List Bool) (limit open_count best : ℕ) (kept_number : Option ℕ) (tallies : List (ℕ × ℕ × ℕ)) : Type 0 where
-  pub tree : IsTree network origins standings events
-  pub closed : AreClosed standings flags
+pub record IsBook (network : Network) (origins : List Origin) (statuses : List Status) (events : List Settled) (flags : List Bool) (limit open_count best : ℕ) (kept_number : Option ℕ) (tallies : List Tally) : Type 0 where
+  pub tree : IsTree network origins statuses events
+  pub closed : AreClosed statuses flags
   pub within_limit : length events ≤ limit
   pub summary : IsSummary network (history_of origins events) open_count best kept_number tallies
   pub formed : IsWellFormed network

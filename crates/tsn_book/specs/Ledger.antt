@@ -16,7 +16,7 @@ progress_of ledger = record { network = ledger.tree.network; tellers = length le
 -- its parts agree
 abbrev pub IsLedger : Ledger → Type 0
 IsLedger ledger =
-    IsBook ledger.tree.network ledger.tree.places.origins ledger.tree.places.standings ledger.tree.events.items ledger.closed.items
+    IsBook ledger.tree.network ledger.tree.places.origins ledger.tree.places.statuses ledger.tree.events.items ledger.closed.items
     ledger.bounds.limit ledger.open_nodes ledger.bounds.best ledger.bounds.kept ledger.tallies.items
 
 -- they agree, and nothing waits to be settled

@@ -13,12 +13,12 @@ ghost use Rattle.tsn_book.specs.Event.{event_of};
 ghost use Rattle.tsn_book.specs.Below.{IsAbove};
 ghost use Rattle.tsn_book.specs.Book.{IsFault, IsMet, IsKept, is_better};
 ghost use Rattle.tsn_book.specs.Log.{next_of};
-ghost use Rattle.tsn_book.specs.Arena.{IsArena, IsStop, settled_in, path_in, IsOpenPlace, IsLeafOutcome, HasRoom, AreClosed, IsAhead, IsNewLeaf, IsClosing, IsParentClosed, flag_at};
+ghost use Rattle.tsn_book.specs.Arena.{IsArena, IsStop, settled_in, path_in, IsOpenPlace, IsLeafOutcome, HasRoom, AreClosed, IsAhead, IsNewLeaf, IsClosing, IsParent, IsParentClosed, flag_at};
 
 use crate::event::Event;
 use crate::fault::BookFault;
 use crate::log::Log;
-use crate::standings::{Origin, Places, Standing};
+use crate::statuses::{Origin, Places, Status};
 use crate::ties::{comes_before, shows_after};
 use std::alloc::{AllocError, Global};
 use tsn_branch::outcome::Look;
@@ -57,7 +57,7 @@ impl Tree {
     /// The place at the end of a path.
     pub fn find(&self, path: &[Decision]) -> Stop
         requires { IsArena self.now }
-        ensures { IsStop self.now.places.origins self.now.places.standings self.now.events.items path.now result }
+        ensures { IsStop self.now.places.origins self.now.places.statuses self.now.events.items path.now result }
     {
         let mut place = 0;
         for decision in path {
@@ -73,13 +73,13 @@ impl Tree {
     fn stop_at(&self, place: usize) -> Stop
         requires tree { IsArena self.now }
         requires place { place < length self.now.places.origins }
-        ensures { IsStop self.now.places.origins self.now.places.standings self.now.events.items (path_in self.now place) result }
+        ensures { IsStop self.now.places.origins self.now.places.statuses self.now.events.items (path_in self.now place) result }
     {
-        let standing = self.places.standing(place);
-        match standing {
-            Standing::Open => Stop::Open(place),
-            Standing::Split { event, .. } => Stop::Settled(event),
-            Standing::Leaf(event) => Stop::Settled(event),
+        let status = self.places.status(place);
+        match status {
+            Status::Open => Stop::Open(place),
+            Status::Split { event, .. } => Stop::Settled(event),
+            Status::Leaf(event) => Stop::Settled(event),
         }
     }
 
@@ -91,11 +91,11 @@ impl Tree {
             (Contains (made_paths (settled_in self.now)) (path_in self.now place ++ decision ∷ []) → ⊥)
             (λ child. (child < length self.now.places.origins) × (path_in self.now child ≡ path_in self.now place ++ decision ∷ [])) }
     {
-        let standing = self.places.standing(place);
-        match standing {
-            Standing::Open => None,
-            Standing::Leaf(_) => None,
-            Standing::Split {
+        let status = self.places.status(place);
+        match status {
+            Status::Open => None,
+            Status::Leaf(_) => None,
+            Status::Split {
                 triple,
                 children,
                 ..
@@ -131,7 +131,7 @@ impl Tree {
     /// The open node that is first in preorder; `closed` marks each place with nothing open at it or below it.
     pub fn first_open(&self, alloc: Global, closed: &[bool]) -> Result<Option<Node>, NoMemory>
         requires tree { IsArena self.now }
-        requires closed { AreClosed self.now.places.standings closed.now }
+        requires closed { AreClosed self.now.places.statuses closed.now }
         ensures { let history = settled_in self.now in
             IfOk result (λ first. MatchOption first (open_paths history ≡ []) (IsFirstOpen history)) }
     {
@@ -150,19 +150,19 @@ impl Tree {
     // The first child of a place that isn't closed, or none where the place is open itself.
     fn first_child(&self, closed: &[bool], place: usize) -> Option<(usize, Decision)>
         requires tree { IsArena self.now }
-        requires closed { AreClosed self.now.places.standings closed.now }
+        requires closed { AreClosed self.now.places.statuses closed.now }
         requires place { place < length self.now.places.origins }
         requires some { flag_at closed.now place ≡ false }
         ensures { let history = settled_in self.now in
-            MatchOption result (IsOpenPlace self.now.places.standings place)
+            MatchOption result (IsOpenPlace self.now.places.statuses place)
             (λ next. (place < next.0) × (next.0 < length self.now.places.origins) × (path_in self.now next.0 ≡ path_in self.now place ++ next.1 ∷ [])
             × (flag_at closed.now next.0 ≡ false) × (IsAhead history (path_in self.now place) → IsAhead history (path_in self.now next.0))) }
     {
-        let standing = self.places.standing(place);
-        match standing {
-            Standing::Open => None,
-            Standing::Leaf(_) => None,
-            Standing::Split {
+        let status = self.places.status(place);
+        match status {
+            Status::Open => None,
+            Status::Leaf(_) => None,
+            Status::Split {
                 triple,
                 children,
                 ..
@@ -181,7 +181,7 @@ impl Tree {
     pub fn reserve(&mut self, closed: &mut Vec<bool>) -> Result<(), AllocError>
         ensures network { self.new.network ≡ self.old.network }
         ensures origins { self.new.places.origins ≡ self.old.places.origins }
-        ensures standings { self.new.places.standings ≡ self.old.places.standings }
+        ensures statuses { self.new.places.statuses ≡ self.old.places.statuses }
         ensures events { self.new.events ≡ self.old.events }
         ensures closed { closed.new.items ≡ closed.old.items }
         ensures small { length self.new.places.origins < 2 ^ 63 }
@@ -195,17 +195,17 @@ impl Tree {
     /// Settles an open place as the split that waits first.
     fn split(&mut self, closed: &mut Vec<bool>, place: usize, teller: usize, triple: Triple)
         requires tree { IsArena self.old }
-        requires closed { AreClosed self.old.places.standings closed.old.items }
+        requires closed { AreClosed self.old.places.statuses closed.old.items }
         requires room { HasRoom self.old }
         requires room_closed { vec_len closed.old + 2 ≤ vec_capacity closed.old }
-        requires open { IsOpenPlace self.old.places.standings place }
+        requires open { IsOpenPlace self.old.places.statuses place }
         requires next { next_of self.old.events ≡ Look.Split triple }
         requires right { IsRight self.old.network (settled_in self.old) (path_in self.old place) (split triple) }
         ensures tree { IsArena self.new }
         ensures network { self.new.network ≡ self.old.network }
         ensures history { settled_in self.new ≡ settled_in self.old
             ++ record { teller = teller; event = record { path = path_in self.old place; outcome = split triple } } ∷ [] }
-        ensures closed { AreClosed self.new.places.standings closed.new.items }
+        ensures closed { AreClosed self.new.places.statuses closed.new.items }
         ensures waiting { self.new.events.waiting ≡ drop 1 self.old.events.waiting }
     {
         self.places.split(place, triple, self.events.len());
@@ -217,16 +217,16 @@ impl Tree {
     /// Settles an open place as the leaf that waits first.
     fn close(&mut self, closed: &mut Vec<bool>, place: usize, teller: usize)
         requires tree { IsArena self.old }
-        requires closed { AreClosed self.old.places.standings closed.old.items }
+        requires closed { AreClosed self.old.places.statuses closed.old.items }
         requires room { HasRoom self.old }
-        requires open { IsOpenPlace self.old.places.standings place }
+        requires open { IsOpenPlace self.old.places.statuses place }
         requires right { IsRight self.old.network (settled_in self.old) (path_in self.old place) (outcome_of (next_of self.old.events)) }
         requires leaf { IsLeafOutcome (outcome_of (next_of self.old.events)) }
         ensures tree { IsArena self.new }
         ensures network { self.new.network ≡ self.old.network }
         ensures history { settled_in self.new ≡ settled_in self.old
             ++ record { teller = teller; event = record { path = path_in self.old place; outcome = outcome_of (next_of self.old.events) } } ∷ [] }
-        ensures closed { AreClosed self.new.places.standings closed.new.items }
+        ensures closed { AreClosed self.new.places.statuses closed.new.items }
         ensures waiting { self.new.events.waiting ≡ drop 1 self.old.events.waiting }
     {
         self.places.close(place, self.events.len());
@@ -237,8 +237,8 @@ impl Tree {
     // Marks a new leaf as closed, and each place above it whose children are both closed now.
     fn mark(&self, closed: &mut [bool], leaf: usize)
         requires tree { IsArena self.now }
-        requires leaf { IsNewLeaf self.now.places.standings closed.old leaf }
-        ensures { AreClosed self.now.places.standings closed.new }
+        requires leaf { IsNewLeaf self.now.places.statuses closed.old leaf }
+        ensures { AreClosed self.now.places.statuses closed.new }
     {
         let mut place = leaf;
         closed[place] = true;
@@ -251,41 +251,50 @@ impl Tree {
     // The parent of a place, where both its children are closed.
     fn next_closed(&self, closed: &[bool], place: usize) -> Option<usize>
         requires tree { IsArena self.now }
-        requires closing { IsClosing self.now.places.standings closed.now place }
-        ensures { MatchOption result (AreClosed self.now.places.standings closed.now)
-            (λ parent. (parent < place) × IsParentClosed self.now.places.standings closed.now parent place) }
+        requires closing { IsClosing self.now.places.statuses closed.now place }
+        ensures { MatchOption result (AreClosed self.now.places.statuses closed.now)
+            (λ parent. (parent < place) × IsParentClosed self.now.places.statuses closed.now parent place) }
     {
-        let origin = self.places.origin(place);
-        let Origin::Child(parent, _) = origin else {
+        let Some((parent, children)) = self.parent(place) else {
             return None;
         };
-        let standing = self.places.standing(parent);
-        let Standing::Split { children, .. } = standing else {
-            unreachable!();
-        };
-        if !closed[children] {
-            return None;
-        }
-        if closed[children + 1] {
+        if closed[children] && closed[children + 1] {
             Some(parent)
         } else {
             None
         }
     }
 
+    // The place that was split into this one and another, and the first of the two; none for the root.
+    fn parent(&self, place: usize) -> Option<(usize, usize)>
+        requires tree { IsArena self.now }
+        requires place { place < length self.now.places.statuses }
+        ensures { MatchOption result (path_in self.now place ≡ []) (λ parent. IsParent self.now.places.statuses parent.0 parent.1 place) }
+    {
+        let origin = self.places.origin(place);
+        let Origin::Child(parent, _) = origin else {
+            return None;
+        };
+        let status = self.places.status(parent);
+        let Status::Split { children, .. } = status else {
+            unreachable!();
+        };
+        Some((parent, children))
+    }
+
     /// Settles an open place as the look that waits first found it.
     pub fn settle(&mut self, closed: &mut Vec<bool>, place: usize, teller: usize)
         requires tree { IsArena self.old }
-        requires closed { AreClosed self.old.places.standings closed.old.items }
+        requires closed { AreClosed self.old.places.statuses closed.old.items }
         requires room { HasRoom self.old }
         requires room_closed { vec_len closed.old + 2 ≤ vec_capacity closed.old }
-        requires open { IsOpenPlace self.old.places.standings place }
+        requires open { IsOpenPlace self.old.places.statuses place }
         requires right { IsRight self.old.network (settled_in self.old) (path_in self.old place) (outcome_of (next_of self.old.events)) }
         ensures tree { IsArena self.new }
         ensures network { self.new.network ≡ self.old.network }
         ensures history { settled_in self.new ≡ settled_in self.old
             ++ record { teller = teller; event = record { path = path_in self.old place; outcome = outcome_of (next_of self.old.events) } } ∷ [] }
-        ensures closed { AreClosed self.new.places.standings closed.new.items }
+        ensures closed { AreClosed self.new.places.statuses closed.new.items }
         ensures waiting { self.new.events.waiting ≡ drop 1 self.old.events.waiting }
     {
         match split_of(self.events.next()) {
@@ -302,7 +311,7 @@ impl Tree {
         requires kept { IsKept self.now.network (settled_in self.now) bounds.kept }
         requires proof { HasProof self.now.network event.now.node (outcome_of event.now.look) }
         ensures { let history = settled_in self.now in MatchResult result
-            (λ place. IsOpenPlace self.now.places.standings place × (path_in self.now place ≡ event.now.node)
+            (λ place. IsOpenPlace self.now.places.statuses place × (path_in self.now place ≡ event.now.node)
             × (length history < bounds.limit) × IsAllowed self.now.network history (event_of event.now))
             (λ fault. IsFault self.now.network bounds.limit history (event_of event.now) fault) }
     {
@@ -357,7 +366,7 @@ impl Tree {
         requires best { bounds.best ≡ best_bound self.now.network (settled_in self.now) }
         requires kept { IsKept self.now.network (settled_in self.now) bounds.kept }
         requires proof { HasProof self.now.network path.now (outcome_of look.now) }
-        requires stop { IsStop self.now.places.origins self.now.places.standings self.now.events.items path.now stop }
+        requires stop { IsStop self.now.places.origins self.now.places.statuses self.now.events.items path.now stop }
         ensures { let history = settled_in self.now in MatchResult result
             (λ place. (stop ≡ Stop.Open place) × (length history < bounds.limit) × IsMet self.now.network history path.now (outcome_of look.now))
             (λ fault. IsFault self.now.network bounds.limit history (record { path = path.now; outcome = outcome_of look.now }) fault) }
@@ -459,7 +468,7 @@ impl Tree {
         ensures history { IfOk result (λ tree. settled_in tree ≡ []) }
         ensures events { IfOk result (λ tree. tree.events.items ≡ []) }
         ensures waiting { IfOk result (λ tree. tree.events.waiting ≡ []) }
-        ensures standings { IfOk result (λ tree. tree.places.standings ≡ Standing.Open ∷ []) }
+        ensures statuses { IfOk result (λ tree. tree.places.statuses ≡ Status.Open ∷ []) }
     {
         Ok(Tree {
             network,

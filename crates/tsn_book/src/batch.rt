@@ -8,8 +8,8 @@ ghost use Rattle.tsn_book.specs.Below.{settlements_by, events_below, path_after,
 
 use crate::book::Book;
 use crate::event::Event;
-use crate::fault::BookFault;
 use crate::looks::Looks;
+use crate::refusal::{BatchRefusal, EventRefusal, WalkRefusal};
 use tsn_branch::Node;
 
 impl Book {
@@ -17,18 +17,14 @@ impl Book {
     /// one wasn't, and gives back that one and all after it.
     ///
     /// Each event has to be right as for `settle`.
-    pub fn settle_all(
-        &mut self,
-        teller: usize,
-        events: Vec<Event>,
-    ) -> Result<(), (usize, BookFault, Vec<Event>)>
+    pub fn settle_all(&mut self, teller: usize, events: Vec<Event>) -> Result<(), BatchRefusal>
         requires teller { teller < self.old.tellers }
         requires proofs { All (λ event. HasProof self.old.network event.node (outcome_of event.look)) events.items }
         ensures all { OnOk result (self.new ≡ record self.old { history = self.old.history ++ settlements_by teller (map event_of events.items) }) }
-        ensures some { IfErr result (λ refusal. (refusal.0 < length events.items)
-            × (self.new ≡ record self.old { history = self.old.history ++ settlements_by teller (map event_of (take refusal.0 events.items)) })
-            × (refusal.2.items ≡ drop refusal.0 events.items)) }
-        ensures fault { IfErr result (λ refusal. IsFaultAt self.old.network self.old.limit self.new.history (map event_of events.items) refusal.0 refusal.1) }
+        ensures some { IfErr result (λ refusal. (refusal.settled < length events.items)
+            × (self.new ≡ record self.old { history = self.old.history ++ settlements_by teller (map event_of (take refusal.settled events.items)) })
+            × (refusal.rest.items ≡ drop refusal.settled events.items)) }
+        ensures fault { IfErr result (λ refusal. IsFaultAt self.old.network self.old.limit self.new.history (map event_of events.items) refusal.settled refusal.fault) }
         ensures lawful { IsLawful self.new }
         ensures network { self.new.network ≡ self.old.network }
         ensures tellers { self.new.tellers ≡ self.old.tellers }
@@ -39,10 +35,15 @@ impl Book {
         // The last event is the cheapest to take out of a vector.
         rest.reverse();
         while let Some(event) = rest.pop() {
-            if let Err((fault, event)) = self.settle(teller, event) {
+            if let Err(refused) = self.settle(teller, event) {
+                let EventRefusal { fault, event } = refused;
                 rest.push_reserved(event);
                 rest.reverse();
-                return Err((self.count() - before, fault, rest));
+                return Err(BatchRefusal {
+                    settled: self.count() - before,
+                    fault,
+                    rest,
+                });
             }
         }
         Ok(())
@@ -60,7 +61,7 @@ impl Book {
         teller: usize,
         from: &mut Node,
         looks: Looks,
-    ) -> Result<(), (usize, BookFault)>
+    ) -> Result<(), WalkRefusal>
         requires teller { teller < self.old.tellers }
         requires proofs { All (λ event. HasProof self.old.network event.path event.outcome × SplitsUndecided self.old.network event.path event.outcome)
             (events_below from.old (map outcome_of looks)) }
@@ -68,11 +69,11 @@ impl Book {
           history = self.old.history ++ settlements_by teller (events_below from.old (map outcome_of looks));
         }) }
         ensures from { OnOk result (from.new ≡ path_after from.old (map outcome_of looks)) }
-        ensures some { IfErr result (λ refusal. (refusal.0 < length looks)
-            × (self.new ≡ record self.old { history = self.old.history ++ settlements_by teller (take refusal.0 (events_below from.old (map outcome_of looks))) })
-            × (from.new ≡ path_after from.old (take refusal.0 (map outcome_of looks)))) }
+        ensures some { IfErr result (λ refusal. (refusal.settled < length looks)
+            × (self.new ≡ record self.old { history = self.old.history ++ settlements_by teller (take refusal.settled (events_below from.old (map outcome_of looks))) })
+            × (from.new ≡ path_after from.old (take refusal.settled (map outcome_of looks)))) }
         ensures fault { IfErr result (λ refusal. IsFaultAt self.old.network self.old.limit self.new.history (events_below from.old (map outcome_of looks))
-            refusal.0 refusal.1) }
+            refusal.settled refusal.fault) }
         ensures lawful { IsLawful self.new }
         ensures network { self.new.network ≡ self.old.network }
         ensures tellers { self.new.tellers ≡ self.old.tellers }
@@ -85,10 +86,11 @@ impl Book {
         }
         let place = match self.open_place(from.path()) {
             Ok(place) => place,
-            Err(fault) => return Err((0, fault)),
+            Err(fault) => return Err(WalkRefusal { settled: 0, fault }),
         };
         if let Err(looks) = self.ledger.tree.events.bring(looks) {
-            return Err((0, self.fault_at(place, from.path(), looks.get(0))));
+            let fault = self.fault_at(place, from.path(), looks.get(0));
+            return Err(WalkRefusal { settled: 0, fault });
         }
         let settled = self.ledger.settle_waiting(teller, place, from);
         self.ledger.tree.events.dismiss();

@@ -2,7 +2,7 @@
 ghost use Rattle.std.specs.Prelude.{◌≡◌, ◌<◌, ◌+◌, ◌++◌, ◌∷◌, [], false, length, replicate, IfOk, IfErr, OnErr, OnOk, MatchOption, MatchResult, Some, None, IsTrue, ◌↔◌, Any, Contains};
 ghost use Rattle.tsn_cert.specs.declared.cert.Format.{Format};
 ghost use Rattle.tsn_timing.specs.Solution.{IsSolved};
-ghost use Rattle.tsn_model.specs.Search.{Outcome, made_paths, open_paths, best_bound, kept_of, tally_of, solved_bounds, settled_by, IsAllowed, IsFirstOpen};
+ghost use Rattle.tsn_model.specs.Search.{Outcome, made_paths, open_paths, best_bound, kept_of, tally_of, solved_bounds, settled_by, tally_as, IsAllowed, IsFirstOpen};
 ghost use Rattle.tsn_branch.specs.Outcome.{outcome_of};
 ghost use Rattle.tsn_branch.specs.Look.{HasProof, SplitsUndecided};
 ghost use Rattle.tsn_book.specs.Event.{event_of};
@@ -16,17 +16,15 @@ use crate::event::Event;
 use crate::fault::BookFault;
 use crate::ledger::Ledger;
 use crate::log::{Log, Settled};
+use crate::refusal::EventRefusal;
 use crate::spelling::Spelling;
 use std::alloc::{AllocError, Global};
 use std::marker::Model;
 use tsn_branch::outcome::Look;
 use tsn_branch::{Decision, NoMemory, Node};
 use tsn_cert::Cert;
+use tsn_model::Tally;
 use tsn_timing::{Solved, Timing};
-
-/// How many events a teller settled, the least bound that it pruned by, and the least flowspan that it solved, each in
-/// nanoseconds, and one more than the cycle where there is none below that.
-pub type Tally = (u64, u64, u64);
 
 /// What was settled of a search, by tellers with numbers from 0, at most as many events as its limit says.
 #[derive(Drop)]
@@ -78,7 +76,7 @@ impl Book {
     ///
     /// A leaf's proof has to be right for its own bound, and a solved leaf's bound is the flowspan of its schedule: a look
     /// at the node gives such.
-    pub fn settle(&mut self, teller: usize, event: Event) -> Result<(), (BookFault, Event)>
+    pub fn settle(&mut self, teller: usize, event: Event) -> Result<(), EventRefusal>
         requires teller { teller < self.old.tellers }
         requires proof { HasProof self.old.network event.node (outcome_of event.look) }
         ensures ok { OnOk result (self.new ≡ record self.old { history = self.old.history ++ record { teller = teller; event = event_of event } ∷ [] }) }
@@ -87,18 +85,21 @@ impl Book {
         ensures tellers { self.new.tellers ≡ self.old.tellers }
         ensures limit { self.new.limit ≡ self.old.limit }
         ensures refused { OnErr result (self.new ≡ self.old) }
-        ensures fault { IfErr result (λ refusal. IsFault self.old.network self.old.limit self.old.history (event_of event) refusal.0) }
-        ensures returned { IfErr result (λ refusal. refusal.1 ≡ event) }
+        ensures fault { IfErr result (λ refusal. IsFault self.old.network self.old.limit self.old.history (event_of event) refusal.fault) }
+        ensures returned { IfErr result (λ refusal. refusal.event ≡ event) }
     {
         let placed = self.ledger.tree.place_for(self.ledger.bounds, &event);
         let place = match placed {
             Ok(place) => place,
-            Err(fault) => return Err((fault, event)),
+            Err(fault) => return Err(EventRefusal { fault, event }),
         };
         let Event { node, look } = event;
         match self.enter(teller, place, look) {
             Ok(()) => Ok(()),
-            Err(look) => Err((BookFault::Memory, Event { node, look })),
+            Err(look) => Err(EventRefusal {
+                fault: BookFault::Memory,
+                event: Event { node, look },
+            }),
         }
     }
 
@@ -266,11 +267,15 @@ fn one_open(alloc: Global) -> Result<Vec<bool>, AllocError>
 
 /// The tallies of tellers that have settled nothing.
 fn tallies_of(alloc: Global, tellers: usize, past_cycle: u64) -> Result<Vec<Tally>, AllocError>
-    ensures { IfOk result (λ tallies. tallies.items ≡ replicate tellers (0, past_cycle, past_cycle)) }
+    ensures { IfOk result (λ tallies. tallies.items ≡ replicate tellers (tally_as 0 past_cycle past_cycle)) }
 {
     let mut tallies = Vec::with_capacity(alloc, tellers)?;
     for _ in 0..tellers {
-        tallies.push((0, past_cycle, past_cycle))?;
+        tallies.push(Tally {
+            events: 0,
+            pruned: past_cycle,
+            solved: past_cycle,
+        })?;
     }
     Ok(tallies)
 }

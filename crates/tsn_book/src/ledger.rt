@@ -3,7 +3,7 @@ ghost use Rattle.std.specs.Prelude.{◌≡◌, ◌<◌, ◌≤◌, ◌+◌, ◌^
 ghost use Rattle.tsn_cert.specs.declared.cert.Format.{Format};
 ghost use Rattle.tsn_model.specs.declared.Side.TheVariants.{Left};
 ghost use Rattle.tsn_model.specs.Certificate.{decided};
-ghost use Rattle.tsn_model.specs.Search.{made_paths, open_paths, best_bound, kept_of, solved_bound, split, IsAllowed};
+ghost use Rattle.tsn_model.specs.Search.{made_paths, open_paths, best_bound, kept_of, solved_bound, split, tally_as, IsAllowed};
 ghost use Rattle.tsn_search_laws.specs.Walk.{path_made, IsPlaceOf};
 ghost use Rattle.tsn_branch.specs.declared.outcome.Look.{Look};
 ghost use Rattle.tsn_branch.specs.Outcome.{outcome_of};
@@ -15,11 +15,12 @@ ghost use Rattle.tsn_book.specs.Log.{next_of};
 ghost use Rattle.tsn_book.specs.Ledger.{IsLedger, progress_of, next_outcome, with_one, with_all};
 
 use crate::arena::{Bounds, Tree, split_of};
-use crate::book::Tally;
 use crate::fault::BookFault;
+use crate::refusal::WalkRefusal;
 use crate::spelling::{Spelling, order_of};
 use tsn_branch::outcome::Look;
 use tsn_branch::{Decision, NoMemory, Node, Side, Triple};
+use tsn_model::Tally;
 use tsn_timing::Solved;
 
 /// The tree of a search, and what is known of it all.
@@ -77,7 +78,7 @@ impl Ledger {
         ensures best { result.best ≡ fold min self.now.bounds.best (solved_bound (next_outcome self.now)) }
         ensures kept { result.kept ≡ kept_after (is_better (kept_of self.now.tree.network (settled_in self.now.tree)) self.now.bounds.best (next_outcome self.now))
             self.now.bounds.kept (length self.now.tree.events.items) }
-        ensures tally { result.tally ≡ tally_after (slice_index_or self.now.tallies.items teller (0, 0, 0)) (next_outcome self.now) }
+        ensures tally { result.tally ≡ tally_after (slice_index_or self.now.tallies.items teller (tally_as 0 0 0)) (next_outcome self.now) }
     {
         let look = self.tree.events.next();
         let better = self.tree.is_better(self.bounds, look);
@@ -96,7 +97,7 @@ impl Ledger {
         teller: usize,
         place: usize,
         walk: &mut Node,
-    ) -> Result<(), (usize, BookFault)>
+    ) -> Result<(), WalkRefusal>
         requires agrees { IsLedger self.old }
         requires teller { teller < length self.old.tallies.items }
         requires at { IsPlaceOf (settled_in self.old.tree) walk.old place }
@@ -106,18 +107,23 @@ impl Ledger {
         ensures all { OnOk result (progress_of self.new
             ≡ with_all self.old teller (events_below walk.old (map outcome_of self.old.tree.events.waiting))) }
         ensures walk { OnOk result (walk.new ≡ path_after walk.old (map outcome_of self.old.tree.events.waiting)) }
-        ensures some { IfErr result (λ refusal. (refusal.0 < length self.old.tree.events.waiting)
-            × (progress_of self.new ≡ with_all self.old teller (take refusal.0 (events_below walk.old (map outcome_of self.old.tree.events.waiting))))
-            × (walk.new ≡ path_after walk.old (take refusal.0 (map outcome_of self.old.tree.events.waiting)))) }
+        ensures some { IfErr result (λ refusal. (refusal.settled < length self.old.tree.events.waiting)
+            × (progress_of self.new ≡ with_all self.old teller (take refusal.settled (events_below walk.old (map outcome_of self.old.tree.events.waiting))))
+            × (walk.new ≡ path_after walk.old (take refusal.settled (map outcome_of self.old.tree.events.waiting)))) }
         ensures fault { IfErr result (λ refusal. IsFaultAt self.old.tree.network self.old.bounds.limit (settled_in self.new.tree)
-            (events_below walk.old (map outcome_of self.old.tree.events.waiting)) refusal.0 refusal.1) }
+            (events_below walk.old (map outcome_of self.old.tree.events.waiting)) refusal.settled refusal.fault) }
     {
         let before = self.tree.events.len();
         let mut place = place;
         while self.tree.events.is_waiting() {
             place = match self.settle_next(teller, place, walk) {
                 Ok(next) => next,
-                Err(fault) => return Err((self.tree.events.len() - before, fault)),
+                Err(fault) => {
+                    return Err(WalkRefusal {
+                        settled: self.tree.events.len() - before,
+                        fault,
+                    });
+                }
             };
         }
         Ok(())
@@ -335,19 +341,25 @@ fn best_after(best: u64, look: &Look) -> u64
 
 #[tactic(auto, unfolding(tsn_model::specs::Search::solved_bound, tsn_model::specs::Search::pruned_bound))]
 fn tally_after(tally: Tally, look: &Look) -> Tally
-    requires { tally.0 < 18446744073709551615 }
+    requires { tally.events < 18446744073709551615 }
     ensures { result ≡ tally_after tally (outcome_of look.now) }
 {
-    let (events, pruned, solved) = tally;
+    let one_more = Tally {
+        events: tally.events + 1,
+        ..tally
+    };
     match look {
-        Look::Solved {
-            solved: solution,
-            ..
-        } => (events + 1, pruned, solved.min(solution.flowspan())),
-        Look::Pruned { bound, .. } => (events + 1, pruned.min(*bound), solved),
-        Look::Split(_) => (events + 1, pruned, solved),
-        Look::Tied { .. } => (events + 1, pruned, solved),
-        Look::Refuted(_) => (events + 1, pruned, solved),
+        Look::Solved { solved, .. } => Tally {
+            solved: tally.solved.min(solved.flowspan()),
+            ..one_more
+        },
+        Look::Pruned { bound, .. } => Tally {
+            pruned: tally.pruned.min(*bound),
+            ..one_more
+        },
+        Look::Split(_) => one_more,
+        Look::Tied { .. } => one_more,
+        Look::Refuted(_) => one_more,
     }
 }
 

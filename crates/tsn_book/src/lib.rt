@@ -9,12 +9,14 @@ pub mod fault;
 mod ledger;
 mod log;
 pub mod looks;
+pub mod refusal;
 pub mod spelling;
-mod standings;
+mod statuses;
 mod ties;
 
-pub use book::{Book, Tally};
+pub use book::Book;
 pub use event::Event;
 pub use fault::BookFault;
 pub use looks::Looks;
+pub use refusal::{BatchRefusal, EventRefusal, WalkRefusal};
 pub use spelling::Spelling;

@@ -4,8 +4,8 @@ ghost use Rattle.tsn_cert.specs.Node.{tree_node};
 ghost use Rattle.tsn_model.specs.Search.{open_paths};
 ghost use Rattle.tsn_search_laws.specs.Order.{node_of};
 ghost use Rattle.tsn_model.specs.Schedule.{common};
-ghost use Rattle.tsn_model.specs.Certificate.{HasBound, tie_node};
-ghost use Rattle.tsn_branch.specs.Leaf.{leaf_of};
+ghost use Rattle.tsn_model.specs.Certificate.{tie_node};
+ghost use Rattle.tsn_cert.specs.Leaf.{bound_leaf};
 ghost use Rattle.tsn_branch.specs.Outcome.{outcome_of};
 ghost use Rattle.tsn_book.specs.Arena.{IsArena, settled_in};
 ghost use Rattle.tsn_book.specs.Book.{planned, IsPlan, HasTie};
@@ -15,12 +15,12 @@ ghost use Rattle.tsn_cert.specs.declared.cert.Format.TheVariants.{Two};
 
 use crate::arena::Tree;
 use crate::log::Log;
-use crate::standings::Standing;
+use crate::statuses::Status;
 use std::alloc::{AllocError, Global};
 use std::marker::Model;
-use tsn_branch::outcome::{Leaf, Look};
+use tsn_branch::outcome::Look;
 use tsn_branch::{NoMemory, whole_chains};
-use tsn_cert::{Cert, Format, Node, Nodes};
+use tsn_cert::{Cert, Format, Leaf, LowerBound, Node, Nodes};
 use tsn_diff::Forest;
 use tsn_timing::{Solved, Timing};
 
@@ -147,10 +147,10 @@ pub(crate) fn order_of(alloc: Global, tree: &Tree) -> Result<Vec<usize>, AllocEr
     let mut order = Vec::with_capacity(alloc, tree.events.len())?;
     let mut stack = vec![in alloc; 0]?;
     while let Some(place) = stack.pop() {
-        let standing = tree.places.standing(place);
-        match standing {
-            Standing::Open => unreachable!(),
-            Standing::Split {
+        let status = tree.places.status(place);
+        match status {
+            Status::Open => unreachable!(),
+            Status::Split {
                 children,
                 event,
                 ..
@@ -159,7 +159,7 @@ pub(crate) fn order_of(alloc: Global, tree: &Tree) -> Result<Vec<usize>, AllocEr
                 stack.push(children)?;
                 order.push(event)?;
             }
-            Standing::Leaf(event) => order.push(event)?,
+            Status::Leaf(event) => order.push(event)?,
         }
     }
     Ok(order)
@@ -210,12 +210,12 @@ fn node_from(
                     chains.truncate(count + 1);
                     tie_from(alloc, leaf, &chains)
                 } else {
-                    Ok(leaf.into())
+                    Ok(Node::Leaf(Leaf::Bound(leaf)))
                 }
             }
-            None => Ok(leaf.into()),
+            None => Ok(Node::Leaf(Leaf::Bound(leaf))),
         },
-        Look::Pruned { leaf, .. } => Ok(leaf.into()),
+        Look::Pruned { leaf, .. } => Ok(Node::Leaf(Leaf::Bound(leaf))),
         Look::Tied {
             bound,
             leaf,
@@ -225,28 +225,21 @@ fn node_from(
                 if bound == best.flowspan() {
                     tie_from(alloc, leaf, &chains)
                 } else {
-                    Ok(leaf.into())
+                    Ok(Node::Leaf(Leaf::Bound(leaf)))
                 }
             }
-            None => Ok(leaf.into()),
+            None => Ok(Node::Leaf(Leaf::Bound(leaf))),
         },
-        Look::Refuted(leaf) => Ok(leaf.into()),
+        Look::Refuted(leaf) => Ok(Node::Leaf(leaf)),
     }
 }
 
-// The tie of a leaf that has a bound.
-fn tie_from(alloc: Global, leaf: Leaf, chains: &Forest) -> Result<Node, NoMemory>
-    requires bound { HasBound (leaf_of leaf) }
-    ensures { IfOk result (λ node. tree_node node ≡ tie_node (leaf_of leaf) chains.now) }
+// The tie of a bound.
+fn tie_from(alloc: Global, bound: LowerBound, chains: &Forest) -> Result<Node, NoMemory>
+    ensures { IfOk result (λ node. tree_node node ≡ tie_node (bound_leaf bound) chains.now) }
 {
     let chains = whole_chains(alloc, chains)?;
-    match leaf {
-        Leaf::Late(stream, chain) => Ok(Node::Tie(stream, chain, chains)),
-        Leaf::Load(link, entries) => Ok(Node::TieLoad(link, entries, chains)),
-        Leaf::Overrun(..) => unreachable!(),
-        Leaf::Cycle(_) => unreachable!(),
-        Leaf::Overload(..) => unreachable!(),
-    }
+    Ok(Node::Tie(bound, chains))
 }
 
 // How many numbers the lists have in common before they differ.

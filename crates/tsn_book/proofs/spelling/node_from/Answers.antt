@@ -4,7 +4,7 @@ use Rattle.tsn_model.specs.Schedule.{common}
 use Rattle.tsn_model.specs.Certificate.{tie_node}
 use Rattle.tsn_timing.specs.Solution.{IsSolved}
 use Rattle.tsn_search_laws.specs.Order.{node_of}
-use Rattle.tsn_branch.specs.Leaf.{leaf_of}
+use Rattle.tsn_cert.specs.Leaf.{bound_leaf}
 use Rattle.tsn_branch.specs.Outcome.{outcome_of}
 use Rattle.tsn_book.specs.Book.{planned, HasTie}
 use Rattle.tsn_book.proofs.Answering.{ok_as}
@@ -26,8 +26,8 @@ returns-then-flowspan c =
     ∙ ap (common found.solved.offsets) (c.offsets-then-flowspan.ensures ∙ c.valid-then-flowspan.ensures) in
     rw (c.in-Solved.is, c.in-Some.is)
     (ok_as c.tie_from.result
-    (λ node given. given ∙ ap (tie_node (leaf_of found.leaf)) (c.truncate.ensures ∙ ap (λ n. take n found.chains) (omega (arith, alike)))
-    ∙ sym (solved_even network best.offsets best.flowspan is_solved.1 found.solved.offsets found.solved.flowspan (leaf_of found.leaf) found.chains
+    (λ node given. given ∙ ap (tie_node (bound_leaf found.leaf)) (c.truncate.ensures ∙ ap (λ n. take n found.chains) (omega (arith, alike)))
+    ∙ sym (solved_even network best.offsets best.flowspan is_solved.1 found.solved.offsets found.solved.flowspan (bound_leaf found.leaf) found.chains
     (omega (arith, c.flowspan.ensures, c.if-flowspan.true, c.flowspan-in-Some.ensures)))) c.tie_from.ensures)
 
 pub returns-in-Some : goal.returns-in-Some
@@ -37,7 +37,7 @@ returns-in-Some c =
     let found = c.in-Solved in
     let is_solved = subst (λ p. MatchOption (option_copied p) (Unit {0}) (IsSolved network)) c.in-Some.is c.requires.plan in
     rw (c.in-Solved.is, c.in-Some.is)
-    (c.into.ensures ∙ sym (solved_apart network best.offsets best.flowspan is_solved.1 found.solved.offsets found.solved.flowspan (leaf_of found.leaf) found.chains
+    (sym (solved_apart network best.offsets best.flowspan is_solved.1 found.solved.offsets found.solved.flowspan (bound_leaf found.leaf) found.chains
     (λ same. absurd (omega (arith, same, c.flowspan.ensures, c.if-flowspan.false, c.flowspan-in-Some.ensures)))))
 
 pub returns-in-Solved : goal.returns-in-Solved
@@ -46,11 +46,11 @@ returns-in-Solved c =
     let tie = subst (λ p. HasTie c.args.network.now (option_copied p) (outcome_of c.args.look)) c.in-None.is c.requires.tie in
     let alone = subst (λ l. HasTie c.args.network.now None (outcome_of l)) c.in-Solved.is tie in
     rw (c.in-Solved.is, c.in-None.is)
-    (c.into-in-None.ensures ∙ sym (solved_alone c.args.network.now found.solved.offsets found.solved.flowspan (leaf_of found.leaf) found.chains (alone.1 refl)))
+    (sym (solved_alone c.args.network.now found.solved.offsets found.solved.flowspan (bound_leaf found.leaf) found.chains (alone.1 refl)))
 
 pub returns-in-Pruned : goal.returns-in-Pruned
 unfolding node_of
-returns-in-Pruned c = c.into-in-Pruned.ensures ∙ ap (λ l. node_of c.args.network.now (planned (option_copied c.args.plan)) (outcome_of l)) (sym c.in-Pruned.is)
+returns-in-Pruned c = ap (λ l. node_of c.args.network.now (planned (option_copied c.args.plan)) (outcome_of l)) (sym c.in-Pruned.is)
 
 pub returns-then-bound-flowspan : goal.returns-then-bound-flowspan
 returns-then-bound-flowspan c =
@@ -60,7 +60,8 @@ returns-then-bound-flowspan c =
     let is_solved = subst (λ p. MatchOption (option_copied p) (Unit {0}) (IsSolved network)) c.in-Some-plan.is c.requires.plan in
     rw (c.in-Tied.is, c.in-Some-plan.is)
     (ok_as c.tie_from-then-bound-flowspan.result
-    (λ node given. given ∙ sym (tied_even network best.offsets best.flowspan is_solved.1 found.bound (leaf_of found.leaf) found.chains (omega (arith, c.if-bound-flowspan.true, c.flowspan-in-Some-plan.ensures))))
+    (λ node given. given ∙ sym (tied_even network best.offsets best.flowspan is_solved.1 found.bound (bound_leaf found.leaf) found.chains
+    (omega (arith, c.if-bound-flowspan.true, c.flowspan-in-Some-plan.ensures))))
     c.tie_from-then-bound-flowspan.ensures)
 
 pub returns-in-Some-plan : goal.returns-in-Some-plan
@@ -70,9 +71,9 @@ returns-in-Some-plan c =
     let found = c.in-Tied in
     let is_solved = subst (λ p. MatchOption (option_copied p) (Unit {0}) (IsSolved network)) c.in-Some-plan.is c.requires.plan in
     rw (c.in-Tied.is, c.in-Some-plan.is)
-    (c.into-else-bound-flowspan.ensures
-    ∙ sym (tied_apart network best.offsets best.flowspan is_solved.1 found.bound (leaf_of found.leaf) found.chains (λ same. absurd (omega (arith, same, c.if-bound-flowspan.false, c.flowspan-in-Some-plan.ensures)))))
+    (sym (tied_apart network best.offsets best.flowspan is_solved.1 found.bound (bound_leaf found.leaf) found.chains
+    (λ same. absurd (omega (arith, same, c.if-bound-flowspan.false, c.flowspan-in-Some-plan.ensures)))))
 
 pub returns : goal.returns
 unfolding node_of
-returns c = c.into-in-Refuted.ensures ∙ ap (λ l. node_of c.args.network.now (planned (option_copied c.args.plan)) (outcome_of l)) (sym c.in-Refuted.is)
+returns c = ap (λ l. node_of c.args.network.now (planned (option_copied c.args.plan)) (outcome_of l)) (sym c.in-Refuted.is)

@@ -8,22 +8,23 @@ use Rattle.tsn_book.proofs.spelling.order_of.Goals as goal
 
 pub loop-place-init : goal.loop-place-init
 loop-place-init c =
-    let tree = c.args.tree.now in
-    rw c.in_ok-stack.ensures.items (rw c.in_ok-order.ensures.items (walk_begins tree.network tree.places.origins tree.places.standings tree.events.items c.requires.tree c.requires.finished))
+    rw c.in_ok-stack.ensures.items (rw c.in_ok-order.ensures.items (walk_begins c.requires.tree c.requires.finished))
 
-pub standing-standing-requires : goal.standing-standing-requires
-standing-standing-requires c =
+pub status-status-requires : goal.status-status-requires
+status-status-requires c =
     let inside = within c.args.tree.now c.requires.tree _ c.pop.new.self.items c.in-Some.place _ c.in-Some.ensures.items c.loop-place.invariant in
     omega (arith, inside, c.requires.tree.counted)
 
 pub unreachable-requires : goal.unreachable-requires
 unreachable-requires c =
-    none_open c.args.tree.now c.requires.tree _ c.pop.new.self.items c.in-Some.place _ c.in-Some.ensures.items c.loop-place.invariant _ c.standing-standing.ensures.known c.in-Open.is
+    none_open c.args.tree.now c.requires.tree _ c.pop.new.self.items c.in-Some.place _ c.in-Some.ensures.items c.loop-place.invariant
+    _ c.status-status.ensures.known c.in-Open.is
 
 pub overflow_add-children : goal.overflow_add-children
 overflow_add-children c =
-    let inside = children_within c.args.tree.now c.requires.tree _ c.pop.new.self.items c.in-Some.place _ c.in-Some.ensures.items c.loop-place.invariant _ c.standing-standing.ensures.known _ _ _ c.in-Split.is in
-    omega (arith, inside, c.standing-standing.ensures.small, c.requires.tree.counted)
+    let inside = children_within c.args.tree.now c.requires.tree _ c.pop.new.self.items c.in-Some.place _ c.in-Some.ensures.items c.loop-place.invariant
+    _ c.status-status.ensures.known _ _ _ c.in-Split.is in
+    omega (arith, inside, c.status-status.ensures.small, c.requires.tree.counted)
 
 pub loop-place-smaller-in-Continue-branch-5 : goal.loop-place-smaller-in-Continue-branch-5
 loop-place-smaller-in-Continue-branch-5 c =
@@ -33,7 +34,8 @@ loop-place-smaller-in-Continue-branch-5 c =
 pub loop-place-preserved-in-Continue-branch-5 : goal.loop-place-preserved-in-Continue-branch-5
 loop-place-preserved-in-Continue-branch-5 c =
     rw c.in_ok-push-in-Split-2.ensures.items (rw c.in_ok-push-in-Split.ensures.items (rw c.in_ok-push-in-Split-3.ensures.items
-    (split_passed c.args.tree.now c.requires.tree _ c.pop.new.self.items c.in-Some.place _ c.in-Some.ensures.items c.loop-place.invariant _ c.standing-standing.ensures.known c.in-Split.triple _ _ c.in-Split.is)))
+    (split_passed c.args.tree.now c.requires.tree _ c.pop.new.self.items c.in-Some.place _ c.in-Some.ensures.items c.loop-place.invariant
+    _ c.status-status.ensures.known c.in-Split.triple _ _ c.in-Split.is)))
 
 pub loop-place-smaller : goal.loop-place-smaller
 loop-place-smaller c =
@@ -43,11 +45,12 @@ loop-place-smaller c =
 pub loop-place-preserved : goal.loop-place-preserved
 loop-place-preserved c =
     rw c.in_ok-push-in-Leaf.ensures.items
-    (leaf_passed c.args.tree.now c.requires.tree _ c.pop.new.self.items c.in-Some.place _ c.in-Some.ensures.items c.loop-place.invariant _ c.standing-standing.ensures.known _ c.in-Leaf.is)
+    (leaf_passed c.args.tree.now c.requires.tree _ c.pop.new.self.items c.in-Some.place _ c.in-Some.ensures.items c.loop-place.invariant
+    _ c.status-status.ensures.known _ c.in-Leaf.is)
 
 pub returns : goal.returns
 returns c =
     let tree = c.args.tree.now in
     let none = nil_from_length c.loop-place.stack.items (omega (arith, c.in_default.ensures.cases.0, c.loop-place.stack.ok)) in
-    walk_done tree.network (paths_of tree.places.origins) (settled_in tree) c.requires.tree.legal c.loop-place.order.items
+    walk_done c.requires.tree.legal c.loop-place.order.items
     (subst (λ s. IsWalk (paths_of tree.places.origins) (settled_in tree) s c.loop-place.order.items) none c.loop-place.invariant)

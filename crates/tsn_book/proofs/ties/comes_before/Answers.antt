@@ -13,7 +13,9 @@ returns-then-offsets-k c =
     let in_second : k < length ys = omega (arith, c.loop-k-test.true, c.min-k-end.ensures) in
     elim (cases_lt (offset_of xs k) (offset_of ys k)) [
       | inl less ↦ lt-ltb (offset_of xs k) (offset_of ys k) less ∙ sym (less_at xs ys k c.loop-k.invariant in_first in_second less)
-      | inr more ↦ le-ltb (offset_of xs k) (offset_of ys k) more ∙ sym (greater_at xs ys k c.loop-k.invariant in_first in_second (omega (arith, more, c.if-offsets-k.true)))
+      | inr more ↦
+          le-ltb (offset_of xs k) (offset_of ys k) more
+          ∙ sym (greater_at xs ys k c.loop-k.invariant in_first in_second (omega (arith, more, c.if-offsets-k.true)))
     ]
 
 pub returns : goal.returns

@@ -16,22 +16,28 @@ blank = record { triple = record { left = 0; right = 0; link = 0 }; side = Left 
 pub offset_bounds-path-depth : goal.offset_bounds-path-depth
 offset_bounds-path-depth c =
     let chain = c.args.chain in
-    let parts = parted chain c.loop-depth.left c.back.new.self c.in-Some.depth c.in-Some.ensures c.loop-depth.invariant.parted.0 c.loop-depth.invariant.parted.1 in
-    let below = subst (λ depth. depth < length c.args.path.now) parts.here (on_path c.args.timing.now c.args.path.now chain chain c.args.stream (length c.back.new.self) refl c.requires.leads parts.below) in
+    let parts = parted chain c.loop-depth.left c.back.new.self c.in-Some.depth c.in-Some.ensures
+    c.loop-depth.invariant.parted.0 c.loop-depth.invariant.parted.1 in
+    let below = subst (λ depth. depth < length c.args.path.now) parts.here
+    (on_path c.args.timing.now c.args.path.now chain chain c.args.stream (length c.back.new.self) refl c.requires.leads parts.below) in
     search rules
 
 pub bounds-path-depth : goal.bounds-path-depth
 bounds-path-depth c =
     let chain = c.args.chain in
-    let parts = parted chain c.loop-depth.left c.back.new.self c.in-Some.depth c.in-Some.ensures c.loop-depth.invariant.parted.0 c.loop-depth.invariant.parted.1 in
-    subst (λ depth. depth < length c.args.path.now) parts.here (on_path c.args.timing.now c.args.path.now chain chain c.args.stream (length c.back.new.self) refl c.requires.leads parts.below)
+    let parts = parted chain c.loop-depth.left c.back.new.self c.in-Some.depth c.in-Some.ensures
+    c.loop-depth.invariant.parted.0 c.loop-depth.invariant.parted.1 in
+    subst (λ depth. depth < length c.args.path.now) parts.here
+    (on_path c.args.timing.now c.args.path.now chain chain c.args.stream (length c.back.new.self) refl c.requires.leads parts.below)
 
 pub arc_of-requires : goal.arc_of-requires
 unfolding blank
 arc_of-requires c =
     let chain = c.args.chain in
-    let parts = parted chain c.loop-depth.left c.back.new.self c.in-Some.depth c.in-Some.ensures c.loop-depth.invariant.parted.0 c.loop-depth.invariant.parted.1 in
-    let below = subst (λ depth. depth < length c.args.path.now) parts.here (on_path c.args.timing.now c.args.path.now chain chain c.args.stream (length c.back.new.self) refl c.requires.leads parts.below) in
+    let parts = parted chain c.loop-depth.left c.back.new.self c.in-Some.depth c.in-Some.ensures
+    c.loop-depth.invariant.parted.0 c.loop-depth.invariant.parted.1 in
+    let below = subst (λ depth. depth < length c.args.path.now) parts.here
+    (on_path c.args.timing.now c.args.path.now chain chain c.args.stream (length c.back.new.self) refl c.requires.leads parts.below) in
     c.requires.decided c.in-Some.depth blank below
 
 pub loop-depth-preserved : goal.loop-depth-preserved
@@ -64,7 +70,8 @@ loop-depth-preserved c =
       parted = (parts.after, parts.parts);
       summed = subst (λ start. SummedTo network path chain (length left) c.args.stream start more) (sym from)
           (one_summed network path chain (length left) c.args.stream c.loop-depth.walk.start sum more decision within on
-          (subst (λ d. decision ≡ slice_index_or path d decision) (sym parts.here) (get_or_default path depth blank decision below)) (omega (arith, ints, weight, adds)) summed);
+          (subst (λ d. decision ≡ slice_index_or path d decision) (sym parts.here) (get_or_default path depth blank decision below))
+          (omega (arith, ints, weight, adds)) summed);
       counted = subst (λ start. start < stream_count network) (sym from) (arc_counted network decision conflict);
       low = omega (arith, ints);
       high = omega (arith, ints);

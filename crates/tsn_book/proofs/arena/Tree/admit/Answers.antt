@@ -7,14 +7,13 @@ pub returns-then-len-bounds : goal.returns-then-len-bounds
 returns-then-len-bounds c =
     let self = c.args.self.now in
     let history = history_of self.places.origins self.events.items in
-    let is_open = open_stop self.network self.places.origins self.places.standings self.events.items c.requires.tree c.args.path.now c.args.stop c.in-Open.place c.in-Open.is c.requires.stop in
+    let is_open = open_stop c.requires.tree c.args.path.now c.args.stop c.in-Open.place c.in-Open.is c.requires.stop in
     let count : length history ≡ length self.events.items = length-history_of self.places.origins self.events.items in
     (is_open, omega (arith, count, c.len.ensures.count, c.if-len-bounds.true), omega (arith, count, c.len-then-len-bounds.ensures.count))
 
 pub is_met-requires-clause-decided : goal.is_met-requires-clause-decided
 is_met-requires-clause-decided c =
-    let self = c.args.self.now in
-    stop_decides self.network self.places.origins self.places.standings self.events.items c.requires.tree c.args.path.now c.args.stop c.in-Open.place c.in-Open.is c.requires.stop
+    stop_decides c.requires.tree c.args.path.now c.args.stop c.in-Open.place c.in-Open.is c.requires.stop
 
 pub returns-then-is_met : goal.returns-then-is_met
 returns-then-is_met c =
@@ -28,7 +27,7 @@ pub returns-else-is_met : goal.returns-else-is_met
 returns-else-is_met c =
     let self = c.args.self.now in
     let history = history_of self.places.origins self.events.items in
-    let is_open = open_stop self.network self.places.origins self.places.standings self.events.items c.requires.tree c.args.path.now c.args.stop c.in-Open.place c.in-Open.is c.requires.stop in
+    let is_open = open_stop c.requires.tree c.args.path.now c.args.stop c.in-Open.place c.in-Open.is c.requires.stop in
     let count : length history ≡ length self.events.items = length-history_of self.places.origins self.events.items in
     let below : length history < c.args.bounds.limit = omega (arith, count, c.len.ensures.count, c.if-len-bounds.false) in
     (is_open, below, c.if-is_met.ensures, c.requires.best)

@@ -11,7 +11,8 @@ returns-in_err-admit c =
     let self = c.args.self.now in
     let history = history_of self.places.origins self.events.items in
     let p = err_from_is_err_and c.from_residual.result c.from_residual.ensures.1 in
-    rw (p.1, p.2) (subst (λ path. IsFault self.network c.args.bounds.limit history (record { path = path; outcome = outcome_of c.args.look.now }) c.in_err-admit.field-0.0) c.requires.path c.in_err-admit.ensures)
+    rw (p.1, p.2) (subst (λ path. IsFault self.network c.args.bounds.limit history (record { path = path; outcome = outcome_of c.args.look.now })
+    c.in_err-admit.field-0.0) c.requires.path c.in_err-admit.ensures)
 
 pub returns : goal.returns
 returns c =
@@ -21,7 +22,7 @@ returns c =
     let admitted = c.in_ok-admit.ensures in (
       admitted.1,
       record {
-        is_open = open_stop self.network self.places.origins self.places.standings self.events.items c.requires.tree path c.stop_at.result _ admitted.0 c.stop_at.ensures;
+        is_open = open_stop c.requires.tree path c.stop_at.result _ admitted.0 c.stop_at.ensures;
         is_right = right_from self.network history path (outcome_of c.args.look.now) c.requires.proof c.requires.undecided
             (subst (λ met. IsMet self.network history met (outcome_of c.args.look.now)) c.requires.path admitted.2);
       },

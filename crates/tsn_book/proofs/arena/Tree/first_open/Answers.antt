@@ -8,20 +8,18 @@ use Rattle.tsn_book.proofs.arena.Tree.first_open.Goals as goal
 
 pub bounds-closed-0 : goal.bounds-closed-0
 bounds-closed-0 c =
-    let self = c.args.self.now in
-    let root = root_place self.network self.places.origins self.places.standings self.events.items c.requires.tree in
+    let root = root_place c.requires.tree in
     omega (arith, root.0, c.requires.tree.counted, c.requires.closed.counted)
 
 pub returns-then-closed : goal.returns-then-closed
 returns-then-closed c =
-    let self = c.args.self.now in
-    nothing_open self.network self.places.origins self.places.standings self.events.items c.requires.tree c.args.closed.now c.requires.closed c.if-closed.true
+    nothing_open c.requires.tree c.args.closed.now c.requires.closed c.if-closed.true
 
 pub loop-child-init : goal.loop-child-init
 loop-child-init c =
     let self = c.args.self.now in
     let history = history_of self.places.origins self.events.items in
-    let root = root_place self.network self.places.origins self.places.standings self.events.items c.requires.tree in
+    let root = root_place c.requires.tree in
     (root.0, c.if-closed.false, c.root-node.ensures ∙ sym root.1, subst (IsAhead history) (sym root.1) (root_ahead history))
 
 pub loop-child-preserved : goal.loop-child-preserved
@@ -36,10 +34,9 @@ loop-child-preserved c =
 
 pub push-requires : goal.push-requires
 push-requires c =
-    let self = c.args.self.now in
     let next = c.in-Some.ensures in
     let known = c.loop-child.invariant in
-    child_undecided self.network self.places.origins self.places.standings self.events.items c.requires.tree c.in-Some.child next.1 c.loop-child.node c.in-Some.decision
+    child_undecided c.requires.tree c.in-Some.child next.1 c.loop-child.node c.in-Some.decision
     (next.2 ∙ ap (λ p. p ++ c.in-Some.decision ∷ []) (sym known.2))
 
 pub returns : goal.returns
@@ -47,4 +44,4 @@ returns c =
     let self = c.args.self.now in
     let known = c.loop-child.invariant in
     subst (IsFirstOpen (history_of self.places.origins self.events.items)) (sym known.2)
-    (open_is_first self.network self.places.origins self.places.standings self.events.items c.requires.tree c.loop-child.place c.in_default.ensures known.3)
+    (open_is_first c.requires.tree c.loop-child.place c.in_default.ensures known.3)

@@ -13,7 +13,8 @@ returns-in_default-kept c =
     let first = kept_of tree.network (history_of tree.places.origins tree.events.items) in
     let solved = c.in-Solved.solved in
     let none : first ≡ None = c.in_default-kept.ensures in
-    rw c.in-Solved.is (sym (even_better first solved.offsets solved.flowspan c.args.bounds.best (sym c.flowspan.ensures ∙ c.if-flowspan-bounds.false) ∙ ap (λ f. before_kept f solved.offsets) none))
+    rw c.in-Solved.is (sym (even_better first solved.offsets solved.flowspan c.args.bounds.best (sym c.flowspan.ensures ∙ c.if-flowspan-bounds.false)
+    ∙ ap (λ f. before_kept f solved.offsets) none))
 
 pub returns : goal.returns
 unfolding before_kept
@@ -26,4 +27,5 @@ returns c =
     let best : c.offsets-2.result.now ≡ c.in-Some.best_solved.now.offsets = c.offsets-2.ensures ∙ c.valid-2.ensures in
     rw c.in-Solved.is
     (c.comes_before.ensures ∙ (λ i. comes_before (mine i) (best i))
-    ∙ sym (even_better first solved.offsets solved.flowspan c.args.bounds.best (sym c.flowspan.ensures ∙ c.if-flowspan-bounds.false) ∙ ap (λ f. before_kept f solved.offsets) some))
+    ∙ sym (even_better first solved.offsets solved.flowspan c.args.bounds.best (sym c.flowspan.ensures ∙ c.if-flowspan-bounds.false)
+    ∙ ap (λ f. before_kept f solved.offsets) some))

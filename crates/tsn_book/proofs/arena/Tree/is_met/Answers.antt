@@ -15,5 +15,6 @@ returns-in-Pruned c =
     let path = c.args.path.now in
     let least : c.min.result ≡ min (best_bound self.network history) self.network.cycle =
     c.min.ensures ∙ ap (λ best. min best c.cycle.result) c.requires.best ∙ ap (min (best_bound self.network history)) c.cycle.ensures.value in
-    subst (λ o. MatchBool (nat_lt c.min.result c.in-Pruned.bound) (IsMet self.network history path (outcome_of o)) (IsUnmet self.network history path (outcome_of o))) (sym c.in-Pruned.is)
+    subst (λ o. MatchBool (nat_lt c.min.result c.in-Pruned.bound) (IsMet self.network history path (outcome_of o))
+    (IsUnmet self.network history path (outcome_of o))) (sym c.in-Pruned.is)
     (met_by_bound self.network (best_bound self.network history) c.in-Pruned.bound c.min.result least)

@@ -17,8 +17,9 @@ returns-in-Solved c =
     let history = history_of tree.places.origins tree.events.items in
     let is = subst (IsKept tree.network history) c.in_ok-number.was c.requires.kept in
     let keeps = tree_keeps tree.network tree.places.origins tree.events.items c.requires.tree.legal c.in_ok-number.number is c.get.result.now c.get.ensures in
-    let same : (keeps.0 ≡ c.in-Solved.solved.offsets) × (keeps.1 ≡ c.in-Solved.solved.flowspan) = subst (λ o. HasSolution keeps.0 keeps.1 (outcome_of o)) c.in-Solved.is keeps.2 in
-    let best = kept_best tree.network history c.requires.tree.legal keeps.0 keeps.3 in
+    let same : (keeps.0 ≡ c.in-Solved.solved.offsets) × (keeps.1 ≡ c.in-Solved.solved.flowspan) =
+    subst (λ o. HasSolution keeps.0 keeps.1 (outcome_of o)) c.in-Solved.is keeps.2 in
+    let best = kept_best c.requires.tree.legal keeps.0 keeps.3 in
     rw (sym same.0, sym same.1) (keeps.3, (best.0, keeps.4), sym keeps.4 ∙ best.1)
 
 pub returns-in-Split : goal.returns-in-Split

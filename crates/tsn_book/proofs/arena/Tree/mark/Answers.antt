@@ -3,10 +3,8 @@ use Rattle.tsn_book.proofs.arena.Tree.mark.Goals as goal
 
 pub loop-parent-init : goal.loop-parent-init
 loop-parent-init c =
-    let self = c.args.self.now in
-    leaf_marked self.network self.places.origins self.places.standings self.events.items c.requires.tree c.args.closed.now c.args.leaf c.requires.leaf
+    leaf_marked c.requires.tree c.args.closed.now c.args.leaf c.requires.leaf
 
 pub loop-parent-preserved : goal.loop-parent-preserved
 loop-parent-preserved c =
-    let self = c.args.self.now in
-    parent_marked self.network self.places.origins self.places.standings self.events.items c.requires.tree c.loop-parent.closed c.in-Some.parent c.loop-parent.place c.loop-parent.invariant c.in-Some.ensures.1
+    parent_marked c.requires.tree c.loop-parent.closed c.in-Some.parent c.loop-parent.place c.loop-parent.invariant c.in-Some.ensures.1

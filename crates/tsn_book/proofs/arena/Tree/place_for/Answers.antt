@@ -14,14 +14,15 @@ returns-in_err-place c =
     let self = c.args.self.now in
     let history = history_of self.places.origins self.events.items in
     let p = err_from_is_err_and c.from_residual.result c.from_residual.ensures.1 in
-    rw (p.1, p.2) (subst (λ path. IsFault self.network c.args.bounds.limit history (record { path = path; outcome = outcome_of c.args.event.now.look }) c.in_err-place.field-0.0) c.path-path.ensures.value c.in_err-place.ensures)
+    rw (p.1, p.2) (subst (λ path. IsFault self.network c.args.bounds.limit history (record { path = path; outcome = outcome_of c.args.event.now.look })
+    c.in_err-place.field-0.0) c.path-path.ensures.value c.in_err-place.ensures)
 
 pub returns-then-not-is_conflict : goal.returns-then-not-is_conflict
 returns-then-not-is_conflict c =
     let self = c.args.self.now in
-    let ends : IsStop self.places.origins self.places.standings self.events.items c.args.event.now.node c.find-stop.result = search rules in
+    let ends : IsStop self.places.origins self.places.statuses self.events.items c.args.event.now.node c.find-stop.result = search rules in
     let none : IsConflict self.network c.in-Split.triple → ⊥ = search rules in (
-      open_stop self.network self.places.origins self.places.standings self.events.items c.requires.tree c.args.event.now.node c.find-stop.result _ c.in_ok-place.ensures.0 ends,
+      open_stop c.requires.tree c.args.event.now.node c.find-stop.result _ c.in_ok-place.ensures.0 ends,
       c.in_ok-place.ensures.1,
       subst (λ o. SplitsNone self.network (outcome_of o)) (sym c.in-Split.is) none,
     )
@@ -30,10 +31,10 @@ pub returns-then-decides : goal.returns-then-decides
 returns-then-decides c =
     let self = c.args.self.now in
     let path = c.args.event.now.node in
-    let ends : IsStop self.places.origins self.places.standings self.events.items path c.find-stop.result = search rules in
+    let ends : IsStop self.places.origins self.places.statuses self.events.items path c.find-stop.result = search rules in
     let conflict : IsConflict self.network c.in-Split.triple = search rules in
     let again : Any (λ decision. decision.triple ≡ c.in-Split.triple) path = search rules in (
-      open_stop self.network self.places.origins self.places.standings self.events.items c.requires.tree path c.find-stop.result _ c.in_ok-place.ensures.0 ends,
+      open_stop c.requires.tree path c.find-stop.result _ c.in_ok-place.ensures.0 ends,
       c.in_ok-place.ensures.1,
       subst (λ o. SplitsAgain self.network path (outcome_of o)) (sym c.in-Split.is) (conflict, again),
     )
@@ -43,9 +44,9 @@ returns-else-decides c =
     let self = c.args.self.now in
     let history = history_of self.places.origins self.events.items in
     let path = c.args.event.now.node in
-    let ends : IsStop self.places.origins self.places.standings self.events.items path c.find-stop.result = search rules in
-    let at : IsOpenPlace self.places.standings c.in_ok-place.place × (path_at (paths_of self.places.origins) c.in_ok-place.place ≡ path) =
-    subst (IsStop self.places.origins self.places.standings self.events.items path) c.in_ok-place.ensures.0 ends in
+    let ends : IsStop self.places.origins self.places.statuses self.events.items path c.find-stop.result = search rules in
+    let at : IsOpenPlace self.places.statuses c.in_ok-place.place × (path_at (paths_of self.places.origins) c.in_ok-place.place ≡ path) =
+    subst (IsStop self.places.origins self.places.statuses self.events.items path) c.in_ok-place.ensures.0 ends in
     let conflict : IsConflict self.network c.in-Split.triple = search rules in
     let none : Any (λ decision. decision.triple ≡ c.in-Split.triple) path → ⊥ = search rules in
     let splits : SplitsUndecided self.network path (outcome_of c.args.event.now.look) =
@@ -54,7 +55,7 @@ returns-else-decides c =
       at.1,
       c.in_ok-place.ensures.1,
       record {
-        is_open = open_stop self.network self.places.origins self.places.standings self.events.items c.requires.tree path c.find-stop.result _ c.in_ok-place.ensures.0 ends;
+        is_open = open_stop c.requires.tree path c.find-stop.result _ c.in_ok-place.ensures.0 ends;
         is_right = right_from self.network history path (outcome_of c.args.event.now.look) c.requires.proof splits
             (subst (λ met. IsMet self.network history met (outcome_of c.args.event.now.look)) c.path-path.ensures.value c.in_ok-place.ensures.2);
       },
@@ -65,15 +66,16 @@ returns-in_default c =
     let self = c.args.self.now in
     let history = history_of self.places.origins self.events.items in
     let path = c.args.event.now.node in
-    let ends : IsStop self.places.origins self.places.standings self.events.items path c.find-stop.result = search rules in
-    let at : IsOpenPlace self.places.standings c.in_ok-place.place × (path_at (paths_of self.places.origins) c.in_ok-place.place ≡ path) =
-    subst (IsStop self.places.origins self.places.standings self.events.items path) c.in_ok-place.ensures.0 ends in
-    let splits : SplitsUndecided self.network path (outcome_of c.args.event.now.look) = splits_nothing self.network path c.args.event.now.look c.in_default.not-Split in (
+    let ends : IsStop self.places.origins self.places.statuses self.events.items path c.find-stop.result = search rules in
+    let at : IsOpenPlace self.places.statuses c.in_ok-place.place × (path_at (paths_of self.places.origins) c.in_ok-place.place ≡ path) =
+    subst (IsStop self.places.origins self.places.statuses self.events.items path) c.in_ok-place.ensures.0 ends in
+    let splits : SplitsUndecided self.network path (outcome_of c.args.event.now.look) =
+    splits_nothing self.network path c.args.event.now.look c.in_default.not-Split in (
       at.0,
       at.1,
       c.in_ok-place.ensures.1,
       record {
-        is_open = open_stop self.network self.places.origins self.places.standings self.events.items c.requires.tree path c.find-stop.result _ c.in_ok-place.ensures.0 ends;
+        is_open = open_stop c.requires.tree path c.find-stop.result _ c.in_ok-place.ensures.0 ends;
         is_right = right_from self.network history path (outcome_of c.args.event.now.look) c.requires.proof splits
             (subst (λ met. IsMet self.network history met (outcome_of c.args.event.now.look)) c.path-path.ensures.value c.in_ok-place.ensures.2);
       },

@@ -7,11 +7,11 @@ use Rattle.tsn_book.proofs.arena.Tree.stop_at.Goals as goal
 pub returns-in-Split : goal.returns-in-Split
 returns-in-Split c =
     let self = c.args.self.now in
-    let placed = placed_as self.network self.places.origins self.places.standings self.events.items c.requires.tree c.args.place c.requires.place _ _ c.standing-standing.ensures.known c.in-Split.is in
-    stops_settled self.network self.places.origins self.places.standings self.events.items c.requires.tree c.args.place (split c.in-Split.triple) c.in-Split.event placed.0 (path_at (paths_of self.places.origins) c.args.place) refl
+    let placed = placed_as c.requires.tree c.args.place c.requires.place _ _ c.status-status.ensures.known c.in-Split.is in
+    stops_settled c.requires.tree c.args.place (split c.in-Split.triple) c.in-Split.event placed.0 (path_at (paths_of self.places.origins) c.args.place) refl
 
 pub returns-in-Leaf : goal.returns-in-Leaf
 returns-in-Leaf c =
     let self = c.args.self.now in
-    let placed = placed_as self.network self.places.origins self.places.standings self.events.items c.requires.tree c.args.place c.requires.place _ _ c.standing-standing.ensures.known c.in-Leaf.is in
-    stops_settled self.network self.places.origins self.places.standings self.events.items c.requires.tree c.args.place placed.0 c.in-Leaf.event placed.1 (path_at (paths_of self.places.origins) c.args.place) refl
+    let placed = placed_as c.requires.tree c.args.place c.requires.place _ _ c.status-status.ensures.known c.in-Leaf.is in
+    stops_settled c.requires.tree c.args.place placed.0 c.in-Leaf.event placed.1 (path_at (paths_of self.places.origins) c.args.place) refl

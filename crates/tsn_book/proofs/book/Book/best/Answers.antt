@@ -7,10 +7,8 @@ use Rattle.tsn_book.proofs.book.Book.best.Goals as goal
 
 pub returns-clause-lawful : goal.returns-clause-lawful
 returns-clause-lawful c =
-    let inside = c.self.inside in
-    let tree = inside.ledger.tree in
     subst IsLawful c.self.view_is
-    (lawful tree.network tree.places.origins tree.places.standings tree.events.items inside.ledger.closed.items inside.ledger.bounds.limit inside.ledger.open_nodes inside.ledger.bounds.best inside.ledger.bounds.kept inside.ledger.tallies.items c.self.invariant.agrees)
+    (lawful c.self.invariant.agrees)
 
 pub returns-clause-target : goal.returns-clause-target
 returns-clause-target c =
@@ -18,4 +16,4 @@ returns-clause-target c =
     let tree = inside.ledger.tree in
     let history = history_of tree.places.origins tree.events.items in
     subst (λ (p : Progress). IsBelowBounds p.network inside.ledger.bounds.best p.history) c.self.view_is
-    (subst (λ best. IsBelowBounds tree.network best history) (sym c.self.invariant.agrees.summary.lowest) (best_target tree.network history c.self.invariant.agrees.tree.legal))
+    (subst (λ best. IsBelowBounds tree.network best history) (sym c.self.invariant.agrees.summary.lowest) (best_target c.self.invariant.agrees.tree.legal))

@@ -10,14 +10,14 @@ returns-clause-solved c =
     let tree = c.self.inside.ledger.tree in
     let k = c.args.teller in
     let flowspan = c.args.flowspan in (
-      λ is. subst (λ (p : Progress). Contains (solved_bounds (settled_by k p.history)) flowspan) c.self.view_is (solved_found tree.places.origins tree.events.items k flowspan (c.any_solved.ensures.0 is)),
+      λ is. subst (λ (p : Progress). Contains (solved_bounds (settled_by k p.history)) flowspan) c.self.view_is
+          (solved_found tree.places.origins tree.events.items k flowspan (c.any_solved.ensures.0 is)),
       λ found. c.any_solved.ensures.1
-          (found_solved tree.places.origins tree.events.items k flowspan (subst (λ (p : Progress). Contains (solved_bounds (settled_by k p.history)) flowspan) (sym c.self.view_is) found)),
+          (found_solved tree.places.origins tree.events.items k flowspan
+          (subst (λ (p : Progress). Contains (solved_bounds (settled_by k p.history)) flowspan) (sym c.self.view_is) found)),
     )
 
 pub returns-clause-lawful : goal.returns-clause-lawful
 returns-clause-lawful c =
-    let inside = c.self.inside in
-    let tree = inside.ledger.tree in
     subst IsLawful c.self.view_is
-    (lawful tree.network tree.places.origins tree.places.standings tree.events.items inside.ledger.closed.items inside.ledger.bounds.limit inside.ledger.open_nodes inside.ledger.bounds.best inside.ledger.bounds.kept inside.ledger.tallies.items c.self.invariant.agrees)
+    (lawful c.self.invariant.agrees)

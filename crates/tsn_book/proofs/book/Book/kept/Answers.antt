@@ -11,11 +11,11 @@ pub returns-clause-best : goal.returns-clause-best
 returns-clause-best c =
     let tree = c.self.inside.ledger.tree in
     let history = history_of tree.places.origins tree.events.items in
-    subst (λ (p : Progress). MatchOption c.kept.result (best_bound p.network p.history ≡ p.network.cycle + 1) (λ solved. IsSolved p.network solved.now × (solved.now.flowspan ≡ best_bound p.network p.history))) c.self.view_is
-    (match_gives c.kept.result _ _ _ (λ solved. IsSolved tree.network solved.now × (solved.now.flowspan ≡ best_bound tree.network history)) (none_best tree.network history c.self.invariant.agrees.tree.legal) (λ solved is. (is.1, is.2)) c.kept.ensures)
+    subst (λ (p : Progress). MatchOption c.kept.result (best_bound p.network p.history ≡ p.network.cycle + 1)
+    (λ solved. IsSolved p.network solved.now × (solved.now.flowspan ≡ best_bound p.network p.history))) c.self.view_is
+    (match_gives c.kept.result _ _ _ (λ solved. IsSolved tree.network solved.now × (solved.now.flowspan ≡ best_bound tree.network history))
+    (none_best c.self.invariant.agrees.tree.legal) (λ solved is. (is.1, is.2)) c.kept.ensures)
 
 pub returns-clause-lawful : goal.returns-clause-lawful
 returns-clause-lawful c =
-    let inside = c.self.inside in
-    let tree = inside.ledger.tree in
-    subst IsLawful c.self.view_is (lawful tree.network tree.places.origins tree.places.standings tree.events.items inside.ledger.closed.items inside.ledger.bounds.limit inside.ledger.open_nodes inside.ledger.bounds.best inside.ledger.bounds.kept inside.ledger.tallies.items c.self.invariant.agrees)
+    subst IsLawful c.self.view_is (lawful c.self.invariant.agrees)

@@ -11,7 +11,7 @@ invariant_of-result c =
     let cycle : c.cycle-past_cycle.result ≡ tree.network.cycle = c.cycle-past_cycle.ensures.value ∙ ap (λ n. n.cycle) (sym copied) in
     record {
       agrees = rw c.in_ok-closed.ensures (rw c.in_ok-tallies.ensures
-          (start_book tree.network tree.places.origins tree.places.standings tree.events.items c.args.limit c.cycle-past_cycle.result c.args.tellers known.tree known.standings known.history known.events cycle
+          (start_book known.tree c.args.limit c.cycle-past_cycle.result c.args.tellers known.statuses known.history known.events cycle
           (subst IsWellFormed (sym copied) c.cycle-past_cycle.ensures.well_formed)));
       none_waits = known.waiting;
     }

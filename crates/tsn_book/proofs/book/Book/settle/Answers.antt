@@ -11,8 +11,14 @@ pub enter-requires-clause-place : goal.enter-requires-clause-place
 enter-requires-clause-place c =
     let inside = c.self.inside in
     let tree = inside.ledger.tree in
-    let at : IsOpenPlace tree.places.standings c.in-Ok.place = c.in-Ok.ensures.0 in
-    omega (arith, at.within, c.self.invariant.agrees.tree.counted, length-made tree.network tree.places.origins tree.places.standings tree.events.items c.self.invariant.agrees.tree, ap (λ (p : Progress). length (made_paths p.history)) c.self.view_is)
+    let at : IsOpenPlace tree.places.statuses c.in-Ok.place = c.in-Ok.ensures.0 in
+    omega (
+      arith,
+      at.within,
+      c.self.invariant.agrees.tree.counted,
+      length-made c.self.invariant.agrees.tree,
+      ap (λ (p : Progress). length (made_paths p.history)) c.self.view_is,
+    )
 
 pub enter-requires-clause-allowed : goal.enter-requires-clause-allowed
 enter-requires-clause-allowed c =
@@ -20,18 +26,22 @@ enter-requires-clause-allowed c =
     let tree = inside.ledger.tree in
     let outcome = outcome_of c.args.event.look in
     let same : c.args.event.node ≡ path_made (history_of tree.places.origins tree.events.items) c.in-Ok.place =
-    sym c.in-Ok.ensures.1 ∙ path_made-at tree.network tree.places.origins tree.places.standings tree.events.items c.self.invariant.agrees.tree c.in-Ok.place in
+    sym c.in-Ok.ensures.1 ∙ path_made-at c.self.invariant.agrees.tree c.in-Ok.place in
     subst (λ (p : Progress). IsAllowed p.network p.history (record { path = path_made p.history c.in-Ok.place; outcome = outcome })) c.self.view_is
-    (subst (λ path. IsAllowed tree.network (history_of tree.places.origins tree.events.items) (record { path = path; outcome = outcome })) same c.in-Ok.ensures.3)
+    (subst (λ path. IsAllowed tree.network (history_of tree.places.origins tree.events.items) (record { path = path; outcome = outcome }))
+    same c.in-Ok.ensures.3)
 
 pub returns-in-Ok-enter-clause-ok : goal.returns-in-Ok-enter-clause-ok
 returns-in-Ok-enter-clause-ok c =
-    let inside = c.self.inside in
-    let tree = inside.ledger.tree in
     let before = c.args.self.now in
     let outcome = outcome_of c.args.event.look in
     let same : path_made before.history c.in-Ok.place ≡ c.args.event.node =
     ap (λ (p : Progress). path_made p.history c.in-Ok.place) (sym c.self.view_is)
-    ∙ sym (path_made-at tree.network tree.places.origins tree.places.standings tree.events.items c.self.invariant.agrees.tree c.in-Ok.place) ∙ c.in-Ok.ensures.1 in
+    ∙ sym (path_made-at c.self.invariant.agrees.tree c.in-Ok.place) ∙ c.in-Ok.ensures.1 in
     c.in-Ok-enter.ensures.ok
-    ∙ ap (λ path. let more : Progress = record { network = before.network; tellers = before.tellers; limit = before.limit; history = before.history ++ record { teller = c.args.teller; event = record { path = path; outcome = outcome } } ∷ [] } in more) same
+    ∙ ap (λ path. let more : Progress = record {
+      network = before.network;
+      tellers = before.tellers;
+      limit = before.limit;
+      history = before.history ++ record { teller = c.args.teller; event = record { path = path; outcome = outcome } } ∷ [];
+    } in more) same

@@ -27,7 +27,9 @@ loop-event-preserved c =
     record {
       taken = i.taken ++ event ∷ [];
       all = one_more c.args.events.items i.taken event (reverse c.pop.new.self.items) next;
-      settled = settled_more c.args.self.now c.loop-event.self c.settle.new.self c.args.teller (map event_of i.taken) (event_of event) i.settled c.in_default-settle.ensures.ok
+      settled =
+          settled_more c.args.self.now c.loop-event.self c.settle.new.self c.args.teller (map event_of i.taken) (event_of event)
+          i.settled c.in_default-settle.ensures.ok
           ∙ ap (book_after c.args.self.now c.args.teller) (sym (map-append event_of i.taken (event ∷ [])));
       lawful = c.in_default-settle.ensures.lawful;
     }
@@ -41,6 +43,7 @@ returns-in-Err-clause-fault c =
     let next = next_first c.args.events.items i.taken c.loop-event.rest.items c.pop.new.self.items event i.all c.in-Some.ensures.items in
     let settled = c.in-Err.ensures.refused ∙ i.settled in
     let many = settled_count book now c.args.teller (map event_of i.taken) settled in
-    let is = subst (λ (p : Progress). IsFault p.network p.limit p.history (event_of event) c.in-Err.fault) (sym c.in-Err.ensures.refused) c.in-Err.ensures.fault in
-    refused_event book now c.args.teller c.args.events.items i.taken event (reverse c.pop.new.self.items) _ c.in-Err.fault next settled
+    let is = subst (λ (p : Progress). IsFault p.network p.limit p.history (event_of event) c.in-Err.refused.fault) (sym c.in-Err.ensures.refused)
+    c.in-Err.ensures.fault in
+    refused_event book now c.args.teller c.args.events.items i.taken event (reverse c.pop.new.self.items) _ c.in-Err.refused.fault next settled
     (omega (arith, many, c.count.ensures.count, c.count-before.ensures.count)) is

@@ -8,7 +8,7 @@ use Rattle.tsn_branch.specs.declared.outcome.Look.{Look}
 use Rattle.tsn_branch.specs.Outcome.{outcome_of}
 use Rattle.tsn_branch.specs.Look.{HasProof, SplitsUndecided}
 use Rattle.tsn_book.specs.Book.{Progress, IsFault, IsLawful}
-use Rattle.tsn_book.proofs.Below.{not_walked, no_step, none_below, refused_first, refused_looks, here_below, first_waits}
+use Rattle.tsn_book.proofs.Below.{none_below, refused_first, first_below, first_refused, first_waits}
 use Rattle.tsn_book.proofs.Ledgers.{ledger_lawful, same_progress, progress_by}
 use Rattle.tsn_book.proofs.book.Book.settle_below.Goals as goal
 
@@ -26,67 +26,81 @@ some_looks looks count is some none = some (is ∙ ap length none)
 
 pub returns-in-Err-clause-some : goal.returns-in-Err-clause-some
 returns-in-Err-clause-some c =
-    let faults : (outcome : Outcome) → IsFault c.args.self.now.network c.args.self.now.limit c.args.self.now.history (record { path = c.args.from.now; outcome = outcome }) c.in-Err.fault = λ outcome.
-    subst (λ (path : List Decision). IsFault c.args.self.now.network c.args.self.now.limit c.args.self.now.history (record { path = path; outcome = outcome }) c.in-Err.fault) c.path.ensures.value (c.in-Err.ensures outcome) in
-    (refused_first c.args.self.now c.args.teller c.args.from.now c.args.looks c.in-Err.fault (some_looks c.args.looks c.len.result c.len.ensures c.if-len-eq0.false) faults).0
+    let faults : (outcome : Outcome) → IsFault c.args.self.now.network c.args.self.now.limit c.args.self.now.history
+    (record { path = c.args.from.now; outcome = outcome }) c.in-Err.fault = λ outcome.
+    subst (λ (path : List Decision). IsFault c.args.self.now.network c.args.self.now.limit c.args.self.now.history (record { path = path; outcome = outcome })
+    c.in-Err.fault) c.path.ensures.value (c.in-Err.ensures outcome) in
+    (refused_first c.args.self.now c.args.teller c.args.from.now c.args.looks c.in-Err.fault
+    (some_looks c.args.looks c.len.result c.len.ensures c.if-len-eq0.false) faults).0
 
 pub returns-in-Err-clause-fault : goal.returns-in-Err-clause-fault
 returns-in-Err-clause-fault c =
-    let faults : (outcome : Outcome) → IsFault c.args.self.now.network c.args.self.now.limit c.args.self.now.history (record { path = c.args.from.now; outcome = outcome }) c.in-Err.fault = λ outcome.
-    subst (λ (path : List Decision). IsFault c.args.self.now.network c.args.self.now.limit c.args.self.now.history (record { path = path; outcome = outcome }) c.in-Err.fault) c.path.ensures.value (c.in-Err.ensures outcome) in
-    (refused_first c.args.self.now c.args.teller c.args.from.now c.args.looks c.in-Err.fault (some_looks c.args.looks c.len.result c.len.ensures c.if-len-eq0.false) faults).1
+    let faults : (outcome : Outcome) → IsFault c.args.self.now.network c.args.self.now.limit c.args.self.now.history
+    (record { path = c.args.from.now; outcome = outcome }) c.in-Err.fault = λ outcome.
+    subst (λ (path : List Decision). IsFault c.args.self.now.network c.args.self.now.limit c.args.self.now.history (record { path = path; outcome = outcome })
+    c.in-Err.fault) c.path.ensures.value (c.in-Err.ensures outcome) in
+    (refused_first c.args.self.now c.args.teller c.args.from.now c.args.looks c.in-Err.fault
+    (some_looks c.args.looks c.len.result c.len.ensures c.if-len-eq0.false) faults).1
 
 -- the first look, where the looks came back
-first_look : (looks back : List Look) (read : Look) (count : ℕ) → count ≡ length looks → (count ≡ 0 → ⊥) → read ≡ slice_index_or back 0 read → back ≡ looks → looks ≡ read ∷ drop 1 looks
+first_look : (looks back : List Look) (read : Look) (count : ℕ) → count ≡ length looks → (count ≡ 0 → ⊥) → read ≡ slice_index_or back 0 read → back ≡ looks
+    → looks ≡ read ∷ drop 1 looks
 first_look looks back read count is some at same =
     let more : 1 ≤ length looks = omega (arith, is, some) in
     first_waits looks read more ∙ ap (λ (look : Look). look ∷ drop 1 looks) (sym (at ∙ ap (λ (ls : List Look). slice_index_or ls 0 read) same))
 
-pub fault_at-requires-clause-proof : goal.fault_at-requires-clause-proof
-fault_at-requires-clause-proof c =
-    let book = c.args.self.now in
+-- the first look has its proof, where the walk stands
+first_fits : (c : goal.After-get) → let book = progress_by c.self.inside.ledger c.bring.new.self.items in
+    let path = path_made book.history c.in-Ok.place in
+    HasProof book.network path (outcome_of c.get.result.now) × SplitsUndecided book.network path (outcome_of c.get.result.now)
+first_fits c =
+    let network = c.args.self.now.network in
+    let outcome = outcome_of c.get.result.now in
     let same = same_progress c.self.inside.ledger c.bring.new.self.items c.bring.ensures.items ∙ c.self.view_is in
-    let right = (here_below (λ (event : Event). HasProof book.network event.path event.outcome × SplitsUndecided book.network event.path event.outcome) c.args.from.now c.args.from.now c.args.looks [] c.get.result.now
-    (drop 1 c.args.looks) (first_look c.args.looks c.in-Err-bring.looks c.get.result.now c.len.result c.len.ensures c.if-len-eq0.false c.get.ensures c.in-Err-bring.ensures.returned) (no_step c.args.from.now) c.requires.proofs).0 in
-    subst (λ (p : Progress). HasProof p.network (path_made p.history c.in-Ok.place) (outcome_of c.get.result.now)) (sym same)
-    (subst (λ (path : List Decision). HasProof book.network path (outcome_of c.get.result.now)) (sym (c.in-Ok.ensures.is ∙ c.path.ensures.value)) right)
+    let first = first_look c.args.looks c.in-Err-bring.looks c.get.result.now c.len.result c.len.ensures c.if-len-eq0.false c.get.ensures
+    c.in-Err-bring.ensures.returned in
+    subst (λ (p : Progress). let path = path_made p.history c.in-Ok.place in HasProof p.network path outcome × SplitsUndecided p.network path outcome)
+    (sym same)
+    (subst (λ (path : List Decision). HasProof network path outcome × SplitsUndecided network path outcome) (sym (c.in-Ok.ensures.is ∙ c.path.ensures.value))
+    (first_below (λ (event : Event). HasProof network event.path event.outcome × SplitsUndecided network event.path event.outcome)
+    c.args.from.now c.args.looks c.get.result.now first c.requires.proofs))
 
-pub fault_at-requires-clause-undecided : goal.fault_at-requires-clause-undecided
-fault_at-requires-clause-undecided c =
-    let book = c.args.self.now in
-    let same = same_progress c.self.inside.ledger c.bring.new.self.items c.bring.ensures.items ∙ c.self.view_is in
-    let right = (here_below (λ (event : Event). HasProof book.network event.path event.outcome × SplitsUndecided book.network event.path event.outcome) c.args.from.now c.args.from.now c.args.looks [] c.get.result.now
-    (drop 1 c.args.looks) (first_look c.args.looks c.in-Err-bring.looks c.get.result.now c.len.result c.len.ensures c.if-len-eq0.false c.get.ensures c.in-Err-bring.ensures.returned) (no_step c.args.from.now) c.requires.proofs).1 in
-    subst (λ (p : Progress). SplitsUndecided p.network (path_made p.history c.in-Ok.place) (outcome_of c.get.result.now)) (sym same)
-    (subst (λ (path : List Decision). SplitsUndecided book.network path (outcome_of c.get.result.now)) (sym (c.in-Ok.ensures.is ∙ c.path.ensures.value)) right)
+pub fault_at-fault-requires-clause-proof : goal.fault_at-fault-requires-clause-proof
+fault_at-fault-requires-clause-proof c = (first_fits c).0
+
+pub fault_at-fault-requires-clause-undecided : goal.fault_at-fault-requires-clause-undecided
+fault_at-fault-requires-clause-undecided c = (first_fits c).1
 
 -- the fault, where the walk stands
-fault_now : (c : goal.After-drop-looks-inside-in-Err-bring) → let book = progress_by c.self.inside.ledger c.bring.new.self.items in IsFault book.network book.limit book.history (record { path = c.args.from.now; outcome = outcome_of c.get.result.now }) c.fault_at.result
+fault_now : (c : goal.After-drop-looks-inside-in-Err-bring) → let book = progress_by c.self.inside.ledger c.bring.new.self.items in
+    IsFault book.network book.limit book.history (record { path = c.args.from.now; outcome = outcome_of c.get.result.now }) c.fault_at-fault.result
 fault_now c =
     let book = progress_by c.self.inside.ledger c.bring.new.self.items in
     let same = same_progress c.self.inside.ledger c.bring.new.self.items c.bring.ensures.items ∙ c.self.view_is in
     let path = ap (λ (p : Progress). path_made p.history c.in-Ok.place) same ∙ c.in-Ok.ensures.is ∙ c.path.ensures.value in
-    subst (λ (path : List Decision). IsFault book.network book.limit book.history (record { path = path; outcome = outcome_of c.get.result.now }) c.fault_at.result) path c.fault_at.ensures
+    subst (λ (path : List Decision). IsFault book.network book.limit book.history (record { path = path; outcome = outcome_of c.get.result.now })
+    c.fault_at-fault.result) path c.fault_at-fault.ensures
 
 pub returns-in-Err-bring-clause-some : goal.returns-in-Err-bring-clause-some
 returns-in-Err-bring-clause-some c =
-    let book = c.args.self.now in
     let now = progress_by c.self.inside.ledger c.bring.new.self.items in
     let same = same_progress c.self.inside.ledger c.bring.new.self.items c.bring.ensures.items ∙ c.self.view_is in
-    (refused_looks book now c.args.teller c.args.from.now c.args.from.now c.args.looks [] (drop 1 c.args.looks) c.get.result.now 0 c.fault_at.result (first_look c.args.looks c.in-Err-bring.looks c.get.result.now c.len.result c.len.ensures c.if-len-eq0.false c.get.ensures c.in-Err-bring.ensures.returned)
-    (same ∙ not_walked book c.args.teller c.args.from.now) (no_step c.args.from.now) (omega (arith, ap (λ (p : Progress). length p.history) same)) (fault_now c)).0
+    let first = first_look c.args.looks c.in-Err-bring.looks c.get.result.now c.len.result c.len.ensures c.if-len-eq0.false c.get.ensures
+    c.in-Err-bring.ensures.returned in
+    (first_refused c.args.self.now now c.args.teller c.args.from.now c.args.looks c.get.result.now c.fault_at-fault.result first same (fault_now c)).0
 
 pub returns-in-Err-bring-clause-fault : goal.returns-in-Err-bring-clause-fault
 returns-in-Err-bring-clause-fault c =
-    let book = c.args.self.now in
     let now = progress_by c.self.inside.ledger c.bring.new.self.items in
     let same = same_progress c.self.inside.ledger c.bring.new.self.items c.bring.ensures.items ∙ c.self.view_is in
-    (refused_looks book now c.args.teller c.args.from.now c.args.from.now c.args.looks [] (drop 1 c.args.looks) c.get.result.now 0 c.fault_at.result (first_look c.args.looks c.in-Err-bring.looks c.get.result.now c.len.result c.len.ensures c.if-len-eq0.false c.get.ensures c.in-Err-bring.ensures.returned)
-    (same ∙ not_walked book c.args.teller c.args.from.now) (no_step c.args.from.now) (omega (arith, ap (λ (p : Progress). length p.history) same)) (fault_now c)).1
+    let first = first_look c.args.looks c.in-Err-bring.looks c.get.result.now c.len.result c.len.ensures c.if-len-eq0.false c.get.ensures
+    c.in-Err-bring.ensures.returned in
+    (first_refused c.args.self.now now c.args.teller c.args.from.now c.args.looks c.get.result.now c.fault_at-fault.result first same (fault_now c)).1
 
 pub returns-in-Err-bring-clause-lawful : goal.returns-in-Err-bring-clause-lawful
 returns-in-Err-bring-clause-lawful c =
-    subst IsLawful (sym (same_progress c.self.inside.ledger c.bring.new.self.items c.bring.ensures.items)) (ledger_lawful c.self.inside.ledger c.self.invariant.agrees)
+    subst IsLawful (sym (same_progress c.self.inside.ledger c.bring.new.self.items c.bring.ensures.items))
+    (ledger_lawful c.self.inside.ledger c.self.invariant.agrees)
 
 pub returns-clause-lawful : goal.returns-clause-lawful
 returns-clause-lawful c =

@@ -20,12 +20,14 @@ admit_at-requires-clause-path c = sym c.requires.at.is ∙ sym (same_path c.args
 pub admit_at-requires-clause-proof : goal.admit_at-requires-clause-proof
 admit_at-requires-clause-proof c =
     let ledger = c.args.self.now in
-    rw c.next-look.ensures (subst (λ (path : List Decision). HasProof ledger.tree.network path (next_outcome ledger)) (sym c.requires.at.is ∙ sym (same_path ledger c.requires.agrees c.args.place)) c.requires.proof)
+    rw c.next-look.ensures (subst (λ (path : List Decision). HasProof ledger.tree.network path (next_outcome ledger))
+    (sym c.requires.at.is ∙ sym (same_path ledger c.requires.agrees c.args.place)) c.requires.proof)
 
 pub admit_at-requires-clause-undecided : goal.admit_at-requires-clause-undecided
 admit_at-requires-clause-undecided c =
     let ledger = c.args.self.now in
-    rw c.next-look.ensures (subst (λ (path : List Decision). SplitsUndecided ledger.tree.network path (next_outcome ledger)) (sym c.requires.at.is ∙ sym (same_path ledger c.requires.agrees c.args.place)) c.requires.undecided)
+    rw c.next-look.ensures (subst (λ (path : List Decision). SplitsUndecided ledger.tree.network path (next_outcome ledger))
+    (sym c.requires.at.is ∙ sym (same_path ledger c.requires.agrees c.args.place)) c.requires.undecided)
 
 pub returns : goal.returns
 returns c =
@@ -36,5 +38,7 @@ returns c =
     (λ done. (length history < ledger.bounds.limit) × IsAllowed ledger.tree.network history (record { path = c.args.path.now; outcome = outcome_of look }))
     (λ fault. IsFault ledger.tree.network ledger.bounds.limit history (record { path = c.args.path.now; outcome = outcome_of look }) fault)) c.next-look.ensures
     (subst (λ (path : List Decision). MatchResult c.admit_at.result
-    (λ done. (length history < ledger.bounds.limit) × IsAllowed ledger.tree.network history (record { path = path; outcome = outcome_of c.next-look.result.now }))
-    (λ fault. IsFault ledger.tree.network ledger.bounds.limit history (record { path = path; outcome = outcome_of c.next-look.result.now }) fault)) same c.admit_at.ensures)
+    (λ done. (length history < ledger.bounds.limit)
+    × IsAllowed ledger.tree.network history (record { path = path; outcome = outcome_of c.next-look.result.now }))
+    (λ fault. IsFault ledger.tree.network ledger.bounds.limit history (record { path = path; outcome = outcome_of c.next-look.result.now }) fault))
+    same c.admit_at.ensures)

@@ -9,19 +9,19 @@ use Rattle.tsn_book.proofs.ledger.Ledger.into_spelling.Goals as goal
 pub of-requires : goal.of-requires
 of-requires c =
     let tree = c.args.self.tree in
-    order_spells tree.network tree.places.origins tree.events.items c.requires.agrees.tree.legal _ c.in_ok-plan.ensures _ c.in_ok-order.ensures
+    order_spells tree.places.origins tree.events.items _ c.in_ok-plan.ensures c.in_ok-order.ensures c.requires.agrees.tree.legal
 
 pub returns-clause-accepted : goal.returns-clause-accepted
 returns-clause-accepted c =
     let tree = c.args.self.tree in
     subst (λ (cert : Cert). SpellsAccepted tree.network (kept_of tree.network (settled_in tree)) cert.nodes) (sym c.of.ensures)
-    (order_accepted tree.network tree.places.origins tree.events.items _ c.in_ok-plan.ensures _ c.in_ok-order.ensures)
+    (order_accepted tree.places.origins tree.events.items _ c.in_ok-plan.ensures c.in_ok-order.ensures)
 
 pub returns-clause-nodes : goal.returns-clause-nodes
 returns-clause-nodes c =
     let tree = c.args.self.tree in
     subst (λ (cert : Cert). AreNodesOf tree.network (settled_in tree) cert.nodes) (sym c.of.ensures)
-    (order_nodes tree.network tree.places.origins tree.events.items _ c.in_ok-plan.ensures _ c.in_ok-order.ensures)
+    (order_nodes tree.places.origins tree.events.items _ c.in_ok-plan.ensures c.in_ok-order.ensures)
 
 pub returns-clause-counted : goal.returns-clause-counted
 returns-clause-counted c =

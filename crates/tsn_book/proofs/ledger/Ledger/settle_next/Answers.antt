@@ -20,7 +20,8 @@ pub returns-in-Some-clause-walk : goal.returns-in-Some-clause-walk
 returns-in-Some-clause-walk c =
     let walk = c.args.walk.now in
     let is = sym c.in-Some.ensures ∙ c.next.ensures in
-    subst (λ (path : List Decision). OnOk c.split_at.result (c.split_at.new.walk ≡ path)) (split_next walk c.in-Some.triple ∙ ap (λ (look : Look). next_path walk (outcome_of look)) is) c.split_at.ensures.walk
+    subst (λ (path : List Decision). OnOk c.split_at.result (c.split_at.new.walk ≡ path))
+    (split_next walk c.in-Some.triple ∙ ap (λ (look : Look). next_path walk (outcome_of look)) is) c.split_at.ensures.walk
 
 pub go_on-requires-clause-at : goal.go_on-requires-clause-at
 go_on-requires-clause-at c =
@@ -31,4 +32,5 @@ go_on-requires-clause-at c =
 
 pub returns-in-Ok-clause-walk : goal.returns-in-Ok-clause-walk
 returns-in-Ok-clause-walk c =
-    c.go_on.ensures.walk ∙ sym (closes_leaf c.args.walk.now (next_outcome c.args.self.now) (subst (λ (look : Look). IsLeafOutcome (outcome_of look)) c.next.ensures c.in_default.ensures))
+    c.go_on.ensures.walk ∙ sym (closes_leaf c.args.walk.now (next_outcome c.args.self.now)
+    (subst (λ (look : Look). IsLeafOutcome (outcome_of look)) c.next.ensures c.in_default.ensures))

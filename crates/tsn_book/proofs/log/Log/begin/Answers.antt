@@ -24,10 +24,11 @@ invariant_of-self-2 c =
       | then-not-is_empty w ↦
           let piece : Piece = record { first = inside.before; list = c.replace-list.result } in
           let pushed = w.push_reserved.ensures.items ∙ ap (λ (pieces : List Piece). pieces ++ piece ∷ []) c.try_reserve.ensures.items in
-          rw w.self-inside-is (subst (λ pieces. IsPieced pieces new next 0) (sym pushed) (pieced_more full inside.before last inside.settled c.self.invariant piece next new refl has is few))
+          rw w.self-inside-is (subst (λ pieces. IsPieced pieces new next 0) (sym pushed) (pieced_more c.self.invariant piece next new refl has is few))
       | else-not-is_empty w ↦
           let empty : length last ≡ 0 = omega (arith, ap length has, c.replace-list.result.ok, eqb-true _ _ (sym w.if-not-is_empty.ensures)) in
-          rw w.self-inside-is (subst (λ pieces. IsPieced pieces new next 0) (sym c.try_reserve.ensures.items) (pieced_same full inside.before last inside.settled c.self.invariant next new empty is few))
+          rw w.self-inside-is (subst (λ pieces. IsPieced pieces new next 0) (sym c.try_reserve.ensures.items)
+          (pieced_same c.self.invariant next new empty is few))
     ]
 
 pub returns-clause-items : goal.returns-clause-items
@@ -45,5 +46,6 @@ returns-clause-items c =
           rw w.self-inside-is (append-nil _ ∙ ap (flat_map items_of) pushed ∙ items_more full piece ∙ ap (λ items. flat_map items_of full ++ items) has ∙ whole)
       | else-not-is_empty w ↦
           let empty : length last ≡ 0 = omega (arith, ap length has, c.replace-list.result.ok, eqb-true _ _ (sym w.if-not-is_empty.ensures)) in
-          rw w.self-inside-is (ap (λ pieces. flat_map items_of pieces ++ []) c.try_reserve.ensures.items ∙ ap (λ items. flat_map items_of full ++ items) (sym (nil_from_length last empty)) ∙ whole)
+          rw w.self-inside-is (ap (λ pieces. flat_map items_of pieces ++ []) c.try_reserve.ensures.items
+          ∙ ap (λ items. flat_map items_of full ++ items) (sym (nil_from_length last empty)) ∙ whole)
     ]

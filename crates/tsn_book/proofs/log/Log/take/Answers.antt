@@ -18,7 +18,7 @@ returns-then-number-self-clause-look c =
     λ d.
     c.take_at.ensures.look d
     ∙ ap (λ events. (slice_index_or events (number - inside.before) d).look) c.deref_mut.ensures.value
-    ∙ ap (λ (event : Settled). event.look) (sym (read_last inside.full.items inside.before inside.last.items inside.settled c.self.invariant number from within d))
+    ∙ ap (λ (event : Settled). event.look) (sym (read_last c.self.invariant number from within d))
     ∙ ap (λ (log : Logged). (slice_index_or log.items number d).look) c.self.view_is
 
 pub returns-then-number-self-clause-others : goal.returns-then-number-self-clause-others
@@ -35,18 +35,17 @@ returns-then-number-self-clause-others c =
     λ other apart d. c.take_at.ensures.others other apart d ∙ ap (λ events. slice_index_or events other d) c.deref_mut.ensures.value in
     λ other apart d.
     ap (λ events. slice_index_or (flat_map items_of full ++ take inside.settled events) other d) whole
-    ∙ written_last full inside.before last inside.settled c.self.invariant number from now as_many same other apart d
+    ∙ written_last c.self.invariant number from now as_many same other apart d
     ∙ ap (λ (log : Logged). slice_index_or log.items other d) c.self.view_is
 
 pub invariant_of-self-else-number-self : goal.invariant_of-self-else-number-self
 invariant_of-self-else-number-self c =
-    let inside = c.self.inside in
     let was = c.index_mut-piece.result.now in
     let now = c.take_at-else-number-self.new.piece in
     let piece : Piece = record { first = was.first; list = with_items was.list now } in
     let as_many : length now ≡ length (items_of was) = c.take_at-else-number-self.ensures.counted ∙ ap length c.deref_mut-else-number-self.ensures.value in
     let whole = written_back now was.list.items was.list.len (omega (arith, was.list.ok)) as_many in
-    written_pieced inside.full.items inside.before inside.last.items inside.settled c.self.invariant c.piece_of-at.result was piece c.index_mut-piece.ensures.value (ap length whole ∙ as_many) refl
+    written_pieced c.self.invariant c.piece_of-at.result was piece c.index_mut-piece.ensures.value (ap length whole ∙ as_many) refl
 
 pub returns-else-number-self-clause-look : goal.returns-else-number-self-clause-look
 returns-else-number-self-clause-look c =
@@ -56,7 +55,8 @@ returns-else-number-self-clause-look c =
     let k = c.piece_of-at.result in
     let was = c.index_mut-piece.result.now in
     let found = c.piece_of-at.ensures in
-    let stands = stands_in c.deref.result.now full c.deref.ensures.value number k was c.index_mut-piece.ensures.value found.piece (found.from was) (found.to was) in
+    let stands = stands_in c.deref.result.now full c.deref.ensures.value number k was c.index_mut-piece.ensures.value found.piece (found.from was)
+    (found.to was) in
     λ d.
     c.take_at-else-number-self.ensures.look d
     ∙ ap (λ events. (slice_index_or events (number - was.first) d).look) c.deref_mut-else-number-self.ensures.value
@@ -65,13 +65,12 @@ returns-else-number-self-clause-look c =
 
 pub returns-else-number-self-clause-counted : goal.returns-else-number-self-clause-counted
 returns-else-number-self-clause-counted c =
-    let inside = c.self.inside in
     let was = c.index_mut-piece.result.now in
     let now = c.take_at-else-number-self.new.piece in
     let piece : Piece = record { first = was.first; list = with_items was.list now } in
     let as_many : length now ≡ length (items_of was) = c.take_at-else-number-self.ensures.counted ∙ ap length c.deref_mut-else-number-self.ensures.value in
     let whole = written_back now was.list.items was.list.len (omega (arith, was.list.ok)) as_many in
-    written_counted inside.full.items inside.before inside.last.items inside.settled c.self.invariant c.piece_of-at.result was piece c.index_mut-piece.ensures.value (ap length whole ∙ as_many)
+    written_counted c.self.invariant c.piece_of-at.result was piece c.index_mut-piece.ensures.value (ap length whole ∙ as_many)
     ∙ ap (λ (log : Logged). length log.items) c.self.view_is
 
 pub returns-else-number-self-clause-others : goal.returns-else-number-self-clause-others
@@ -84,11 +83,13 @@ returns-else-number-self-clause-others c =
     let now = c.take_at-else-number-self.new.piece in
     let piece : Piece = record { first = was.first; list = with_items was.list now } in
     let found = c.piece_of-at.ensures in
-    let stands = stands_in c.deref.result.now full c.deref.ensures.value number k was c.index_mut-piece.ensures.value found.piece (found.from was) (found.to was) in
+    let stands = stands_in c.deref.result.now full c.deref.ensures.value number k was c.index_mut-piece.ensures.value found.piece (found.from was)
+    (found.to was) in
     let as_many : length now ≡ length (items_of was) = c.take_at-else-number-self.ensures.counted ∙ ap length c.deref_mut-else-number-self.ensures.value in
     let whole = written_back now was.list.items was.list.len (omega (arith, was.list.ok)) as_many in
     let same : SameButOne (number - was.first) (items_of piece) (items_of was) =
-    λ other apart d. ap (λ events. slice_index_or events other d) whole ∙ c.take_at-else-number-self.ensures.others other apart d ∙ ap (λ events. slice_index_or events other d) c.deref_mut-else-number-self.ensures.value in
+    λ other apart d. ap (λ events. slice_index_or events other d) whole ∙ c.take_at-else-number-self.ensures.others other apart d
+    ∙ ap (λ events. slice_index_or events other d) c.deref_mut-else-number-self.ensures.value in
     λ other apart d.
-    written_others full inside.before inside.last.items inside.settled c.self.invariant k was piece c.index_mut-piece.ensures.value (ap length whole ∙ as_many) number stands same other apart d
+    written_others c.self.invariant k was piece c.index_mut-piece.ensures.value (ap length whole ∙ as_many) number stands same other apart d
     ∙ ap (λ (log : Logged). slice_index_or log.items other d) c.self.view_is

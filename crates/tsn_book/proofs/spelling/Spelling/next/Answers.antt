@@ -13,14 +13,14 @@ pub invariant_of-self : goal.invariant_of-self
 invariant_of-self c =
     let inside = c.self.inside in
     let low : inside.given < length inside.order.items = omega (arith, c.if-self-len.false, c.len.ensures) in
-    next_known inside.network inside.plan inside.events.items inside.order.items inside.given c.index-number.result.now c.self.invariant low c.index-number.ensures c.take_node.new.events.items
+    next_known inside.order.items inside.given c.index-number.result.now c.self.invariant low c.index-number.ensures
     (record { counted = c.take_node.ensures.counted; others = c.take_node.ensures.others })
 
 pub invariant_of-self-2 : goal.invariant_of-self-2
 invariant_of-self-2 c =
     let inside = c.self.inside in
     let low : inside.given < length inside.order.items = omega (arith, c.if-self-len.false, c.len.ensures) in
-    next_known inside.network inside.plan inside.events.items inside.order.items inside.given c.index-number.result.now c.self.invariant low c.index-number.ensures c.take_node.new.events.items
+    next_known inside.order.items inside.given c.index-number.result.now c.self.invariant low c.index-number.ensures
     (record { counted = c.take_node.ensures.counted; others = c.take_node.ensures.others })
 
 pub returns-clause-node : goal.returns-clause-node
@@ -28,14 +28,15 @@ returns-clause-node c =
     let inside = c.self.inside in
     let low : inside.given < length inside.order.items = omega (arith, c.if-self-len.false, c.len.ensures) in
     ap (λ (cert : Cert). cert.nodes) (sym c.self.view_is)
-    ∙ next_nodes inside.network inside.plan inside.events.items inside.order.items inside.given c.index-number.result.now c.self.invariant low c.index-number.ensures c.take_node.new.events.items
+    ∙ next_nodes inside.order.items inside.given c.index-number.result.now c.self.invariant low c.index-number.ensures
     (record { counted = c.take_node.ensures.counted; others = c.take_node.ensures.others }) (tree_node c.in_ok-node.node)
-    (λ d. c.in_ok-node.ensures.node d ∙ ap (λ p. node_of inside.network (planned p) (outcome_of (slice_index_or inside.events.items c.index-number.result.now d).look)) c.as_ref-plan.ensures.value)
+    (λ d. c.in_ok-node.ensures.node d ∙ ap (λ p. node_of inside.network (planned p)
+    (outcome_of (slice_index_or inside.events.items c.index-number.result.now d).look)) c.as_ref-plan.ensures.value)
 
 pub returns-in_err-node-clause-left_out : goal.returns-in_err-node-clause-left_out
 returns-in_err-node-clause-left_out c =
     let inside = c.self.inside in
     let low : inside.given < length inside.order.items = omega (arith, c.if-self-len.false, c.len.ensures) in
-    where_err c.from_residual.result (next_left inside.network inside.plan inside.events.items inside.order.items inside.given c.index-number.result.now c.self.invariant low c.index-number.ensures c.take_node.new.events.items
+    where_err c.from_residual.result (next_left inside.order.items inside.given c.index-number.result.now c.self.invariant low c.index-number.ensures
     (record { counted = c.take_node.ensures.counted; others = c.take_node.ensures.others })
     ∙ ap (λ (cert : Cert). drop 1 cert.nodes) c.self.view_is)

@@ -1,6 +1,6 @@
 use Rattle.std.proofs.Common.{length, arith, ap}
 use Rattle.tsn_book.proofs.Branchings.{length-origins_of}
-use Rattle.tsn_book.proofs.standings.Places.reserve.Goals as goal
+use Rattle.tsn_book.proofs.statuses.Places.reserve.Goals as goal
 
 pub returns-in_err-try_reserve-clause-small : goal.returns-in_err-try_reserve-clause-small
 returns-in_err-try_reserve-clause-small c =
@@ -10,4 +10,11 @@ returns-in_err-try_reserve-clause-small c =
 pub returns-clause-small : goal.returns-clause-small
 returns-clause-small c =
     let inside = c.self.inside in
-    omega (arith, inside.marks.ok, inside.marks.small, c.self.invariant.counted, length-origins_of c.try_reserve-2.new.self.items, ap length c.try_reserve-2.ensures.items)
+    omega (
+      arith,
+      inside.marks.ok,
+      inside.marks.small,
+      c.self.invariant.counted,
+      length-origins_of c.try_reserve-2.new.self.items,
+      ap length c.try_reserve-2.ensures.items,
+    )

@@ -1,8 +1,8 @@
 //! The places of a search's tree: how each was made, and what is known of it.
 ghost use Rattle.std.specs.Prelude.{◌≡◌, ◌<◌, ◌≤◌, ◌^◌, ◌++◌, ◌∷◌, [], length, IfOk, OnOk, slice_index_or, slice_set};
 ghost use Rattle.tsn_model.specs.declared.Side.TheVariants.{Left, Right};
-ghost use Rattle.tsn_book.specs.declared.standings.Origin.TheVariants.{Root, Child};
-ghost use Rattle.tsn_book.specs.declared.standings.Standing.TheVariants.{Open, Split, Leaf};
+ghost use Rattle.tsn_book.specs.declared.statuses.Origin.TheVariants.{Root, Child};
+ghost use Rattle.tsn_book.specs.declared.statuses.Status.TheVariants.{Open, Split, Leaf};
 
 use std::alloc::{AllocError, Global};
 use std::marker::Model;
@@ -17,7 +17,7 @@ pub enum Origin {
 
 /// What is known of a place. The Left child of a split has the number `children`, and the Right child the next one.
 #[derive(Clone, Copy)]
-pub enum Standing {
+pub enum Status {
     Open,
     Split {
         triple: Triple,
@@ -53,13 +53,13 @@ pub struct Places {
 
 impl Model for Places {
     ghost use Rattle.std.specs.Prelude.{◌-◌, ◌/◌, map, min, vec_len, vec_capacity};
-    ghost use Rattle.tsn_book.specs.Places.{Placed, origins_of, standing_of, ArePlaces};
+    ghost use Rattle.tsn_book.specs.Places.{Placed, origins_of, status_of, ArePlaces};
 
     ghost Value = { Placed };
 
     ghost view = { λ places. record {
       origins = origins_of places.splits.items;
-      standings = map (standing_of places.splits.items) places.marks.items;
+      statuses = map (status_of places.splits.items) places.marks.items;
       room = min ((vec_capacity places.marks - vec_len places.marks) / 2) (vec_capacity places.splits - vec_len places.splits);
     } };
 
@@ -70,7 +70,7 @@ impl Places {
     /// The root alone, and open.
     pub fn new(alloc: Global) -> Result<Places, AllocError>
         ensures origins { IfOk result (λ places. places.origins ≡ Root ∷ []) }
-        ensures standings { IfOk result (λ places. places.standings ≡ Open ∷ []) }
+        ensures statuses { IfOk result (λ places. places.statuses ≡ Open ∷ []) }
     {
         Ok(Places {
             marks: vec![in alloc; Mark::Open]?,
@@ -111,30 +111,30 @@ impl Places {
     }
 
     /// What is known of a place.
-    pub fn standing(&self, place: usize) -> Standing
-        requires within { place < length self.now.standings }
-        ensures known { result ≡ slice_index_or self.now.standings place result }
-        ensures small { length self.now.standings < 2 ^ 63 }
+    pub fn status(&self, place: usize) -> Status
+        requires within { place < length self.now.statuses }
+        ensures known { result ≡ slice_index_or self.now.statuses place result }
+        ensures small { length self.now.statuses < 2 ^ 63 }
     {
         let mark = self.marks[place];
         match mark {
-            Mark::Open => Standing::Open,
+            Mark::Open => Status::Open,
             Mark::Split(number) => {
                 let split = &self.splits[number];
-                Standing::Split {
+                Status::Split {
                     triple: split.triple,
                     children: 2 * number + 1,
                     event: split.event,
                 }
             }
-            Mark::Leaf(event) => Standing::Leaf(event),
+            Mark::Leaf(event) => Status::Leaf(event),
         }
     }
 
     /// Makes room for one more split. A refusal changes nothing.
     pub fn reserve(&mut self) -> Result<(), AllocError>
         ensures origins { self.new.origins ≡ self.old.origins }
-        ensures standings { self.new.standings ≡ self.old.standings }
+        ensures statuses { self.new.statuses ≡ self.old.statuses }
         ensures room { OnOk result (1 ≤ self.new.room) }
         ensures small { length self.new.origins < 2 ^ 63 }
     {
@@ -144,12 +144,12 @@ impl Places {
 
     /// Splits a place, for which there is room: its children are the next two places, and open.
     pub fn split(&mut self, place: usize, triple: Triple, event: usize)
-        requires within { place < length self.old.standings }
+        requires within { place < length self.old.statuses }
         requires room { 1 ≤ self.old.room }
         ensures origins { self.new.origins
             ≡ (self.old.origins ++ Child place (record { triple = triple; side = Left }) ∷ []) ++ Child place (record { triple = triple; side = Right }) ∷ [] }
-        ensures standings { self.new.standings
-            ≡ (slice_set self.old.standings place (Split triple (length self.old.origins) event) ++ Open ∷ []) ++ Open ∷ [] }
+        ensures statuses { self.new.statuses
+            ≡ (slice_set self.old.statuses place (Split triple (length self.old.origins) event) ++ Open ∷ []) ++ Open ∷ [] }
     {
         self.marks[place] = Mark::Split(self.splits.len());
         self.marks.push_reserved(Mark::Open);
@@ -163,9 +163,9 @@ impl Places {
 
     /// Closes a place by an event.
     pub fn close(&mut self, place: usize, event: usize)
-        requires within { place < length self.old.standings }
+        requires within { place < length self.old.statuses }
         ensures origins { self.new.origins ≡ self.old.origins }
-        ensures standings { self.new.standings ≡ slice_set self.old.standings place (Leaf event) }
+        ensures statuses { self.new.statuses ≡ slice_set self.old.statuses place (Leaf event) }
     {
         self.marks[place] = Mark::Leaf(event);
     }
