@@ -5,7 +5,7 @@ ghost use Rattle.tsn_diff.specs.Limits.{IsArcAmong};
 use crate::told::{NO_MEMORY, tell, tell_offsets};
 use std::alloc::Global;
 use tsn_conflict::sharing::Conflicts;
-use tsn_diff::{Least, MAX_STREAMS, Net, Outcome};
+use tsn_diff::{Feasibility, Least, MAX_STREAMS, Net};
 use tsn_model::{Arc, NoMemory, Side};
 
 /// Solves all arcs at once, and again with the last one added to the solution for the others.
@@ -82,8 +82,8 @@ fn add_last<R: Print + AllocGlobal>(
     requires last { IsArcAmong (length net.now) last }
 {
     match net.least(rt.alloc(), others)? {
-        Outcome::Least(least) => add(rt, &least, last),
-        Outcome::Positive(_) => Ok(()),
+        Feasibility::Least(least) => add(rt, &least, last),
+        Feasibility::Positive(_) => Ok(()),
     }
 }
 
@@ -107,9 +107,9 @@ fn add_once<R: Print + AllocGlobal>(rt: &R, least: &Least, last: Arc) -> Result<
     Ok(())
 }
 
-fn tell_outcome<R: Print>(rt: &R, name: &str, outcome: &Outcome) {
+fn tell_outcome<R: Print>(rt: &R, name: &str, outcome: &Feasibility) {
     match outcome {
-        Outcome::Least(least) => tell_offsets(rt, name, least.offsets()),
-        Outcome::Positive(_) => tell(rt, name, "none"),
+        Feasibility::Least(least) => tell_offsets(rt, name, least.offsets()),
+        Feasibility::Positive(_) => tell(rt, name, "none"),
     }
 }

@@ -8,7 +8,7 @@ use crate::looks::event_at;
 use crate::search::{LIMIT, TELLERS, child};
 use crate::told::{NO_MEMORY, tell, tell_settled};
 use std::alloc::Global;
-use tsn_book::{Book, BookFault, Event};
+use tsn_book::{Book, BookFault, Event, EventRefusal};
 use tsn_branch::{Node, Side, Triple};
 use tsn_conflict::sharing::Conflicts;
 use tsn_model::NoMemory;
@@ -139,10 +139,15 @@ fn settle_once(book: &mut Book, event: Event) -> Option<Event>
 {
     match book.settle(0, event) {
         Ok(()) => None,
-        Err((BookFault::Memory, event)) => Some(event),
-        Err((_, event)) => {
-            drop(event);
-            None
+        Err(refusal) => {
+            let EventRefusal { fault, event } = refusal;
+            match fault {
+                BookFault::Memory => Some(event),
+                _ => {
+                    drop(event);
+                    None
+                }
+            }
         }
     }
 }

@@ -151,7 +151,8 @@ replies_more network limit state last next steps given step reply before latest 
 -- ---- quiet states
 
 -- what a teller posted is at most each flowspan that it solved exactly where it is at most the least
-tally_solved : (network : Network) (k : ℕ) (history : List Settlement) → (tally_of network k history).2 ≡ least_or_none network (solved_bounds (settled_by k history))
+tally_solved : (network : Network) (k : ℕ) (history : List Settlement)
+    → (tally_of network k history).solved ≡ least_or_none network (solved_bounds (settled_by k history))
 unfolding tally_of
 tally_solved network k history = refl
 

@@ -97,4 +97,4 @@ IsTreeForKept network history =
 -- each teller's posted is at most the least flowspan that it solved
 abbrev pub HasPostedAll : Network → List Settlement → List Teller → Type 0
 HasPostedAll network history tellers =
-    (k : ℕ) → k < length tellers → (slice_index_or tellers k (record { seen = 0; posted = 0 })).posted ≤ (tally_of network k history).2
+    (k : ℕ) → k < length tellers → (slice_index_or tellers k (record { seen = 0; posted = 0 })).posted ≤ (tally_of network k history).solved

@@ -10,7 +10,7 @@ ghost use Rattle.tsn_core.specs.Shared.{step_of, IsProved, IsReply, AreReplies, 
 
 use std::alloc::{AllocError, Global};
 use std::marker::Model;
-use tsn_book::{Book, BookFault, Event};
+use tsn_book::{Book, BookFault, Event, EventRefusal};
 use tsn_branch::NoMemory;
 use tsn_branch::outcome::Look;
 use tsn_timing::Timing;
@@ -42,12 +42,12 @@ pub enum Reply {
 
 /// The least word that a teller has seen, and the least flowspan that it has posted, in nanoseconds.
 #[derive(Clone, Copy)]
-struct Known {
+struct Account {
     seen: u64,
     posted: u64,
 }
 
-impl Model for Known {
+impl Model for Account {
     ghost use Rattle.tsn_model.specs.Core.{Teller};
 
     ghost Value = { Teller };
@@ -57,7 +57,7 @@ impl Model for Known {
     ghost inverse = { λ teller. record { seen = teller.seen; posted = teller.posted } };
 }
 
-impl Known {
+impl Account {
     // What was seen.
     fn seen(self) -> u64
         ensures { result ≡ self.seen }
@@ -73,20 +73,20 @@ impl Known {
     }
 
     // The same, with a word seen.
-    fn observes(self, word: u64) -> Known
+    fn observes(self, word: u64) -> Account
         ensures { result ≡ record { seen = min self.seen word; posted = self.posted } }
     {
-        Known {
+        Account {
             seen: self.seen.min(word),
             posted: self.posted,
         }
     }
 
     // The same, with a flowspan posted.
-    fn posts(self, flowspan: u64) -> Known
+    fn posts(self, flowspan: u64) -> Account
         ensures { result ≡ record { seen = min self.seen flowspan; posted = min self.posted flowspan } }
     {
-        Known {
+        Account {
             seen: self.seen.min(flowspan),
             posted: self.posted.min(flowspan),
         }
@@ -99,7 +99,7 @@ impl Known {
 pub struct Core {
     book: Book,
     word: u64,
-    tellers: Vec<Known>,
+    tellers: Vec<Account>,
 }
 
 impl Model for Core {
@@ -275,7 +275,8 @@ impl Core {
         }
         match self.book.settle(teller, event) {
             Ok(()) => Ok(Reply::Settled),
-            Err((fault, event)) => {
+            Err(refusal) => {
+                let EventRefusal { fault, event } = refusal;
                 drop(event);
                 refused(fault)
             }
@@ -284,12 +285,12 @@ impl Core {
 }
 
 /// Tellers that have seen and posted nothing.
-fn unknowing(alloc: Global, tellers: usize, past_cycle: u64) -> Result<Vec<Known>, AllocError>
+fn unknowing(alloc: Global, tellers: usize, past_cycle: u64) -> Result<Vec<Account>, AllocError>
     ensures { IfOk result (λ known. known.items ≡ replicate tellers (record { seen = past_cycle; posted = past_cycle })) }
 {
     let mut known = Vec::with_capacity(alloc, tellers)?;
     for _ in 0..tellers {
-        known.push(Known {
+        known.push(Account {
             seen: past_cycle,
             posted: past_cycle,
         })?;
@@ -322,12 +323,12 @@ fn refused(fault: BookFault) -> Result<Reply, NoMemory>
 }
 
 /// Whether each teller has posted as little as each flowspan that it solved.
-fn has_posted_all(book: &Book, tellers: &[Known]) -> bool
+fn has_posted_all(book: &Book, tellers: &[Account]) -> bool
     requires { length tellers.now ≤ book.now.tellers }
     ensures { IsTrue result ↔ HasPostedAll book.now.network book.now.history tellers.now }
 {
     for (teller, known) in tellers.iter().enumerate() {
-        let (_, _, solved) = book.tally(teller);
+        let solved = book.tally(teller).solved;
         if known.posted() > solved {
             return false;
         }

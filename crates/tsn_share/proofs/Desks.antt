@@ -10,7 +10,8 @@ use Rattle.tsn_search_laws.proofs.Numbers.{fold-min-le}
 use Rattle.tsn_search_laws.specs.Gathering.{tally_with}
 use Rattle.tsn_search_laws.proofs.Gathering.{tally-this, tally-another, best-le-tally}
 use Rattle.tsn_incumbent.specs.Flowspans.{no_flowspan}
-use Rattle.tsn_incumbent.specs.Halves.{Half, Tally, half}
+use Rattle.tsn_model.specs.declared.Tally.{Tally}
+use Rattle.tsn_incumbent.specs.Halves.{Half, half}
 use Rattle.tsn_book.specs.Book.{Progress, IsLawful, IsFault}
 use Rattle.tsn_book.specs.Below.{IsFaultAt}
 use Rattle.tsn_book.specs.declared.fault.BookFault.{BookFault}
@@ -96,12 +97,12 @@ reads names known book of lawful mine (Ok counts) told =
       lawful = lawful_of names book of lawful;
       mine = mine;
       told = told;
-      at_least = omega (arith, tally_few names.race.network book.history known.standing.number _ refl, ap (λ (tally : Tally). tally.0) mine, count);
+      at_least = omega (arith, tally_few names.race.network book.history known.standing.number _ refl, ap (λ (tally : Tally). tally.events) mine, count);
     }
 reads names known book of lawful mine (Err e) told = tt
 
 -- a teller's least solved flowspan is no more than one past the cycle, and no less than the least that was solved
-tally-least : (network : Network) (k : ℕ) (history : List Settlement) → (tally_of network k history).2 ≤ no_flowspan network
+tally-least : (network : Network) (k : ℕ) (history : List Settlement) → (tally_of network k history).solved ≤ no_flowspan network
 unfolding tally_of least_or_none
 tally-least network k history = fold-min-le (no_flowspan network) (solved_bounds (settled_by k history))
 
@@ -109,13 +110,13 @@ tally-least network k history = fold-min-le (no_flowspan network) (solved_bounds
 no_worse : (network : Network) (known : Known) (history : List Settlement) → tally_of network known.standing.number history ≡ known.tally
     → (best : Option Solution) → IsKeptOf network history best → IsNoWorse network known best
 no_worse network known history mine None kept =
-    let share = ap (λ (tally : Tally). tally.2) mine in
+    let share = ap (λ (tally : Tally). tally.solved) mine in
     let low = best-le-tally network history known.standing.number in
     let high = tally-least network known.standing.number history in
     let none = kept.1 in
     omega (arith, share, low, high, none)
 no_worse network known history mine (Some solution) kept =
-    let share = ap (λ (tally : Tally). tally.2) mine in
+    let share = ap (λ (tally : Tally). tally.solved) mine in
     let low = best-le-tally network history known.standing.number in
     let is = kept.2 in
     (kept.1, omega (arith, share, low, is))

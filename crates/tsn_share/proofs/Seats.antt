@@ -2,6 +2,7 @@
 use Rattle.std.proofs.Common.{◌≡◌, ℕ, zero, suc, ◌+◌, ◌-◌, ◌<◌, ◌≤◌, cond, eqb, eq-eqb, ne_eqb, false, true, List, [], ◌∷◌, ◌++◌, length, refl, sym, ap, ◌∙◌, subst, arith, add-zero}
 use Rattle.std.specs.Prelude.{slice_index_or}
 use Rattle.std.proofs.lemmas.List.Sums.{sum_by-cons}
+use Rattle.tsn_model.specs.declared.Tally.{Tally}
 use Rattle.tsn_model.specs.Network.{Network}
 use Rattle.tsn_model.specs.Certificate.{beyond}
 use Rattle.tsn_model.specs.Search.{tally_of, settled_by, pruned_bounds, solved_bounds, least_or_none}
@@ -10,7 +11,7 @@ use Rattle.tsn_incumbent.specs.Standings.{Seated, fresh, fresh_from, times, alon
 use Rattle.tsn_incumbent.specs.declared.view.Standing.{Standing}
 use Rattle.atomic_table.specs.Seated.{TableId}
 use Rattle.tsn_incumbent.specs.Halves.{Half, half, halves_from}
-use Rattle.tsn_incumbent.specs.Halves.{Tally}
+use Rattle.tsn_model.specs.declared.Tally.{Tally}
 use Rattle.tsn_share.specs.Teller.{no_event}
 use Rattle.tsn_share.specs.Names.{Names}
 use Rattle.tsn_share.specs.Desk.{Halved, others_from}

@@ -11,7 +11,7 @@ use Rattle.tsn_model.specs.Core.{teller_at, effect_of, IsAboveSeen}
 use Rattle.tsn_model.proofs.Lists.{All-unmap}
 use Rattle.tsn_model.proofs.Schedules.{flowspan-le-cycle}
 use Rattle.tsn_search_laws.proofs.Kept.{least_attained}
-use Rattle.tsn_incumbent.specs.Halves.{Tally}
+use Rattle.tsn_model.specs.declared.Tally.{Tally}
 use Rattle.tsn_incumbent.specs.declared.view.Standing.{Standing}
 use Rattle.tsn_book.specs.Book.{IsLawful}
 use Rattle.tsn_book.specs.Below.{settlements_by}
@@ -42,7 +42,8 @@ observing network limit word tellers history old new among standing tally = (
 )
 
 -- the least flowspan that a teller solved is one that it solved, unless it is one more than the cycle
-solved_least : (network : Network) (k : ℕ) (history : List Settlement) → (tally_of network k history).2 ≤ network.cycle → Contains (solved_bounds (settled_by k history)) (tally_of network k history).2
+solved_least : (network : Network) (k : ℕ) (history : List Settlement) → (tally_of network k history).solved ≤ network.cycle
+    → Contains (solved_bounds (settled_by k history)) (tally_of network k history).solved
 unfolding tally_of least_or_none
 solved_least network k history low =
     elim (least_attained (network.cycle + 1) (solved_bounds (settled_by k history))) [
@@ -53,7 +54,7 @@ solved_least network k history low =
 pub posting : PostingIsAStep
 unfolding effect_of
 posting network limit word tellers history old new among mine schedule solved least standing tally =
-    let same : schedule.flowspan ≡ (tally_of network old.standing.number history).2 = least ∙ ap (λ (t : Tally). t.2) mine in
+    let same : schedule.flowspan ≡ (tally_of network old.standing.number history).solved = least ∙ ap (λ (t : Tally). t.solved) mine in
     let low = subst (λ n. n ≤ network.cycle) (solved.1 ∙ same) (flowspan-le-cycle network schedule.offsets solved.0) in (
       (within word tellers history old among, subst (Contains (solved_bounds (settled_by old.standing.number history))) (sym same) (solved_least network old.standing.number history low)),
       ap (λ ts. let after : core.State = record { word = min word schedule.flowspan; tellers = ts; history = history } in after)

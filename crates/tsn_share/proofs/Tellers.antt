@@ -8,7 +8,8 @@ use Rattle.tsn_model.specs.Search.{Outcome, split, solved, pruned, tied, refuted
 use Rattle.tsn_model.specs.Core.{IsAboveSeen}
 use Rattle.tsn_search_laws.specs.Gathering.{tally_with}
 use Rattle.tsn_incumbent.specs.Standings.{Seated, posted}
-use Rattle.tsn_incumbent.specs.Halves.{Half, Tally, half}
+use Rattle.tsn_model.specs.declared.Tally.{Tally}
+use Rattle.tsn_incumbent.specs.Halves.{Half, half}
 use Rattle.tsn_share.specs.Names.{Names}
 use Rattle.tsn_share.specs.Teller.{head_of, Keeps, IsSolvedBy, tally_with_all}
 
@@ -18,7 +19,8 @@ unfolding beyond
 beyond_seen network seen word bound low = omega (arith, low)
 
 -- one more event prunes by nothing but what is worse than what was seen, and lowers no more than what is solved
-low_after : (network : Network) (seen : ℕ) (tally : Tally) (outcome : Outcome) → beyond network seen ≤ tally.1 → IsAboveSeen network seen outcome → beyond network seen ≤ (tally_with tally outcome).1
+low_after : (network : Network) (seen : ℕ) (tally : Tally) (outcome : Outcome) → beyond network seen ≤ tally.pruned → IsAboveSeen network seen outcome
+    → beyond network seen ≤ (tally_with tally outcome).pruned
 unfolding tally_with
 low_after network seen tally (split triple) low above = low
 low_after network seen tally (solved offsets bound leaf chains) low above = low
@@ -26,7 +28,7 @@ low_after network seen tally (pruned bound leaf) low above = omega (arith, low, 
 low_after network seen tally (tied bound leaf chains) low above = low
 low_after network seen tally (refuted leaf) low above = low
 
-solved_after : (posted : ℕ) (tally : Tally) (outcome : Outcome) → tally.2 ≤ posted → (tally_with tally outcome).2 ≤ posted
+solved_after : (posted : ℕ) (tally : Tally) (outcome : Outcome) → tally.solved ≤ posted → (tally_with tally outcome).solved ≤ posted
 unfolding tally_with
 solved_after posted tally (split triple) high = high
 solved_after posted tally (solved offsets bound leaf chains) high = omega (arith, high)
@@ -35,12 +37,13 @@ solved_after posted tally (tied bound leaf chains) high = high
 solved_after posted tally (refuted leaf) high = high
 
 -- nor do several events
-low_after_all : (network : Network) (seen : ℕ) (tally : Tally) (outcomes : List Outcome) → beyond network seen ≤ tally.1 → All (IsAboveSeen network seen) outcomes → beyond network seen ≤ (tally_with_all tally outcomes).1
+low_after_all : (network : Network) (seen : ℕ) (tally : Tally) (outcomes : List Outcome) → beyond network seen ≤ tally.pruned
+    → All (IsAboveSeen network seen) outcomes → beyond network seen ≤ (tally_with_all tally outcomes).pruned
 low_after_all network seen tally [] low above = low
 low_after_all network seen tally (outcome ∷ outcomes) low above =
     low_after_all network seen (tally_with tally outcome) outcomes (low_after network seen tally outcome low (All-head (IsAboveSeen network seen) outcome outcomes above)) (All-tail (IsAboveSeen network seen) outcome outcomes above)
 
-solved_after_all : (posted : ℕ) (tally : Tally) (outcomes : List Outcome) → tally.2 ≤ posted → (tally_with_all tally outcomes).2 ≤ posted
+solved_after_all : (posted : ℕ) (tally : Tally) (outcomes : List Outcome) → tally.solved ≤ posted → (tally_with_all tally outcomes).solved ≤ posted
 solved_after_all posted tally [] high = high
 solved_after_all posted tally (outcome ∷ outcomes) high = solved_after_all posted (tally_with tally outcome) outcomes (solved_after posted tally outcome high)
 
@@ -85,7 +88,8 @@ above_solved network seen flowspan (pruned bound leaf) by = absurd by
 above_solved network seen flowspan (tied bound leaf chains) by = absurd by
 above_solved network seen flowspan (refuted leaf) by = absurd by
 
-pub least_after : (flowspan : ℕ) (tally : Tally) (outcome : Outcome) → IsSolvedBy flowspan outcome → flowspan ≤ tally.2 → flowspan ≡ (tally_with tally outcome).2
+pub least_after : (flowspan : ℕ) (tally : Tally) (outcome : Outcome) → IsSolvedBy flowspan outcome → flowspan ≤ tally.solved
+    → flowspan ≡ (tally_with tally outcome).solved
 unfolding tally_with
 least_after flowspan tally (split triple) by low = absurd by
 least_after flowspan tally (solved offsets bound leaf chains) by low = omega (arith, by, low)

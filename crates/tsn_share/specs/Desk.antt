@@ -33,7 +33,7 @@ pub record IsReading (names : Names) (known : Known) (counts : Counts) : Type 0 
   pub lawful : IsLawful (progress_of names history)
   pub mine : tally_of names.race.network known.standing.number history ≡ known.tally
   pub told : AreCounts history counts
-  pub at_least : known.tally.0 ≤ counts.count
+  pub at_least : known.tally.events ≤ counts.count
 
 -- the schedule is what is kept of the history, with its flowspan, or nothing is kept
 abbrev pub IsKeptOf : Network → List Settlement → Option Solution → Type 0
@@ -42,7 +42,7 @@ IsKeptOf network history best = MatchOption best ((kept_of network history ≡ N
 
 -- there is none where the teller solved nothing, and else its flowspan is at most the least that the teller solved
 abbrev pub IsNoWorse : Network → Known → Option Solution → Type 0
-IsNoWorse network known best = MatchOption best (known.tally.2 ≡ no_flowspan network) (λ solution. IsSolved network solution × (solution.flowspan ≤ known.tally.2))
+IsNoWorse network known best = MatchOption best (known.tally.solved ≡ no_flowspan network) (λ solution. IsSolved network solution × (solution.flowspan ≤ known.tally.solved))
 
 -- it is what is kept of a lawful history of this search in which the teller's tally is its share, so that it is no worse than what the teller solved
 pub record IsBest (names : Names) (known : Known) (best : Option Solution) : Type 0 where

@@ -26,7 +26,7 @@ standings_of tellers = map (λ known. known.standing) tellers
 -- the teller's share is its tally in the history, and it has pruned by nothing but what is worse than what it has seen
 pub record Agrees (network : Network) (history : List Settlement) (known : Known) : Type 0 where
   pub share : known.tally ≡ tally_of network known.standing.number history
-  pub pruned : beyond network known.standing.seen ≤ known.tally.1
+  pub pruned : beyond network known.standing.seen ≤ known.tally.pruned
 
 -- the word, what each teller has seen and posted, and the history
 abbrev pub state_of : ℕ → List Known → List Settlement → core.State

@@ -39,7 +39,7 @@ ObservingIsAStep = (network : Network) (limit word : ℕ) (tellers : List Known)
 abbrev pub PostingIsAStep : Type 0
 PostingIsAStep = (network : Network) (limit word : ℕ) (tellers : List Known) (history : List Settlement) (old new : Known) → IsAmong tellers old
     → old.tally ≡ tally_of network old.standing.number history
-    → (schedule : Solution) → IsSolved network schedule → schedule.flowspan ≡ old.tally.2
+    → (schedule : Solution) → IsSolved network schedule → schedule.flowspan ≡ old.tally.solved
     → new.standing ≡ put schedule.flowspan old.standing → new.tally ≡ old.tally
     → IsStep network limit (state_of word tellers history) (post old.standing.number schedule.flowspan)
     (state_of (min word schedule.flowspan) (slice_set tellers old.standing.number new) history)

@@ -7,11 +7,12 @@
 use Rattle.std.specs.Prelude.{◌≡◌, ℕ, zero, suc, ◌<◌, ◌≤◌, false, List, [], ◌∷◌, ◌++◌, All}
 use Rattle.tsn_model.specs.Network.{Network}
 use Rattle.tsn_model.specs.Certificate.{beyond}
-use Rattle.tsn_model.specs.Search.{Outcome, split, solved, pruned, tied, refuted}
+use Rattle.tsn_model.specs.Search.{Outcome, split, solved, pruned, tied, refuted, tally_as}
 use Rattle.tsn_search_laws.specs.Gathering.{tally_with}
 use Rattle.tsn_incumbent.specs.Flowspans.{no_flowspan}
 use Rattle.tsn_incumbent.specs.Standings.{Seated, fresh, fresh_from}
-use Rattle.tsn_incumbent.specs.Halves.{Tally, Half, half}
+use Rattle.tsn_model.specs.declared.Tally.{Tally}
+use Rattle.tsn_incumbent.specs.Halves.{Half, half}
 use Rattle.tsn_incumbent.specs.declared.view.Standing.{Standing}
 use Rattle.tsn_share.specs.Names.{Names}
 
@@ -34,12 +35,12 @@ pub record Keeps (names : Names) (number : ℕ) (seat : Seated) (share : Half) :
   pub shares : share ≡ half names.halves number false share.tally
   pub numbered : (head_of seat.standings).number ≡ number
   pub within : number < names.race.tellers
-  pub pruned : beyond names.race.network (head_of seat.standings).seen ≤ share.tally.1
-  pub solved : share.tally.2 ≤ (head_of seat.standings).posted
+  pub pruned : beyond names.race.network (head_of seat.standings).seen ≤ share.tally.pruned
+  pub solved : share.tally.solved ≤ (head_of seat.standings).posted
 
 -- it has posted the least flowspan that it solved
 abbrev pub IsEven : Known → Type 0
-IsEven known = known.tally.2 ≡ known.standing.posted
+IsEven known = known.tally.solved ≡ known.standing.posted
 
 -- the outcome is solved, with this flowspan
 abbrev pub IsSolvedBy : ℕ → Outcome → Type 0
@@ -78,7 +79,7 @@ pub record OnlyLastSolved (outcomes : List Outcome) : Type 0 where
 
 -- the tally of no event
 abbrev pub no_event : Network → Tally
-no_event network = (0, no_flowspan network, no_flowspan network)
+no_event network = tally_as 0 (no_flowspan network) (no_flowspan network)
 
 -- the seat of count numbers from first on, with nothing seen or posted
 abbrev pub rest_of : Names → ℕ → ℕ → Seated

@@ -13,7 +13,7 @@ ghost use Rattle.tsn_share.specs.Teller.{tally_with_all};
 use crate::names::Named;
 use std::alloc::Global;
 use std::marker::{Model, PhantomData};
-use tsn_book::{Book, BookFault, Looks};
+use tsn_book::{Book, Looks, WalkRefusal};
 use tsn_branch::{NoMemory, Node};
 use tsn_incumbent::{Half, Halves};
 use tsn_timing::Solved;
@@ -61,7 +61,7 @@ impl<K: Named> Desk<K> {
         share: &mut Half,
         from: &mut Node,
         looks: Looks,
-    ) -> Result<(), (usize, BookFault)>
+    ) -> Result<(), WalkRefusal>
         requires table { owner.halves.now ≡ K.names.halves }
         requires share { share.old ≡ half K.names.halves owner.teller false share.old.tally }
         requires within { owner.teller < K.names.race.tellers }
@@ -69,13 +69,13 @@ impl<K: Named> Desk<K> {
             (events_below from.old (map outcome_of looks)) }
         ensures all { OnOk result (share.new ≡ half K.names.halves owner.entry.teller false (tally_with_all share.old.tally (map outcome_of looks))) }
         ensures from { OnOk result (from.new ≡ path_after from.old (map outcome_of looks)) }
-        ensures some { IfErr result (λ refusal. (refusal.0 < length looks)
-            × (share.new ≡ half K.names.halves owner.entry.teller false (tally_with_all share.old.tally (take refusal.0 (map outcome_of looks))))
-            × (from.new ≡ path_after from.old (take refusal.0 (map outcome_of looks)))) }
+        ensures some { IfErr result (λ refusal. (refusal.settled < length looks)
+            × (share.new ≡ half K.names.halves owner.entry.teller false (tally_with_all share.old.tally (take refusal.settled (map outcome_of looks))))
+            × (from.new ≡ path_after from.old (take refusal.settled (map outcome_of looks)))) }
         ensures history { OnOk result (self.new.history ≡ self.old.history ++ settlements_by owner.entry.teller (events_below from.old (map outcome_of looks))) }
         ensures history_of_some { IfErr result (λ refusal. self.new.history
-            ≡ self.old.history ++ settlements_by owner.entry.teller (take refusal.0 (events_below from.old (map outcome_of looks)))) }
-        ensures fault { IfErr result (λ refusal. IsFaultAt K.names.race.network K.names.limit self.new.history (events_below from.old (map outcome_of looks)) refusal.0 refusal.1) }
+            ≡ self.old.history ++ settlements_by owner.entry.teller (take refusal.settled (events_below from.old (map outcome_of looks)))) }
+        ensures fault { IfErr result (λ refusal. IsFaultAt K.names.race.network K.names.limit self.new.history (events_below from.old (map outcome_of looks)) refusal.settled refusal.fault) }
         ensures agrees { tally_of K.names.race.network owner.entry.teller self.new.history ≡ share.new.tally }
         ensures book { IsBookOf K.names self.new }
         ensures lawful { IsLawful self.new }

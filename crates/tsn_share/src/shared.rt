@@ -19,7 +19,7 @@ use crate::teller::Teller;
 use std::hint::spin_loop;
 use std::marker::Model;
 use std::sync::{Mutex, MutexGuard, Wait};
-use tsn_book::{BookFault, Looks};
+use tsn_book::{Looks, WalkRefusal};
 use tsn_branch::{NoMemory, Node};
 use tsn_incumbent::{Halves, Incumbent};
 use tsn_timing::Solved;
@@ -64,7 +64,7 @@ pub fn observe_as<K: Named>(shared: &Shared<K>, teller: &mut Teller<K>) -> u64
 #[tactic(auto, using(crate::proofs::Tellers::beyond_seen))]
 pub fn post_as<K: Named>(shared: &Shared<K>, teller: &mut Teller<K>, solved: &Solved) -> u64
     requires solved { IsSolved K.names.race.network solved.now }
-    requires least { solved.now.flowspan ≡ teller.old.tally.2 }
+    requires least { solved.now.flowspan ≡ teller.old.tally.solved }
     ensures standing { teller.new.standing ≡ put solved.now.flowspan teller.old.standing }
     ensures tally { teller.new.tally ≡ teller.old.tally }
     ensures even { IsEven teller.new }
@@ -88,7 +88,7 @@ pub fn settle_below_as<K: Named>(
     teller: &mut Teller<K>,
     from: &mut Node,
     looks: Looks,
-) -> Result<(), (usize, BookFault)>
+) -> Result<(), WalkRefusal>
     requires count { (1 ≤ length looks) × (length looks ≤ 64) }
     requires proofs { All (λ event. HasProof K.names.race.network event.path event.outcome × SplitsUndecided K.names.race.network event.path event.outcome)
         (events_below from.old (map outcome_of looks)) }
@@ -96,10 +96,10 @@ pub fn settle_below_as<K: Named>(
     requires last_solved { OnlyLastSolved (map outcome_of looks) }
     ensures all { OnOk result (teller.new ≡ settled_all (map outcome_of looks) teller.old) }
     ensures from { OnOk result (from.new ≡ path_after from.old (map outcome_of looks)) }
-    ensures some { IfErr result (λ refusal. (refusal.0 < length looks)
-        × (teller.new ≡ settled_all (take refusal.0 (map outcome_of looks)) teller.old)
-        × (from.new ≡ path_after from.old (take refusal.0 (map outcome_of looks)))) }
-    ensures fault { IfErr result (λ refusal. IsRefusedAt K.names teller.new (events_below from.old (map outcome_of looks)) refusal.0 refusal.1) }
+    ensures some { IfErr result (λ refusal. (refusal.settled < length looks)
+        × (teller.new ≡ settled_all (take refusal.settled (map outcome_of looks)) teller.old)
+        × (from.new ≡ path_after from.old (take refusal.settled (map outcome_of looks)))) }
+    ensures fault { IfErr result (λ refusal. IsRefusedAt K.names teller.new (events_below from.old (map outcome_of looks)) refusal.settled refusal.fault) }
 {
     let mut desk = desk_of(rt, shared);
     settle_below_at(&mut desk, &shared.halves, teller, from, looks)
@@ -112,7 +112,7 @@ fn settle_below_at<K: Named>(
     teller: &mut Teller<K>,
     from: &mut Node,
     looks: Looks,
-) -> Result<(), (usize, BookFault)>
+) -> Result<(), WalkRefusal>
     requires table { halves.now ≡ K.names.halves }
     requires proofs { All (λ event. HasProof K.names.race.network event.path event.outcome × SplitsUndecided K.names.race.network event.path event.outcome)
         (events_below from.old (map outcome_of looks)) }
@@ -120,17 +120,17 @@ fn settle_below_at<K: Named>(
     ensures all { OnOk result (teller.new ≡ settled_all (map outcome_of looks) teller.old) }
     ensures from { OnOk result (from.new ≡ path_after from.old (map outcome_of looks)) }
     ensures history { OnOk result (desk.new.history ≡ desk.old.history ++ settlements_by teller.old.standing.number (events_below from.old (map outcome_of looks))) }
-    ensures some { IfErr result (λ refusal. (refusal.0 < length looks)
-        × (teller.new ≡ settled_all (take refusal.0 (map outcome_of looks)) teller.old)
-        × (from.new ≡ path_after from.old (take refusal.0 (map outcome_of looks)))) }
+    ensures some { IfErr result (λ refusal. (refusal.settled < length looks)
+        × (teller.new ≡ settled_all (take refusal.settled (map outcome_of looks)) teller.old)
+        × (from.new ≡ path_after from.old (take refusal.settled (map outcome_of looks)))) }
     ensures history_of_some { IfErr result (λ refusal. desk.new.history
-        ≡ desk.old.history ++ settlements_by teller.old.standing.number (take refusal.0 (events_below from.old (map outcome_of looks)))) }
+        ≡ desk.old.history ++ settlements_by teller.old.standing.number (take refusal.settled (events_below from.old (map outcome_of looks)))) }
     ensures steps { OnOk result (TakesSettles K.names teller.old teller.new desk.old.history (events_below from.old (map outcome_of looks)) desk.new.history) }
     ensures steps_of_some { IfErr result (λ refusal.
-        TakesSettles K.names teller.old teller.new desk.old.history (take refusal.0 (events_below from.old (map outcome_of looks))) desk.new.history) }
+        TakesSettles K.names teller.old teller.new desk.old.history (take refusal.settled (events_below from.old (map outcome_of looks))) desk.new.history) }
     ensures book { IsBookOf K.names desk.new }
     ensures lawful { IsLawful desk.new }
-    ensures fault { IfErr result (λ refusal. IsRefusedAt K.names teller.new (events_below from.old (map outcome_of looks)) refusal.0 refusal.1) }
+    ensures fault { IfErr result (λ refusal. IsRefusedAt K.names teller.new (events_below from.old (map outcome_of looks)) refusal.settled refusal.fault) }
 {
     let owner = Owner {
         halves,

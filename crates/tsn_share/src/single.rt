@@ -23,7 +23,7 @@ use crate::shared::{Shared, post_as};
 use crate::teller::Teller;
 use std::alloc::Global;
 use std::sync::Wait;
-use tsn_book::{BookFault, Event};
+use tsn_book::{BatchRefusal, Event, EventRefusal};
 use tsn_branch::NoMemory;
 use tsn_incumbent::{Half, Halves};
 use tsn_timing::Solved;
@@ -38,13 +38,13 @@ pub fn settle_as<K: Named>(
     shared: &Shared<K>,
     teller: &mut Teller<K>,
     event: Event,
-) -> Result<(), (BookFault, Event)>
+) -> Result<(), EventRefusal>
     requires proof { HasProof K.names.race.network event.node (outcome_of event.look) }
     requires seen { IsAboveSeen K.names.race.network teller.old.standing.seen (outcome_of event.look) }
     ensures settled { OnOk result (teller.new ≡ settled (outcome_of event.look) teller.old) }
     ensures refused { OnErr result (teller.new ≡ teller.old) }
-    ensures returned { IfErr result (λ refusal. refusal.1 ≡ event) }
-    ensures fault { IfErr result (λ refusal. IsRefused K.names teller.new (event_of event) refusal.0) }
+    ensures returned { IfErr result (λ refusal. refusal.event ≡ event) }
+    ensures fault { IfErr result (λ refusal. IsRefused K.names teller.new (event_of event) refusal.fault) }
 {
     let mut desk = shared.desk.lock(rt);
     settle_at(&mut desk, &shared.halves, teller, event)
@@ -56,7 +56,7 @@ fn settle_at<K: Named>(
     halves: &Halves,
     teller: &mut Teller<K>,
     event: Event,
-) -> Result<(), (BookFault, Event)>
+) -> Result<(), EventRefusal>
     requires table { halves.now ≡ K.names.halves }
     requires proof { HasProof K.names.race.network event.node (outcome_of event.look) }
     requires seen { IsAboveSeen K.names.race.network teller.old.standing.seen (outcome_of event.look) }
@@ -65,8 +65,8 @@ fn settle_at<K: Named>(
     ensures book { IsBookOf K.names desk.new }
     ensures lawful { IsLawful desk.new }
     ensures refused { OnErr result (teller.new ≡ teller.old) }
-    ensures returned { IfErr result (λ refusal. refusal.1 ≡ event) }
-    ensures fault { IfErr result (λ refusal. IsRefused K.names teller.new (event_of event) refusal.0) }
+    ensures returned { IfErr result (λ refusal. refusal.event ≡ event) }
+    ensures fault { IfErr result (λ refusal. IsRefused K.names teller.new (event_of event) refusal.fault) }
 {
     let owner = Owner {
         halves,
@@ -85,16 +85,16 @@ pub fn settle_all_as<K: Named>(
     shared: &Shared<K>,
     teller: &mut Teller<K>,
     events: Vec<Event>,
-) -> Result<(), (usize, BookFault, Vec<Event>)>
+) -> Result<(), BatchRefusal>
     requires count { (1 ≤ length events.items) × (length events.items ≤ 64) }
     requires proofs { All (λ event. HasProof K.names.race.network event.node (outcome_of event.look)) events.items }
     requires seen { All (λ event. IsAboveSeen K.names.race.network teller.old.standing.seen (outcome_of event.look)) events.items }
     requires last_solved { OnlyLastSolved (map (λ event. outcome_of event.look) events.items) }
     ensures all { OnOk result (teller.new ≡ settled_all (map (λ event. outcome_of event.look) events.items) teller.old) }
-    ensures some { IfErr result (λ refusal. (refusal.0 < length events.items)
-        × (teller.new ≡ settled_all (take refusal.0 (map (λ event. outcome_of event.look) events.items)) teller.old)
-        × (refusal.2.items ≡ drop refusal.0 events.items)) }
-    ensures fault { IfErr result (λ refusal. IsRefusedAt K.names teller.new (map event_of events.items) refusal.0 refusal.1) }
+    ensures some { IfErr result (λ refusal. (refusal.settled < length events.items)
+        × (teller.new ≡ settled_all (take refusal.settled (map (λ event. outcome_of event.look) events.items)) teller.old)
+        × (refusal.rest.items ≡ drop refusal.settled events.items)) }
+    ensures fault { IfErr result (λ refusal. IsRefusedAt K.names teller.new (map event_of events.items) refusal.settled refusal.fault) }
 {
     let owner = Owner {
         halves: &shared.halves,
@@ -115,18 +115,18 @@ pub fn settle_and_post<K: Named>(
     teller: &mut Teller<K>,
     event: Event,
     solved: &Solved,
-) -> Result<u64, (BookFault, Event)>
+) -> Result<u64, EventRefusal>
     requires proof { HasProof K.names.race.network event.node (outcome_of event.look) }
     requires solved { IsSolved K.names.race.network solved.now }
     requires schedule { IsSolvedBy solved.now.flowspan (outcome_of event.look) }
-    requires lower { solved.now.flowspan ≤ teller.old.tally.2 }
+    requires lower { solved.now.flowspan ≤ teller.old.tally.solved }
     ensures settled { OnOk result (teller.new.tally ≡ tally_with teller.old.tally (outcome_of event.look)) }
     ensures posted { OnOk result (teller.new.standing ≡ put solved.now.flowspan teller.old.standing) }
     ensures even { OnOk result (IsEven teller.new) }
     ensures incumbent { IfOk result (IsIncumbent K.names.race.network) }
     ensures at_most { IfOk result (λ word. (word ≤ teller.old.standing.seen) × (word ≤ teller.old.standing.posted)) }
     ensures refused { OnErr result (teller.new ≡ teller.old) }
-    ensures returned { IfErr result (λ refusal. refusal.1 ≡ event) }
+    ensures returned { IfErr result (λ refusal. refusal.event ≡ event) }
 {
     settle_as(rt, shared, teller, event)?;
     Ok(post_as(shared, teller, solved))
@@ -158,7 +158,7 @@ impl<K: Named> Desk<K> {
         owner: Owner<'_>,
         share: &mut Half,
         event: Event,
-    ) -> Result<(), (BookFault, Event)>
+    ) -> Result<(), EventRefusal>
         requires table { owner.halves.now ≡ K.names.halves }
         requires share { share.old ≡ half K.names.halves owner.teller false share.old.tally }
         requires within { owner.teller < K.names.race.tellers }
@@ -166,8 +166,8 @@ impl<K: Named> Desk<K> {
         ensures history { OnOk result (self.new.history ≡ self.old.history ++ record { teller = owner.entry.teller; event = event_of event } ∷ []) }
         ensures share { OnOk result (share.new ≡ half K.names.halves owner.entry.teller false (tally_with share.old.tally (outcome_of event.look))) }
         ensures refused { OnErr result ((self.new ≡ self.old) × (share.new ≡ share.old)) }
-        ensures returned { IfErr result (λ refusal. refusal.1 ≡ event) }
-        ensures fault { IfErr result (λ refusal. IsFault K.names.race.network K.names.limit self.new.history (event_of event) refusal.0) }
+        ensures returned { IfErr result (λ refusal. refusal.event ≡ event) }
+        ensures fault { IfErr result (λ refusal. IsFault K.names.race.network K.names.limit self.new.history (event_of event) refusal.fault) }
         ensures agrees { tally_of K.names.race.network owner.entry.teller self.new.history ≡ share.new.tally }
         ensures book { IsBookOf K.names self.new }
         ensures lawful { IsLawful self.new }
@@ -185,19 +185,19 @@ impl<K: Named> Desk<K> {
         owner: Owner<'_>,
         share: &mut Half,
         events: Vec<Event>,
-    ) -> Result<(), (usize, BookFault, Vec<Event>)>
+    ) -> Result<(), BatchRefusal>
         requires table { owner.halves.now ≡ K.names.halves }
         requires share { share.old ≡ half K.names.halves owner.teller false share.old.tally }
         requires within { owner.teller < K.names.race.tellers }
         requires proofs { All (λ event. HasProof K.names.race.network event.node (outcome_of event.look)) events.items }
         ensures all { OnOk result (share.new ≡ half K.names.halves owner.entry.teller false (tally_with_all share.old.tally (map (λ event. outcome_of event.look) events.items))) }
-        ensures some { IfErr result (λ refusal. (refusal.0 < length events.items)
-            × (share.new ≡ half K.names.halves owner.entry.teller false (tally_with_all share.old.tally (take refusal.0 (map (λ event. outcome_of event.look) events.items))))
-            × (refusal.2.items ≡ drop refusal.0 events.items)) }
+        ensures some { IfErr result (λ refusal. (refusal.settled < length events.items)
+            × (share.new ≡ half K.names.halves owner.entry.teller false (tally_with_all share.old.tally (take refusal.settled (map (λ event. outcome_of event.look) events.items))))
+            × (refusal.rest.items ≡ drop refusal.settled events.items)) }
         ensures history { OnOk result (self.new.history ≡ self.old.history ++ settlements_by owner.entry.teller (map event_of events.items)) }
         ensures history_of_some { IfErr result (λ refusal. self.new.history
-            ≡ self.old.history ++ settlements_by owner.entry.teller (map event_of (take refusal.0 events.items))) }
-        ensures fault { IfErr result (λ refusal. IsFaultAt K.names.race.network K.names.limit self.new.history (map event_of events.items) refusal.0 refusal.1) }
+            ≡ self.old.history ++ settlements_by owner.entry.teller (map event_of (take refusal.settled events.items))) }
+        ensures fault { IfErr result (λ refusal. IsFaultAt K.names.race.network K.names.limit self.new.history (map event_of events.items) refusal.settled refusal.fault) }
         ensures agrees { tally_of K.names.race.network owner.entry.teller self.new.history ≡ share.new.tally }
         ensures book { IsBookOf K.names self.new }
         ensures lawful { IsLawful self.new }

@@ -11,7 +11,7 @@ use Rattle.tsn_model.specs.Search.{Event, Outcome, split, solved, pruned, tied, 
 use Rattle.tsn_model.specs.Core.{IsAboveSeen}
 use Rattle.tsn_timing.specs.Solution.{Solution}
 use Rattle.tsn_search_laws.specs.Gathering.{tally_with}
-use Rattle.tsn_incumbent.specs.Halves.{Tally}
+use Rattle.tsn_model.specs.declared.Tally.{Tally}
 use Rattle.tsn_branch.specs.Look.{IsLook}
 use Rattle.tsn_branch.specs.Look.{HasProof, SplitsUndecided}
 use Rattle.tsn_branch.specs.Outcome.{outcome_of}
@@ -32,7 +32,7 @@ solved_below network path target flowspan best (tied bound leaf chains) found by
 solved_below network path target flowspan best (refuted leaf) found by = absurd by
 
 -- below the least that its teller solved a solved leaf becomes that
-pub solved_least : (target flowspan : ℕ) (tally : Tally) (outcome : Outcome) → IsSolvedBy flowspan outcome → flowspan < target → target ≤ tally.2 → flowspan ≡ (tally_with tally outcome).2
+pub solved_least : (target flowspan : ℕ) (tally : Tally) (outcome : Outcome) → IsSolvedBy flowspan outcome → flowspan < target → target ≤ tally.solved → flowspan ≡ (tally_with tally outcome).solved
 unfolding tally_with
 solved_least target flowspan tally (split triple) by below low = absurd by
 solved_least target flowspan tally (solved offsets bound leaf chains) by below low = omega (arith, by, below, low)
@@ -48,7 +48,7 @@ tied_above network seen (pruned bound leaf) is = absurd is
 tied_above network seen (tied bound leaf chains) is = tt
 tied_above network seen (refuted leaf) is = absurd is
 
-pub tied_least : (tally : Tally) (outcome : Outcome) → IsTied outcome → (tally_with tally outcome).2 ≡ tally.2
+pub tied_least : (tally : Tally) (outcome : Outcome) → IsTied outcome → (tally_with tally outcome).solved ≡ tally.solved
 unfolding tally_with
 tied_least tally (split triple) is = absurd is
 tied_least tally (solved offsets bound leaf chains) is = absurd is
@@ -70,7 +70,7 @@ pub all_of_two : {X : Type 0} (P : X → Type 0) (x y : X) → P x → P y → A
 all_of_two P x y first second = All-cons P x (y ∷ []) first (all_of_one P y second)
 
 -- a leaf that is solved after a split is the least
-pub solved_next : (target flowspan : ℕ) (tally : Tally) (triple : Triple) (outcome : Outcome) → IsSolvedBy flowspan outcome → flowspan < target → target ≤ tally.2 → flowspan ≡ (tally_with (tally_with tally (split triple)) outcome).2
+pub solved_next : (target flowspan : ℕ) (tally : Tally) (triple : Triple) (outcome : Outcome) → IsSolvedBy flowspan outcome → flowspan < target → target ≤ tally.solved → flowspan ≡ (tally_with (tally_with tally (split triple)) outcome).solved
 unfolding tally_with
 solved_next target flowspan tally triple outcome by below low = solved_least target flowspan (tally_with tally (split triple)) outcome by below low
 
@@ -112,9 +112,9 @@ module _ (network : Network) (path : List Decision) (flowspan : ℕ) (looks : Li
   pub walk_last : OnlyLastSolved (map outcome_of looks)
   walk_last = subst (λ given. OnlyLastSolved (map outcome_of given)) (sym walk.is) (last_of_two walk.triple (split walk.triple) (outcome_of walk.last) refl)
 
-  pub walk_least : (target : ℕ) (tally : Tally) → flowspan < target → target ≤ tally.2 → flowspan ≡ (tally_with_all tally (map outcome_of looks)).2
+  pub walk_least : (target : ℕ) (tally : Tally) → flowspan < target → target ≤ tally.solved → flowspan ≡ (tally_with_all tally (map outcome_of looks)).solved
   walk_least target tally below low =
-      solved_next target flowspan tally walk.triple (outcome_of walk.last) walk.by below low ∙ ap (λ (given : List Look). (tally_with_all tally (map outcome_of given)).2) (sym walk.is)
+      solved_next target flowspan tally walk.triple (outcome_of walk.last) walk.by below low ∙ ap (λ (given : List Look). (tally_with_all tally (map outcome_of given)).solved) (sym walk.is)
 
 -- one teller, or two, taken out of a list of them
 pub one_popped : (xs : List Known) (x a : Known) → xs ++ x ∷ [] ≡ a ∷ [] → x ≡ a

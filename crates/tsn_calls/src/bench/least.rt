@@ -4,7 +4,7 @@ use std::alloc::{AllocError, Global};
 use std::io;
 use std::rt::Clock;
 use std::time::Instant;
-use tsn_diff::{Net, Outcome};
+use tsn_diff::{Feasibility, Net};
 use tsn_model::Arc;
 
 /// How long a frame of 64 octets occupies a link of 1000 Mb/s, in nanoseconds.
@@ -27,7 +27,7 @@ pub fn measure<R: Clock + Print + Eprint + AllocGlobal>(
     let begin = Instant::now(rt)?;
     let mut latest = 0;
     for _ in 0..calls {
-        if let Ok(Outcome::Least(least)) = net.least(rt.alloc(), &arcs) {
+        if let Ok(Feasibility::Least(least)) = net.least(rt.alloc(), &arcs) {
             latest = *least.offsets().last().unwrap_or(&0);
         }
     }

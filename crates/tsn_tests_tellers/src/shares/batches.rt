@@ -22,14 +22,11 @@ use std::marker::Brand;
 use std::process::Abort;
 use std::sync::Wait;
 use std::test::*;
-use tsn_book::{BookFault, Event, Looks};
+use tsn_book::{BatchRefusal, Event, Looks};
 use tsn_branch::outcome::Look;
 use tsn_branch::{Node, Side, Triple};
 use tsn_share::{Named, Parts, Shared, Teller, post_as, settle_all_as, settle_below_as};
 use tsn_timing::{Solved, Timing};
-
-/// How many events were settled, why the next one was not, and that one with all behind it.
-type Refusal = (usize, BookFault, Vec<Event>);
 
 /// Two events.
 fn two<R: Abort + AllocGlobal>(rt: &R, first: Event, second: Event) -> Vec<Event>
@@ -56,7 +53,7 @@ fn split_and<K: Named, R: Wait + Abort + AllocGlobal>(
     shared: &Shared<K>,
     teller: &mut Teller<K>,
     next: Event,
-) -> Result<(), Refusal>
+) -> Result<(), BatchRefusal>
     requires proof { HasProof K.names.race.network next.node (outcome_of next.look) }
     requires above { IsAboveSeen K.names.race.network teller.old.standing.seen (outcome_of next.look) }
     ensures standing { teller.new.standing ≡ teller.old.standing }
@@ -67,10 +64,9 @@ fn split_and<K: Named, R: Wait + Abort + AllocGlobal>(
 }
 
 /// One event is settled, and one is left for that reason.
-fn expect_one_left<R: Abort + AllocGlobal>(rt: &R, refusal: &Refusal, reason: &str) {
-    let (settled, fault, rest) = refusal;
-    expect_fault(rt, *fault, reason);
-    assert_eq!(rt; (*settled, rest.len()), (1, 1));
+fn expect_one_left<R: Abort + AllocGlobal>(rt: &R, refusal: &BatchRefusal, reason: &str) {
+    expect_fault(rt, refusal.fault, reason);
+    assert_eq!(rt; (refusal.settled, refusal.rest.len()), (1, 1));
 }
 
 #[test]
@@ -98,16 +94,16 @@ fn split_both<K: Named, R: Wait + Abort + AllocGlobal>(
     rt: &R,
     shared: &Shared<K>,
     teller: &mut Teller<K>,
-) -> Result<(), Refusal> {
+) -> Result<(), BatchRefusal> {
     split_and(rt, shared, teller, root_split(rt.alloc()))
 }
 
-fn expect_split_left<R: Abort + AllocGlobal>(rt: &R, answer: Result<(), Refusal>) {
+fn expect_split_left<R: Abort + AllocGlobal>(rt: &R, answer: Result<(), BatchRefusal>) {
     match answer {
         Ok(()) => panic!(rt; "settled twice"),
         Err(refusal) => {
             expect_one_left(rt, &refusal, "NotOpen(Some(0))");
-            assert!(rt; refusal.2.iter().all(|event| splits_root(event)));
+            assert!(rt; refusal.rest.iter().all(|event| splits_root(event)));
             drop(refusal);
         }
     }
@@ -131,9 +127,9 @@ fn split_and_solved<K: Named, R: Wait + Abort + AllocGlobal>(
     timing: &Timing,
     shared: &Shared<K>,
     teller: &mut Teller<K>,
-) -> Result<(), Refusal>
+) -> Result<(), BatchRefusal>
     requires network { timing.now ≡ K.names.race.network }
-    requires fresh { teller.old.tally.2 ≡ K.names.race.network.cycle + 1 }
+    requires fresh { teller.old.tally.solved ≡ K.names.race.network.cycle + 1 }
 {
     let target = first_target(rt, timing, shared, teller);
     let (event, schedule) = solved_at(rt, timing, Side::Left, target);
@@ -141,14 +137,14 @@ fn split_and_solved<K: Named, R: Wait + Abort + AllocGlobal>(
     split_and(rt, shared, teller, event)
 }
 
-fn expect_solved_left<R: Abort + AllocGlobal>(rt: &R, answer: Result<(), Refusal>) {
+fn expect_solved_left<R: Abort + AllocGlobal>(rt: &R, answer: Result<(), BatchRefusal>) {
     match answer {
         Ok(()) => panic!(rt; "settled past the limit"),
         Err(refusal) => {
             expect_one_left(rt, &refusal, "Limit(1)");
             assert!(rt;
                 refusal
-                    .2
+                    .rest
                     .iter()
                     .all(|event| matches!(event.look, Look::Solved { .. }))
             );
@@ -170,7 +166,7 @@ pub fn settle_by_batches<K: Named, R: Wait + Abort + AllocGlobal>(
     teller: &mut Teller<K>,
 )
     requires network { timing.now ≡ K.names.race.network }
-    requires fresh { teller.old.tally.2 ≡ K.names.race.network.cycle + 1 }
+    requires fresh { teller.old.tally.solved ≡ K.names.race.network.cycle + 1 }
     ensures number { teller.new.standing.number ≡ teller.old.standing.number }
     ensures even { IsEven teller.new }
 {
@@ -187,7 +183,7 @@ fn split_and_solve<K: Named, R: Wait + Abort + AllocGlobal>(
     teller: &mut Teller<K>,
 )
     requires network { timing.now ≡ K.names.race.network }
-    requires fresh { teller.old.tally.2 ≡ K.names.race.network.cycle + 1 }
+    requires fresh { teller.old.tally.solved ≡ K.names.race.network.cycle + 1 }
     ensures number { teller.new.standing.number ≡ teller.old.standing.number }
     ensures even { IsEven teller.new }
 {
@@ -241,7 +237,7 @@ pub fn settle_by_walks<K: Named, R: Wait + Abort + AllocGlobal>(
     teller: &mut Teller<K>,
 )
     requires network { timing.now ≡ K.names.race.network }
-    requires fresh { teller.old.tally.2 ≡ K.names.race.network.cycle + 1 }
+    requires fresh { teller.old.tally.solved ≡ K.names.race.network.cycle + 1 }
     ensures number { teller.new.standing.number ≡ teller.old.standing.number }
     ensures even { IsEven teller.new }
 {
@@ -345,7 +341,7 @@ fn walk_left<K: Named, R: Wait + Abort + AllocGlobal>(
     from: &mut Node,
 )
     requires network { timing.now ≡ K.names.race.network }
-    requires fresh { teller.old.tally.2 ≡ K.names.race.network.cycle + 1 }
+    requires fresh { teller.old.tally.solved ≡ K.names.race.network.cycle + 1 }
     ensures number { teller.new.standing.number ≡ teller.old.standing.number }
     ensures even { IsEven teller.new }
 {

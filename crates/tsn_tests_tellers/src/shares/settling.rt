@@ -32,7 +32,7 @@ fn settle_all<K: Named, R: Wait + Abort + AllocGlobal>(
     settling: Settling,
 )
     requires network { timing.now ≡ K.names.race.network }
-    requires fresh { teller.old.tally.2 ≡ K.names.race.network.cycle + 1 }
+    requires fresh { teller.old.tally.solved ≡ K.names.race.network.cycle + 1 }
     ensures number { teller.new.standing.number ≡ teller.old.standing.number }
     ensures even { IsEven teller.new }
 {

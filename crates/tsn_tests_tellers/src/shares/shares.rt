@@ -14,7 +14,7 @@ use std::marker::Brand;
 use std::process::Abort;
 use std::sync::Wait;
 use std::test::*;
-use tsn_book::{Book, BookFault, Event};
+use tsn_book::{Book, Event, EventRefusal};
 use tsn_branch::{Node, Side};
 use tsn_share::{
     Counts, Named, Parts, Shared, Teller, gather, post_as, settle_and_post, settle_as, with_book,
@@ -27,9 +27,9 @@ fn split_root<K: Named, R: Wait + AllocGlobal>(
     rt: &R,
     shared: &Shared<K>,
     teller: &mut Teller<K>,
-) -> Result<(), (BookFault, Event)>
+) -> Result<(), EventRefusal>
     ensures standing { teller.new.standing ≡ teller.old.standing }
-    ensures solved { teller.new.tally.2 ≡ teller.old.tally.2 }
+    ensures solved { teller.new.tally.solved ≡ teller.old.tally.solved }
 {
     settle_as(rt, shared, teller, root_split(rt.alloc()))
 }
@@ -41,7 +41,7 @@ fn split_first<K: Named, R: Wait + Abort + AllocGlobal>(
     teller: &mut Teller<K>,
 )
     ensures standing { teller.new.standing ≡ teller.old.standing }
-    ensures solved { teller.new.tally.2 ≡ teller.old.tally.2 }
+    ensures solved { teller.new.tally.solved ≡ teller.old.tally.solved }
 {
     match split_root(rt, shared, teller) {
         Ok(()) => (),
@@ -70,9 +70,9 @@ fn settle_solved<K: Named, R: Wait + Abort + AllocGlobal>(
     attempt: Attempt,
 ) -> Solved
     requires network { timing.now ≡ K.names.race.network }
-    requires target { attempt.target ≤ teller.old.tally.2 }
+    requires target { attempt.target ≤ teller.old.tally.solved }
     ensures solved { IsSolved timing.now result }
-    ensures least { result.flowspan ≡ teller.new.tally.2 }
+    ensures least { result.flowspan ≡ teller.new.tally.solved }
     ensures standing { teller.new.standing ≡ teller.old.standing }
 {
     let (event, schedule) = solved_at(rt, timing, attempt.side, attempt.target);
@@ -93,7 +93,7 @@ fn solve_left<K: Named, R: Wait + Abort + AllocGlobal>(
     teller: &mut Teller<K>,
 )
     requires network { timing.now ≡ K.names.race.network }
-    requires fresh { teller.old.tally.2 ≡ K.names.race.network.cycle + 1 }
+    requires fresh { teller.old.tally.solved ≡ K.names.race.network.cycle + 1 }
     ensures number { teller.new.standing.number ≡ teller.old.standing.number }
     ensures even { IsEven teller.new }
 {
@@ -141,7 +141,7 @@ pub fn settle_in_turn<K: Named, R: Wait + Abort + AllocGlobal>(
     teller: &mut Teller<K>,
 )
     requires network { timing.now ≡ K.names.race.network }
-    requires fresh { teller.old.tally.2 ≡ K.names.race.network.cycle + 1 }
+    requires fresh { teller.old.tally.solved ≡ K.names.race.network.cycle + 1 }
     ensures number { teller.new.standing.number ≡ teller.old.standing.number }
     ensures even { IsEven teller.new }
 {
@@ -225,7 +225,7 @@ pub fn split_and_count<K: Named, R: Wait + Abort + AllocGlobal>(
     teller: &mut Teller<K>,
 )
     ensures standing { teller.new.standing ≡ teller.old.standing }
-    ensures solved { teller.new.tally.2 ≡ teller.old.tally.2 }
+    ensures solved { teller.new.tally.solved ≡ teller.old.tally.solved }
 {
     split_first(rt, shared, teller);
     expect_first_counts(rt, &counts_of(rt, shared, teller));
@@ -240,7 +240,7 @@ fn post<K: Named>(
     word: u64,
 )
     requires solved { IsSolved K.names.race.network schedule.now }
-    requires least { schedule.now.flowspan ≡ teller.old.tally.2 }
+    requires least { schedule.now.flowspan ≡ teller.old.tally.solved }
     ensures number { teller.new.standing.number ≡ teller.old.standing.number }
     ensures even { IsEven teller.new }
 {
@@ -257,8 +257,8 @@ pub fn settle_by_two<K: Named, R: Wait + Abort + AllocGlobal>(
     one: &mut Teller<K>,
 )
     requires network { timing.now ≡ K.names.race.network }
-    requires fresh_zero { zero.old.tally.2 ≡ K.names.race.network.cycle + 1 }
-    requires fresh_one { one.old.tally.2 ≡ K.names.race.network.cycle + 1 }
+    requires fresh_zero { zero.old.tally.solved ≡ K.names.race.network.cycle + 1 }
+    requires fresh_one { one.old.tally.solved ≡ K.names.race.network.cycle + 1 }
     ensures zero { (zero.new.standing.number ≡ zero.old.standing.number) × IsEven zero.new }
     ensures one { (one.new.standing.number ≡ one.old.standing.number) × IsEven one.new }
 {
@@ -316,7 +316,7 @@ fn twice<K: Named, R: Wait + Abort + AllocGlobal>(rt: &R, parts: Parts)
     drop(shared);
 }
 
-fn expect_refusal<R: Abort + AllocGlobal>(rt: &R, answer: Result<(), (BookFault, Event)>) {
+fn expect_refusal<R: Abort + AllocGlobal>(rt: &R, answer: Result<(), EventRefusal>) {
     match answer {
         Ok(()) => panic!(rt; "settled twice"),
         Err(refusal) => {
@@ -326,7 +326,7 @@ fn expect_refusal<R: Abort + AllocGlobal>(rt: &R, answer: Result<(), (BookFault,
     }
 }
 
-fn expect_split_refused<R: Abort + AllocGlobal>(rt: &R, refusal: &(BookFault, Event)) {
-    expect_fault(rt, refusal.0, "NotOpen(Some(0))");
-    assert!(rt; splits_root(&refusal.1));
+fn expect_split_refused<R: Abort + AllocGlobal>(rt: &R, refusal: &EventRefusal) {
+    expect_fault(rt, refusal.fault, "NotOpen(Some(0))");
+    assert!(rt; splits_root(&refusal.event));
 }

@@ -130,10 +130,10 @@ pub fn first_target<K: Named>(
     teller: &mut Teller<K>,
 ) -> u64
     requires network { timing.now ≡ K.names.race.network }
-    requires fresh { teller.old.tally.2 ≡ K.names.race.network.cycle + 1 }
+    requires fresh { teller.old.tally.solved ≡ K.names.race.network.cycle + 1 }
     ensures number { teller.new.standing.number ≡ teller.old.standing.number }
     ensures tally { teller.new.tally ≡ teller.old.tally }
-    ensures target { result ≤ teller.new.tally.2 }
+    ensures target { result ≤ teller.new.tally.solved }
 {
     let seen = observe_as(shared, teller);
     expect_word(rt, seen, 1_000_001);

@@ -1,9 +1,9 @@
-use Rattle.std.proofs.Common.{ℕ, ◌≡◌, ◌<◌, ◌++◌, length, map, take, subst, ap, sym, ◌∙◌, rules}
+use Rattle.std.proofs.Common.{◌≡◌, ◌<◌, ◌++◌, length, map, take, subst, ap, sym, ◌∙◌, rules}
 use Rattle.std.specs.Prelude.{All, OnOk, IfErr}
 use Rattle.tsn_model.specs.Search.{tally_of}
 use Rattle.tsn_model.specs.Core.{IsAboveSeen}
 use Rattle.tsn_branch.specs.Outcome.{outcome_of}
-use Rattle.tsn_book.specs.declared.fault.BookFault.{BookFault}
+use Rattle.tsn_book.specs.declared.refusal.WalkRefusal.{WalkRefusal}
 use Rattle.tsn_book.specs.Below.{path_after, events_below, settlements_by}
 use Rattle.tsn_share.specs.Teller.{Known, head_of, settled_all}
 use Rattle.tsn_share.proofs.Batching.{outcomes_below}
@@ -18,7 +18,7 @@ invariant_of-teller g c =
     let outcomes = map outcome_of c.args.looks in
     let above = subst (λ (t : Known). All (IsAboveSeen names.race.network t.standing.seen) outcomes) (sym c.teller.view_is) c.requires.seen in
     keeps_taken names c.teller.inside.number c.teller.inside.seat c.teller.inside.share c.settle_below.new.share c.teller.invariant
-    c.settle_below.result (λ r. r.0) (λ r. r.0 < length c.args.looks) (λ r. c.settle_below.new.from ≡ path_after c.args.from.now (take r.0 outcomes)) outcomes
+    c.settle_below.result (λ (r : WalkRefusal). r.settled) (λ (r : WalkRefusal). r.settled < length c.args.looks) (λ (r : WalkRefusal). c.settle_below.new.from ≡ path_after c.args.from.now (take r.settled outcomes)) outcomes
     above c.settle_below.ensures.all c.settle_below.ensures.some
 
 pub returns-clause-fault : goal.returns-clause-fault
@@ -27,7 +27,7 @@ returns-clause-fault g c =
     let inside = c.teller.inside in
     let mine = ap (λ n. tally_of names.race.network n c.settle_below.new.self.history) c.teller.invariant.numbered ∙ c.settle_below.ensures.agrees in
     refuses_at names (record { standing = head_of inside.seat.standings; tally = c.settle_below.new.share.tally }) c.settle_below.new.self c.settle_below.ensures.book c.settle_below.ensures.lawful mine
-    c.settle_below.result (λ r. r.0) (λ r. r.1) (events_below c.args.from.now (map outcome_of c.args.looks)) c.settle_below.ensures.fault
+    c.settle_below.result (λ (r : WalkRefusal). r.settled) (λ (r : WalkRefusal). r.fault) (events_below c.args.from.now (map outcome_of c.args.looks)) c.settle_below.ensures.fault
 
 pub returns-clause-steps : goal.returns-clause-steps
 returns-clause-steps g c =
@@ -54,8 +54,8 @@ returns-clause-steps_of_some g c =
     let after = call.new.self.history in
     let outcomes = map outcome_of c.args.looks in
     let events = events_below c.args.from.now outcomes in
-    let stands = λ (r : ℕ × BookFault). call.new.from ≡ path_after c.args.from.now (take r.0 outcomes) in
-    let some : IfErr call.result (λ r. (r.0 < length c.args.looks) × (new ≡ settled_all (take r.0 outcomes) old) × stands r) = search rules in
-    let more : IfErr call.result (λ r. after ≡ before ++ settlements_by old.standing.number (take r.0 events)) = search rules in
-    settles_some names old new before after (lawful_of names call.new.self call.ensures.book call.ensures.lawful) call.result (λ r. r.0)
-    (λ r. r.0 < length c.args.looks) stands events outcomes (outcomes_below c.args.from.now outcomes) c.requires.seen more some
+    let stands = λ (r : WalkRefusal). call.new.from ≡ path_after c.args.from.now (take r.settled outcomes) in
+    let some : IfErr call.result (λ (r : WalkRefusal). (r.settled < length c.args.looks) × (new ≡ settled_all (take r.settled outcomes) old) × stands r) = search rules in
+    let more : IfErr call.result (λ (r : WalkRefusal). after ≡ before ++ settlements_by old.standing.number (take r.settled events)) = search rules in
+    settles_some names old new before after (lawful_of names call.new.self call.ensures.book call.ensures.lawful) call.result (λ (r : WalkRefusal). r.settled)
+    (λ (r : WalkRefusal). r.settled < length c.args.looks) stands events outcomes (outcomes_below c.args.from.now outcomes) c.requires.seen more some

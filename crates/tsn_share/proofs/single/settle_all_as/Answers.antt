@@ -4,6 +4,7 @@ use Rattle.std.proofs.lemmas.List.Elements.{All-map}
 use Rattle.tsn_model.specs.Search.{tally_of}
 use Rattle.tsn_model.specs.Core.{IsAboveSeen}
 use Rattle.tsn_branch.specs.Outcome.{outcome_of}
+use Rattle.tsn_book.specs.declared.refusal.BatchRefusal.{BatchRefusal}
 use Rattle.tsn_book.specs.declared.event.Event.{Event}
 use Rattle.tsn_book.specs.Event.{event_of}
 use Rattle.tsn_share.specs.Teller.{Known, head_of}
@@ -17,7 +18,7 @@ invariant_of-teller g c =
     let events = c.args.events.items in
     let above = subst (λ (t : Known). All (λ (event : Event). IsAboveSeen names.race.network t.standing.seen (outcome_of event.look)) events) (sym c.teller.view_is) c.requires.seen in
     keeps_taken names c.teller.inside.number c.teller.inside.seat c.teller.inside.share c.settle_all.new.share c.teller.invariant
-    c.settle_all.result (λ r. r.0) (λ r. r.0 < length events) (λ r. r.2.items ≡ drop r.0 events) (map (λ (event : Event). outcome_of event.look) events)
+    c.settle_all.result (λ (r : BatchRefusal). r.settled) (λ (r : BatchRefusal). r.settled < length events) (λ (r : BatchRefusal). r.rest.items ≡ drop r.settled events) (map (λ (event : Event). outcome_of event.look) events)
     (All-map (IsAboveSeen names.race.network _) (λ (event : Event). outcome_of event.look) events above) c.settle_all.ensures.all c.settle_all.ensures.some
 
 pub returns-clause-fault : goal.returns-clause-fault
@@ -26,4 +27,4 @@ returns-clause-fault g c =
     let inside = c.teller.inside in
     let mine = ap (λ n. tally_of names.race.network n c.settle_all.new.self.history) c.teller.invariant.numbered ∙ c.settle_all.ensures.agrees in
     refuses_at names (record { standing = head_of inside.seat.standings; tally = c.settle_all.new.share.tally }) c.settle_all.new.self c.settle_all.ensures.book c.settle_all.ensures.lawful mine
-    c.settle_all.result (λ r. r.0) (λ r. r.1) (map event_of c.args.events.items) c.settle_all.ensures.fault
+    c.settle_all.result (λ (r : BatchRefusal). r.settled) (λ (r : BatchRefusal). r.fault) (map event_of c.args.events.items) c.settle_all.ensures.fault

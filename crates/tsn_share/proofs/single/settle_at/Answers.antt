@@ -2,6 +2,7 @@ use Rattle.std.proofs.Common.{ap, sym, subst, ◌∙◌}
 use Rattle.tsn_model.specs.Search.{tally_of}
 use Rattle.tsn_model.specs.Core.{IsAboveSeen}
 use Rattle.tsn_branch.specs.Outcome.{outcome_of}
+use Rattle.tsn_book.specs.declared.refusal.EventRefusal.{EventRefusal}
 use Rattle.tsn_book.specs.Event.{event_of}
 use Rattle.tsn_share.specs.Teller.{Known, head_of}
 use Rattle.tsn_share.proofs.Desks.{refuses}
@@ -21,4 +22,4 @@ returns-clause-fault g c =
     let inside = c.teller.inside in
     let mine = ap (λ n. tally_of names.race.network n c.settle.new.self.history) c.teller.invariant.numbered ∙ c.settle.ensures.agrees in
     refuses names (record { standing = head_of inside.seat.standings; tally = c.settle.new.share.tally }) c.settle.new.self c.settle.ensures.book c.settle.ensures.lawful mine
-    c.settle.result (λ r. r.0) (event_of c.args.event) c.settle.ensures.fault
+    c.settle.result (λ (r : EventRefusal). r.fault) (event_of c.args.event) c.settle.ensures.fault

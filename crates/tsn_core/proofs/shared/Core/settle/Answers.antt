@@ -44,9 +44,9 @@ returns-clause-reply c =
           subst P (sym w.result-is)
           (MatchResult-weaker w.refused.result w.refused.ensures (λ reply is.
           subst (λ r. IsReply c.args.self.now.network c.args.self.now.limit c.args.self.now.state (settle k event) r after) (sym is.0)
-          (subst (λ (s : Shared). IsReply s.network s.limit s.state (settle k event) (Refused w.in-Err.fault) after) c.self.view_is
-          (subst (λ (p : Progress). IsReply inside.book.network inside.book.limit before (settle k event) (Refused w.in-Err.fault) (state_of inside.word inside.tellers.items p.history)) (sym w.in-Err.ensures.refused)
-          (refused_reply inside.book.network inside.book.limit before k event w.in-Err.fault may.0 may.1 w.in-Err.ensures.fault is.1)))) (λ none wants. tt))
+          (subst (λ (s : Shared). IsReply s.network s.limit s.state (settle k event) (Refused w.in-Err.refusal.fault) after) c.self.view_is
+          (subst (λ (p : Progress). IsReply inside.book.network inside.book.limit before (settle k event) (Refused w.in-Err.refusal.fault) (state_of inside.word inside.tellers.items p.history)) (sym w.in-Err.ensures.refused)
+          (refused_reply inside.book.network inside.book.limit before k event w.in-Err.refusal.fault may.0 may.1 w.in-Err.ensures.fault is.1)))) (λ none wants. tt))
     ]
 
 pub returns-clause-sound : goal.returns-clause-sound

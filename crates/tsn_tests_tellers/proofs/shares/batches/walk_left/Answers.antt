@@ -13,4 +13,4 @@ post_as-requires-clause-least g c =
     let found = c.first_looks-looks in
     let first = c.first_target-target in
     walk_least c.args.timing.now c.args.from.now found.result.1.flowspan found.result.0 found.ensures.walk first.result first.new.teller.tally found.ensures.below first.ensures.target
-    ∙ ap (λ (known : Known). known.tally.2) (sym c.in-Ok.ensures.all)
+    ∙ ap (λ (known : Known). known.tally.solved) (sym c.in-Ok.ensures.all)
