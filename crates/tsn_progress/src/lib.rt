@@ -1,8 +1,8 @@
 //! How far a plan has got, told on standard error.
 #![tactic(auto)]
 
-pub mod known;
+pub mod heard;
 pub mod progress;
 
-pub use known::Known;
+pub use heard::Heard;
 pub use progress::Progress;

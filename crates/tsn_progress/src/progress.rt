@@ -1,5 +1,5 @@
 //! A gate that tells how far a plan has got.
-use crate::known::Known;
+use crate::heard::Heard;
 use std::fmt;
 use std::io::Eprint;
 use std::sync::atomic::{AtomicU64, Ordering};
@@ -20,7 +20,7 @@ const PERIOD: u64 = 1000;
 pub struct Progress<'a, R: Clock + Eprint> {
     rt: &'a R,
     start: Option<Instant>,
-    known: Known,
+    known: Heard,
     settled: AtomicU64,
     splits: AtomicU64,
     // When the phase began, and when the next line is due, in milliseconds from the start on.
@@ -34,7 +34,7 @@ impl<'a, R: Clock + Eprint> Progress<'a, R> {
         Progress {
             rt,
             start: Instant::now(rt).ok(),
-            known: Known::new(),
+            known: Heard::new(),
             settled: AtomicU64::new(0),
             splits: AtomicU64::new(0),
             began: AtomicU64::new(0),
@@ -43,7 +43,7 @@ impl<'a, R: Clock + Eprint> Progress<'a, R> {
     }
 
     /// What is known so far.
-    pub fn known(&self) -> &Known {
+    pub fn known(&self) -> &Heard {
         &self.known
     }
 

@@ -17,7 +17,7 @@ use Rattle.tsn_model.specs.Search.{Outcome, split, solved, pruned, tied, refuted
 use Rattle.tsn_model.specs.Core.{IsAboveSeen}
 use Rattle.tsn_timing.specs.Solution.{Solution, IsSolved}
 use Rattle.tsn_search_laws.specs.Gathering.{tally_with}
-use Rattle.tsn_incumbent.specs.Halves.{Tally}
+use Rattle.tsn_model.specs.declared.Tally.{Tally}
 use Rattle.tsn_branch.specs.Outcome.{outcome_of}
 use Rattle.tsn_branch.specs.Look.{PrunesFrom}
 use Rattle.tsn_branch.specs.Path.{Fits}
@@ -184,7 +184,7 @@ module _ (network : Network) (triples : List Triple) (seen target : ℕ) (from :
 -- ---- what a batch does to its teller
 
 -- what isn't solved leaves the least flowspan solved
-unsolved_one : (outcome : Outcome) (tally : Tally) → IsUnsolved outcome → (tally_with tally outcome).2 ≡ tally.2
+unsolved_one : (outcome : Outcome) (tally : Tally) → IsUnsolved outcome → (tally_with tally outcome).solved ≡ tally.solved
 unfolding tally_with
 unsolved_one (split triple) tally un = refl
 unsolved_one (solved offsets bound leaf chains) tally un = absurd un
@@ -192,7 +192,7 @@ unsolved_one (pruned bound leaf) tally un = refl
 unsolved_one (tied bound leaf chains) tally un = refl
 unsolved_one (refuted leaf) tally un = refl
 
-pub unsolved_all : (outcomes : List Outcome) (tally : Tally) → All IsUnsolved outcomes → (tally_with_all tally outcomes).2 ≡ tally.2
+pub unsolved_all : (outcomes : List Outcome) (tally : Tally) → All IsUnsolved outcomes → (tally_with_all tally outcomes).solved ≡ tally.solved
 unsolved_all [] tally unsolved = refl
 unsolved_all (outcome ∷ outcomes) tally unsolved =
     unsolved_all outcomes (tally_with tally outcome) (All-tail IsUnsolved outcome outcomes unsolved) ∙ unsolved_one outcome tally (All-head IsUnsolved outcome outcomes unsolved)
@@ -201,7 +201,8 @@ after_more : (front : List Outcome) (last : Outcome) (tally : Tally) → tally_w
 after_more [] last tally = refl
 after_more (outcome ∷ front) last tally = after_more front last (tally_with tally outcome)
 
-solved_one : (flowspan : ℕ) (outcome : Outcome) (tally : Tally) → IsSolvedBy flowspan outcome → flowspan ≤ tally.2 → (tally_with tally outcome).2 ≡ flowspan
+solved_one : (flowspan : ℕ) (outcome : Outcome) (tally : Tally) → IsSolvedBy flowspan outcome → flowspan ≤ tally.solved
+    → (tally_with tally outcome).solved ≡ flowspan
 unfolding tally_with
 solved_one flowspan (split triple) tally by least = absurd by
 solved_one flowspan (solved offsets bound leaf chains) tally by least = omega (arith, by, least)
@@ -210,12 +211,13 @@ solved_one flowspan (tied bound leaf chains) tally by least = absurd by
 solved_one flowspan (refuted leaf) tally by least = absurd by
 
 -- the flowspan of the last one is then the least
-pub solved_last : (network : Network) (seen : ℕ) (outcomes : List Outcome) (solution : Solution) (tally : Tally) → EndsSolved network seen outcomes solution → seen ≤ tally.2
-    → (tally_with_all tally outcomes).2 ≡ solution.flowspan
+pub solved_last : (network : Network) (seen : ℕ) (outcomes : List Outcome) (solution : Solution) (tally : Tally)
+    → EndsSolved network seen outcomes solution → seen ≤ tally.solved
+    → (tally_with_all tally outcomes).solved ≡ solution.flowspan
 solved_last network seen outcomes solution tally ends low =
     let before = unsolved_all ends.front tally ends.unsolved in
     let least = ends.least in
-    ap (λ os. (tally_with_all tally os).2) ends.is ∙ ap (λ (t : Tally). t.2) (after_more ends.front ends.last tally)
+    ap (λ os. (tally_with_all tally os).solved) ends.is ∙ ap (λ (t : Tally). t.solved) (after_more ends.front ends.last tally)
     ∙ solved_one solution.flowspan ends.last (tally_with_all tally ends.front) ends.by (omega (arith, before, least, low))
 
 module _ (network : Network) (seen : ℕ) (outcomes : List Outcome) where
@@ -248,8 +250,8 @@ only_last_solved network seen outcomes (Some solution) some ends = record { fron
 -- the schedule of a batch that was settled has the teller's least flowspan, and with none the teller is as even as before
 pub solved_least : (network : Network) (seen : ℕ) (outcomes : List Outcome) (schedule : Option Solution) (old new : Known) → new ≡ settled_all outcomes old → IsEven old → seen ≤ old.standing.posted
     → MatchOption schedule (All IsUnsolved outcomes) (EndsSolved network seen outcomes)
-    → MatchOption schedule (IsEven new) (λ solution. IsSolved network solution × (solution.flowspan ≡ new.tally.2))
+    → MatchOption schedule (IsEven new) (λ solution. IsSolved network solution × (solution.flowspan ≡ new.tally.solved))
 solved_least network seen outcomes None old new is even low all =
-    ap (λ (t : Known). t.tally.2) is ∙ unsolved_all outcomes old.tally all ∙ even ∙ sym (ap (λ (t : Known). t.standing.posted) is)
+    ap (λ (t : Known). t.tally.solved) is ∙ unsolved_all outcomes old.tally all ∙ even ∙ sym (ap (λ (t : Known). t.standing.posted) is)
 solved_least network seen outcomes (Some solution) old new is even low ends =
-    (ends.schedule, sym (ap (λ (t : Known). t.tally.2) is ∙ solved_last network seen outcomes solution old.tally ends (omega (arith, even, low))))
+    (ends.schedule, sym (ap (λ (t : Known). t.tally.solved) is ∙ solved_last network seen outcomes solution old.tally ends (omega (arith, even, low))))

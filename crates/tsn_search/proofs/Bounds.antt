@@ -1,7 +1,7 @@
 -- A root that is pruned shows what no schedule undercuts.
-use Rattle.std.proofs.Common.{◌≡◌, ℕ, ◌≤◌, List, [], zero-le, sym, subst}
+use Rattle.std.proofs.Common.{◌≡◌, ℕ, ◌≤◌, [], zero-le, sym, subst}
 use Rattle.tsn_model.specs.Network.{Network, IsWellFormed}
-use Rattle.tsn_model.specs.Schedule.{IsValid, flowspan}
+use Rattle.tsn_model.specs.Schedule.{flowspan}
 use Rattle.tsn_model.specs.Search.{Outcome, split, solved, pruned, tied, refuted}
 use Rattle.tsn_model.proofs.Soundness.{leaf_sound, HoldsAll-root}
 use Rattle.tsn_branch.specs.Look.{HasProof}

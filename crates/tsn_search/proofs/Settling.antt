@@ -1,24 +1,18 @@
 -- An open node of a search for a network fits its conflicts; and what is met.
-use Rattle.std.proofs.Common.{◌≡◌, ℕ, ◌+◌, ◌<◌, ◌≤◌, ◌⊎◌, inl, inr, List, [], ◌∷◌, ◌++◌, length, Contains, Option, Some, None, MatchOption, IsSomeAnd, slice_index_or, Bor, refl, sym, ap, ◌∙◌, subst, arith}
+use Rattle.std.proofs.Common.{◌≡◌, ℕ, ◌+◌, ◌<◌, ◌≤◌, ◌⊎◌, inl, inr, List, Contains, Option, Some, None, MatchOption, IsSomeAnd, slice_index_or, Bor, sym, subst}
 use Rattle.std.specs.Prelude.{option_copied}
 use Rattle.std.proofs.Math.Nat.{eq-or-lt_of_le}
-use Rattle.std.proofs.lemmas.List.{length-append}
-use Rattle.tsn_model.specs.declared.Triple.{Triple}
-use Rattle.tsn_model.specs.declared.Side.TheVariants.{Left}
 use Rattle.tsn_model.specs.declared.Decision.{Decision}
 use Rattle.tsn_model.specs.Network.{Network}
-use Rattle.tsn_model.specs.Certificate.{decided, beyond, ShowsAfter}
-use Rattle.tsn_model.specs.Search.{Outcome, split, solved, pruned, tied, refuted, Settlement, children_of, made_paths, open_paths, best_bound, kept_of, IsLegal}
+use Rattle.tsn_model.specs.Certificate.{beyond, ShowsAfter}
+use Rattle.tsn_model.specs.Search.{Outcome, split, solved, pruned, tied, refuted, Settlement, open_paths, best_bound, kept_of, IsLegal}
 use Rattle.tsn_model.proofs.Conflicts.{conflict_listed}
 use Rattle.tsn_conflict.specs.Kept.{Kept, AreConflictsOf}
-use Rattle.tsn_search_laws.specs.Walk.{IsWalk}
-use Rattle.tsn_search_laws.proofs.Histories.{open_is_made, made_paths-snoc}
+use Rattle.tsn_search_laws.proofs.Histories.{open_is_made}
 use Rattle.tsn_search_laws.proofs.Counting.{made_decides}
-use Rattle.tsn_search_laws.proofs.Walking.{walk_split, walk_leaf, walk_end, walk_waits}
 use Rattle.tsn_branch.specs.Path.{Fits}
 use Rattle.tsn_timing.specs.Solution.{Solution, IsSolved}
 use Rattle.tsn_branch.specs.Look.{PrunesFrom, TiesWith}
-use Rattle.tsn_branch.specs.Descent.{Closes}
 use Rattle.tsn_book.specs.Book.{IsMet}
 
 -- an open node's path decides conflicts alone

@@ -17,8 +17,8 @@ use Rattle.tsn_book.specs.Below.{events_below}
 use Rattle.tsn_share.specs.Teller.{IsSolvedBy, IsUnsolved}
 use Rattle.tsn_search.specs.declared.below.Below.{Below}
 use Rattle.tsn_search.specs.declared.below.Batch.{Batch}
-use Rattle.tsn_search.specs.declared.batch.Turn.{Turn}
-use Rattle.tsn_search.specs.declared.batch.Turn.TheVariants as turn
+use Rattle.tsn_search.specs.declared.batch.Advance.{Advance}
+use Rattle.tsn_search.specs.declared.batch.Advance.TheVariants as turn
 
 -- the way leads to that path, which decides conflicts alone
 pub record StandsAt (network : Network) (triples : List Triple) (path : List Decision) (position : Position) : Type 0 where
@@ -68,7 +68,7 @@ pub record IsBatch (network : Network) (seen : ℕ) (path : List Decision) (batc
   pub few : length batch.looks ≤ 64
   pub ends : MatchOption batch.solved (All IsUnsolved (outcomes_of batch)) (EndsSolved network seen (outcomes_of batch))
 
-abbrev pub IsGoingOn : Turn → Type 0
+abbrev pub IsGoingOn : Advance → Type 0
 IsGoingOn turn.GoesOn = Unit {0}
 IsGoingOn turn.LooksAgain = ⊥
 IsGoingOn turn.Finished = ⊥

@@ -7,7 +7,7 @@ ghost use Rattle.tsn_search.specs.Below.{IsBelow, IsBatch, IsGoingOn, outcomes_o
 ghost use Rattle.tsn_search.specs.Context.{AreTablesOf};
 
 use crate::below::{BATCH, Batch, Below};
-use crate::best::Incumbent;
+use crate::best::BestSoFar;
 use crate::context::Context;
 use crate::gate::{Gate, News};
 use crate::news::{known, splits_among};
@@ -21,7 +21,7 @@ use tsn_timing::{Solved, Timing};
 
 /// How a worker goes on below a node.
 #[derive(Clone, Copy)]
-pub enum Turn {
+pub enum Advance {
     /// At the node where the walk stands.
     GoesOn,
     /// At the node where the walk stands, which is to be looked at again without the best schedule.
@@ -42,39 +42,47 @@ impl Below {
         settler: &mut Settler<K>,
         rule: &mut Rule<'_>,
         most: usize,
-    ) -> Turn
-        requires tables { AreTablesOf K.names.race.network context.now.tables }
-        requires below { IsBelow context.now.tables.timing.now context.now.tables.conflicts.now.triples self.old }
+    ) -> Advance
+        requires tables { AreTablesOf K.names.race.network context.now.setting.now.tables }
+        requires below { IsBelow context.now.setting.now.tables.timing.now context.now.setting.now.tables.conflicts.now.triples self.old }
         requires most { (1 ≤ most) × (most ≤ BATCH) }
         requires even { IsEven settler.old.teller }
         ensures even { IsEven settler.new.teller }
         ensures number { settler.new.teller.standing.number ≡ settler.old.teller.standing.number }
-        ensures below { IsGoingOn result → IsBelow context.now.tables.timing.now context.now.tables.conflicts.now.triples self.new }
+        ensures below { IsGoingOn result → IsBelow context.now.setting.now.tables.timing.now context.now.setting.now.tables.conflicts.now.triples self.new }
     {
+        let setting = context.setting;
         let shared = context.shared;
-        let tables = context.tables;
+        let tables = setting.tables;
         let seen = observe_as(shared, &mut settler.teller);
         let refreshed = settler
             .best
             .refresh(rt, shared, &mut settler.teller, context.board);
         if refreshed.is_err() {
-            return Turn::Ends;
+            return Advance::Ends;
         }
         let best = settler.best.lent(self.untied);
         self.untied = false;
-        let incumbent = Incumbent { seen, best };
-        let Ok(batch) = self.collect(context.alloc, tables, rule, incumbent, most) else {
-            return Turn::Ends;
+        let incumbent = BestSoFar { seen, best };
+        let Ok(batch) = self.collect(setting.alloc, tables, rule, incumbent, most) else {
+            return Advance::Ends;
         };
         let summary = Summary::of(&batch, seen);
-        context.gate.pass(settler.number);
-        let (turn, accepted) = settle_batch(rt, shared, &mut settler.teller, &mut self.from, batch);
+        setting.gate.pass(settler.number);
+        let (advance, accepted) = settle_batch(
+            rt,
+            shared,
+            &mut settler.teller,
+            &mut self.from,
+            batch,
+        );
         summary.tell(context, settler.number, accepted);
-        match turn {
-            Turn::LooksAgain if self.begin_again(context.alloc, tables.timing, tables.conflicts) =>
-                Turn::GoesOn,
-            Turn::LooksAgain => Turn::Ends,
-            turn => turn,
+        match advance {
+            Advance::LooksAgain
+                if self.begin_again(setting.alloc, tables.timing, tables.conflicts) =>
+                Advance::GoesOn,
+            Advance::LooksAgain => Advance::Ends,
+            advance => advance,
         }
     }
 }
@@ -115,8 +123,10 @@ impl Summary {
         if self.is_solved && accepted == self.nodes {
             context.board.find();
         }
-        let news = self.news(context.tables.timing, accepted);
-        context.gate.hear(number, news);
+        let setting = context.setting;
+        let tables = setting.tables;
+        let news = self.news(tables.timing, accepted);
+        setting.gate.hear(number, news);
     }
 
     // What is told where so many nodes, from the first on, were settled.
@@ -147,7 +157,7 @@ fn settle_batch<K: Named>(
     teller: &mut Teller<K>,
     from: &mut Node,
     batch: Batch,
-) -> (Turn, usize)
+) -> (Advance, usize)
     requires batch { IsBatch K.names.race.network teller.old.standing.seen from.old batch }
     requires even { IsEven teller.old }
     requires seen { teller.old.standing.seen ≤ teller.old.standing.posted }
@@ -164,16 +174,16 @@ fn settle_batch<K: Named>(
     match settle_below_as(rt, shared, teller, from, looks) {
         Ok(()) => {
             post_solved(shared, teller, &solved);
-            (turn_on(more), nodes)
+            (advance_on(more), nodes)
         }
-        Err((count, fault)) => (turn_after(fault), count),
+        Err(refusal) => (advance_after(refusal.fault), refusal.settled),
     }
 }
 
 // Posts the teller's least solved flowspan, where it isn't posted yet.
 fn post_solved<K: Named>(shared: &Shared<K>, teller: &mut Teller<K>, solved: &Option<Solved>)
     requires { MatchOption solved.now (IsEven teller.old)
-        (λ solution. IsSolved K.names.race.network solution × (solution.flowspan ≡ teller.old.tally.2)) }
+        (λ solution. IsSolved K.names.race.network solution × (solution.flowspan ≡ teller.old.tally.solved)) }
     ensures even { IsEven teller.new }
     ensures number { teller.new.standing.number ≡ teller.old.standing.number }
 {
@@ -182,20 +192,24 @@ fn post_solved<K: Named>(shared: &Shared<K>, teller: &mut Teller<K>, solved: &Op
     }
 }
 
-fn turn_on(more: bool) -> Turn
+fn advance_on(more: bool) -> Advance
     ensures { IsGoingOn result → more ≡ true }
 {
-    if more { Turn::GoesOn } else { Turn::Finished }
+    if more {
+        Advance::GoesOn
+    } else {
+        Advance::Finished
+    }
 }
 
-fn turn_after(fault: BookFault) -> Turn
+fn advance_after(fault: BookFault) -> Advance
     ensures { IsGoingOn result → ⊥ }
 {
     match fault {
-        BookFault::NotMet(_) => Turn::LooksAgain,
-        BookFault::Limit(_) | BookFault::Memory => Turn::Ends,
+        BookFault::NotMet(_) => Advance::LooksAgain,
+        BookFault::Limit(_) | BookFault::Memory => Advance::Ends,
         BookFault::NotOpen(_) | BookFault::NotConflict | BookFault::AlreadyDecided => {
-            Turn::Finished
+            Advance::Finished
         }
     }
 }

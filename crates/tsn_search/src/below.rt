@@ -12,7 +12,7 @@ ghost use Rattle.tsn_share.specs.Teller.{IsUnsolved};
 ghost use Rattle.tsn_search.specs.Below.{StandsAt, IsBelow, IsBatch, IsProved, HoldsSchedule, IsScheduleOf};
 
 use crate::bag::Bag;
-use crate::best::Incumbent;
+use crate::best::BestSoFar;
 use crate::rule::Rule;
 use std::alloc::Global;
 use tsn_book::Looks;
@@ -199,7 +199,7 @@ impl Below {
         alloc: Global,
         tables: Tables<'_>,
         rule: &mut Rule<'_>,
-        incumbent: Incumbent<'_>,
+        incumbent: BestSoFar<'_>,
         most: usize,
     ) -> Result<Batch, NoMemory>
         requires best { IfSome (option_copied incumbent.best) (IsSolved tables.timing.now) }

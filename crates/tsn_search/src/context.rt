@@ -25,10 +25,7 @@ pub struct Setting<'a, 'h, G> {
 /// What the workers of a search share, each of them and the caller.
 #[derive(Drop)]
 pub struct Context<'a, 'h, K: Named, G> {
-    pub alloc: Global,
-    pub tables: Tables<'a>,
-    pub order: Order<'h>,
-    pub gate: &'a G,
+    pub setting: &'a Setting<'a, 'h, G>,
     pub shared: &'a Shared<K>,
     pub board: &'a Board,
 }

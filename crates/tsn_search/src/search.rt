@@ -10,13 +10,13 @@ ghost use Rattle.tsn_book.specs.Below.{path_after};
 
 use crate::bag::Bag;
 use crate::below::{BATCH, Batch, Below, beyond};
-use crate::best::Incumbent;
+use crate::best::BestSoFar;
 use crate::context::{Order, Setting};
 use crate::gate::{Gate, News};
 use crate::news::{is_split, known, splits_among};
 use crate::rule::Rule;
 use crate::start::OpenNodes;
-use tsn_book::{Book, BookFault, Event};
+use tsn_book::{Book, BookFault, Event, EventRefusal};
 use tsn_branch::{Guide, NoMemory, Node, look};
 
 /// One who settles nodes in a book: by which number, and how many are settled in all, at most.
@@ -200,7 +200,7 @@ fn settle_batch<G: Gate>(
     if count >= course.limit {
         return Ok(false);
     }
-    let incumbent = Incumbent {
+    let incumbent = BestSoFar {
         seen: book.best(),
         best: book.kept(),
     };
@@ -237,8 +237,10 @@ fn record_batch<G: Gate>(
             tell(course, book, nodes, splits);
             Ok(more)
         }
-        Err((_, BookFault::Memory)) => Err(NoMemory),
-        Err(_) => Ok(false),
+        Err(refusal) => match refusal.fault {
+            BookFault::Memory => Err(NoMemory),
+            _ => Ok(false),
+        },
     }
 }
 
@@ -294,8 +296,9 @@ fn record(book: &mut Book, teller: usize, event: Event) -> Result<(), NoMemory>
 {
     match book.settle(teller, event) {
         Ok(()) => Ok(()),
-        Err((fault, refused)) => {
-            drop(refused);
+        Err(refusal) => {
+            let EventRefusal { fault, event } = refusal;
+            drop(event);
             match fault {
                 BookFault::Memory => Err(NoMemory),
                 _ => unreachable!(),

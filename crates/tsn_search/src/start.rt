@@ -4,7 +4,7 @@ ghost use Rattle.tsn_share.specs.Teller.{IsEven};
 ghost use Rattle.tsn_search.specs.Context.{AreTablesOf};
 
 use crate::bag::Bag;
-use crate::batch::Turn;
+use crate::batch::Advance;
 use crate::below::Below;
 use crate::context::{Context, Order};
 use crate::gate::Gate;
@@ -67,12 +67,13 @@ pub fn settle_first<K: Named, G: Gate>(
     enough: usize,
     caller: &mut Settler<K>,
 ) -> Result<OpenNodes, NoMemory>
-    requires tables { AreTablesOf K.names.race.network context.now.tables }
+    requires tables { AreTablesOf K.names.race.network context.now.setting.now.tables }
     requires even { IsEven caller.old.teller }
     ensures even { IsEven caller.new.teller }
     ensures number { caller.new.teller.standing.number ≡ caller.old.teller.standing.number }
 {
-    match context.order {
+    let setting = context.setting;
+    match setting.order {
         Order::Guided(Some(guide)) => dive(rt, context, guide, caller),
         Order::Guided(None) | Order::File => settle_until(rt, context, enough, caller),
     }
@@ -85,24 +86,26 @@ fn dive<K: Named, G: Gate>(
     guide: Guide<'_>,
     caller: &mut Settler<K>,
 ) -> Result<OpenNodes, NoMemory>
-    requires tables { AreTablesOf K.names.race.network context.now.tables }
+    requires tables { AreTablesOf K.names.race.network context.now.setting.now.tables }
     requires even { IsEven caller.old.teller }
     ensures even { IsEven caller.new.teller }
     ensures number { caller.new.teller.standing.number ≡ caller.old.teller.standing.number }
 {
-    let mut rule = Rule::of(context.alloc, context.tables, context.order)?;
-    let mut below = Below::root(context.alloc, context.tables.timing)?;
-    let mut open_nodes = OpenNodes::none(context.alloc);
+    let setting = context.setting;
+    let tables = setting.tables;
+    let mut rule = Rule::of(setting.alloc, tables, setting.order)?;
+    let mut below = Below::root(setting.alloc, tables.timing)?;
+    let mut open_nodes = OpenNodes::none(setting.alloc);
     for _ in 0..u64::MAX {
         let depth = below.from.path().len();
         match below.settle_next(rt, context, caller, &mut rule, 1) {
-            Turn::GoesOn => {}
-            Turn::Ends | Turn::Finished | Turn::LooksAgain => break,
+            Advance::GoesOn => {}
+            Advance::Ends | Advance::Finished | Advance::LooksAgain => break,
         }
         if below.from.path().len() <= depth {
             break;
         }
-        below.choose_side(context.alloc, context.tables, guide, &mut open_nodes)?;
+        below.choose_side(setting.alloc, tables, guide, &mut open_nodes)?;
     }
     drop(below);
     Ok(open_nodes)
@@ -116,22 +119,24 @@ fn settle_until<K: Named, G: Gate>(
     enough: usize,
     caller: &mut Settler<K>,
 ) -> Result<OpenNodes, NoMemory>
-    requires tables { AreTablesOf K.names.race.network context.now.tables }
+    requires tables { AreTablesOf K.names.race.network context.now.setting.now.tables }
     requires even { IsEven caller.old.teller }
     ensures even { IsEven caller.new.teller }
     ensures number { caller.new.teller.standing.number ≡ caller.old.teller.standing.number }
 {
-    let mut rule = Rule::of(context.alloc, context.tables, context.order)?;
-    let mut below = Below::root(context.alloc, context.tables.timing)?;
-    let mut open_nodes = OpenNodes::none(context.alloc);
+    let setting = context.setting;
+    let tables = setting.tables;
+    let mut rule = Rule::of(setting.alloc, tables, setting.order)?;
+    let mut below = Below::root(setting.alloc, tables.timing)?;
+    let mut open_nodes = OpenNodes::none(setting.alloc);
     for _ in 0..u64::MAX {
         if below.has_open(enough) {
             break;
         }
         match below.settle_next(rt, context, caller, &mut rule, 1) {
-            Turn::GoesOn => {}
-            Turn::Ends => break,
-            Turn::Finished | Turn::LooksAgain => {
+            Advance::GoesOn => {}
+            Advance::Ends => break,
+            Advance::Finished | Advance::LooksAgain => {
                 drop(below);
                 return Ok(open_nodes);
             }

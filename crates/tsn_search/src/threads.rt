@@ -37,10 +37,7 @@ pub fn search<K: Named + Send + Sync, R: Threads + Wait + Sync, G: Gate + Sync, 
     let (shared, tellers) = parts.share::<K>(setting.alloc)?;
     let board = Board::new(bags.len());
     let context = Context {
-        alloc: setting.alloc,
-        tables: setting.tables,
-        order: setting.order,
-        gate: setting.gate,
+        setting,
         shared: &shared,
         board: &board,
     };
@@ -66,12 +63,13 @@ fn settle_all<K: Named + Send + Sync, R: Threads + Wait + Sync, G: Gate + Sync, 
     bags: Vec<B>,
     tellers: Vec<Teller<K>>,
 ) -> Result<Vec<Teller<K>>, NoMemory>
-    requires tables { AreTablesOf K.names.race.network context.now.tables }
+    requires tables { AreTablesOf K.names.race.network context.now.setting.now.tables }
     requires fresh { tellers.items ≡ tellers_from K.names 0 K.names.race.tellers }
     requires tellers { K.names.race.tellers ≡ length bags.items + 1 }
     requires some { 1 ≤ length bags.items }
     ensures { IfOk result (λ back. AreBack K.names.race.tellers back.items) }
 {
+    let setting = context.setting;
     let mut bags = bags;
     let mut tellers = tellers;
     let Some(last) = tellers.pop() else {
@@ -87,7 +85,7 @@ fn settle_all<K: Named + Send + Sync, R: Threads + Wait + Sync, G: Gate + Sync, 
         }
     };
     open_nodes.deal(bags.as_mut_slice());
-    let mut members = match team_of(context.alloc, tellers, bags) {
+    let mut members = match team_of(setting.alloc, tellers, bags) {
         Ok(members) => members,
         Err(_) => {
             drop(caller);
@@ -95,7 +93,7 @@ fn settle_all<K: Named + Send + Sync, R: Threads + Wait + Sync, G: Gate + Sync, 
         }
     };
     run(rt, context, members.as_mut_slice());
-    Ok(tellers_of(context.alloc, members, caller.into_teller())?)
+    Ok(tellers_of(setting.alloc, members, caller.into_teller())?)
 }
 
 // Runs each worker in a thread of its own, or one after another where no thread can be made. Each teller is left even.
@@ -104,7 +102,7 @@ fn run<K: Named + Send + Sync, B: Bag + Send, G: Gate + Sync, R: Threads + Wait 
     context: &Context<'_, '_, K, G>,
     members: &mut [Member<K, B>],
 )
-    requires tables { AreTablesOf K.names.race.network context.now.tables }
+    requires tables { AreTablesOf K.names.race.network context.now.setting.now.tables }
     requires some { 0 < length members.old }
     requires even { All (λ member. IsEven member.settler.teller) members.old }
     ensures even { All (λ member. IsEven member.settler.teller) members.new }
@@ -117,7 +115,7 @@ fn run<K: Named + Send + Sync, B: Bag + Send, G: Gate + Sync, R: Threads + Wait 
         members,
         threads,
         &|_number: usize, member: &mut Member<K, B>|
-            requires { AreTablesOf K.names.race.network context.now.tables × IsEven member.old.settler.teller }
+            requires { AreTablesOf K.names.race.network context.now.setting.now.tables × IsEven member.old.settler.teller }
             ensures { IsEven member.new.settler.teller × (member.new.settler.teller.standing.number ≡ member.old.settler.teller.standing.number) }
         { work(rt, context, member) },
     );

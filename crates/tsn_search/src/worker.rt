@@ -4,7 +4,7 @@ ghost use Rattle.tsn_share.specs.Teller.{IsEven};
 ghost use Rattle.tsn_search.specs.Context.{AreTablesOf};
 
 use crate::bag::Bag;
-use crate::batch::Turn;
+use crate::batch::Advance;
 use crate::below::{BATCH, Below};
 use crate::board::Board;
 use crate::context::Context;
@@ -37,12 +37,13 @@ pub fn work<K: Named, B: Bag, G: Gate>(
     context: &Context<'_, '_, K, G>,
     member: &mut Member<K, B>,
 )
-    requires tables { AreTablesOf K.names.race.network context.now.tables }
+    requires tables { AreTablesOf K.names.race.network context.now.setting.now.tables }
     requires even { IsEven member.old.settler.teller }
     ensures even { IsEven member.new.settler.teller }
     ensures number { member.new.settler.teller.standing.number ≡ member.old.settler.teller.standing.number }
 {
-    if context.gate.may_start(member.settler.number) {
+    let setting = context.setting;
+    if setting.gate.may_start(member.settler.number) {
         work_on(rt, context, member);
     }
     context.board.end();
@@ -54,12 +55,13 @@ fn work_on<K: Named, B: Bag, G: Gate>(
     context: &Context<'_, '_, K, G>,
     member: &mut Member<K, B>,
 )
-    requires tables { AreTablesOf K.names.race.network context.now.tables }
+    requires tables { AreTablesOf K.names.race.network context.now.setting.now.tables }
     requires even { IsEven member.old.settler.teller }
     ensures even { IsEven member.new.settler.teller }
     ensures number { member.new.settler.teller.standing.number ≡ member.old.settler.teller.standing.number }
 {
-    let Ok(mut rule) = Rule::of(context.alloc, context.tables, context.order) else {
+    let setting = context.setting;
+    let Ok(mut rule) = Rule::of(setting.alloc, setting.tables, setting.order) else {
         return;
     };
     for _ in 0..u64::MAX {
@@ -121,13 +123,14 @@ fn work_below<K: Named, B: Bag, G: Gate>(
     rule: &mut Rule<'_>,
     node: Node,
 ) -> bool
-    requires tables { AreTablesOf K.names.race.network context.now.tables }
+    requires tables { AreTablesOf K.names.race.network context.now.setting.now.tables }
     requires even { IsEven member.old.settler.teller }
     ensures even { IsEven member.new.settler.teller }
     ensures number { member.new.settler.teller.standing.number ≡ member.old.settler.teller.standing.number }
 {
-    let tables = context.tables;
-    let mut below = match Below::at(context.alloc, tables.timing, tables.conflicts, node) {
+    let setting = context.setting;
+    let tables = setting.tables;
+    let mut below = match Below::at(setting.alloc, tables.timing, tables.conflicts, node) {
         Ok(Some(below)) => below,
         Ok(None) => return true,
         Err(node) => {
@@ -137,14 +140,14 @@ fn work_below<K: Named, B: Bag, G: Gate>(
     };
     for _ in 0..u64::MAX {
         match below.settle_next(rt, context, &mut member.settler, rule, BATCH) {
-            Turn::GoesOn => {}
-            Turn::Ends => break,
-            Turn::Finished | Turn::LooksAgain => {
+            Advance::GoesOn => {}
+            Advance::Ends => break,
+            Advance::Finished | Advance::LooksAgain => {
                 drop(below);
-                return context.gate.may_go_on(member.settler.number);
+                return setting.gate.may_go_on(member.settler.number);
             }
         }
-        if !context.gate.may_go_on(member.settler.number) {
+        if !setting.gate.may_go_on(member.settler.number) {
             break;
         }
         share_if_awaited(context.board, &mut below, &mut member.bag);

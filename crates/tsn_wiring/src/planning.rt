@@ -20,7 +20,7 @@ use tsn_cli::device::Sink;
 use tsn_cli::run::{DEVICE, DONE};
 use tsn_cli::{STOPPED, judge_run, plan_run, prove_run};
 use tsn_device::Failure;
-use tsn_progress::{Known, Progress};
+use tsn_progress::{Heard, Progress};
 use tsn_words::{PlanWords, ProveWords};
 use tsn_worker::Gate;
 
@@ -187,7 +187,7 @@ fn plan_told<'a, T: Threads + Wait + Sync, C: Clock + Eprint + Sync, G: Given<'a
     requires sink { W.failed sink.old ≡ 0 }
 {
     if !words.progress {
-        let known = Known::new();
+        let known = Heard::new();
         let run = plan_over(rt, alloc, given, words, files, &known, sink);
         return end_plan(alloc, given, run, &known);
     }
@@ -248,7 +248,7 @@ fn end_plan<'a, G: Given<'a>>(
     alloc: Global,
     given: &mut G,
     run: PlanRun<G::Source, G::File>,
-    known: &Known,
+    known: &Heard,
 ) -> Ended {
     let PlanRun {
         status,
@@ -277,7 +277,7 @@ fn file_line<F: Made>(alloc: Global, status: u8, file: &Option<F>) -> Option<Str
 }
 
 /// How a run ended; where the limit was met the line says what is known then.
-fn with_bound(alloc: Global, ended: Ended, known: &Known) -> Ended {
+fn with_bound(alloc: Global, ended: Ended, known: &Heard) -> Ended {
     if ended.status != STOPPED {
         return ended;
     }
@@ -337,7 +337,7 @@ fn prove_to<'a, C: Clock + Eprint, G: Given<'a>>(
 {
     let mut output = given.output();
     if !words.progress {
-        let known = Known::new();
+        let known = Heard::new();
         let run = prove_over(alloc, given, words, files, &known, &mut output);
         return end_proof(alloc, given, run, &known, output);
     }
@@ -401,7 +401,7 @@ fn end_proof<'a, G: Given<'a>>(
     alloc: Global,
     given: &mut G,
     run: ProofRun<G::Source, G::File>,
-    known: &Known,
+    known: &Heard,
     output: G::Output,
 ) -> u8 {
     let ProofRun {

@@ -8,9 +8,10 @@ use crate::nodes::nodes::{event_of, node_at};
 use crate::nodes::rows::{cut, expect_text};
 use std::process::Abort;
 use std::test::*;
-use tsn_book::{Book, BookFault, Event};
+use tsn_book::{Book, BookFault, Event, EventRefusal};
 use tsn_branch::Node;
 use tsn_cert::{Cert, cert_to_json};
+use tsn_model::Tally;
 use tsn_timing::Timing;
 
 /// A book with one teller.
@@ -22,10 +23,10 @@ fn book_of<R: Abort + AllocGlobal>(rt: &R, timing: &Timing, limit: usize) -> Boo
 }
 
 /// The answer without the event.
-fn fault_of(answer: &Result<(), (BookFault, Event)>) -> Result<(), BookFault> {
+fn fault_of(answer: &Result<(), EventRefusal>) -> Result<(), BookFault> {
     match answer {
         Ok(()) => Ok(()),
-        Err((fault, _)) => Err(*fault),
+        Err(refusal) => Err(refusal.fault),
     }
 }
 
@@ -122,7 +123,12 @@ fn cert_text<R: Abort + AllocGlobal>(rt: &R, cert: &Cert) -> String {
 fn expect_tally(rt: &impl Abort, book: &Book)
     requires { 0 < book.now.tellers }
 {
-    assert_eq!(rt; book.tally(0), (3, 1_000_001, 2_924));
+    let tally = Tally {
+        events: 3,
+        pruned: 1_000_001,
+        solved: 2_924,
+    };
+    assert_eq!(rt; book.tally(0), tally);
 }
 
 fn expect_kept(rt: &impl Abort, book: &Book) {

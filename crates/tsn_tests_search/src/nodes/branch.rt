@@ -6,7 +6,7 @@ use crate::nodes::nodes::{looked, node_at};
 use crate::nodes::rows::cut;
 use std::process::Abort;
 use std::test::*;
-use tsn_branch::outcome::{Leaf, Look};
+use tsn_branch::outcome::Look;
 use tsn_branch::{Node, Triple, fits, whole_chains};
 use tsn_conflict::conflicts;
 use tsn_diff::Forest;
@@ -38,7 +38,7 @@ fn split_text<R: Abort + AllocGlobal>(rt: &R, triple: Triple) -> String {
 fn solved_text<R: Abort + AllocGlobal>(
     rt: &R,
     solved: &Solved,
-    leaf: &Leaf,
+    leaf: &LowerBound,
     chains: &Forest,
 ) -> String {
     let chains = whole_chains(rt.alloc(), chains).expect(rt, "memory");
@@ -46,12 +46,17 @@ fn solved_text<R: Abort + AllocGlobal>(
     format!(in rt.alloc(); "solved {offsets:?} {bound} {leaf:?} {chains:?}").expect(rt, "memory")
 }
 
-fn tied_text<R: Abort + AllocGlobal>(rt: &R, bound: u64, leaf: &Leaf, chains: &Forest) -> String {
+fn tied_text<R: Abort + AllocGlobal>(
+    rt: &R,
+    bound: u64,
+    leaf: &LowerBound,
+    chains: &Forest,
+) -> String {
     let chains = whole_chains(rt.alloc(), chains).expect(rt, "memory");
     format!(in rt.alloc(); "tied {bound} {leaf:?} {chains:?}").expect(rt, "memory")
 }
 
-fn pruned_text<R: Abort + AllocGlobal>(rt: &R, bound: u64, leaf: &Leaf) -> String {
+fn pruned_text<R: Abort + AllocGlobal>(rt: &R, bound: u64, leaf: &LowerBound) -> String {
     format!(in rt.alloc(); "pruned {bound} {leaf:?}").expect(rt, "memory")
 }
 

@@ -22,10 +22,10 @@ pub returns-clause-even : goal.returns-clause-even
 returns-clause-even g c =
     let old = c.args.teller.now in
     let outcomes = map outcome_of c.args.batch.looks in
-    let n = c.in-Err.count in
+    let n = c.in-Err.refusal.settled in
     let low = c.in-Err.ensures.some.0 in
     let long = length-map c.args.batch.looks outcome_of in
     let is = c.in-Err.ensures.some.1 in
-    ap (λ (t : Known). t.tally.2) is
+    ap (λ (t : Known). t.tally.solved) is
     ∙ unsolved_all (take n outcomes) old.tally (few_unsolved g.K.Named.names.race.network old.standing.seen outcomes c.args.batch.solved c.requires.batch.ends n (omega (arith, low, long)))
     ∙ c.requires.even ∙ sym (ap (λ (t : Known). t.standing.posted) is)

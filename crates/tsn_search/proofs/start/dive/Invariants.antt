@@ -7,5 +7,5 @@ abbrev pub invariant-loop : goal.invariant-loop
 invariant-loop g l = record {
   even : IsEven l.caller.teller;
   number : l.caller.teller.standing.number ≡ l.initial.caller.teller.standing.number;
-  below : IsBelow l.context.tables.timing.now l.context.tables.conflicts.now.triples l.below;
+  below : IsBelow l.context.setting.now.tables.timing.now l.context.setting.now.tables.conflicts.now.triples l.below;
 }

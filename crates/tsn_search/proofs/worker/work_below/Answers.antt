@@ -4,8 +4,8 @@ use Rattle.tsn_search.proofs.worker.work_below.Goals as goal
 
 pub loop-preserved : goal.loop-preserved
 loop-preserved g c =
-    let network = c.args.context.now.tables.timing.now in
-    let triples = c.args.context.now.tables.conflicts.now.triples in
+    let network = c.args.context.now.setting.now.tables.timing.now in
+    let triples = c.args.context.now.setting.now.tables.conflicts.now.triples in
     let same = c.share_if_awaited.ensures in
     record {
       even = c.settle_next.ensures.even;

@@ -10,15 +10,15 @@ const NONE: u64 = u64::MAX;
 /// A gate that holds nobody, and keeps the least flowspan that was solved since the phase began, and what no schedule's flowspan
 /// is below, as it hears of them.
 #[derive(Drop)]
-pub struct Known {
+pub struct Heard {
     flowspan: AtomicU64,
     bound: AtomicU64,
 }
 
-impl Known {
+impl Heard {
     /// Nothing is known.
-    pub fn new() -> Known {
-        Known {
+    pub fn new() -> Heard {
+        Heard {
             flowspan: AtomicU64::new(NONE),
             bound: AtomicU64::new(NONE),
         }
@@ -41,7 +41,7 @@ impl Known {
     }
 }
 
-impl Gate for Known {
+impl Gate for Heard {
     fn pass(&self, _teller: usize) {}
 
     fn hear(&self, _teller: usize, news: News) {
