@@ -14,6 +14,7 @@ use crate::print::print;
 use crate::run::{DEVICE, DONE, MAX_FILE};
 use crate::valid::refusal;
 use std::alloc::Global;
+use std::mem;
 use std::sync::Wait;
 use std::thread::Threads;
 use tsn_book::{Book, Spelling};
@@ -32,7 +33,8 @@ pub const STOPPED: u8 = 5;
 /// Reads a network file and plans it by a method, with 1 to 16 workers and at most so many settlements, 1 to 1,000,000,000. It
 /// writes the plan, then its certificate, where there is a sink for it, then a line on what was found; or a line on why the file is
 /// refused. Where the limit is met it writes the best plan so far, if there is one, and no certificate. The certificate is written
-/// a node at a time; where memory is refused for one, the line says that. The gate hears of each settlement. The answer is the status.
+/// a node at a time; where memory is refused for one, the line says that. The gate hears of each settlement. The answer is the
+/// status. The memory of the search stays taken until the process ends.
 pub fn plan_run<R: Threads + Wait + Sync, N: Source, G: Gate + Sync, P: Sink, C: Sink, W: Sink>(
     rt: &R,
     alloc: Global,
@@ -145,6 +147,9 @@ fn found_in<R: Threads + Wait + Sync, G: Gate + Sync>(
 }
 
 /// What is printed of what a search found.
+//
+// Here and in `spelled` the book isn't let go of: the process that ran the command is about to end, and gives all memory back at
+// once, where letting go of a million events one by one took a sixth of a search by four workers.
 fn output_for(alloc: Global, found: Found, wanted: bool) -> Result<PlanOutput, NoMemory>
     requires { (network : Network) × ((limit : ℕ) × IsFound network limit found) }
     ensures tells { IfOk result (λ output. (network : Network) (limit : ℕ) → IsFound network limit found
@@ -156,7 +161,7 @@ fn output_for(alloc: Global, found: Found, wanted: bool) -> Result<PlanOutput, N
         Found::Finished(book) => finished(alloc, book, wanted),
         Found::Stopped(book) => {
             let output = stopped(alloc, &book);
-            drop(book);
+            mem::forget(book);
             output
         }
     }
@@ -207,7 +212,7 @@ fn spelled(book: Book, wanted: bool) -> Result<Option<Spelling>, NoMemory>
     if wanted {
         Ok(Some(book.into_spelling()?))
     } else {
-        drop(book);
+        mem::forget(book);
         Ok(None)
     }
 }
