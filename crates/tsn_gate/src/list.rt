@@ -140,8 +140,8 @@ impl GateList {
     }
 }
 
-/// The names of the nodes that a link joins.
-pub(crate) fn names(problem: &Problem, link: usize) -> (&str, &str)
+/// The names of the nodes that a link joins: of the one that sends, and of the one that receives.
+pub fn names(problem: &Problem, link: usize) -> (&str, &str)
     requires { link < length problem.now.network.links }
     ensures from { result.0.now ≡ name_at problem.now (link_at problem.now.network link).from }
     ensures to { result.1.now ≡ name_at problem.now (link_at problem.now.network link).to }

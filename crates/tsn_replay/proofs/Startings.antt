@@ -43,9 +43,11 @@ module _ (setting : Setting) (state : State) (can : IsSetting setting) (is : IsS
 
       pub starting_under_way : IsUnderWay setting after
       starting_under_way = started_under_way setting state can is number first waiting head time time_is order frame frame_is duration occupies some short moved moved_is early starts starts_are
-          (with_item state.frames waiting moved) refl (with_item state.free at (time + duration)) (ap (λ l. slice_set state.free.items l (time + duration)) (sym on))
+          (with_item state.frames waiting moved) refl (with_item state.free at (time + duration))
+          (ap (λ l. slice_set state.free.items l (time + duration)) (sym on))
 
       pub starting_others : (other : ℕ) → other < length setting.gates → (number ≡ other → ⊥) → ((d : LinkGates) → Waits setting.network (get_or setting.gates other d).link moved → ⊥)
           → IsPortAt setting after other (port_in state.ports other)
       starting_others = started_others setting state can is number first waiting head time time_is order frame frame_is duration occupies some short moved moved_is early starts starts_are
-          (with_item state.frames waiting moved) refl (with_item state.free at (time + duration)) (ap (λ l. slice_set state.free.items l (time + duration)) (sym on))
+          (with_item state.frames waiting moved) refl (with_item state.free at (time + duration))
+          (ap (λ l. slice_set state.free.items l (time + duration)) (sym on))

@@ -164,17 +164,20 @@ module _ (network : Network) (formed : IsWellFormed network) (offsets : List ℕ
         pub passage_tracked : IsTracked network offsets cycles (with_passage run (passage_of (frame_in frames number)) next.time) (slice_set frames number (advanced network (frame_in frames number) next.time))
         passage_tracked = tracked_next network offsets cycles run frames tracked number next.time can_start.0.0 can_start.0.1.waits
 
-      pub length_is : (duration : ℕ) → duration ≡ occupancy network (frame_in frames number).stream next.link → next.time + duration ≡ next.time + length_of network (passage_of (frame_in frames number))
+      pub length_is : (duration : ℕ) → duration ≡ occupancy network (frame_in frames number).stream next.link
+          → next.time + duration ≡ next.time + length_of network (passage_of (frame_in frames number))
       length_is duration is_duration = ap (λ n. next.time + n) (is_duration ∙ (ap (occupancy network (frame_in frames number).stream) (sym on) ∙ length_at network (frame_in frames number)))
 
       -- the state after it, from what the program computed
-      pub passage_step : (frame : Frame) → frame ≡ frame_in frames number → (trace : BridgeRun) → trace ≡ with_passage run (passage_of frame) next.time → (duration : ℕ) → duration ≡ occupancy network frame.stream next.link
+      pub passage_step : (frame : Frame) → frame ≡ frame_in frames number → (trace : BridgeRun) → trace ≡ with_passage run (passage_of frame) next.time
+          → (duration : ℕ) → duration ≡ occupancy network frame.stream next.link
           → (moved : Frame) → moved ≡ advanced network frame next.time → length free ≡ length network.links
           → IsRunSoFar network offsets gates cycles (free_on (slice_set free next.link (next.time + duration))) next.time trace
           × IsFedSoFar network gates cycles (free_on (slice_set free next.link (next.time + duration))) next.time background line trace
           × IsTracked network offsets cycles trace (slice_set frames number moved)
       passage_step frame same trace trace_is duration is_duration moved moved_is wires =
-          let duration_at : duration ≡ occupancy network (frame_in frames number).stream next.link = is_duration ∙ ap (λ (f : Frame). occupancy network f.stream next.link) same in
+          let duration_at : duration ≡ occupancy network (frame_in frames number).stream next.link = is_duration ∙ ap
+          (λ (f : Frame). occupancy network f.stream next.link) same in
           let until = length_is duration duration_at in
           let run_is : trace ≡ with_passage run (passage_of (frame_in frames number)) next.time = trace_is ∙ ap (λ (f : Frame). with_passage run (passage_of f) next.time) same in
           let frame_at : moved ≡ advanced network (frame_in frames number) next.time = moved_is ∙ ap (λ (f : Frame). advanced network f next.time) same in (

@@ -9,7 +9,8 @@ use Rattle.tsn_model.specs.Network.{link_at}
 use Rattle.tsn_net.specs.Problem.{NamedNetwork}
 use Rattle.tsn_streams.specs.declared.stream.StreamShare.{StreamShare}
 use Rattle.tsn_streams.specs.declared.link.LinkShare.{LinkShare}
-use Rattle.tsn_streams.specs.Table.{stream_name, name_at}
+use Rattle.tsn_gate.specs.Table.{name_at}
+use Rattle.tsn_streams.specs.Table.{stream_name}
 
 abbrev pub number_value : ℕ → Data
 number_value n = number (unsigned n)

@@ -1,20 +1,18 @@
 -- The shares as a table.
 --     stream_line, link_line, table_text     its lines, and all of them
---     stream_name, name_at                   names
+--     stream_name                            names
 use Rattle.std.specs.Prelude.{ℕ, List, [], ◌∷◌, ◌++◌, slice_get, unwrap_or, codes}
 use Rattle.std.specs.List.{flat_map}
 use Rattle.std.specs.Fmt.{decimal}
 use Rattle.tsn_model.specs.Network.{link_at}
 use Rattle.tsn_net.specs.Problem.{NamedNetwork}
+use Rattle.tsn_gate.specs.Table.{name_at}
 use Rattle.tsn_streams.specs.declared.stream.StreamShare.{StreamShare}
 use Rattle.tsn_streams.specs.declared.link.LinkShare.{LinkShare}
 
--- the names of a stream, and of a node; past the last one, none
+-- the name of a stream; past the last one, none
 abbrev pub stream_name : NamedNetwork → ℕ → List ℕ
 stream_name problem stream = unwrap_or (slice_get problem.stream_names stream) []
-
-abbrev pub name_at : NamedNetwork → ℕ → List ℕ
-name_at problem node = unwrap_or (slice_get problem.node_names node) []
 
 -- a stream's numbers, each after its word
 unfoldable pub stream_numbers : StreamShare → List ℕ

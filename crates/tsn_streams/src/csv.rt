@@ -6,9 +6,9 @@ ghost use Rattle.tsn_streams.specs.Csv.{link_head, link_numbers, link_record, qu
 
 use crate::link::LinkShare;
 use crate::stream::StreamShare;
-use crate::table::names;
 use std::alloc::AllocError;
 use std::fmt::Write;
+use tsn_gate::list::names;
 use tsn_net::Problem;
 
 /// The first line: the names of the fields.

@@ -6,9 +6,9 @@ ghost use Rattle.tsn_streams.specs.Json.{line_text, link_json, link_value, strea
 
 use crate::link::LinkShare;
 use crate::stream::StreamShare;
-use crate::table::names;
 use serde_json::{Value, json};
 use std::alloc::{AllocError, Global};
+use tsn_gate::list::names;
 use tsn_net::Problem;
 
 /// Writes the line of a stream.

@@ -1,28 +1,13 @@
 //! The lines of a table.
 ghost use Rattle.std.specs.Prelude.{◌≡◌, ◌++◌, ◌<◌, OnOk, length, string_bytes};
-ghost use Rattle.tsn_model.specs.Network.{link_at};
-ghost use Rattle.tsn_streams.specs.Table.{link_head, link_line, link_numbers, name_at, stream_line, stream_numbers};
+ghost use Rattle.tsn_streams.specs.Table.{link_head, link_line, link_numbers, stream_line, stream_numbers};
 
 use crate::link::LinkShare;
 use crate::stream::StreamShare;
 use std::alloc::AllocError;
 use std::fmt::Write;
+use tsn_gate::list::names;
 use tsn_net::Problem;
-
-/// The names of the nodes that a link joins.
-pub fn names(problem: &Problem, link: usize) -> (&str, &str)
-    requires { link < length problem.now.network.links }
-    ensures from { result.0.now ≡ name_at problem.now (link_at problem.now.network link).from }
-    ensures to { result.1.now ≡ name_at problem.now (link_at problem.now.network link).to }
-{
-    // The network is within its limits, and each node has a name.
-    let _limits = problem.cycle();
-    let _nodes = problem.nodes();
-    let joined = problem.link(link);
-    let from = problem.node_name(joined.from);
-    let to = problem.node_name(joined.to);
-    (from, to)
-}
 
 /// Writes the line of a stream.
 pub fn write_stream(
