@@ -8,6 +8,7 @@ use std::process::Abort;
 use std::test::*;
 use tsn_branch::outcome::Look;
 use tsn_branch::{Node, Triple, fits, whole_chains};
+use tsn_cert::{Leaf, LowerBound};
 use tsn_conflict::conflicts;
 use tsn_diff::Forest;
 use tsn_timing::{Solved, Timing};
