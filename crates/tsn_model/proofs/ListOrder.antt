@@ -20,7 +20,8 @@ take-same xs ys k in_first in_second same =
     get_or-take k xs i 0 low ∙ (same i low ∙ sym (get_or-take k ys i 0 low)))
 
 -- the first list comes before the second where it is less at a place, and the same at those before it
-pub before_at : (xs ys : List ℕ) (k : ℕ) → k < length xs → k < length ys → ((i : ℕ) → i < k → offset_of xs i ≡ offset_of ys i) → offset_of xs k < offset_of ys k → ComesBefore xs ys
+pub before_at : (xs ys : List ℕ) (k : ℕ) → k < length xs → k < length ys → ((i : ℕ) → i < k → offset_of xs i ≡ offset_of ys i)
+    → offset_of xs k < offset_of ys k → ComesBefore xs ys
 before_at xs ys k in_first in_second same less = (k, in_first, in_second, take-same xs ys k (omega arith) (omega arith) same, less)
 
 -- before the first place where they differ they are the same
@@ -83,7 +84,8 @@ before_more x y xs ys same before =
 heads_of : (x y : ℕ) (xs ys : List ℕ) → x ∷ xs ≡ y ∷ ys → (x ≡ y) × (xs ≡ ys)
 heads_of x y xs ys same = (cc, cc)
 
-before_parts : (x y : ℕ) (xs ys : List ℕ) (k : ℕ) → k < length (x ∷ xs) → k < length (y ∷ ys) → take k (x ∷ xs) ≡ take k (y ∷ ys) → slice_index (x ∷ xs) k < slice_index (y ∷ ys) k
+pub before_parts : (x y : ℕ) (xs ys : List ℕ) (k : ℕ) → k < length (x ∷ xs) → k < length (y ∷ ys) → take k (x ∷ xs) ≡ take k (y ∷ ys)
+    → slice_index (x ∷ xs) k < slice_index (y ∷ ys) k
     → (x < y) ⊎ ((x ≡ y) × ComesBefore xs ys)
 before_parts x y xs ys zero in_first in_second same less = inl less
 before_parts x y xs ys (suc k) in_first in_second same less =
@@ -109,7 +111,8 @@ before_is_true (x ∷ xs) [] before = let inside = before.2 in absurd (omega ari
 before_is_true (x ∷ xs) (y ∷ ys) before =
     elim (before_parts x y xs ys before.0 before.1 before.2 before.3 before.4) [
       | inl less ↦ or_left (nat_lt x y) (nat_eq x y && comes_before xs ys) (lt-ltb x y less)
-      | inr rest ↦ or_right (nat_lt x y) (nat_eq x y && comes_before xs ys) (and_from (nat_eq x y) (comes_before xs ys) (eq-eqb x y rest.0) (before_is_true xs ys rest.1))
+      | inr rest ↦ or_right (nat_lt x y) (nat_eq x y && comes_before xs ys)
+          (and_from (nat_eq x y) (comes_before xs ys) (eq-eqb x y rest.0) (before_is_true xs ys rest.1))
     ]
 
 -- of two different lists of one length one comes before the other
@@ -143,7 +146,8 @@ earlier_of xs ys =
       | inr is_not ↦ inr ((λ before. both_ways (comes_before ys xs) is_not (before_is_true ys xs before)), cond-false (comes_before ys xs) ys xs is_not)
     ]
 
-pub earlier_first : (xs ys : List ℕ) → length xs ≡ length ys → IsNotAfter (earlier xs ys) xs × IsNotAfter (earlier xs ys) ys × (length (earlier xs ys) ≡ length xs)
+pub earlier_first : (xs ys : List ℕ) → length xs ≡ length ys
+    → IsNotAfter (earlier xs ys) xs × IsNotAfter (earlier xs ys) ys × (length (earlier xs ys) ≡ length xs)
 earlier_first xs ys long =
     elim (earlier_of xs ys) [
       | inl second ↦ (
@@ -178,7 +182,8 @@ fold_among : (xs : List ℕ) (lists : List (List ℕ)) → Contains (xs ∷ list
 fold_among xs [] = Contains-head xs []
 fold_among xs (ys ∷ lists) =
     elim (earlier_of xs ys) [
-      | inl second ↦ subst (λ list. Contains (xs ∷ ys ∷ lists) (fold earlier list lists)) (sym second.1) (Contains-more xs (ys ∷ lists) (fold earlier ys lists) (fold_among ys lists))
+      | inl second ↦ subst (λ list. Contains (xs ∷ ys ∷ lists) (fold earlier list lists)) (sym second.1)
+          (Contains-more xs (ys ∷ lists) (fold earlier ys lists) (fold_among ys lists))
       | inr first ↦ subst (λ list. Contains (xs ∷ ys ∷ lists) (fold earlier list lists)) (sym first.1) (between (fold_among xs lists))
     ]
   where

@@ -1,0 +1,120 @@
+-- The numbers of a view stay between 0 and the cycle, unless it is impossible.
+use Rattle.std.proofs.Common.{ℕ, zero, suc, ◌<◌, List, [], ◌∷◌, length, get_or, set, ℤ, pos, ◌≤ℤ◌, sym, subst, arith, inl, inr}
+use Rattle.std.specs.Prelude.{int_le}
+use Rattle.std.specs.Int.{int_min, int_max}
+use Rattle.std.proofs.lemmas.Int.{ints, clamps, by_lt_z}
+use Rattle.std.proofs.lemmas.Bool.{cases_eq, cases_lt, cond_both}
+use Rattle.std.proofs.lemmas.List.{get_or-set_other, get_or-set_same, get_or_past, length-set}
+use Rattle.std.proofs.lemmas.List.FromFn.{get_or-map-range_with_len}
+use Rattle.tsn_model.specs.Network.{Network, stream_count, release_of}
+use Rattle.tsn_model.specs.Schedule.{flowspan}
+use Rattle.tsn_model.specs.Argument.{Goal, goal_first, goal_least, goal_none, Fact, from, until, order, done_from, done_until, View, low_at, high_at, IsImpossible, IsBounded, learned, learned_all, latest_offset, greatest_flowspan, first_ground, capped, settled}
+
+-- a higher number at one place leaves each at least as high
+raised-ge : (xs : List ℤ) (i j : ℕ) (v : ℤ) → get_or xs j (pos 0) ≤ℤ get_or (set xs i (int_max v (get_or xs i (pos 0)))) j (pos 0)
+raised-ge xs i j v = elim (cases_eq j i) [
+  | inl is ↦
+      let new = int_max v (get_or xs i (pos 0)) in
+      let here : get_or xs i (pos 0) ≤ℤ get_or (set xs i new) i (pos 0) = elim (cases_lt i (length xs)) [
+        | inl inside ↦ let is_new = get_or-set_same xs i new (pos 0) inside in omega (arith, ints, clamps, is_new)
+        | inr past ↦
+            let none = get_or_past (set xs i new) i (pos 0) (omega (arith, length-set xs i new)) in
+            let was_none = get_or_past xs i (pos 0) past in
+            omega (arith, ints, none, was_none)
+      ] in
+      subst (λ k. get_or xs k (pos 0) ≤ℤ get_or (set xs i new) k (pos 0)) (sym is) here
+  | inr other ↦ let same = get_or-set_other xs i j (int_max v (get_or xs i (pos 0))) (pos 0) other in omega (arith, ints, same)
+]
+
+lowered-le : (xs : List ℤ) (i j : ℕ) (v : ℤ) → get_or (set xs i (int_min v (get_or xs i (pos 0)))) j (pos 0) ≤ℤ get_or xs j (pos 0)
+lowered-le xs i j v = elim (cases_eq j i) [
+  | inl is ↦
+      let new = int_min v (get_or xs i (pos 0)) in
+      let here : get_or (set xs i new) i (pos 0) ≤ℤ get_or xs i (pos 0) = elim (cases_lt i (length xs)) [
+        | inl inside ↦ let is_new = get_or-set_same xs i new (pos 0) inside in omega (arith, ints, clamps, is_new)
+        | inr past ↦
+            let none = get_or_past (set xs i new) i (pos 0) (omega (arith, length-set xs i new)) in
+            let was_none = get_or_past xs i (pos 0) past in
+            omega (arith, ints, none, was_none)
+      ] in
+      subst (λ k. get_or (set xs i new) k (pos 0) ≤ℤ get_or xs k (pos 0)) (sym is) here
+  | inr other ↦ let same = get_or-set_other xs i j (int_min v (get_or xs i (pos 0))) (pos 0) other in omega (arith, ints, same)
+]
+
+capped-le : (plan : List ℕ) (lows highs : List ℤ) (j : ℕ) → get_or (capped plan lows highs) j (pos 0) ≤ℤ get_or highs j (pos 0)
+unfolding capped
+capped-le [] lows highs j = omega (arith, ints)
+capped-le (p ∷ plan) [] highs j = omega (arith, ints)
+capped-le (p ∷ plan) (l ∷ lows) [] j = omega (arith, ints)
+capped-le (p ∷ plan) (l ∷ lows) (h ∷ highs) zero = omega (arith, ints, clamps)
+capped-le (p ∷ plan) (l ∷ lows) (h ∷ highs) (suc k) =
+    cond_both (int_le (pos p) l) (capped plan lows highs) highs (λ ys. get_or ys k (pos 0) ≤ℤ get_or highs k (pos 0))
+        (λ known. capped-le plan lows highs k) (λ unknown. omega (arith, ints))
+
+module _ (network : Network) where
+  pub IsBounded-learned : (view : View) (fact : Fact) → IsBounded network view → IsBounded network (learned view fact)
+  unfolding learned
+  IsBounded-learned view (from i v) bounded = record {
+    low = λ j below. let rises = raised-ge view.low i j v in let old = bounded.low j below in omega (arith, ints, rises, old);
+    high = bounded.high;
+    done_low = bounded.done_low;
+    done_high = bounded.done_high;
+  }
+  IsBounded-learned view (until i v) bounded = record {
+    low = bounded.low;
+    high = λ j below. let falls = lowered-le view.high i j v in let old = bounded.high j below in omega (arith, ints, falls, old);
+    done_low = bounded.done_low;
+    done_high = bounded.done_high;
+  }
+  IsBounded-learned view (order decision) bounded = record
+      { low = bounded.low; high = bounded.high; done_low = bounded.done_low; done_high = bounded.done_high }
+  IsBounded-learned view (done_from v) bounded = record {
+    low = bounded.low;
+    high = bounded.high;
+    done_low = let old = bounded.done_low in omega (arith, ints, clamps);
+    done_high = bounded.done_high;
+  }
+  IsBounded-learned view (done_until v) bounded = record {
+    low = bounded.low;
+    high = bounded.high;
+    done_low = bounded.done_low;
+    done_high = let old = bounded.done_high in omega (arith, ints, clamps);
+  }
+
+  pub IsBounded-learned_all : (view : View) (facts : List Fact) → IsBounded network view → IsBounded network (learned_all view facts)
+  unfolding learned_all
+  IsBounded-learned_all view [] bounded = bounded
+  IsBounded-learned_all view (fact ∷ facts) bounded = IsBounded-learned_all (learned view fact) facts (IsBounded-learned view fact bounded)
+
+  pub IsBounded-settled : (goal : Goal) (view : View) → IsBounded network view → IsBounded network (settled network goal view)
+  unfolding settled
+  IsBounded-settled (goal_first plan) view bounded =
+      cond_both (int_le (pos (flowspan network plan)) view.done_low) (record view { high = capped plan view.low view.high }) view (IsBounded network)
+      (λ known. record {
+        low = bounded.low;
+        high = λ j below. let falls = capped-le plan view.low view.high j in let old = bounded.high j below in omega (arith, ints, falls, old);
+        done_low = bounded.done_low;
+        done_high = bounded.done_high;
+      })
+      (λ unknown. bounded)
+  IsBounded-settled (goal_least plan) view bounded = bounded
+  IsBounded-settled goal_none view bounded = bounded
+
+  pub IsBounded-first : (goal : Goal) → greatest_flowspan network goal ≤ℤ pos network.cycle → IsBounded network (first_ground network goal)
+  unfolding first_ground latest_offset
+  IsBounded-first goal within = record {
+    low = λ i below. let is = get_or-map-range_with_len (λ i. pos (release_of network i)) 0 (stream_count network) i i (pos 0) below
+        (omega arith) in omega (arith, ints, is);
+    high = λ i below. let is = get_or-map-range_with_len (latest_offset network) 0 (stream_count network) i i (pos 0) below (omega arith) in omega
+        (arith, ints, clamps, is);
+    done_low = omega (arith, ints);
+    done_high = within;
+  }
+
+  -- where a view isn't impossible, its least numbers are no higher than its greatest
+  pub not_crossed : (view : View) → (IsImpossible network view → ⊥)
+      → ((i : ℕ) → i < stream_count network → low_at view i ≤ℤ high_at view i) × (view.done_low ≤ℤ view.done_high)
+  not_crossed view possible = (
+    λ i below. by_lt_z (high_at view i) (low_at view i) (λ crossed. absurd (possible (inl (i, below, crossed)))) (λ fine. fine),
+    by_lt_z view.done_high view.done_low (λ crossed. absurd (possible (inr crossed))) (λ fine. fine),
+  )

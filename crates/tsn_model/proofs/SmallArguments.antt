@@ -1,0 +1,188 @@
+-- The small network's arguments.
+use Rattle.std.proofs.Common.{◌≡◌, ◌≢◌, ℕ, zero, suc, ◌<◌, [], ◌∷◌, get_or, ℤ, AllPairs, Contains, refl, ap, List, arith, inl, inr, pos, ◌≤ℤ◌}
+use Rattle.std.specs.Prelude.{int_le, ◌&&◌, true}
+use Rattle.std.proofs.lemmas.Int.{ints}
+use Rattle.std.proofs.lemmas.Bool.{and_parts}
+use Rattle.std.proofs.lemmas.List.Elements.{All-nil, All-cons}
+use Rattle.std.proofs.lemmas.List.Kept.{AllPairs-cons}
+use Rattle.tsn_model.specs.Network.{stream_at, octets_of, route_of, release_of, latest_of, link_at}
+use Rattle.tsn_model.specs.Timing.{occupancy, transfer, hop_delay, start, arrival, hop_end, span, greatest, hop_on, start_on, UsesLink}
+use Rattle.tsn_model.specs.Schedule.{offset_of, flowspan}
+use Rattle.tsn_model.specs.Arcs.{arc_between, arc_on, arc_of}
+use Rattle.tsn_model.specs.Certificate.{least}
+use Rattle.tsn_model.specs.Search.{side_eq, decision_eq}
+use Rattle.tsn_model.specs.Argument.{goal_first, goal_least, goal_none, order, done_from, IsFact, IsImpossible, other_side, turned, opposite, learned, learned_all, refuting, contradicts, left_open, unit_of, head_at, end_at, most, first_head, last_end, work_on, AreOn, AreSome, weight_by, shown_by, shown, narrowed, latest_offset, greatest_flowspan, first_ground, capped, settled, begun, ended, known_with, known_after, IsInQuestion, Step, Argues}
+use Rattle.tsn_model.specs.Examples.{star_network, small_network, short_network, shared, small_offsets, left_goes, right_goes, first_steps, least_steps, none_steps, far_steps, early_steps, SmallArguments}
+use Rattle.tsn_model.proofs.Lists.{Contains-head, Contains-more}
+use Rattle.tsn_model.proofs.Small.{small_formed, small_valid, shared_conflict}
+use Rattle.tsn_model.proofs.Arguments.{int_le-true, argues, plan_alone, argued_none}
+
+one_alone : (i : ℕ) → AllPairs ◌≢◌ (i ∷ [])
+one_alone i = AllPairs-cons ◌≢◌ i [] (All-nil (λ j. i ≢ j)) (λ a b d order below. absurd (omega arith))
+
+two_on : (cycle i j : ℕ) → i ≢ j → UsesLink (star_network cycle) i 4 → UsesLink (star_network cycle) j 4 → AreOn (star_network cycle) 4 (i ∷ j ∷ [])
+two_on cycle i j differ i_uses j_uses = record {
+  different = AllPairs-cons ◌≢◌ i (j ∷ []) (All-cons (λ k. i ≢ k) j [] differ (All-nil (λ k. i ≢ k))) (one_alone j);
+  on_link = All-cons (λ k. UsesLink (star_network cycle) k 4) i (j ∷ []) i_uses
+      (All-cons (λ k. UsesLink (star_network cycle) k 4) j [] j_uses (All-nil (λ k. UsesLink (star_network cycle) k 4)));
+}
+
+uses : (cycle : ℕ) → UsesLink (star_network cycle) 0 4 × UsesLink (star_network cycle) 1 4
+unfolding stream_at route_of hop_on
+uses cycle = (refl, refl)
+
+forth : (cycle : ℕ) → AreOn (star_network cycle) 4 (0 ∷ 1 ∷ [])
+forth cycle = two_on cycle 0 1 (λ same. omega arith) (uses cycle).0 (uses cycle).1
+
+back : (cycle : ℕ) → AreOn (star_network cycle) 4 (1 ∷ 0 ∷ [])
+back cycle = two_on cycle 1 0 (λ same. omega arith) (uses cycle).1 (uses cycle).0
+
+all_some : (i : ℕ) → AreSome (i ∷ []) (i ∷ [])
+all_some i = record {
+  one = omega arith;
+  different = one_alone i;
+  among = All-cons (Contains (i ∷ [])) i [] (Contains-head i []) (All-nil (Contains (i ∷ [])));
+}
+
+-- a view of two streams that isn't impossible
+is_open : (cycle : ℕ) (a b c d e f : ℤ) → (int_le a c && int_le b d && int_le e f) ≡ true
+    → IsImpossible (star_network cycle) (record { low = a ∷ b ∷ []; high = c ∷ d ∷ []; orders = []; done_low = e; done_high = f }) → ⊥
+is_open cycle a b c d e f known impossible =
+    let parts = and_parts (int_le a c && int_le b d) (int_le e f) known in
+    let streams = and_parts (int_le a c) (int_le b d) parts.0 in
+    let first = int_le-true a c streams.0 in
+    let second = int_le-true b d streams.1 in
+    let done = int_le-true e f parts.1 in
+    crossing impossible first second done
+  where
+    crossing : IsImpossible (star_network cycle) (record { low = a ∷ b ∷ []; high = c ∷ d ∷ []; orders = []; done_low = e; done_high = f }) → a ≤ℤ c
+        → b ≤ℤ d → e ≤ℤ f → ⊥
+    crossing (inl (zero, below, crossed)) first second done = omega (arith, ints)
+    crossing (inl (suc zero, below, crossed)) first second done = omega (arith, ints)
+    crossing (inl (suc (suc k), below, crossed)) first second done = omega arith
+    crossing (inr past) first second done = omega (arith, ints)
+
+-- at the end the least offsets are the plan's
+planned : (i : ℕ) → i < 2 → pos (offset_of (0 ∷ 672 ∷ []) i) ≤ℤ get_or (pos 0 ∷ pos 672 ∷ []) i (pos 0)
+planned zero below = omega (arith, ints)
+planned (suc zero) below = omega (arith, ints)
+planned (suc (suc k)) below = absurd (omega arith)
+
+first_argued : Argues small_network (goal_first small_offsets) first_steps
+unfolding first_steps small_network small_offsets stream_at octets_of route_of release_of latest_of link_at occupancy transfer hop_delay start arrival hop_end span greatest start_on flowspan least opposite learned learned_all head_at end_at most first_head last_end work_on shown narrowed latest_offset greatest_flowspan first_ground capped settled begun ended known_with known_after
+first_argued = (
+  record {
+    open_ground = is_open 1000000 _ _ _ _ _ _ refl;
+    facts = All-cons (IsFact small_network) (done_from _) [] tt (All-nil (IsFact small_network));
+    moves = (is_open 1000000 _ _ _ _ _ _ refl, omega arith,
+        (is_open 1000000 _ _ _ _ _ _ refl, omega arith, (is_open 1000000 _ _ _ _ _ _ refl, (forth 1000000, all_some 1, omega (arith, ints)), tt)));
+    shows = inr (inl (0, omega arith, omega (arith, ints)));
+  },
+  (
+    record {
+      open_ground = is_open 1000000 _ _ _ _ _ _ refl;
+      facts = All-nil (IsFact small_network);
+      moves = (is_open 1000000 _ _ _ _ _ _ refl, (back 1000000, all_some 0, omega (arith, ints)), tt);
+      shows = inl refl;
+    },
+    inr (omega (arith, ints), planned),
+  ),
+)
+
+none_argued : Argues short_network goal_none none_steps
+unfolding none_steps short_network stream_at octets_of route_of release_of latest_of link_at occupancy transfer hop_delay start arrival hop_end span greatest start_on least learned learned_all refuting head_at end_at most first_head last_end work_on shown narrowed latest_offset greatest_flowspan first_ground settled begun ended known_with known_after
+none_argued = (
+  record {
+    open_ground = is_open 2969 _ _ _ _ _ _ refl;
+    facts = All-nil (IsFact short_network);
+    moves = (is_open 2969 _ _ _ _ _ _ refl, (forth 2969, omega (arith, ints)), tt);
+    shows = inl refl;
+  },
+  inl (inr (omega (arith, ints))),
+)
+
+least_argued : Argues small_network (goal_least small_offsets) least_steps
+unfolding least_steps left_goes right_goes small_network shared small_offsets stream_at octets_of route_of release_of latest_of link_at occupancy transfer hop_delay start arrival hop_end span greatest start_on flowspan arc_of arc_on arc_between decision_eq side_eq other_side turned opposite learned learned_all refuting contradicts left_open unit_of weight_by shown_by shown narrowed latest_offset greatest_flowspan first_ground settled begun ended known_with known_after
+least_argued = (
+  record {
+    open_ground = is_open 1000000 _ _ _ _ _ _ refl;
+    facts = All-cons (IsFact small_network) (order right_goes) (order left_goes ∷ []) shared_conflict
+        (All-cons (IsFact small_network) (order left_goes) [] shared_conflict (All-nil (IsFact small_network)));
+    moves = (
+      is_open 1000000 _ _ _ _ _ _ refl,
+      (
+        All-cons (Contains (left_goes ∷ right_goes ∷ [])) left_goes (right_goes ∷ []) (Contains-head left_goes (right_goes ∷ []))
+            (All-cons (Contains (left_goes ∷ right_goes ∷ [])) right_goes []
+                (Contains-more left_goes (right_goes ∷ []) right_goes (Contains-head right_goes [])) (All-nil (Contains (left_goes ∷ right_goes ∷ [])))),
+        (0, (refl, (refl, refl))),
+        omega (arith, ints),
+      ),
+      tt,
+    );
+    shows = inr (inr (omega (arith, ints)));
+  },
+  (
+    record {
+      open_ground = is_open 1000000 _ _ _ _ _ _ refl;
+      facts = All-nil (IsFact small_network);
+      moves = (is_open 1000000 _ _ _ _ _ _ refl, omega arith,
+          (is_open 1000000 _ _ _ _ _ _ refl, omega arith,
+              (is_open 1000000 _ _ _ _ _ _ refl, (shared_conflict, omega (arith, ints)),
+                  (is_open 1000000 _ _ _ _ _ _ refl, (omega arith, omega arith),
+                      (is_open 1000000 _ _ _ _ _ _ refl, Contains-head left_goes (left_goes ∷ []), tt)))));
+      shows = inl refl;
+    },
+    inl (inl (1, omega arith, omega (arith, ints))),
+  ),
+)
+
+-- both streams are done by 2970, and need no longer
+too_far : Argues small_network (goal_first small_offsets) far_steps → ⊥
+unfolding far_steps small_network small_offsets stream_at octets_of route_of release_of latest_of link_at occupancy transfer hop_delay start arrival hop_end span greatest start_on flowspan least opposite learned learned_all head_at end_at most first_head last_end work_on shown narrowed latest_offset greatest_flowspan first_ground settled begun
+too_far argued =
+    let last = argued.0.moves.2.2.1.2 in
+    absurd (omega (arith, ints, last))
+
+-- the first clause has number 0
+too_early : Argues small_network (goal_least small_offsets) early_steps → ⊥
+unfolding early_steps known_with known_after
+too_early argued =
+    let known = argued.1.0.moves.1.0 in
+    absurd (omega arith)
+
+too_long : Argues (star_network 2970) goal_none none_steps → ⊥
+unfolding none_steps stream_at octets_of route_of release_of latest_of link_at occupancy transfer hop_delay start arrival hop_end span greatest start_on least learned_all head_at end_at most first_head last_end work_on latest_offset greatest_flowspan first_ground begun
+too_long argued =
+    let room = argued.0.moves.1.1 in
+    absurd (omega (arith, ints, room))
+
+-- the small network's plan comes before the other one of its flowspan
+before_later : IsInQuestion small_network (goal_first (672 ∷ 0 ∷ [])) small_offsets
+unfolding small_network small_offsets stream_at octets_of route_of link_at occupancy transfer hop_delay start arrival greatest flowspan
+before_later = record { valid = small_valid; against = inr (refl, inr (0, omega arith, omega arith, refl, omega arith)) }
+
+later : (steps : List Step) → Argues small_network (goal_first (672 ∷ 0 ∷ [])) steps → ⊥
+unfolding small_offsets
+later steps argued =
+    let found = argues small_network small_formed (goal_first (672 ∷ 0 ∷ [])) small_offsets before_later steps argued in
+    let same = plan_alone small_network (672 ∷ 0 ∷ []) small_offsets before_later found.view found.fits found.settles in
+    let first : offset_of small_offsets 0 ≡ offset_of (672 ∷ 0 ∷ []) 0 = ap (λ offsets. offset_of offsets 0) same in
+    absurd (omega arith)
+
+-- and undercuts one whose second stream starts 1 ns later
+undercuts : IsInQuestion small_network (goal_least (0 ∷ 673 ∷ [])) small_offsets
+unfolding small_network small_offsets stream_at octets_of route_of link_at occupancy transfer hop_delay start arrival greatest flowspan
+undercuts = record { valid = small_valid; against = omega arith }
+
+pub small_arguments : SmallArguments
+small_arguments = record {
+  first = first_argued;
+  least = least_argued;
+  none = none_argued;
+  too_far = too_far;
+  too_early = too_early;
+  too_long = too_long;
+  later = later;
+  undercut = λ steps argued. (argues small_network small_formed (goal_least (0 ∷ 673 ∷ [])) small_offsets undercuts steps argued).settles;
+  planned = λ steps argued. (argued_none small_network small_formed steps argued).none small_offsets small_valid;
+}
