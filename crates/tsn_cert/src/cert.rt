@@ -17,8 +17,8 @@ use crate::chains::{Chains, MAX_CHAINS};
 use crate::entries::{Entries, MAX_ENTRIES};
 use crate::leaf::{Leaf, LowerBound};
 use crate::plan::MAX_TIME;
-use crate::quick::{self, Unread};
-use crate::{FileFault, document};
+use crate::tokens::Unread;
+use crate::{FileFault, document, quick};
 use serde_json::{ToValue, Value, json};
 use std::alloc::{AllocError, Global};
 use std::marker::Model;
@@ -606,7 +606,11 @@ fn leaf_value(alloc: Global, leaf: &Leaf) -> Result<Value, AllocError>
         Leaf::Overrun(stream, chain) => {
             one_part_value(alloc, "overrun", *stream, chain_value(alloc, chain))
         }
-        Leaf::Cycle(chain) => pair_value(alloc, "cycle".to_value(alloc), chain_value(alloc, chain)),
+        Leaf::Cycle(chain) => document::pair_value(
+            alloc,
+            "cycle".to_value(alloc),
+            chain_value(alloc, chain),
+        ),
         Leaf::Overload(link, entries) => {
             one_part_value(alloc, "overload", *link, entries_value(alloc, entries))
         }
@@ -662,8 +666,8 @@ fn two_part_value(
     ensures { IfOk result (λ v. IsOkAnd first (λ p. IsOkAnd second (λ c. view v
         ≡ array_value (string word.now ∷ number_value number ∷ view p ∷ view c ∷ [])))) }
 {
-    let items = with_item(first_items(alloc, word, number), first);
-    Ok(Value::Array(with_item(items, second)?))
+    let items = document::with_item(document::first_items(alloc, word, number), first);
+    Ok(Value::Array(document::with_item(items, second)?))
 }
 
 /// An array of a word, a number and a part, where that could be made.
@@ -676,41 +680,7 @@ fn one_part_value(
     ensures { IfOk result (λ v. IsOkAnd part (λ p. view v
         ≡ array_value (string word.now ∷ number_value number ∷ view p ∷ []))) }
 {
-    Ok(Value::Array(with_item(first_items(alloc, word, number), part)?))
-}
-
-fn first_items(alloc: Global, word: &str, number: usize) -> Result<Vec<Value>, AllocError>
-    ensures { IfOk result (λ v. map view v.items
-        ≡ string word.now ∷ number_value number ∷ []) }
-{
-    let items = with_item(Ok(Vec::new(alloc)), word.to_value(alloc));
-    with_item(items, Ok(Value::from(number)))
-}
-
-/// An array of two elements.
-fn pair_value(
-    alloc: Global,
-    first: Result<Value, AllocError>,
-    second: Result<Value, AllocError>,
-) -> Result<Value, AllocError>
-    ensures { IfOk result (λ v. IsOkAnd first (λ a. IsOkAnd second (λ b. view v
-        ≡ array_value (view a ∷ view b ∷ [])))) }
-{
-    let items = with_item(Ok(Vec::new(alloc)), first);
-    Ok(Value::Array(with_item(items, second)?))
-}
-
-/// A list with one more element, where both could be made.
-fn with_item(
-    items: Result<Vec<Value>, AllocError>,
-    item: Result<Value, AllocError>,
-) -> Result<Vec<Value>, AllocError>
-    ensures { IfOk result (λ v. IsOkAnd items (λ xs. IsOkAnd item (λ x. map view v.items
-        ≡ map view xs.items ++ view x ∷ []))) }
-{
-    let mut items = items?;
-    items.push(item?)?;
-    Ok(items)
+    Ok(Value::Array(document::with_item(document::first_items(alloc, word, number), part)?))
 }
 
 #[tactic(auto, using(crate::proofs::CertLemmas::chains_back))]
@@ -758,7 +728,7 @@ fn entry_value(alloc: Global, entry: &(usize, Chain)) -> Result<Value, AllocErro
         (entry_of (entry_value (tree_entry entry.now)) ≡ Some (tree_entry entry.now)) }
 {
     let stream = Ok(Value::from(entry.0));
-    pair_value(alloc, stream, chain_value(alloc, &entry.1))
+    document::pair_value(alloc, stream, chain_value(alloc, &entry.1))
 }
 
 fn branch_value(alloc: Global, triple: &Triple) -> Result<Value, AllocError>

@@ -4,13 +4,14 @@
 pub mod cert;
 pub mod chain;
 pub mod chains;
-mod document;
+pub mod document;
 pub mod entries;
 pub mod fault;
 pub mod leaf;
 pub mod plan;
 mod quick;
 pub mod text;
+pub mod tokens;
 
 pub use cert::{Cert, Format, Node, Nodes, cert_from_json, cert_to_json};
 pub use chain::Chain;

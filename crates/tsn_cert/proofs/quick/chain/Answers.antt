@@ -4,9 +4,9 @@ use Rattle.tsn_cert.proofs.quick.chain.Goals as goal
 
 pub returns-clause-text : goal.returns-clause-text
 returns-clause-text c =
-    let same : c.deref.result.now ≡ c.depths.new.list.items = grind arith in
-    λ depth. rw c.in_ok-found.ensures (rw same (spelled_at _ _ _ _ _ c.in_ok-open_array.ensures (c.in_ok-depths.ensures depth)))
+    let same : c.deref.result.now ≡ c.numbers.new.list.items = grind arith in
+    λ depth. rw c.in_ok-found.ensures (rw same (spelled_at _ _ _ _ _ c.in_ok-open_array.ensures (c.in_ok-numbers.ensures depth)))
 
 pub returns-clause-shorter : goal.returns-clause-shorter
 returns-clause-shorter c =
-    spelled-shorter 1 _ _ _ (spelled_at _ _ _ _ _ c.in_ok-open_array.ensures (c.in_ok-depths.ensures 0))
+    spelled-shorter 1 _ _ _ (spelled_at _ _ _ _ _ c.in_ok-open_array.ensures (c.in_ok-numbers.ensures 0))

@@ -3,7 +3,7 @@ use Rattle.json.specs.Json.{after_end_array}
 use Rattle.tsn_cert.specs.Json.{number_value}
 use Rattle.tsn_cert.specs.Spelled.{SpellsEach}
 use Rattle.tsn_cert.proofs.SpelledLemmas.{array_spelled, more_spelled}
-use Rattle.tsn_cert.proofs.quick.depths.Goals as goal
+use Rattle.tsn_cert.proofs.tokens.numbers.Goals as goal
 
 pub numbers-init : goal.numbers-init
 numbers-init c =

@@ -1,7 +1,7 @@
 use Rattle.std.proofs.Common.{ℕ, length, map}
 use Rattle.tsn_cert.specs.Json.{number_value}
 use Rattle.tsn_cert.specs.Spelled.{SpellsEach}
-use Rattle.tsn_cert.proofs.quick.depths.Given as goal
+use Rattle.tsn_cert.proofs.tokens.numbers.Given as goal
 
 abbrev pub invariant-numbers : goal.invariant-numbers
 invariant-numbers l = (depth : ℕ) → SpellsEach depth l.initial.reader (map number_value l.list.items) l.reader

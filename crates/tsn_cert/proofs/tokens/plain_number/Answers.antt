@@ -3,7 +3,7 @@ use Rattle.std.specs.Prelude.{IfOk}
 use Rattle.serde_json.specs.Data.{unsigned}
 use Rattle.serde_json.specs.Read.{number_of}
 use Rattle.tsn_cert.proofs.SpelledLemmas.{plain_is}
-use Rattle.tsn_cert.proofs.quick.plain_number.Goals as goal
+use Rattle.tsn_cert.proofs.tokens.plain_number.Goals as goal
 
 pub returns : goal.returns
 returns c =

@@ -1,0 +1,153 @@
+//! Tokens of a JSON text, as a file in its written form has them, read with no value of the text in between.
+ghost use Rattle.std.specs.Prelude.{◌≡◌, ◌<◌, ℕ, suc, length, map, ◌∷◌, Some, None, IfOk, OnOk};
+ghost use Rattle.json.specs.Token.{begin_object, begin_array, string};
+ghost use Rattle.json.specs.Token as token;
+ghost use Rattle.json.specs.Json.{after_end_array, read_key};
+ghost use Rattle.serde_json.specs.Data.{unsigned};
+ghost use Rattle.serde_json.specs.Read.{number_of};
+ghost use Rattle.tsn_cert.specs.Json.{number_value, array_value};
+ghost use Rattle.tsn_cert.specs.Spelled.{Spells};
+
+use fast_float::Numeral;
+use json::{Reader, Token};
+use std::alloc::{AllocError, AllocFailed};
+use tsn_model::NoMemory;
+
+/// Why the quick reading gives up.
+#[derive(Clone, Copy, Debug, Drop)]
+pub enum Unread {
+    /// The text isn't written as certificates are.
+    OtherForm,
+    /// A growth was refused.
+    Memory,
+}
+
+impl From<NoMemory> for Unread {
+    fn from(_refused: NoMemory) -> Unread {
+        Unread::Memory
+    }
+}
+
+impl From<AllocError> for Unread {
+    fn from(_refused: AllocError) -> Unread {
+        Unread::Memory
+    }
+}
+
+impl<T: Drop> From<AllocFailed<T>> for Unread {
+    fn from(_refused: AllocFailed<T>) -> Unread {
+        Unread::Memory
+    }
+}
+
+pub fn open_array(reader: &mut Reader<'_>) -> Result<(), Unread>
+    ensures { OnOk result (reader.old ≡ begin_array ∷ reader.new) }
+{
+    match reader.next() {
+        Some(Token::BeginArray) => Ok(()),
+        _ => Err(Unread::OtherForm),
+    }
+}
+
+pub fn close_array(reader: &mut Reader<'_>) -> Result<(), Unread>
+    ensures { OnOk result (after_end_array reader.old ≡ Some reader.new) }
+{
+    if reader.take_end_array() {
+        Ok(())
+    } else {
+        Err(Unread::OtherForm)
+    }
+}
+
+pub fn open_object(reader: &mut Reader<'_>) -> Result<(), Unread>
+    ensures { OnOk result (reader.old ≡ begin_object ∷ reader.new) }
+{
+    match reader.next() {
+        Some(Token::BeginObject) => Ok(()),
+        _ => Err(Unread::OtherForm),
+    }
+}
+
+pub fn close_object(reader: &mut Reader<'_>) -> Result<(), Unread>
+    ensures { OnOk result (read_key reader.old ≡ Some (None, reader.new)) }
+{
+    match reader.next_key() {
+        Ok(None) => Ok(()),
+        _ => Err(Unread::OtherForm),
+    }
+}
+
+/// Passes the key of this name.
+pub fn key(reader: &mut Reader<'_>, name: &str) -> Result<(), Unread>
+    ensures { OnOk result (read_key reader.old ≡ Some (Some name.now, reader.new)) }
+{
+    let Ok(Some(found)) = reader.next_key() else {
+        return Err(Unread::OtherForm);
+    };
+    if found == name {
+        Ok(())
+    } else {
+        Err(Unread::OtherForm)
+    }
+}
+
+pub fn word<'a>(reader: &mut Reader<'a>) -> Result<&'a str, Unread>
+    ensures { IfOk result (λ word. reader.old ≡ string word.now ∷ reader.new) }
+{
+    match reader.next() {
+        Some(Token::String(text)) => Ok(text),
+        _ => Err(Unread::OtherForm),
+    }
+}
+
+/// The text of a number.
+pub fn number_text<'a>(reader: &mut Reader<'a>) -> Result<&'a str, Unread>
+    ensures { IfOk result (λ text. reader.old ≡ token.number text.now ∷ reader.new) }
+{
+    match reader.next() {
+        Some(Token::Number(text)) => Ok(text),
+        _ => Err(Unread::OtherForm),
+    }
+}
+
+/// The number that the text of a token writes without a sign, a point or an exponent.
+pub fn plain_number(text: &str) -> Result<u64, Unread>
+    ensures { IfOk result (λ n. number_of text.now ≡ Some (unsigned n)) }
+{
+    let bytes = text.as_bytes();
+    if bytes.is_empty() || bytes[0] == b'-' {
+        return Err(Unread::OtherForm);
+    }
+    Numeral::scan(bytes).to_u64().ok_or(Unread::OtherForm)
+}
+
+pub fn number(reader: &mut Reader<'_>) -> Result<u64, Unread>
+    ensures text { IfOk result (λ n. (depth : ℕ)
+        → Spells depth reader.old (number_value n) reader.new) }
+    ensures shorter { OnOk result (length reader.new < length reader.old) }
+{
+    let text = number_text(reader)?;
+    let found = plain_number(text)?;
+    Ok(found)
+}
+
+pub fn index(reader: &mut Reader<'_>) -> Result<usize, Unread>
+    ensures text { IfOk result (λ n. (depth : ℕ)
+        → Spells depth reader.old (number_value n) reader.new) }
+    ensures shorter { OnOk result (length reader.new < length reader.old) }
+{
+    Ok(number(reader)? as usize)
+}
+
+/// Reads numbers up to the end of their array, in place of those in the list.
+pub fn numbers(reader: &mut Reader<'_>, list: &mut Vec<usize>) -> Result<(), Unread>
+    ensures { OnOk result ((depth : ℕ)
+        → Spells (suc depth) (begin_array ∷ reader.old) (array_value (map number_value list.new.items)) reader.new) }
+{
+    list.clear();
+    'numbers: while !reader.take_end_array() {
+        let one = index(reader)?;
+        list.push(one)?;
+    }
+    Ok(())
+}
