@@ -56,7 +56,7 @@ module _ (network : Network) (formed : IsWellFormed network) (offsets : List ℕ
     heads_below streams on_link k d below =
         let i = get_or streams k d in
         let head = All-unmap (λ x. least (map (head_at network view link) streams) ≤ℤ x) (head_at network view link) streams
-            (least-le (map (head_at network view link) streams)) k d below in
+        (least-le (map (head_at network view link) streams)) k d below in
         let low = fits.low i (UsesLink-counted network i link (on_link k d below)) in
         omega (arith, ints, head, low)
 
@@ -66,7 +66,7 @@ module _ (network : Network) (formed : IsWellFormed network) (offsets : List ℕ
     ends_above streams on_link k d below =
         let i = get_or streams k d in
         let end = All-unmap (λ x. x ≤ℤ most (map (end_at network view link) streams)) (end_at network view link) streams
-            (most-ge (map (end_at network view link) streams)) k d below in
+        (most-ge (map (end_at network view link) streams)) k d below in
         let high = fits.high i (UsesLink-counted network i link (on_link k d below)) in
         omega (arith, ints, end, high)
 
@@ -77,7 +77,7 @@ module _ (network : Network) (formed : IsWellFormed network) (offsets : List ℕ
     pack_sound [] are past = omega (arith, ints, past)
     pack_sound (i ∷ streams) are past =
         let room = packed_on (i ∷ streams) (first_head network view link (i ∷ streams)) (last_end network view link (i ∷ streams)) (omega arith) are
-            (heads_below (i ∷ streams) are.on_link) (ends_above (i ∷ streams) are.on_link) in
+        (heads_below (i ∷ streams) are.on_link) (ends_above (i ∷ streams) are.on_link) in
         omega (arith, ints, past, room)
 
     module _ (j : ℕ) (streams : List ℕ) (are : AreOn network link (j ∷ streams)) where
@@ -109,10 +109,10 @@ module _ (network : Network) (formed : IsWellFormed network) (offsets : List ℕ
         | inr after ↦
             let ends = ends_above streams uses in
             let end_of_i : pos (begin_of i + work i) ≤ℤ last_end network view link streams = All-contains
-                (λ k. pos (begin_of k + work k) ≤ℤ last_end network view link streams) streams i ends has in
+            (λ k. pos (begin_of k + work k) ≤ℤ last_end network view link streams) streams i ends has in
             let end_of_j : pos (begin_of j + work j) ≤ℤ last_end network view link streams = omega (arith, ints, after, end_of_i) in
             let room = packed_on (j ∷ streams) (first_head network view link (j ∷ streams)) (last_end network view link streams) (omega arith) are
-                (heads_below (j ∷ streams) are.on_link)
+            (heads_below (j ∷ streams) are.on_link)
             (All-cons (λ k. pos (begin_of k + work k) ≤ℤ last_end network view link streams) j streams end_of_j ends) in
             absurd (omega (arith, ints, past, room))
       ]
@@ -126,7 +126,7 @@ module _ (network : Network) (formed : IsWellFormed network) (offsets : List ℕ
         | inl before ↦
             let heads = heads_below streams uses in
             let head_of_i : first_head network view link streams ≤ℤ pos (begin_of i) = All-contains
-                (λ k. first_head network view link streams ≤ℤ pos (begin_of k)) streams i heads has in
+            (λ k. first_head network view link streams ≤ℤ pos (begin_of k)) streams i heads has in
             let head_of_j : first_head network view link streams ≤ℤ pos (begin_of j) = omega (arith, ints, before, head_of_i) in
             let room = packed_on (j ∷ streams) (first_head network view link streams) (last_end network view link (j ∷ streams)) (omega arith) are
             (All-cons (λ k. first_head network view link streams ≤ℤ pos (begin_of k)) j streams head_of_j heads) (ends_above (j ∷ streams) are.on_link) in
@@ -146,7 +146,7 @@ module _ (network : Network) (formed : IsWellFormed network) (offsets : List ℕ
       pub first_sound : (some : List ℕ) → AreSome streams some
           → last_end network view link (j ∷ streams) <ℤ (first_head network view link streams +ℤ pos (work_on network link (j ∷ streams)))
           → pos (offset_of offsets j) ≤ℤ ((last_end network view link some -ℤ pos (work_on network link some)) -ℤ pos
-              (start_on network j link + occupancy network j link))
+          (start_on network j link + occupancy network j link))
       first_sound some are_some past =
           let on = some_on some are_some in
           let heads : All (λ i. pos (begin_of j + work j) ≤ℤ pos (begin_of i)) some =

@@ -53,7 +53,7 @@ module _ (network : Network) (formed : IsWellFormed network) (offsets : List ℕ
         let low = fits.low arc.from begins in
         let high = fits.high arc.to ends in
         All-cons (IsSo network offsets) (from arc.to (low_at view arc.from +ℤ arc.weight)) (until arc.from (high_at view arc.to -ℤ arc.weight) ∷ [])
-            (ends, omega (arith, ints, low, met))
+        (ends, omega (arith, ints, low, met))
         (one_so network offsets (until arc.from (high_at view arc.to -ℤ arc.weight)) (begins, omega (arith, ints, high, met)))
 
     go_sound : (decision : Decision) → Contains view.orders decision → AreSo network offsets (shown_by view (arc_of network decision))
@@ -93,7 +93,7 @@ module _ (network : Network) (formed : IsWellFormed network) (offsets : List ℕ
         let done = fits.done_high in
         let arrived = arrival-le-flowspan network offsets i is in
         All-cons (IsSo network offsets) (done_from (low_at view i +ℤ pos (arrival network i)))
-            (until i (view.done_high -ℤ pos (arrival network i)) ∷ []) (tt, omega (arith, ints, low, arrived))
+        (until i (view.done_high -ℤ pos (arrival network i)) ∷ []) (tt, omega (arith, ints, low, arrived))
         (one_so network offsets (until i (view.done_high -ℤ pos (arrival network i))) (is, omega (arith, ints, done, arrived)))
 
     -- offsets rise along decisions of the view by their weights at least
@@ -105,9 +105,9 @@ module _ (network : Network) (formed : IsWellFormed network) (offsets : List ℕ
         let so = All-contains (λ d. IsSo network offsets (order d)) view.orders decision fits.orders (All-head (Contains view.orders) decision decisions are) in
         let rest = along decisions (All-tail (Contains view.orders) decision decisions are) (arc_of network decision).to j leads.1 in
         let met : (pos (offset_of offsets (arc_of network decision).from) +ℤ (arc_of network decision).weight) ≤ℤ pos
-            (offset_of offsets (arc_of network decision).to) = so.1 in
+        (offset_of offsets (arc_of network decision).to) = so.1 in
         let begins : (pos (offset_of offsets i) +ℤ (arc_of network decision).weight) ≤ℤ pos
-            (offset_of offsets (arc_of network decision).to) = rw leads.0 at met in
+        (offset_of offsets (arc_of network decision).to) = rw leads.0 at met in
         omega (arith, ints, begins, rest)
 
     -- what the move shows holds
@@ -120,11 +120,15 @@ module _ (network : Network) (formed : IsWellFormed network) (offsets : List ℕ
         one_so network offsets (unit_of view (left_open view (clause_at clauses k))) (apply_sound (clause_at clauses k) (known k [] allowed.0) allowed.1)
     shown_sound clauses known (arrive i) allowed = arrive_sound i allowed
     shown_sound clauses known (put_last link j streams some) allowed =
-        one_so network offsets (from j _) (UsesLink-counted network j link (All-head (λ i. UsesLink network i link) j streams allowed.0.on_link),
-            last_sound network formed offsets valid link view fits j streams allowed.0 some allowed.1 allowed.2)
+        one_so network offsets (from j _) (
+          UsesLink-counted network j link (All-head (λ i. UsesLink network i link) j streams allowed.0.on_link),
+          last_sound network formed offsets valid link view fits j streams allowed.0 some allowed.1 allowed.2,
+        )
     shown_sound clauses known (put_first link j streams some) allowed =
-        one_so network offsets (until j _) (UsesLink-counted network j link (All-head (λ i. UsesLink network i link) j streams allowed.0.on_link),
-            first_sound network formed offsets valid link view fits j streams allowed.0 some allowed.1 allowed.2)
+        one_so network offsets (until j _) (
+          UsesLink-counted network j link (All-head (λ i. UsesLink network i link) j streams allowed.0.on_link),
+          first_sound network formed offsets valid link view fits j streams allowed.0 some allowed.1 allowed.2,
+        )
     shown_sound clauses known (pack link streams) allowed = absurd (pack_sound network formed offsets valid link view fits streams allowed.0 allowed.1)
     shown_sound clauses known (round decisions) allowed =
         let i : ℕ = allowed.1.0 in

@@ -49,7 +49,7 @@ capped-le (p ∷ plan) (l ∷ lows) [] j = omega (arith, ints)
 capped-le (p ∷ plan) (l ∷ lows) (h ∷ highs) zero = omega (arith, ints, clamps)
 capped-le (p ∷ plan) (l ∷ lows) (h ∷ highs) (suc k) =
     cond_both (int_le (pos p) l) (capped plan lows highs) highs (λ ys. get_or ys k (pos 0) ≤ℤ get_or highs k (pos 0))
-        (λ known. capped-le plan lows highs k) (λ unknown. omega (arith, ints))
+    (λ known. capped-le plan lows highs k) (λ unknown. omega (arith, ints))
 
 module _ (network : Network) where
   pub IsBounded-learned : (view : View) (fact : Fact) → IsBounded network view → IsBounded network (learned view fact)

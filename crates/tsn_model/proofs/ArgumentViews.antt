@@ -35,7 +35,7 @@ pub decision_eq-true : (a b : Decision) → decision_eq a b ≡ true → a ≡ b
 unfolding decision_eq
 decision_eq-true a b same =
     let sides = and_parts (nat_eq a.triple.left b.triple.left && nat_eq a.triple.right b.triple.right && nat_eq a.triple.link b.triple.link)
-        (side_eq a.side b.side) same in
+    (side_eq a.side b.side) same in
     let links = and_parts (nat_eq a.triple.left b.triple.left && nat_eq a.triple.right b.triple.right) (nat_eq a.triple.link b.triple.link) sides.0 in
     let streams = and_parts (nat_eq a.triple.left b.triple.left) (nat_eq a.triple.right b.triple.right) links.0 in
     let left = eqb-true a.triple.left b.triple.left streams.0 in
@@ -132,7 +132,7 @@ module _ (network : Network) (offsets : List ℕ) where
   Fits-learned_all view [] so fits = fits
   Fits-learned_all view (fact ∷ facts) so fits =
       Fits-learned_all (learned view fact) facts (All-tail (IsSo network offsets) fact facts so)
-          (Fits-learned view fact (All-head (IsSo network offsets) fact facts so) fits)
+      (Fits-learned view fact (All-head (IsSo network offsets) fact facts so) fits)
 
   -- none fit an impossible view
   pub none_fits : (view : View) → IsImpossible network view → Fits network offsets view → ⊥

@@ -74,8 +74,11 @@ first_argued = (
   record {
     open_ground = is_open 1000000 _ _ _ _ _ _ refl;
     facts = All-cons (IsFact small_network) (done_from _) [] tt (All-nil (IsFact small_network));
-    moves = (is_open 1000000 _ _ _ _ _ _ refl, omega arith,
-        (is_open 1000000 _ _ _ _ _ _ refl, omega arith, (is_open 1000000 _ _ _ _ _ _ refl, (forth 1000000, all_some 1, omega (arith, ints)), tt)));
+    moves = (
+      is_open 1000000 _ _ _ _ _ _ refl,
+      omega arith,
+      (is_open 1000000 _ _ _ _ _ _ refl, omega arith, (is_open 1000000 _ _ _ _ _ _ refl, (forth 1000000, all_some 1, omega (arith, ints)), tt)),
+    );
     shows = inr (inl (0, omega arith, omega (arith, ints)));
   },
   (
@@ -113,7 +116,7 @@ least_argued = (
       (
         All-cons (Contains (left_goes ∷ right_goes ∷ [])) left_goes (right_goes ∷ []) (Contains-head left_goes (right_goes ∷ []))
             (All-cons (Contains (left_goes ∷ right_goes ∷ [])) right_goes []
-                (Contains-more left_goes (right_goes ∷ []) right_goes (Contains-head right_goes [])) (All-nil (Contains (left_goes ∷ right_goes ∷ [])))),
+            (Contains-more left_goes (right_goes ∷ []) right_goes (Contains-head right_goes [])) (All-nil (Contains (left_goes ∷ right_goes ∷ [])))),
         (0, (refl, (refl, refl))),
         omega (arith, ints),
       ),
@@ -125,11 +128,23 @@ least_argued = (
     record {
       open_ground = is_open 1000000 _ _ _ _ _ _ refl;
       facts = All-nil (IsFact small_network);
-      moves = (is_open 1000000 _ _ _ _ _ _ refl, omega arith,
-          (is_open 1000000 _ _ _ _ _ _ refl, omega arith,
-              (is_open 1000000 _ _ _ _ _ _ refl, (shared_conflict, omega (arith, ints)),
-                  (is_open 1000000 _ _ _ _ _ _ refl, (omega arith, omega arith),
-                      (is_open 1000000 _ _ _ _ _ _ refl, Contains-head left_goes (left_goes ∷ []), tt)))));
+      moves = (
+        is_open 1000000 _ _ _ _ _ _ refl,
+        omega arith,
+        (
+          is_open 1000000 _ _ _ _ _ _ refl,
+          omega arith,
+          (
+            is_open 1000000 _ _ _ _ _ _ refl,
+            (shared_conflict, omega (arith, ints)),
+            (
+              is_open 1000000 _ _ _ _ _ _ refl,
+              (omega arith, omega arith),
+              (is_open 1000000 _ _ _ _ _ _ refl, Contains-head left_goes (left_goes ∷ []), tt),
+            ),
+          ),
+        ),
+      );
       shows = inl refl;
     },
     inl (inl (1, omega arith, omega (arith, ints))),
