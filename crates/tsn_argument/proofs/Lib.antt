@@ -1,0 +1,4 @@
+pub mod Parts
+pub mod Spelled
+pub mod Shape
+pub mod TextParts

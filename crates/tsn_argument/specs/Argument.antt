@@ -1,0 +1,303 @@
+-- The argument file: `{"format":3,"goal":"..","steps":[..],"target":T}`, each step a clause and moves.
+use Rattle.std.specs.Prelude.{ℕ, List, [], ◌∷◌, length, map, Bool, if◌then◌else◌, ◌&&◌, ◌==◌, nat_le, codes, Option, Some, None, option_map, Result}
+use Rattle.std.specs.List.{list_all}
+use Rattle.std.specs.Str.{bytes_eq}
+use Rattle.serde_json.specs.Data.{Data, string, object, no_members, member}
+use Rattle.serde_json.specs.Find.{get, as_str}
+use Rattle.tsn_cert.specs.Json.{◌>>=◌, when, value_of, file_text, whole_number, numbers, elements, each, is_object_of, all_within, number_value, array_value}
+use Rattle.tsn_cert.specs.Fault.{answer}
+use Rattle.tsn_cert.specs.Plan.{max_time}
+use Rattle.tsn_cert.specs.Cert.{max_number}
+use Rattle.tsn_cert.specs.declared.fault.FileFault.{FileFault}
+use Rattle.tsn_argument.specs.declared.order.Order.{Order}
+use Rattle.tsn_argument.specs.declared.fact.Fact.{Fact}
+use Rattle.tsn_argument.specs.declared.fact.Fact.TheVariants as fact
+use Rattle.tsn_argument.specs.declared.motion.Placing.{Placing}
+use Rattle.tsn_argument.specs.declared.motion.Move.{Move}
+use Rattle.tsn_argument.specs.declared.motion.Move.TheVariants as form
+use Rattle.tsn_argument.specs.declared.step.Step.{Step}
+use Rattle.tsn_argument.specs.declared.argument.Goal.{Goal}
+use Rattle.tsn_argument.specs.declared.argument.Goal.TheVariants as aim
+use Rattle.tsn_argument.specs.declared.argument.Argument.{Argument}
+
+-- ---- the grammar
+
+-- two streams and a link
+abbrev pub order_parts : List Data → Option Order
+order_parts (first ∷ second ∷ link ∷ []) = do
+  i ← whole_number first
+  j ← whole_number second
+  l ← whole_number link
+  Some (record { first = i; second = j; link = l })
+order_parts _ = None
+
+-- a stream and a time
+abbrev pub bound_parts : List Data → Option (ℕ × ℕ)
+bound_parts (stream ∷ time ∷ []) = do
+  i ← whole_number stream
+  v ← whole_number time
+  Some (i, v)
+bound_parts _ = None
+
+-- a number alone
+abbrev pub number_part : List Data → Option ℕ
+number_part (d ∷ []) = whole_number d
+number_part _ = None
+
+-- what stands behind the word of a fact
+abbrev pub fact_parts : List ℕ → List Data → Option Fact
+fact_parts word ds =
+    if bytes_eq word (codes "from") then option_map (λ b. fact.From b.0 b.1) (bound_parts ds)
+    else (if bytes_eq word (codes "until") then option_map (λ b. fact.Until b.0 b.1) (bound_parts ds)
+    else (if bytes_eq word (codes "order") then option_map fact.Order (order_parts ds)
+    else (if bytes_eq word (codes "done_from") then option_map fact.DoneFrom (number_part ds)
+    else (if bytes_eq word (codes "done_until") then option_map fact.DoneUntil (number_part ds)
+    else None))))
+
+-- a word, and what stands behind it
+abbrev pub worded : {A : Type 0} → (List ℕ → List Data → Option A) → List Data → Option A
+worded parts [] = None
+worded parts (word ∷ ds) = do
+  w ← as_str word
+  parts w ds
+
+abbrev pub fact_in : Data → Option Fact
+fact_in d = do
+  ds ← elements d
+  worded fact_parts ds
+
+abbrev pub clause_in : Data → Option (List Fact)
+clause_in d = do
+  ds ← elements d
+  each fact_in ds
+
+-- the most streams or orders of a move
+abbrev pub max_listed : ℕ
+max_listed = 128
+
+-- an array of 1 to 128 streams
+abbrev pub streams_of : Data → Option (List ℕ)
+streams_of d = do
+  streams ← numbers d
+  when (nat_le 1 (length streams) && nat_le (length streams) max_listed) (Some streams)
+
+abbrev pub order_in : Data → Option Order
+order_in d = do
+  ds ← elements d
+  order_parts ds
+
+abbrev pub order_list : Data → Option (List Order)
+order_list d = do
+  ds ← elements d
+  each order_in ds
+
+-- an array of 1 to 128 orders
+abbrev pub orders_of : Data → Option (List Order)
+orders_of d = do
+  orders ← order_list d
+  when (nat_le 1 (length orders) && nat_le (length orders) max_listed) (Some orders)
+
+-- a link, a stream, others and some of these
+abbrev pub placing_parts : List Data → Option Placing
+placing_parts (link ∷ stream ∷ others ∷ some ∷ []) = do
+  l ← whole_number link
+  j ← whole_number stream
+  os ← streams_of others
+  ss ← streams_of some
+  Some (record { link = l; stream = j; others = os; some = ss })
+placing_parts _ = None
+
+-- a link and streams
+abbrev pub pack_parts : List Data → Option (ℕ × List ℕ)
+pack_parts (link ∷ streams ∷ []) = do
+  l ← whole_number link
+  ss ← streams_of streams
+  Some (l, ss)
+pack_parts _ = None
+
+-- orders alone
+abbrev pub round_parts : List Data → Option (List Order)
+round_parts (orders ∷ []) = orders_of orders
+round_parts _ = None
+
+-- what stands behind the word of a move of several streams
+abbrev pub wide_move_parts : List ℕ → List Data → Option Move
+wide_move_parts word ds =
+    if bytes_eq word (codes "last") then option_map form.Last (placing_parts ds)
+    else (if bytes_eq word (codes "first") then option_map form.First (placing_parts ds)
+    else (if bytes_eq word (codes "pack") then option_map (λ p. form.Pack p.0 p.1) (pack_parts ds)
+    else (if bytes_eq word (codes "round") then option_map form.Round (round_parts ds)
+    else None)))
+
+-- what stands behind the word of a move
+abbrev pub move_parts : List ℕ → List Data → Option Move
+move_parts word ds =
+    if bytes_eq word (codes "go") then option_map form.Go (order_parts ds)
+    else (if bytes_eq word (codes "turn") then option_map form.Turn (order_parts ds)
+    else (if bytes_eq word (codes "use") then option_map form.Use (number_part ds)
+    else (if bytes_eq word (codes "arrive") then option_map form.Arrive (number_part ds)
+    else wide_move_parts word ds)))
+
+abbrev pub move_in : Data → Option Move
+move_in d = do
+  ds ← elements d
+  worded move_parts ds
+
+abbrev pub moves_in : Data → Option (List Move)
+moves_in d = do
+  ds ← elements d
+  each move_in ds
+
+-- a clause and moves
+abbrev pub step_parts : List Data → Option Step
+step_parts (clause ∷ moves ∷ []) = do
+  fs ← clause_in clause
+  ms ← moves_in moves
+  Some (record { clause = fs; moves = ms })
+step_parts _ = None
+
+abbrev pub step_in : Data → Option Step
+step_in d = do
+  ds ← elements d
+  step_parts ds
+
+abbrev pub steps_in : Data → Option (List Step)
+steps_in d = do
+  ds ← elements d
+  each step_in ds
+
+-- a goal, by its word
+abbrev pub goal_named : List ℕ → Option Goal
+goal_named word =
+    if bytes_eq word (codes "first") then Some aim.First
+    else (if bytes_eq word (codes "least") then Some aim.Least
+    else (if bytes_eq word (codes "none") then Some aim.None
+    else None))
+
+abbrev pub goal_of : Data → Option Goal
+goal_of d = do
+  word ← as_str d
+  goal_named word
+
+-- the number by which a file tells that it holds an argument
+abbrev pub argument_format : ℕ
+argument_format = 3
+
+abbrev pub argument_of_values : Data → Data → Data → Data → Option Argument
+argument_of_values format goal steps target = do
+  f ← whole_number format
+  when (f == argument_format) (do
+    g ← goal_of goal
+    ss ← steps_in steps
+    t ← whole_number target
+    Some (record { goal = g; target = t; steps = ss }))
+
+-- an object with the four keys and no other
+abbrev pub argument_of : Data → Option Argument
+argument_of d = when (is_object_of 4 d) (do
+  format ← get (codes "format") d
+  goal ← get (codes "goal") d
+  steps ← get (codes "steps") d
+  target ← get (codes "target") d
+  argument_of_values format goal steps target)
+
+-- ---- the limits
+
+abbrev pub order_fits : Order → Bool
+order_fits o = nat_le o.first max_number && nat_le o.second max_number && nat_le o.link max_number
+
+abbrev pub fact_fits : Fact → Bool
+fact_fits (fact.From stream time) = nat_le stream max_number && nat_le time max_time
+fact_fits (fact.Until stream time) = nat_le stream max_number && nat_le time max_time
+fact_fits (fact.Order order) = order_fits order
+fact_fits (fact.DoneFrom time) = nat_le time max_time
+fact_fits (fact.DoneUntil time) = nat_le time max_time
+
+abbrev pub placing_fits : Placing → Bool
+placing_fits p = nat_le p.link max_number && nat_le p.stream max_number && all_within max_number p.others && all_within max_number p.some
+
+abbrev pub move_fits : Move → Bool
+move_fits (form.Go order) = order_fits order
+move_fits (form.Turn order) = order_fits order
+move_fits (form.Use number) = nat_le number max_number
+move_fits (form.Arrive stream) = nat_le stream max_number
+move_fits (form.Last placing) = placing_fits placing
+move_fits (form.First placing) = placing_fits placing
+move_fits (form.Pack link streams) = nat_le link max_number && all_within max_number streams
+move_fits (form.Round orders) = list_all order_fits orders
+
+abbrev pub step_fits : Step → Bool
+step_fits step = list_all fact_fits step.clause && list_all move_fits step.moves
+
+-- no number of the file is above its limit
+abbrev pub argument_fits : Argument → Bool
+argument_fits a = nat_le a.target max_time && list_all step_fits a.steps
+
+-- what an argument file says, or how it is refused
+abbrev pub argument_in : List ℕ → Result Argument FileFault
+argument_in bytes = answer argument_of argument_fits (value_of bytes)
+
+-- ---- the printed form
+
+abbrev pub order_items : Order → List Data
+order_items o = number_value o.first ∷ number_value o.second ∷ number_value o.link ∷ []
+
+abbrev pub order_value : Order → Data
+order_value order = array_value (order_items order)
+
+abbrev pub orders_value : List Order → Data
+orders_value orders = array_value (map order_value orders)
+
+abbrev pub streams_value : List ℕ → Data
+streams_value streams = array_value (map number_value streams)
+
+-- a word, and what stands behind it
+abbrev pub worded_value : List ℕ → List Data → Data
+worded_value word ds = array_value (string word ∷ ds)
+
+abbrev pub fact_value : Fact → Data
+fact_value (fact.From stream time) = worded_value (codes "from") (number_value stream ∷ number_value time ∷ [])
+fact_value (fact.Until stream time) = worded_value (codes "until") (number_value stream ∷ number_value time ∷ [])
+fact_value (fact.Order order) = worded_value (codes "order") (order_items order)
+fact_value (fact.DoneFrom time) = worded_value (codes "done_from") (number_value time ∷ [])
+fact_value (fact.DoneUntil time) = worded_value (codes "done_until") (number_value time ∷ [])
+
+abbrev pub clause_value : List Fact → Data
+clause_value clause = array_value (map fact_value clause)
+
+abbrev pub placing_items : Placing → List Data
+placing_items p = number_value p.link ∷ number_value p.stream ∷ streams_value p.others ∷ streams_value p.some ∷ []
+
+abbrev pub move_value : Move → Data
+move_value (form.Go order) = worded_value (codes "go") (order_items order)
+move_value (form.Turn order) = worded_value (codes "turn") (order_items order)
+move_value (form.Use number) = worded_value (codes "use") (number_value number ∷ [])
+move_value (form.Arrive stream) = worded_value (codes "arrive") (number_value stream ∷ [])
+move_value (form.Last placing) = worded_value (codes "last") (placing_items placing)
+move_value (form.First placing) = worded_value (codes "first") (placing_items placing)
+move_value (form.Pack link streams) = worded_value (codes "pack") (number_value link ∷ streams_value streams ∷ [])
+move_value (form.Round orders) = worded_value (codes "round") (orders_value orders ∷ [])
+
+abbrev pub moves_value : List Move → Data
+moves_value moves = array_value (map move_value moves)
+
+abbrev pub step_value : Step → Data
+step_value step = array_value (clause_value step.clause ∷ moves_value step.moves ∷ [])
+
+abbrev pub steps_value : List Step → Data
+steps_value steps = array_value (map step_value steps)
+
+abbrev pub goal_word : Goal → List ℕ
+goal_word aim.First = codes "first"
+goal_word aim.Least = codes "least"
+goal_word aim.None = codes "none"
+
+abbrev pub argument_value : Argument → Data
+argument_value a = object (member (codes "format") (number_value argument_format)
+    (member (codes "goal") (string (goal_word a.goal))
+    (member (codes "steps") (steps_value a.steps)
+    (member (codes "target") (number_value a.target) no_members))))
+
+-- the text of an argument file
+abbrev pub argument_text : Argument → List ℕ
+argument_text a = file_text (argument_value a)

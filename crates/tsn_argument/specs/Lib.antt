@@ -1,0 +1,5 @@
+pub mod Meaning
+pub mod Argument
+pub mod Certificate
+pub mod Text
+pub mod Spelled

@@ -1,0 +1,23 @@
+use crate::step::Steps;
+
+/// The number by which a file tells that it holds an argument.
+pub const ARGUMENT_FORMAT: u64 = 3;
+
+/// What an argument shows.
+#[derive(Clone, Copy, Debug, Drop, PartialEq, Eq)]
+pub enum Goal {
+    /// That the plan is the first of the optimal schedules.
+    First,
+    /// That no valid schedule has a lesser flowspan than the plan.
+    Least,
+    /// That there is no valid schedule.
+    None,
+}
+
+/// A certificate of format 3: steps that show the goal. The target is that of the other formats, in nanoseconds.
+#[derive(Debug, Drop)]
+pub struct Argument {
+    pub goal: Goal,
+    pub target: u64,
+    pub steps: Steps,
+}
