@@ -1,0 +1,20 @@
+use Rattle.std.proofs.Common.{sym, arith}
+use Rattle.std.proofs.lemmas.Int.{ints}
+use Rattle.tsn_model.proofs.Routes.{hop_on_found, UsesLink-counted}
+use Rattle.tsn_argue.proofs.link.start_of.Goals as goal
+
+pub hop_on-requires : goal.hop_on-requires
+hop_on-requires c = UsesLink-counted c.args.timing.now c.args.stream c.args.link c.requires
+
+pub start-requires-clause-stream : goal.start-requires-clause-stream
+start-requires-clause-stream c = UsesLink-counted c.args.timing.now c.args.stream c.args.link c.requires
+
+pub start-requires-clause-hop : goal.start-requires-clause-hop
+start-requires-clause-hop c = (hop_on_found c.args.timing.now c.args.stream c.args.link c.in-Some.hop (sym c.in-Some.ensures)).1
+
+pub returns-clause-value : goal.returns-clause-value
+returns-clause-value c =
+    let starts = (hop_on_found c.args.timing.now c.args.stream c.args.link c.in-Some.hop (sym c.in-Some.ensures)).2 in
+    let value = c.start.ensures.value in
+    let bound = c.start.ensures.bound in
+    omega (arith, ints)

@@ -1,0 +1,57 @@
+use Rattle.std.proofs.Common.{◌≡◌, ◌∷◌, pos, ap, ◌∙◌, arith}
+use Rattle.std.proofs.lemmas.Int.{ints}
+use Rattle.tsn_model.specs.Argument.{first_head, last_end, work_on}
+use Rattle.tsn_argue.specs.Motion.{facts_of}
+use Rattle.tsn_argue.specs.State.{view_of}
+use Rattle.tsn_argue.proofs.PlacingLemmas.{stream_on, stream_there_until, others_on, some_on, first_shown}
+use Rattle.tsn_argue.proofs.motion.judge_first.Goals as goal
+
+pub first_head-start-requires-clause-on : goal.first_head-start-requires-clause-on
+first_head-start-requires-clause-on c = others_on _ _ _ _ c.in_ok-judge_placed.ensures.0 _ c.list-others.ensures.streams
+
+pub last_end-requires-clause-on : goal.last_end-requires-clause-on
+last_end-requires-clause-on c = some_on _ _ _ _ c.in_ok-judge_placed.ensures.0 _ _ c.in_ok-judge_placed.ensures.1 c.list-some.ensures.streams
+
+pub work-requires-clause-on : goal.work-requires-clause-on
+work-requires-clause-on c = some_on _ _ _ _ c.in_ok-judge_placed.ensures.0 _ _ c.in_ok-judge_placed.ensures.1 c.list-some.ensures.streams
+
+pub end_of-until-requires : goal.end_of-until-requires
+end_of-until-requires c = stream_on _ _ _ _ c.in_ok-judge_placed.ensures.0
+
+pub returns : goal.returns
+returns c clauses =
+    let network = c.args.view.now.timing.now in
+    let view = view_of c.args.view.now in
+    let link = c.args.placing.now.link in
+    let stream = c.args.placing.now.stream in
+    let others = c.args.placing.now.others in
+    let some = c.args.placing.now.some in
+    let on = c.in_ok-judge_placed.ensures.0 in
+    let same_others = c.list-others.ensures.streams in
+    let same_some = c.list-some.ensures.streams in
+    let end : c.last_end_with-end.result ≡ last_end network view link (stream ∷ others) =
+    c.last_end_with-end.ensures.value ∙ ap (λ list. last_end network view link (stream ∷ list)) same_others in
+    let end_low = c.last_end_with-end.ensures.low in
+    let end_high = c.last_end_with-end.ensures.high in
+    let begin : c.first_head-start.result ≡ first_head network view link others =
+    c.first_head-start.ensures.value ∙ ap (first_head network view link) same_others in
+    let begin_low = c.first_head-start.ensures.low in
+    let begin_high = c.first_head-start.ensures.high in
+    let long : c.work_with.result ≡ pos (work_on network link (stream ∷ others)) =
+    c.work_with.ensures.value ∙ ap (λ list. pos (work_on network link (stream ∷ list))) same_others in
+    let long_low = c.work_with.ensures.low in
+    let long_high = c.work_with.ensures.high in
+    let less = c.if-end-start.false in
+    let last : c.last_end.result ≡ last_end network view link some = c.last_end.ensures.value ∙ ap (last_end network view link) same_some in
+    let last_low = c.last_end.ensures.low in
+    let last_high = c.last_end.ensures.high in
+    let work : c.work.result ≡ pos (work_on network link some) = c.work.ensures.value ∙ ap (λ list. pos (work_on network link list)) same_some in
+    let work_low = c.work.ensures.low in
+    let work_high = c.work.ensures.high in
+    let until = c.end_of-until.ensures.value in
+    let until_high = c.end_of-until.ensures.high in (
+      (on, c.in_ok-judge_placed.ensures.1, omega (arith, ints, less, end, end_low, end_high, begin, begin_low, begin_high, long, long_low, long_high)),
+      first_shown network clauses view link stream others some (facts_of c.one.result) _ c.one.ensures
+          (omega (arith, ints, last, last_low, last_high, work, work_low, work_high, until, until_high)),
+      stream_there_until network link stream others on (facts_of c.one.result) _ c.one.ensures,
+    )

@@ -1,0 +1,8 @@
+use Rattle.std.proofs.Common.{map}
+use Rattle.tsn_argument.specs.Meaning.{decision_of}
+use Rattle.tsn_argue.specs.State.{view_of}
+use Rattle.tsn_argue.proofs.MotionLemmas.{IsWalked}
+use Rattle.tsn_argue.proofs.motion.weight_round.Given as goal
+
+abbrev pub invariant-loop-order : goal.invariant-loop-order
+invariant-loop-order l = IsWalked l.view.timing.now (view_of l.view) l.start (map decision_of l.orders) l.order-index l.at l.weight

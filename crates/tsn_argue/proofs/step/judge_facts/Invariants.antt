@@ -1,0 +1,7 @@
+use Rattle.std.proofs.Common.{All, take}
+use Rattle.tsn_model.specs.Argument.{IsFact}
+use Rattle.tsn_argument.specs.Meaning.{clause_of}
+use Rattle.tsn_argue.proofs.step.judge_facts.Given as goal
+
+abbrev pub invariant-loop-fact : goal.invariant-loop-fact
+invariant-loop-fact l = All (IsFact l.timing) (clause_of (take l.fact-index l.clause))

@@ -1,0 +1,51 @@
+use Rattle.std.proofs.Common.{List, length, ap, ◌∙◌, inl, inr}
+use Rattle.std.specs.Prelude.{Ok, Err, ◌==◌}
+use Rattle.std.proofs.lemmas.Result.{err_from_is_err_and}
+use Rattle.tsn_argument.specs.Meaning.{fact_of, step_of}
+use Rattle.tsn_argument.specs.declared.fact.Fact.{Fact}
+use Rattle.tsn_argue.specs.Motion.{clauses_of}
+use Rattle.tsn_argue.proofs.Taking.{wrong_fact_step, right_step, failed_step}
+use Rattle.tsn_argue.proofs.TakingAll.{show_moves, none_in, some_in, moves_of, supposed_of}
+use Rattle.tsn_argue.proofs.step.show.Goals as goal
+
+pub returns-in_err-judge_facts : goal.returns-in_err-judge_facts
+returns-in_err-judge_facts c =
+    let p = err_from_is_err_and c.from_residual.result c.from_residual.ensures.1 in
+    rw (p.1, p.2) (wrong_fact_step c.args.view.now c.requires.sound c.requires.ready (clauses_of c.args.clauses.now) (step_of c.args.step.now) _ c.if-view.false
+    (rw c.list-clause.ensures at c.in_err-judge_facts.ensures))
+
+pub returns-in_err-make_all : goal.returns-in_err-make_all
+returns-in_err-make_all c =
+    let p = err_from_is_err_and c.from_residual-in_err-make_all.result c.from_residual-in_err-make_all.ensures.1 in
+    rw (p.1, p.2) (show_moves c.args.view.now c.suppose.new.view c.make_all.new.view c.requires.sound c.requires.ready
+    (clauses_of c.args.clauses.now) (step_of c.args.step.now) _ c.if-view.false
+    (rw c.list-clause.ensures at c.in_ok-judge_facts.ensures)
+    (supposed_of c.args.view.now c.suppose.new.view _ _ c.list-clause.ensures c.in_ok-suppose.ensures)
+    (moves_of c.suppose.new.view c.make_all.new.view (clauses_of c.args.clauses.now) _ _
+    (Err c.in_err-make_all.field-0.0) c.list.ensures c.in_err-make_all.ensures))
+
+pub returns-then-is_empty : goal.returns-then-is_empty
+returns-then-is_empty c =
+    let supposed = supposed_of c.args.view.now c.suppose.new.view _ _ c.list-clause.ensures c.in_ok-suppose.ensures in
+    let made = moves_of c.suppose.new.view c.make_all.new.view (clauses_of c.args.clauses.now) _ _ (Ok tt) c.list.ensures c.in_ok-make_all.ensures in
+    right_step c.args.view.now c.requires.sound c.requires.ready (clauses_of c.args.clauses.now)
+    (step_of c.args.step.now) c.suppose.new.view c.make_all.new.view c.if-view.false
+    (rw c.list-clause.ensures at c.in_ok-judge_facts.ensures) supposed made.0 made.1
+    (inr (none_in fact_of c.args.step.now.clause (c.if-is_empty.ensures ∙ ap (λ (xs : List Fact). length xs == 0) c.list-clause.ensures)))
+
+pub returns-then-view-2 : goal.returns-then-view-2
+returns-then-view-2 c =
+    let supposed = supposed_of c.args.view.now c.suppose.new.view _ _ c.list-clause.ensures c.in_ok-suppose.ensures in
+    let made = moves_of c.suppose.new.view c.make_all.new.view (clauses_of c.args.clauses.now) _ _ (Ok tt) c.list.ensures c.in_ok-make_all.ensures in
+    right_step c.args.view.now c.requires.sound c.requires.ready (clauses_of c.args.clauses.now)
+    (step_of c.args.step.now) c.suppose.new.view c.make_all.new.view c.if-view.false
+    (rw c.list-clause.ensures at c.in_ok-judge_facts.ensures) supposed made.0 made.1 (inl c.if-view-2.true)
+
+pub returns-else-view-2 : goal.returns-else-view-2
+returns-else-view-2 c =
+    let supposed = supposed_of c.args.view.now c.suppose.new.view _ _ c.list-clause.ensures c.in_ok-suppose.ensures in
+    let made = moves_of c.suppose.new.view c.make_all.new.view (clauses_of c.args.clauses.now) _ _ (Ok tt) c.list.ensures c.in_ok-make_all.ensures in
+    failed_step c.args.view.now c.requires.sound c.requires.ready (clauses_of c.args.clauses.now)
+    (step_of c.args.step.now) c.suppose.new.view c.make_all.new.view c.if-view.false
+    (rw c.list-clause.ensures at c.in_ok-judge_facts.ensures) supposed made.0 made.1 c.if-view-2.false
+    (some_in fact_of c.args.step.now.clause (c.if-is_empty.ensures ∙ ap (λ (xs : List Fact). length xs == 0) c.list-clause.ensures))

@@ -1,0 +1,200 @@
+-- What an argument of a plan shows, and the first reason why it shows nothing.
+--     goal_for, IsFitting                              what the argument is to show of a plan
+--     Holds                                            the plan is right, and so is the argument
+--     IsWrongFact                                      what is wrong with a fact of a clause
+--     IsWrongStream, IsWrongChoice, IsWrongMove        what is wrong with a move on a view
+--     IsWrongStep                                      what is wrong with a step
+--     IsArgumentFault, IsFirstFault                    the first fault of an argument, and of a plan and a certificate
+use Rattle.std.specs.Prelude.{◌≡◌, ◌≢◌, ◌⊎◌, ℕ, ◌<◌, ◌≤◌, List, [], ◌∷◌, length, Option, Some, None, pos, ◌+ℤ◌, ◌≤ℤ◌, ◌<ℤ◌, All, AllPairs, Contains}
+use Rattle.tsn_model.specs.declared.Decision.{Decision}
+use Rattle.tsn_model.specs.Network.{Network, stream_count}
+use Rattle.tsn_model.specs.Timing.{UsesLink}
+use Rattle.tsn_model.specs.Schedule.{IsConflict, target_of}
+use Rattle.tsn_model.specs.Arcs.{arc_of}
+use Rattle.tsn_model.specs.Argument as model
+use Rattle.tsn_model.specs.Argument.{goal_first, goal_least, goal_none, from, until, order, done_from, done_until, IsFact, View, IsImpossible, first_head, last_end, work_on, AreOn, AreSome, go, turn, apply, arrive, put_last, put_first, pack, round, turned, left_open, clause_at, LeadsBy, weight_by, IsOutOfReach, IsAllowed, AreAllowed, narrowed, first_ground, Known, begun, ended, IsRight, known_after, IsSettled, Argues}
+use Rattle.tsn_cert.specs.declared.plan.Plan.{Plan}
+use Rattle.tsn_cert.specs.declared.plan.Plan.TheVariants as plan
+use Rattle.tsn_argument.specs.Meaning.{steps_of}
+use Rattle.tsn_argument.specs.declared.argument.Argument.{Argument}
+use Rattle.tsn_argument.specs.declared.argument.Goal.{Goal}
+use Rattle.tsn_argument.specs.declared.argument.Goal.TheVariants as aim
+use Rattle.tsn_argument.specs.declared.certificate.Certificate.{Certificate}
+use Rattle.tsn_argument.specs.declared.certificate.Certificate.TheVariants.{Tree, Argument as Argued}
+use Rattle.tsn_check.specs.Faults as tree
+use Rattle.tsn_check.specs.Faults.{offsets_in, IsPlanRight, IsClaimFault, verdict_of}
+use Rattle.tsn_check.specs.declared.verdict.Verdict.{Verdict}
+use Rattle.tsn_check.specs.declared.verdict.Verdict.TheVariants.{Optimal, First, NoSchedule}
+use Rattle.tsn_check.specs.declared.fault.CheckFault.{CheckFault}
+use Rattle.tsn_check.specs.declared.fault.CheckFault.TheVariants.{FlowspanWrong, TreeUnfinished, TreeTooLong, NotConflict, ChainBroken, BoundTooLow, StreamRepeated, NotOnLink}
+use Rattle.tsn_argue.specs.First.{IsFirstWrong}
+use Rattle.tsn_argue.specs.declared.fault.StepFault.{StepFault}
+use Rattle.tsn_argue.specs.declared.fault.StepFault.TheVariants as kind
+
+-- ---- facts
+
+-- the fact is of a stream that isn't there, or of a decision on no conflict
+abbrev pub IsWrongFact : Network → model.Fact → StepFault → Type 0
+IsWrongFact network (from i v) fault = (fault ≡ kind.NotOnLink) × (stream_count network ≤ i)
+IsWrongFact network (until i v) fault = (fault ≡ kind.NotOnLink) × (stream_count network ≤ i)
+IsWrongFact network (order decision) fault = (fault ≡ kind.NotConflict) × (IsConflict network decision.triple → ⊥)
+IsWrongFact network (done_from v) fault = ⊥
+IsWrongFact network (done_until v) fault = ⊥
+
+-- ---- moves
+
+-- behind others the stream isn't on the link, or it is and stood before
+abbrev pub IsWrongStream : Network → ℕ → List ℕ → ℕ → StepFault → Type 0
+IsWrongStream network link before i fault =
+    ((fault ≡ kind.NotOnLink) × (UsesLink network i link → ⊥)) ⊎ ((fault ≡ kind.StreamRepeated) × UsesLink network i link × Contains before i)
+
+-- the first of the streams that is wrong
+abbrev pub AreWrongOn : Network → ℕ → List ℕ → StepFault → Type 0
+AreWrongOn network link streams fault = IsFirstWrong (AreOn network link) (IsWrongStream network link) streams fault
+
+-- some of the streams, each once, or none
+pub record AreAmong (streams some : List ℕ) : Type 0 where
+  pub different : AllPairs ◌≢◌ some
+  pub among : All (Contains streams) some
+
+-- behind others the stream isn't one of the streams, or it is and stood before
+abbrev pub IsWrongChoice : List ℕ → List ℕ → ℕ → StepFault → Type 0
+IsWrongChoice streams before i fault =
+    ((fault ≡ kind.NotThere) × (Contains streams i → ⊥)) ⊎ ((fault ≡ kind.StreamRepeated) × Contains streams i × Contains before i)
+
+-- the choice is empty, or has a wrong stream
+abbrev pub AreWrongAmong : List ℕ → List ℕ → StepFault → Type 0
+AreWrongAmong streams some fault = ((fault ≡ kind.NotThere) × (some ≡ [])) ⊎ IsFirstWrong (AreAmong streams) (IsWrongChoice streams) some fault
+
+-- a wrong stream of those that are placed, then a wrong one of the choice, then the inequality
+abbrev pub IsWrongPlacing : Network → ℕ → ℕ → List ℕ → List ℕ → Type 0 → StepFault → Type 0
+IsWrongPlacing network link j streams some Fits fault =
+    AreWrongOn network link (j ∷ streams) fault
+    ⊎ (AreOn network link (j ∷ streams) × AreWrongAmong streams some fault)
+    ⊎ (AreOn network link (j ∷ streams) × AreSome streams some × (fault ≡ kind.Fails) × (Fits → ⊥))
+
+-- the orders are the view's, and lead back to where they begin
+abbrev pub GoRound : Network → View → List Decision → Type 0
+GoRound network view decisions = All (Contains view.orders) decisions × ((i : ℕ) × LeadsBy network i decisions i)
+
+-- what is wrong with a move on a view that isn't impossible
+abbrev pub IsWrongMove : Network → List (List model.Fact) → View → model.Move → StepFault → Type 0
+IsWrongMove network clauses view (go decision) fault = (fault ≡ kind.NotThere) × (Contains view.orders decision → ⊥)
+IsWrongMove network clauses view (turn decision) fault =
+    ((fault ≡ kind.NotConflict) × (IsConflict network decision.triple → ⊥))
+    ⊎ (IsConflict network decision.triple × (fault ≡ kind.Fails) × (IsOutOfReach view (arc_of network (turned decision)) → ⊥))
+IsWrongMove network clauses view (apply k) fault =
+    ((fault ≡ kind.NotThere) × (length clauses ≤ k)) ⊎ ((k < length clauses) × (fault ≡ kind.Fails) × (1 < length (left_open view (clause_at clauses k))))
+IsWrongMove network clauses view (arrive i) fault = (fault ≡ kind.NotOnLink) × (stream_count network ≤ i)
+IsWrongMove network clauses view (put_last link j streams some) fault =
+    IsWrongPlacing network link j streams some (last_end network view link streams <ℤ (first_head network view link (j ∷ streams) +ℤ pos (work_on network link (j ∷ streams)))) fault
+IsWrongMove network clauses view (put_first link j streams some) fault =
+    IsWrongPlacing network link j streams some (last_end network view link (j ∷ streams) <ℤ (first_head network view link streams +ℤ pos (work_on network link (j ∷ streams)))) fault
+IsWrongMove network clauses view (pack link streams) fault =
+    AreWrongOn network link streams fault
+    ⊎ (AreOn network link streams × (fault ≡ kind.Fails) × (last_end network view link streams <ℤ (first_head network view link streams +ℤ pos (work_on network link streams)) → ⊥))
+IsWrongMove network clauses view (round decisions) fault =
+    ((fault ≡ kind.NotThere) × (GoRound network view decisions → ⊥)) ⊎ (GoRound network view decisions × (fault ≡ kind.Fails) × (weight_by network decisions ≤ℤ pos 0))
+
+-- behind others the move comes on an impossible view, or is wrong on the view there
+abbrev pub IsWrongNext : Network → List (List model.Fact) → View → List model.Move → model.Move → StepFault → Type 0
+IsWrongNext network clauses view before move fault =
+    (IsImpossible network (narrowed network clauses view before) × (fault ≡ kind.Settled))
+    ⊎ ((IsImpossible network (narrowed network clauses view before) → ⊥) × IsWrongMove network clauses (narrowed network clauses view before) move fault)
+
+-- ---- steps
+
+-- what is wrong with a step: nothing is in question before it; else a fact of its clause; else a move; else the moves don't show the clause
+abbrev pub IsWrongStep : Network → Known → model.Step → StepFault → Type 0
+IsWrongStep network known step fault =
+    (IsImpossible network known.ground × (fault ≡ kind.Settled))
+    ⊎ ((IsImpossible network known.ground → ⊥) × IsFirstWrong (All (IsFact network)) (λ before. IsWrongFact network) step.clause fault)
+    ⊎ ((IsImpossible network known.ground → ⊥) × All (IsFact network) step.clause
+    × IsFirstWrong (AreAllowed network known.clauses (begun known step)) (IsWrongNext network known.clauses (begun known step)) step.moves fault)
+    ⊎ ((IsImpossible network known.ground → ⊥) × All (IsFact network) step.clause × AreAllowed network known.clauses (begun known step) step.moves
+    × (step.clause ≢ []) × (IsImpossible network (ended network known step) → ⊥) × (fault ≡ kind.Fails))
+
+-- what is known after some steps
+unfoldable pub known_by : Network → model.Goal → Known → List model.Step → Known
+known_by network goal known [] = known
+known_by network goal known (step ∷ steps) = known_by network goal (known_after network goal known step) steps
+
+-- each step is right after those before it
+abbrev pub AreRight : Network → model.Goal → Known → List model.Step → Type 0
+AreRight network goal known [] = Unit {0}
+AreRight network goal known (step ∷ steps) = IsRight network known step × AreRight network goal (known_after network goal known step) steps
+
+-- what is known: a ground, and clauses
+abbrev pub known_from : (ground : View) → List (List model.Fact) → Known
+known_from view clauses = record { ground = view; clauses = clauses }
+
+-- what is known at first
+abbrev pub first_known : Network → model.Goal → Known
+first_known network goal = known_from (first_ground network goal) []
+
+-- behind others the step is wrong
+abbrev pub IsWrongAfter : Network → model.Goal → List model.Step → model.Step → StepFault → Type 0
+IsWrongAfter network goal before step fault = IsWrongStep network (known_by network goal (first_known network goal) before) step fault
+
+-- what is wrong with step k, as a fault of the certificate
+abbrev pub fault_at : ℕ → StepFault → CheckFault
+fault_at k kind.Settled = TreeTooLong k
+fault_at k kind.NotConflict = NotConflict k
+fault_at k kind.NotThere = ChainBroken k
+fault_at k kind.Fails = BoundTooLow k
+fault_at k kind.StreamRepeated = StreamRepeated k
+fault_at k kind.NotOnLink = NotOnLink k
+
+-- the first fault of the steps: one of them is wrong; or all are right, and the goal isn't settled at their end
+abbrev pub IsArgumentFault : Network → model.Goal → List model.Step → CheckFault → Type 0
+IsArgumentFault network goal steps fault =
+    ((step_fault : StepFault) × (wrong : IsFirstWrong (AreRight network goal (first_known network goal)) (IsWrongAfter network goal) steps step_fault) × (fault ≡ fault_at wrong.k step_fault))
+    ⊎ (AreRight network goal (first_known network goal) steps × (IsSettled network goal (known_by network goal (first_known network goal) steps).ground → ⊥)
+    × (fault ≡ TreeUnfinished (length steps)))
+
+-- ---- plans and certificates
+
+-- what an argument of this goal is to show of the plan, where the goal fits it: a schedule, or that there is none
+abbrev pub goal_for : Goal → Plan → Option model.Goal
+goal_for aim.First (plan.Schedule span offsets) = Some (goal_first offsets)
+goal_for aim.Least (plan.Schedule span offsets) = Some (goal_least offsets)
+goal_for aim.None plan.None = Some goal_none
+goal_for _ _ = None
+
+-- the target is that of the plan, and the goal fits it
+abbrev pub IsFitting : Network → Plan → Argument → model.Goal → Type 0
+IsFitting network plan argument goal = (argument.target ≡ target_of network (offsets_in plan)) × (goal_for argument.goal plan ≡ Some goal)
+
+-- the plan is right, and the argument shows its goal of it
+pub record Shows (network : Network) (plan : Plan) (argument : Argument) : Type 0 where
+  pub plan_right : IsPlanRight network plan
+  pub goal : model.Goal
+  pub fitting : IsFitting network plan argument goal
+  pub argues : Argues network goal (steps_of argument.steps)
+
+-- what a right argument of the plan shows
+abbrev pub argument_verdict : Goal → Verdict
+argument_verdict aim.First = First
+argument_verdict aim.Least = Optimal
+argument_verdict aim.None = NoSchedule
+
+-- the first fault of a plan and an argument: of the plan, then of the target and the goal, then of the steps in order
+abbrev pub IsShowFault : Network → Plan → Argument → CheckFault → Type 0
+IsShowFault network plan argument fault =
+    IsClaimFault network plan fault
+    ⊎ (IsPlanRight network plan × ((goal : model.Goal) → IsFitting network plan argument goal → ⊥) × (fault ≡ FlowspanWrong))
+    ⊎ (IsPlanRight network plan × ((goal : model.Goal) × IsFitting network plan argument goal × IsArgumentFault network goal (steps_of argument.steps) fault))
+
+-- a certificate of either kind shows what it is to show of the plan
+abbrev pub Certifies : Network → Plan → Certificate → Type 0
+Certifies network plan (Tree cert) = tree.Certifies network plan cert
+Certifies network plan (Argued argument) = Shows network plan argument
+
+abbrev pub certificate_verdict : Certificate → Plan → Verdict
+certificate_verdict (Tree cert) plan = verdict_of cert.format plan
+certificate_verdict (Argued argument) plan = argument_verdict argument.goal
+
+-- the first fault of a plan and a certificate of either kind
+abbrev pub IsFirstFault : Network → Plan → Certificate → CheckFault → Type 0
+IsFirstFault network plan (Tree cert) fault = tree.IsFirstFault network plan cert fault
+IsFirstFault network plan (Argued argument) fault = IsShowFault network plan argument fault

@@ -1,0 +1,12 @@
+pub mod First
+pub mod Faults
+pub mod Numbers
+pub mod Seen
+pub mod News
+pub mod Decided
+pub mod Streams
+pub mod State
+pub mod Motion
+pub mod Steps
+pub mod Aims
+pub mod Laws

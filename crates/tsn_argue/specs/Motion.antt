@@ -1,0 +1,76 @@
+-- What is found of a move.
+--     facts_of, clauses_of, AreFacts           what a move shows, and the clauses that were shown, as the checker keeps them
+--     JudgesMove                               what the move shows, or what is wrong with it
+--     FindsUnit, FindsPlacing, FindsRound      what is found of its parts
+use Rattle.std.specs.Prelude.{◌≡◌, ◌⊎◌, ◌<◌, List, [], ◌∷◌, map, length, ℤ, pos, ◌+ℤ◌, ◌≤ℤ◌, All, Contains, Result, Ok, Err, Option, Some, None}
+use Rattle.std.specs.Borrow.{Bor}
+use Rattle.tsn_model.specs.declared.Arc.{Arc}
+use Rattle.tsn_model.specs.declared.Decision.{Decision}
+use Rattle.tsn_model.specs.Network.{Network, stream_count}
+use Rattle.tsn_model.specs.Arcs.{arc_of}
+use Rattle.tsn_model.specs.Argument as model
+use Rattle.tsn_model.specs.Argument.{IsFact, View, IsAllowed, shown, left_open, weight_by, AreOn, AreSome}
+use Rattle.tsn_argument.specs.Meaning.{fact_of, clause_of}
+use Rattle.tsn_argument.specs.declared.fact.Clause.{Clause}
+use Rattle.tsn_argument.specs.declared.fact.Fact.{Fact}
+use Rattle.tsn_argument.specs.declared.motion.Placing.{Placing}
+use Rattle.tsn_argue.specs.News.{news_of}
+use Rattle.tsn_argue.specs.Faults.{IsWrongMove, AreWrongOn, AreWrongAmong, GoRound}
+use Rattle.tsn_argue.specs.declared.news.News.{News}
+use Rattle.tsn_argue.specs.declared.fault.StepFault.{StepFault}
+use Rattle.tsn_argue.specs.declared.fault.StepFault.TheVariants as kind
+use Rattle.tsn_argue.specs.declared.motion.Shown.{Shown}
+
+-- a second fact, if there is one
+abbrev pub also : Option News → List model.Fact
+also None = []
+also (Some news) = news_of news ∷ []
+
+-- the facts that a move shows
+abbrev pub facts_of : Shown → List model.Fact
+facts_of shown = news_of shown.first ∷ also shown.second
+
+-- the clauses that were shown are those that a list refers to
+abbrev pub clauses_of : List (Bor Clause) → List (List model.Fact)
+clauses_of clauses = map (λ clause. clause_of clause.now) clauses
+
+-- each fact of the clauses is of streams that are there and decisions on conflicts
+abbrev pub AreFacts : Network → List (List model.Fact) → Type 0
+AreFacts network clauses = All (All (IsFact network)) clauses
+
+-- the move may be made, and it is told what it shows; or what is wrong with it
+abbrev pub JudgesMove : Network → List (List model.Fact) → View → model.Move → Result Shown StepFault → Type 0
+JudgesMove network clauses view move (Ok found) =
+    IsAllowed network clauses view move × (facts_of found ≡ shown network clauses view move) × All (IsFact network) (facts_of found)
+JudgesMove network clauses view move (Err fault) = IsWrongMove network clauses view move fault
+
+-- what is left of a clause, if anything is; or that more than one fact is left
+abbrev pub FindsUnit : View → List model.Fact → Result (Option Fact) StepFault → Type 0
+FindsUnit view clause (Ok None) = left_open view clause ≡ []
+FindsUnit view clause (Ok (Some fact)) = (left_open view clause ≡ fact_of fact ∷ []) × Contains clause (fact_of fact)
+FindsUnit view clause (Err fault) = (fault ≡ kind.Fails) × (1 < length (left_open view clause))
+
+-- the streams of a placing are right, or it is told what is wrong with them
+abbrev pub FindsPlacing : Network → Placing → Result Unit StepFault → Type 0
+FindsPlacing network placing (Ok _) = AreOn network placing.link (placing.stream ∷ placing.others) × AreSome placing.others placing.some
+FindsPlacing network placing (Err fault) =
+    AreWrongOn network placing.link (placing.stream ∷ placing.others) fault
+    ⊎ (AreOn network placing.link (placing.stream ∷ placing.others) × AreWrongAmong placing.others placing.some fault)
+
+-- the arc of a decision, where the view has it; it is short, and its streams are there
+pub record IsArcIn (network : Network) (view : View) (decision : Decision) (arc : Arc) : Type 0 where
+  pub has : Contains view.orders decision
+  pub is : arc ≡ arc_of network decision
+  pub from : arc.from < stream_count network
+  pub to : arc.to < stream_count network
+  pub low : pos 0 ≤ℤ (arc.weight +ℤ pos 100000000)
+  pub high : arc.weight ≤ℤ pos 100000000
+
+abbrev pub FindsArc : Network → View → Decision → Option Arc → Type 0
+FindsArc network view decision None = Contains view.orders decision → ⊥
+FindsArc network view decision (Some arc) = IsArcIn network view decision arc
+
+-- the decisions are the view's and go round, and it is told what they add up to
+abbrev pub FindsRound : Network → View → List Decision → Option ℤ → Type 0
+FindsRound network view decisions None = GoRound network view decisions → ⊥
+FindsRound network view decisions (Some weight) = GoRound network view decisions × (weight ≡ weight_by network decisions)

@@ -1,0 +1,277 @@
+//! Whether a move may be made on a view, and what it shows.
+ghost use Rattle.std.specs.Prelude.{◌≡◌, ◌≤◌, [], ◌∷◌, List, length, map, false, All};
+ghost use Rattle.tsn_model.specs.Argument.{Fact as ModelFact, IsFact, go, turn, apply, arrive, put_last, put_first, pack, round, refuting};
+ghost use Rattle.tsn_argument.specs.Meaning.{decision_of, clause_of, move_of};
+ghost use Rattle.tsn_argue.specs.State.{view_of, IsSound};
+ghost use Rattle.tsn_argue.specs.News.{news_of};
+ghost use Rattle.tsn_argue.specs.Motion.{facts_of, clauses_of, AreFacts, JudgesMove, FindsUnit, FindsPlacing, FindsRound, FindsArc};
+
+use crate::decided::is_conflict;
+use crate::fault::StepFault;
+use crate::link::{
+    end_of, first_head, first_head_with, judge_choice, judge_streams, last_end, last_end_with,
+    start_of, work, work_with,
+};
+use crate::news::{News, turned};
+use crate::view::View;
+use tsn_argument::{Clause, Fact, Move, Order, Placing};
+use tsn_check::arc_of;
+use tsn_model::{Arc, Decision};
+
+/// What a move shows: one fact, or two.
+#[derive(Clone, Copy)]
+pub struct Shown {
+    pub first: News,
+    pub second: Option<News>,
+}
+
+impl Shown {
+    fn one(news: News) -> Shown
+        ensures { facts_of result ≡ news_of news ∷ [] }
+    {
+        Shown {
+            first: news,
+            second: None,
+        }
+    }
+}
+
+/// What the move shows of each schedule that fits the view, or what is wrong with it.
+pub fn judge(view: &View<'_>, clauses: &[&Clause], motion: &Move) -> Result<Shown, StepFault>
+    requires sound { IsSound view.now }
+    requires possible { view.now.crossed ≡ false }
+    requires facts { AreFacts view.now.timing.now (clauses_of clauses.now) }
+    ensures { JudgesMove view.now.timing.now (clauses_of clauses.now) (view_of view.now) (move_of motion.now) result }
+{
+    match motion {
+        Move::Go(order) => judge_go(view, order.decision()),
+        Move::Turn(order) => judge_turn(view, order.decision()),
+        Move::Use(number) => judge_use(view, clauses, *number),
+        Move::Arrive(stream) => judge_arrive(view, *stream),
+        Move::Last(placing) => judge_last(view, placing),
+        Move::First(placing) => judge_first(view, placing),
+        Move::Pack(link, streams) => judge_pack(view, *link, streams.list()),
+        Move::Round(orders) => judge_round(view, orders.list()),
+    }
+}
+
+/// By the arc of a decision of the view.
+fn judge_go(view: &View<'_>, decision: Decision) -> Result<Shown, StepFault>
+    requires sound { IsSound view.now }
+    requires possible { view.now.crossed ≡ false }
+    ensures { (clauses : List (List ModelFact)) → JudgesMove view.now.timing.now clauses (view_of view.now) (go decision) result }
+{
+    let _cycle = view.timing.cycle();
+    let Some(arc) = arc_in(view, decision) else {
+        return Err(StepFault::NotThere);
+    };
+    Ok(Shown {
+        first: News::From(arc.to, view.low.at(arc.from) + arc.weight as i128),
+        second: Some(News::Until(arc.from, view.high.at(arc.to) - arc.weight as i128)),
+    })
+}
+
+/// By the arc of the other side, which is out of reach.
+fn judge_turn(view: &View<'_>, decision: Decision) -> Result<Shown, StepFault>
+    requires sound { IsSound view.now }
+    requires possible { view.now.crossed ≡ false }
+    ensures { (clauses : List (List ModelFact)) → JudgesMove view.now.timing.now clauses (view_of view.now) (turn decision) result }
+{
+    if !is_conflict(view.timing, decision.triple) {
+        return Err(StepFault::NotConflict);
+    }
+    let _cycle = view.timing.cycle();
+    let arc = arc_of(view.timing, turned(decision));
+    if view.low.at(arc.from) + arc.weight as i128 > view.high.at(arc.to) {
+        Ok(Shown::one(News::Order(decision)))
+    } else {
+        Err(StepFault::Fails)
+    }
+}
+
+/// What refutes the view.
+fn refuting(view: &View<'_>) -> News
+    requires sound { IsSound view.now }
+    requires possible { view.now.crossed ≡ false }
+    ensures { news_of result ≡ refuting (view_of view.now) }
+{
+    let _cycle = view.timing.cycle();
+    News::DoneFrom(view.done.high + 1)
+}
+
+/// The fact that is left of a clause.
+fn judge_use(view: &View<'_>, clauses: &[&Clause], number: usize) -> Result<Shown, StepFault>
+    requires sound { IsSound view.now }
+    requires possible { view.now.crossed ≡ false }
+    requires facts { AreFacts view.now.timing.now (clauses_of clauses.now) }
+    ensures { JudgesMove view.now.timing.now (clauses_of clauses.now) (view_of view.now) (apply number) result }
+{
+    if number >= clauses.len() {
+        return Err(StepFault::NotThere);
+    }
+    match unit_of(view, clauses[number].list()) {
+        Ok(Some(fact)) => Ok(Shown::one(News::of(fact))),
+        Ok(None) => Ok(Shown::one(refuting(view))),
+        Err(fault) => Err(fault),
+    }
+}
+
+/// The fact that the view doesn't contradict, if there is one; a fault where there are two.
+fn unit_of(view: &View<'_>, clause: &[Fact]) -> Result<Option<Fact>, StepFault>
+    requires sound { IsSound view.now }
+    requires facts { All (IsFact view.now.timing.now) (clause_of clause.now) }
+    ensures { FindsUnit (view_of view.now) (clause_of clause.now) result }
+{
+    let mut left = None;
+    for fact in clause {
+        if !view.contradicts(News::of(*fact)) {
+            if left.is_some() {
+                return Err(StepFault::Fails);
+            }
+            left = Some(*fact);
+        }
+    }
+    Ok(left)
+}
+
+fn judge_arrive(view: &View<'_>, stream: usize) -> Result<Shown, StepFault>
+    requires sound { IsSound view.now }
+    requires possible { view.now.crossed ≡ false }
+    ensures { (clauses : List (List ModelFact)) → JudgesMove view.now.timing.now clauses (view_of view.now) (arrive stream) result }
+{
+    if stream >= view.timing.streams() {
+        return Err(StepFault::NotOnLink);
+    }
+    let _cycle = view.timing.cycle();
+    let arrival = view.timing.arrival(stream) as i128;
+    Ok(Shown {
+        first: News::DoneFrom(view.low.at(stream) + arrival),
+        second: Some(News::Until(stream, view.done.high - arrival)),
+    })
+}
+
+/// Whether the streams of a placing are right, whatever it comes to.
+fn judge_placed(view: &View<'_>, placing: &Placing) -> Result<(), StepFault>
+    ensures { FindsPlacing view.now.timing.now placing.now result }
+{
+    let all = judge_streams(
+        view.timing,
+        placing.link,
+        placing.stream,
+        placing.others.list(),
+    )?;
+    judge_choice(&all, placing.stream, placing.some.list())
+}
+
+/// The stream goes last, since the others can't all be done before what they need together.
+fn judge_last(view: &View<'_>, placing: &Placing) -> Result<Shown, StepFault>
+    requires sound { IsSound view.now }
+    requires possible { view.now.crossed ≡ false }
+    ensures { (clauses : List (List ModelFact)) → JudgesMove view.now.timing.now clauses (view_of view.now)
+        (put_last placing.now.link placing.now.stream placing.now.others placing.now.some) result }
+{
+    judge_placed(view, placing)?;
+    let Placing { link, stream, .. } = *placing;
+    let others = placing.others.list();
+    let end = last_end(view, link, others);
+    let start = first_head_with(view, link, stream, others);
+    if end >= start + work_with(view.timing, link, stream, others) {
+        return Err(StepFault::Fails);
+    }
+    let some = placing.some.list();
+    let free = first_head(view, link, some) + work(view.timing, link, some);
+    let before = start_of(view.timing, link, stream);
+    Ok(Shown::one(News::From(stream, free - before)))
+}
+
+/// The stream goes first, since the others can't all begin so late that it fits behind one of them.
+fn judge_first(view: &View<'_>, placing: &Placing) -> Result<Shown, StepFault>
+    requires sound { IsSound view.now }
+    requires possible { view.now.crossed ≡ false }
+    ensures { (clauses : List (List ModelFact)) → JudgesMove view.now.timing.now clauses (view_of view.now)
+        (put_first placing.now.link placing.now.stream placing.now.others placing.now.some) result }
+{
+    judge_placed(view, placing)?;
+    let Placing { link, stream, .. } = *placing;
+    let others = placing.others.list();
+    let end = last_end_with(view, link, stream, others);
+    let start = first_head(view, link, others);
+    if end >= start + work_with(view.timing, link, stream, others) {
+        return Err(StepFault::Fails);
+    }
+    let some = placing.some.list();
+    let needed = last_end(view, link, some) - work(view.timing, link, some);
+    let until = end_of(view.timing, link, stream);
+    Ok(Shown::one(News::Until(stream, needed - until)))
+}
+
+/// Whether the streams have no room on the link.
+fn judge_pack(view: &View<'_>, link: usize, streams: &[usize]) -> Result<Shown, StepFault>
+    requires sound { IsSound view.now }
+    requires possible { view.now.crossed ≡ false }
+    requires some { 1 ≤ length streams.now }
+    requires few { length streams.now ≤ 128 }
+    ensures { (clauses : List (List ModelFact)) → JudgesMove view.now.timing.now clauses (view_of view.now) (pack link streams.now) result }
+{
+    let [first, others @ ..] = streams else {
+        unreachable!();
+    };
+    judge_streams(view.timing, link, *first, others)?;
+    let end = last_end(view, link, streams);
+    if end < first_head(view, link, streams) + work(view.timing, link, streams) {
+        Ok(Shown::one(refuting(view)))
+    } else {
+        Err(StepFault::Fails)
+    }
+}
+
+/// Whether the orders lead back to where they begin, and later than they began.
+fn judge_round(view: &View<'_>, orders: &[Order]) -> Result<Shown, StepFault>
+    requires sound { IsSound view.now }
+    requires possible { view.now.crossed ≡ false }
+    requires some { 1 ≤ length orders.now }
+    requires few { length orders.now ≤ 128 }
+    ensures { (clauses : List (List ModelFact)) → JudgesMove view.now.timing.now clauses (view_of view.now) (round (map decision_of orders.now)) result }
+{
+    let Some(weight) = weight_round(view, orders) else {
+        return Err(StepFault::NotThere);
+    };
+    if weight > 0 {
+        Ok(Shown::one(refuting(view)))
+    } else {
+        Err(StepFault::Fails)
+    }
+}
+
+/// What the weights of the orders add up to, in nanoseconds, where they are the view's and lead back to where they begin.
+fn weight_round(view: &View<'_>, orders: &[Order]) -> Option<i64>
+    requires sound { IsSound view.now }
+    requires some { 1 ≤ length orders.now }
+    requires few { length orders.now ≤ 128 }
+    ensures { FindsRound view.now.timing.now (view_of view.now) (map decision_of orders.now) result }
+{
+    let start = arc_in(view, orders[0].decision())?.from;
+    let mut at = start;
+    let mut weight = 0;
+    for order in orders {
+        let arc = arc_in(view, order.decision())?;
+        if arc.from != at {
+            return None;
+        }
+        at = arc.to;
+        weight += arc.weight;
+    }
+    if at == start { Some(weight) } else { None }
+}
+
+/// The arc of a decision that the view has.
+fn arc_in(view: &View<'_>, decision: Decision) -> Option<Arc>
+    requires sound { IsSound view.now }
+    ensures { FindsArc view.now.timing.now (view_of view.now) decision result }
+{
+    if view.orders.has(decision) {
+        Some(arc_of(view.timing, decision))
+    } else {
+        None
+    }
+}

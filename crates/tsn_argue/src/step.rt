@@ -1,0 +1,272 @@
+//! The steps of an argument, one after another.
+ghost use Rattle.std.specs.Prelude.{◌≡◌, ◌⊎◌, OnOk, IfOk, IfErr, MatchBool, map, length, All};
+ghost use Rattle.tsn_model.specs.Network.{stream_count};
+ghost use Rattle.tsn_model.specs.Argument.{IsFact, IsSettled, Argues, opposite, learned_all, settled};
+ghost use Rattle.tsn_argument.specs.Meaning.{fact_of, clause_of, move_of, step_of, steps_of};
+ghost use Rattle.tsn_argue.specs.Faults.{IsArgumentFault};
+ghost use Rattle.tsn_argue.specs.State.{view_of, base_of, IsSound, Becomes};
+ghost use Rattle.tsn_argue.specs.Motion.{clauses_of, facts_of, AreFacts};
+ghost use Rattle.tsn_argue.specs.Steps.{goal_of, IsAim, IsReady, IsFirst, capped_view, JudgesFact, JudgesFacts, TakesMove, TakesMoves, ShowsStep, TakesStep, KeepsClause, Reaches};
+
+use crate::aim::{Aim, Stop};
+use crate::decided::is_conflict;
+use crate::fault::StepFault;
+use crate::motion::{Shown, judge};
+use crate::news::News;
+use crate::view::View;
+use std::alloc::{AllocError, Global};
+use tsn_argument::{Clause, Fact, Move, Step};
+use tsn_check::CheckFault;
+use tsn_model::NoMemory;
+use tsn_timing::Timing;
+
+/// What is known between two steps: the view, which is the ground, and the clauses that were shown.
+#[derive(Drop)]
+pub struct Known<'a> {
+    pub view: View<'a>,
+    pub clauses: Vec<&'a Clause>,
+}
+
+/// Whether each fact is of a stream that is there or a decision on a conflict; else what is wrong with the first that isn't.
+fn judge_facts(timing: &Timing, clause: &[Fact]) -> Result<(), StepFault>
+    ensures { JudgesFacts timing.now (clause_of clause.now) result }
+{
+    for fact in clause {
+        judge_fact(timing, *fact)?;
+    }
+    Ok(())
+}
+
+fn judge_fact(timing: &Timing, fact: Fact) -> Result<(), StepFault>
+    ensures { JudgesFact timing.now (fact_of fact) result }
+{
+    match fact {
+        Fact::From(stream, _) | Fact::Until(stream, _) => {
+            if stream < timing.streams() {
+                Ok(())
+            } else {
+                Err(StepFault::NotOnLink)
+            }
+        }
+        Fact::Order(order) => {
+            if is_conflict(timing, order.decision().triple) {
+                Ok(())
+            } else {
+                Err(StepFault::NotConflict)
+            }
+        }
+        Fact::DoneFrom(_) | Fact::DoneUntil(_) => Ok(()),
+    }
+}
+
+/// The view learns the opposites of the facts of a clause.
+fn suppose(view: &mut View<'_>, clause: &[Fact]) -> Result<(), NoMemory>
+    requires sound { IsSound view.old }
+    requires facts { All (IsFact view.old.timing.now) (clause_of clause.now) }
+    ensures { OnOk result (Becomes view.old view.new (learned_all (view_of view.old) (map opposite (clause_of clause.now)))) }
+{
+    for fact in clause {
+        view.learn(News::opposite_of(*fact))?;
+    }
+    Ok(())
+}
+
+/// Makes the move on the view, if that is possible.
+fn make(view: &mut View<'_>, clauses: &[&Clause], motion: &Move) -> Result<(), Stop>
+    requires sound { IsSound view.old }
+    requires facts { AreFacts view.old.timing.now (clauses_of clauses.now) }
+    ensures { TakesMove view.old view.new (clauses_of clauses.now) (move_of motion.now) result }
+{
+    if view.crossed {
+        return Err(Stop::Wrong(StepFault::Settled));
+    }
+    let shown = judge(view, clauses, motion)?;
+    learn_all(view, shown)?;
+    Ok(())
+}
+
+/// The view learns what a move shows.
+fn learn_all(view: &mut View<'_>, shown: Shown) -> Result<(), NoMemory>
+    requires sound { IsSound view.old }
+    requires facts { All (IsFact view.old.timing.now) (facts_of shown) }
+    ensures { OnOk result (Becomes view.old view.new (learned_all (view_of view.old) (facts_of shown))) }
+{
+    view.learn(shown.first)?;
+    match shown.second {
+        Some(second) => view.learn(second),
+        None => Ok(()),
+    }
+}
+
+/// Makes the moves one after another, as far as that is possible.
+fn make_all(view: &mut View<'_>, clauses: &[&Clause], moves: &[Move]) -> Result<(), Stop>
+    requires sound { IsSound view.old }
+    requires facts { AreFacts view.old.timing.now (clauses_of clauses.now) }
+    ensures { TakesMoves view.old view.new (clauses_of clauses.now) (map move_of moves.now) result }
+{
+    for motion in moves {
+        make(view, clauses, motion)?;
+    }
+    Ok(())
+}
+
+/// The moves of a step, from the opposites of its clause's facts on: whether they show the clause.
+fn show(view: &mut View<'_>, clauses: &[&Clause], step: &Step) -> Result<(), Stop>
+    requires sound { IsSound view.old }
+    requires ready { view_of view.old ≡ base_of view.old }
+    requires facts { AreFacts view.old.timing.now (clauses_of clauses.now) }
+    ensures { ShowsStep view.old view.new (clauses_of clauses.now) (step_of step.now) result }
+{
+    if view.crossed {
+        return Err(Stop::Wrong(StepFault::Settled));
+    }
+    let clause = step.clause.list();
+    judge_facts(view.timing, clause)?;
+    suppose(view, clause)?;
+    make_all(view, clauses, step.moves.list())?;
+    if clause.is_empty() {
+        return Ok(());
+    }
+    if view.crossed {
+        Ok(())
+    } else {
+        Err(Stop::Wrong(StepFault::Fails))
+    }
+}
+
+/// Where the plan is to be the first, and the flowspan can't be lower, the offsets don't come after the plan's.
+fn settle(view: &mut View<'_>, aim: &Aim<'_>) -> Result<(), NoMemory>
+    requires sound { IsSound view.old }
+    requires aim { IsAim view.old.timing.now aim.now }
+    ensures { OnOk result (Becomes view.old view.new (settled view.old.timing.now (goal_of aim.now) (view_of view.old))) }
+{
+    let Aim::First { plan, flowspan } = *aim else {
+        return Ok(());
+    };
+    if view.done.low < flowspan as i128 {
+        return Ok(());
+    }
+    cap(view, plan)
+}
+
+/// None of the offsets is above the plan's, up to the first whose least isn't the plan's.
+fn cap(view: &mut View<'_>, plan: &[u64]) -> Result<(), NoMemory>
+    requires sound { IsSound view.old }
+    requires count { length plan.now ≡ stream_count view.old.timing.now }
+    ensures { OnOk result (Becomes view.old view.new (capped_view plan.now (view_of view.old))) }
+{
+    for stream in 0..plan.len() {
+        let offset = plan[stream] as i128;
+        view.lower(stream, offset)?;
+        if view.low.at(stream) < offset {
+            break;
+        }
+    }
+    Ok(())
+}
+
+impl<'a> Known<'a> {
+    /// What is known before the first step.
+    fn first(alloc: Global, timing: &'a Timing, aim: &Aim<'_>) -> Result<Known<'a>, NoMemory>
+        requires { IsAim timing.now aim.now }
+        ensures { IfOk result (IsFirst timing.now (goal_of aim.now)) }
+    {
+        let view = View::first(alloc, timing, aim)?;
+        Ok(Known {
+            view,
+            clauses: Vec::new(alloc),
+        })
+    }
+
+    /// Takes a step, if it is right.
+    fn take(&mut self, aim: &Aim<'_>, step: &'a Step) -> Result<(), Stop>
+        requires ready { IsReady self.old }
+        requires aim { IsAim self.old.view.timing.now aim.now }
+        ensures { TakesStep (goal_of aim.now) self.old self.new (step_of step.now) result }
+    {
+        show(&mut self.view, self.clauses.as_slice(), step)?;
+        self.keep_clause(&step.clause)?;
+        if step.clause.list().len() <= 1 {
+            settle(&mut self.view, aim)?;
+            self.view.keep();
+        }
+        Ok(())
+    }
+
+    /// Keeps a clause that was shown, and has the view be the ground again, with the fact, if it is one alone. An empty
+    /// clause leaves all as it is.
+    fn keep_clause(&mut self, clause: &'a Clause) -> Result<(), NoMemory>
+        requires sound { IsSound self.old.view }
+        requires facts { All (IsFact self.old.view.timing.now) (clause_of clause.now) }
+        ensures { OnOk result (KeepsClause self.old self.new (clause_of clause.now)) }
+    {
+        let facts = clause.list();
+        if facts.is_empty() {
+            return Ok(());
+        }
+        self.view.go_back();
+        if let Err(error) = self.clauses.push(clause) {
+            return Err(AllocError::from(error).into());
+        }
+        match facts {
+            [fact] => self.view.learn(News::of(*fact)),
+            _ => Ok(()),
+        }
+    }
+}
+
+/// Whether nothing is in question any more, or only the plan itself.
+fn is_settled(view: &View<'_>, aim: &Aim<'_>) -> bool
+    requires sound { IsSound view.now }
+    requires aim { IsAim view.now.timing.now aim.now }
+    ensures { MatchBool result (IsSettled view.now.timing.now (goal_of aim.now) (view_of view.now)) (IsSettled view.now.timing.now (goal_of aim.now) (view_of view.now) → ⊥) }
+{
+    if view.crossed {
+        return true;
+    }
+    match *aim {
+        Aim::First { plan, flowspan } => {
+            flowspan as i128 <= view.done.low && reaches(view, plan)
+        }
+        Aim::Least { .. } | Aim::None => false,
+    }
+}
+
+/// Whether no offset can be below that of the plan.
+fn reaches(view: &View<'_>, plan: &[u64]) -> bool
+    requires sound { IsSound view.now }
+    requires count { length plan.now ≡ stream_count view.now.timing.now }
+    ensures { MatchBool result (Reaches (view_of view.now) plan.now) (Reaches (view_of view.now) plan.now → ⊥) }
+{
+    for stream in 0..plan.len() {
+        if view.low.at(stream) < plan[stream] as i128 {
+            return false;
+        }
+    }
+    true
+}
+
+/// Whether the steps are right and settle what is to be shown; else their first fault.
+pub fn check_steps(
+    alloc: Global,
+    timing: &Timing,
+    aim: &Aim<'_>,
+    steps: &[Step],
+) -> Result<(), CheckFault>
+    requires { IsAim timing.now aim.now }
+    ensures ok { OnOk result (Argues timing.now (goal_of aim.now) (steps_of steps.now)) }
+    ensures err { IfErr result (λ fault. (fault ≡ CheckFault.Memory)
+        ⊎ IsArgumentFault timing.now (goal_of aim.now) (steps_of steps.now) fault) }
+{
+    let mut known = Known::first(alloc, timing, aim)?;
+    for (number, step) in steps.iter().enumerate() {
+        if let Err(stop) = known.take(aim, step) {
+            return Err(stop.at(number));
+        }
+    }
+    if is_settled(&known.view, aim) {
+        Ok(())
+    } else {
+        Err(CheckFault::TreeUnfinished(steps.len()))
+    }
+}

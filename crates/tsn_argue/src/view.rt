@@ -1,0 +1,256 @@
+//! What is known of the schedules in question: a view, and the ground that each step begins with.
+ghost use Rattle.std.specs.Prelude.{◌≡◌, ◌⊎◌, ◌<◌, ◌≤ℤ◌, ◌<ℤ◌, true, false, pos, map, length, MatchBool, OnOk, IfOk};
+ghost use Rattle.std.specs.List.{range_with_len};
+ghost use Rattle.tsn_model.specs.Network.{stream_count, release_of};
+ghost use Rattle.tsn_argue.specs.Steps.{goal_of, IsAim, IsFirstView, AreCrossed};
+ghost use Rattle.tsn_model.specs.Argument.{from, until, order, done_from, done_until, IsFact, contradicts, learned, greatest_flowspan, latest_offset};
+ghost use Rattle.tsn_argue.specs.State.{view_of, base_of, IsSound, Becomes};
+ghost use Rattle.tsn_argue.specs.News.{news_of};
+
+use crate::aim::Aim;
+use crate::decided::Decided;
+use crate::news::{News, turned};
+use crate::numbers::Numbers;
+use std::alloc::{AllocError, Global};
+use tsn_model::{Decision, NoMemory};
+use tsn_timing::Timing;
+
+/// The least and the greatest number that something may be, in nanoseconds.
+#[derive(Clone, Copy)]
+pub struct Ends {
+    pub low: i128,
+    pub high: i128,
+}
+
+/// The view and the ground, and of both whether they are impossible.
+#[derive(Drop)]
+pub struct View<'a> {
+    pub timing: &'a Timing,
+    /// The least offset of each stream.
+    pub low: Numbers,
+    /// The greatest offset of each stream.
+    pub high: Numbers,
+    pub orders: Decided<'a>,
+    /// The flowspan.
+    pub done: Ends,
+    pub crossed: bool,
+    pub base_done: Ends,
+    pub base_crossed: bool,
+}
+
+impl<'a> View<'a> {
+    /// The ground before the first step, and the view on it.
+    pub fn first(alloc: Global, timing: &'a Timing, aim: &Aim<'_>) -> Result<View<'a>, NoMemory>
+        requires { IsAim timing.now aim.now }
+        ensures { IfOk result (IsFirstView timing.now (goal_of aim.now)) }
+    {
+        let low = Numbers::of(alloc, releases(alloc, timing)?)?;
+        let high = Numbers::of(alloc, latest_offsets(alloc, timing)?)?;
+        let done = Ends {
+            low: 0,
+            high: greatest_flowspan(timing, aim),
+        };
+        let crossed = or_above(is_crossed(&low, &high), done.low, done.high);
+        Ok(View {
+            timing,
+            low,
+            high,
+            orders: Decided::none(alloc, timing)?,
+            done,
+            crossed,
+            base_done: done,
+            base_crossed: crossed,
+        })
+    }
+
+    /// The view learns a fact.
+    pub fn learn(&mut self, news: News) -> Result<(), NoMemory>
+        requires sound { IsSound self.old }
+        requires fact { IsFact self.old.timing.now (news_of news) }
+        ensures { OnOk result (Becomes self.old self.new (learned (view_of self.old) (news_of news))) }
+    {
+        match news {
+            News::From(stream, number) => self.raise(stream, number),
+            News::Until(stream, number) => self.lower(stream, number),
+            News::Order(decision) => self.decide(decision),
+            News::DoneFrom(number) => {
+                self.raise_done(number);
+                Ok(())
+            }
+            News::DoneUntil(number) => {
+                self.lower_done(number);
+                Ok(())
+            }
+        }
+    }
+
+    #[tactic(auto, unfolding(tsn_model::specs::Argument::learned))]
+    fn raise(&mut self, stream: usize, number: i128) -> Result<(), NoMemory>
+        requires sound { IsSound self.old }
+        requires there { stream < stream_count self.old.timing.now }
+        ensures { OnOk result (Becomes self.old self.new (learned (view_of self.old) (from stream number))) }
+    {
+        if number > self.low.at(stream) {
+            self.low.set(stream, number)?;
+            self.crossed = or_above(self.crossed, number, self.high.at(stream));
+        }
+        Ok(())
+    }
+
+    #[tactic(auto, unfolding(tsn_model::specs::Argument::learned))]
+    /// An offset is at most a number.
+    pub fn lower(&mut self, stream: usize, number: i128) -> Result<(), NoMemory>
+        requires sound { IsSound self.old }
+        requires there { stream < stream_count self.old.timing.now }
+        ensures { OnOk result (Becomes self.old self.new (learned (view_of self.old) (until stream number))) }
+    {
+        if number < self.high.at(stream) {
+            self.high.set(stream, number)?;
+            self.crossed = or_above(self.crossed, self.low.at(stream), number);
+        }
+        Ok(())
+    }
+
+    #[tactic(auto, unfolding(tsn_model::specs::Argument::learned))]
+    fn decide(&mut self, decision: Decision) -> Result<(), NoMemory>
+        requires sound { IsSound self.old }
+        requires fact { IsFact self.old.timing.now (order decision) }
+        ensures { OnOk result (Becomes self.old self.new (learned (view_of self.old) (order decision))) }
+    {
+        self.orders.push(decision)
+    }
+
+    #[tactic(auto, unfolding(tsn_model::specs::Argument::learned))]
+    fn raise_done(&mut self, number: i128)
+        requires { IsSound self.old }
+        ensures { Becomes self.old self.new (learned (view_of self.old) (done_from number)) }
+    {
+        if number > self.done.low {
+            self.done.low = number;
+            self.crossed = or_above(self.crossed, number, self.done.high);
+        }
+    }
+
+    #[tactic(auto, unfolding(tsn_model::specs::Argument::learned))]
+    fn lower_done(&mut self, number: i128)
+        requires { IsSound self.old }
+        ensures { Becomes self.old self.new (learned (view_of self.old) (done_until number)) }
+    {
+        if number < self.done.high {
+            self.done.high = number;
+            self.crossed = or_above(self.crossed, self.done.low, number);
+        }
+    }
+
+    #[tactic(auto, unfolding(tsn_model::specs::Argument::contradicts))]
+    /// Whether the view itself shows that no valid schedule that fits it meets the fact.
+    pub fn contradicts(&self, news: News) -> bool
+        requires sound { IsSound self.now }
+        requires fact { IsFact self.now.timing.now (news_of news) }
+        ensures { result ≡ contradicts (view_of self.now) (news_of news) }
+    {
+        match news {
+            News::From(stream, number) => self.high.at(stream) < number,
+            News::Until(stream, number) => number < self.low.at(stream),
+            News::Order(decision) => self.orders.has(turned(decision)),
+            News::DoneFrom(number) => self.done.high < number,
+            News::DoneUntil(number) => number < self.done.low,
+        }
+    }
+
+    /// Makes the view the ground once more.
+    pub fn go_back(&mut self)
+        requires { IsSound self.old }
+        ensures base { base_of self.new ≡ base_of self.old }
+        ensures view { view_of self.new ≡ base_of self.old }
+        ensures sound { IsSound self.new }
+        ensures network { self.new.timing.now ≡ self.old.timing.now }
+    {
+        self.low.go_back();
+        self.high.go_back();
+        self.orders.go_back();
+        self.done = self.base_done;
+        self.crossed = self.base_crossed;
+    }
+
+    /// Makes the view the ground.
+    pub fn keep(&mut self)
+        requires { IsSound self.old }
+        ensures base { base_of self.new ≡ view_of self.old }
+        ensures view { view_of self.new ≡ view_of self.old }
+        ensures sound { IsSound self.new }
+        ensures network { self.new.timing.now ≡ self.old.timing.now }
+    {
+        self.low.keep();
+        self.high.keep();
+        self.orders.keep();
+        self.base_done = self.done;
+        self.base_crossed = self.crossed;
+    }
+}
+
+/// Whether it was known before, or the first number is above the second one.
+fn or_above(known: bool, low: i128, high: i128) -> bool
+    ensures { MatchBool result ((known ≡ true) ⊎ (high <ℤ low)) ((known ≡ false) × (low ≤ℤ high)) }
+{
+    known || low > high
+}
+
+#[tactic(auto, unfolding(tsn_model::specs::Argument::greatest_flowspan))]
+/// The greatest flowspan in question, in nanoseconds.
+fn greatest_flowspan(timing: &Timing, aim: &Aim<'_>) -> i128
+    requires { IsAim timing.now aim.now }
+    ensures value { result ≡ greatest_flowspan timing.now (goal_of aim.now) }
+    ensures high { result ≤ℤ pos timing.now.cycle }
+{
+    match *aim {
+        Aim::First { flowspan, .. } => flowspan as i128,
+        Aim::Least { flowspan, .. } => flowspan as i128 - 1,
+        Aim::None => timing.cycle() as i128,
+    }
+}
+
+/// The release of each stream, in nanoseconds.
+fn releases(alloc: Global, timing: &Timing) -> Result<Vec<i128>, AllocError>
+    ensures { IfOk result (λ v. v.items ≡ map (λ i. pos (release_of timing.now i)) (range_with_len 0 (stream_count timing.now))) }
+{
+    let mut list = Vec::with_capacity(alloc, timing.streams())?;
+    for stream in 0..timing.streams() {
+        list.push(timing.release(stream) as i128)?;
+    }
+    Ok(list)
+}
+
+/// The latest offset of each stream that is done within the cycle and arrives in time, in nanoseconds.
+fn latest_offsets(alloc: Global, timing: &Timing) -> Result<Vec<i128>, AllocError>
+    ensures { IfOk result (λ v. v.items ≡ map (latest_offset timing.now) (range_with_len 0 (stream_count timing.now))) }
+{
+    let mut list = Vec::with_capacity(alloc, timing.streams())?;
+    for stream in 0..timing.streams() {
+        list.push(latest_offset(timing, stream))?;
+    }
+    Ok(list)
+}
+
+#[tactic(auto, unfolding(tsn_model::specs::Argument::latest_offset))]
+fn latest_offset(timing: &Timing, stream: usize) -> i128
+    requires { stream < stream_count timing.now }
+    ensures { result ≡ latest_offset timing.now stream }
+{
+    let ends = timing.cycle() as i128 - timing.span(stream) as i128;
+    let arrives = timing.latest(stream) as i128 - timing.arrival(stream) as i128;
+    if ends <= arrives { ends } else { arrives }
+}
+
+/// Whether some least number is above the greatest one.
+fn is_crossed(low: &Numbers, high: &Numbers) -> bool
+    requires { length low.now.view ≡ length high.now.view }
+    ensures { MatchBool result (AreCrossed low.now.view high.now.view) (AreCrossed low.now.view high.now.view → ⊥) }
+{
+    for stream in 0..low.len() {
+        if high.at(stream) < low.at(stream) {
+            return true;
+        }
+    }
+    false
+}
