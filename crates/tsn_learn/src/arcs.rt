@@ -1,0 +1,165 @@
+//! What bounds give other bounds: the arcs of orders, and the arrivals. Bounds stand in this order: the least and the greatest offset
+//! of each stream, the least and the greatest flowspan, and for each order whether its left stream goes first, and whether its right
+//! one does. Times are in nanoseconds.
+use crate::number::{NONE, index, indices, put_index};
+use crate::table::{Order, Table};
+use std::alloc::Global;
+use tsn_model::NoMemory;
+
+/// Where a bound is `least`, another one is at least `weight` more, if the order holds.
+#[derive(Clone, Copy)]
+pub struct Arc {
+    pub from: u32,
+    pub to: u32,
+    /// The bound of the order; none where it always holds.
+    pub order: u32,
+    pub weight: i64,
+}
+
+/// The arcs, by the bound that they come from.
+#[derive(Drop)]
+pub struct Arcs {
+    pub list: Vec<Arc>,
+    // For each bound of an offset or the flowspan, where its arcs begin.
+    starts: Vec<usize>,
+    // For each bound of an order its arc between least offsets, and that between greatest ones.
+    least: Vec<u32>,
+    greatest: Vec<u32>,
+    // How many bounds there are of offsets and the flowspan.
+    times: usize,
+}
+
+impl Arcs {
+    /// Those of a network. The error says that there was no memory.
+    pub fn of(alloc: Global, table: &Table) -> Result<Arcs, NoMemory> {
+        let streams = table.streams();
+        let bounds = table.orders.len().wrapping_mul(2);
+        let mut arcs = Arcs {
+            list: Vec::new(alloc),
+            starts: Vec::new(alloc),
+            least: indices(alloc, NONE, bounds)?,
+            greatest: indices(alloc, NONE, bounds)?,
+            times: streams.wrapping_mul(2).wrapping_add(2),
+        };
+        for stream in 0..streams {
+            arcs.begin()?;
+            let arrival = index(streams.wrapping_mul(2));
+            arcs.add(stream.wrapping_mul(2), arrival, NONE, table.arrival(stream))?;
+            arcs.note_least(table, stream)?;
+            arcs.begin()?;
+            arcs.note_greatest(table, stream)?;
+        }
+        arcs.begin()?;
+        arcs.begin()?;
+        for stream in 0..streams {
+            let to = index(stream.wrapping_mul(2).wrapping_add(1));
+            let from = streams.wrapping_mul(2).wrapping_add(1);
+            arcs.add(from, to, NONE, table.arrival(stream))?;
+        }
+        arcs.begin()?;
+        Ok(arcs)
+    }
+
+    /// The arc of this number.
+    pub fn arc(&self, number: u32) -> Arc {
+        match self.list.get(number as usize) {
+            Some(arc) => *arc,
+            None => Arc {
+                from: 0,
+                to: 0,
+                order: NONE,
+                weight: 0,
+            },
+        }
+    }
+
+    /// The number of the first arc from a bound.
+    pub fn start(&self, bound: usize) -> usize {
+        match self.starts.get(bound) {
+            Some(start) => *start,
+            None => self.list.len(),
+        }
+    }
+
+    /// The arc of an order between least offsets.
+    pub fn least_arc(&self, order: u32) -> u32 {
+        arc_at(&self.least, (order as usize).wrapping_sub(self.times))
+    }
+
+    /// The arc of an order between greatest offsets.
+    pub fn greatest_arc(&self, order: u32) -> u32 {
+        arc_at(&self.greatest, (order as usize).wrapping_sub(self.times))
+    }
+
+    fn begin(&mut self) -> Result<(), NoMemory> {
+        self.starts.push(self.list.len()).map_err(|_| NoMemory)
+    }
+
+    fn add(&mut self, from: usize, to: u32, order: u32, weight: i64) -> Result<(), NoMemory> {
+        let arc = Arc {
+            from: index(from),
+            to,
+            order,
+            weight,
+        };
+        self.list.push(arc).map_err(|_| NoMemory)
+    }
+
+    // The arcs from the least offset of a stream.
+    fn note_least(&mut self, table: &Table, stream: usize) -> Result<(), NoMemory> {
+        for (number, order) in table.orders.iter().enumerate() {
+            if let Some((place, other, weight)) = from_stream(order, number, stream) {
+                put_index(&mut self.least, place, index(self.list.len()));
+                let bound = index(self.times.wrapping_add(place));
+                let to = index(other.wrapping_mul(2));
+                self.add(stream.wrapping_mul(2), to, bound, weight)?;
+            }
+        }
+        Ok(())
+    }
+
+    // The arcs from the greatest offset of a stream: those that lead to it, turned around.
+    fn note_greatest(&mut self, table: &Table, stream: usize) -> Result<(), NoMemory> {
+        for (number, order) in table.orders.iter().enumerate() {
+            if let Some((place, other, weight)) = to_stream(order, number, stream) {
+                put_index(&mut self.greatest, place, index(self.list.len()));
+                let bound = index(self.times.wrapping_add(place));
+                let from = stream.wrapping_mul(2).wrapping_add(1);
+                let to = index(other.wrapping_mul(2).wrapping_add(1));
+                self.add(from, to, bound, weight)?;
+            }
+        }
+        Ok(())
+    }
+}
+
+fn arc_at(list: &[u32], place: usize) -> u32 {
+    match list.get(place) {
+        Some(number) => *number,
+        None => NONE,
+    }
+}
+
+// The arc of the order that leads away from the stream: its place among the orders' bounds, where it leads, and its weight.
+fn from_stream(order: &Order, number: usize, stream: usize) -> Option<(usize, usize, i64)> {
+    let place = number.wrapping_mul(2);
+    if order.left == stream {
+        Some((place, order.right, order.left_first))
+    } else if order.right == stream {
+        Some((place.wrapping_add(1), order.left, order.right_first))
+    } else {
+        None
+    }
+}
+
+// The arc of the order that leads to the stream: its place, where it comes from, and its weight.
+fn to_stream(order: &Order, number: usize, stream: usize) -> Option<(usize, usize, i64)> {
+    let place = number.wrapping_mul(2);
+    if order.right == stream {
+        Some((place, order.left, order.left_first))
+    } else if order.left == stream {
+        Some((place.wrapping_add(1), order.right, order.right_first))
+    } else {
+        None
+    }
+}

@@ -1,0 +1,339 @@
+//! Clauses, each watched at two of its literals (Moskewicz, Madigan, Zhao, Zhang and Malik 2001).
+use crate::literal::{Literal, exchange, literal_at};
+use crate::number::index;
+use std::alloc::Global;
+use std::mem;
+use tsn_model::NoMemory;
+
+/// A clause: where its literals begin in the list of all, and how many there are.
+#[derive(Clone, Copy)]
+pub struct Clause {
+    pub start: usize,
+    pub count: usize,
+    /// Its number in the record.
+    pub shown: u32,
+    /// How many levels its literals were of.
+    pub levels: u32,
+    /// When it was needed last.
+    pub used: u64,
+    pub is_learned: bool,
+    pub is_gone: bool,
+}
+
+/// That a clause is looked at where the bound is at least this.
+#[derive(Clone, Copy)]
+pub struct Watch {
+    pub clause: u32,
+    pub least: i64,
+}
+
+/// The clauses that watch a bound.
+#[derive(Drop)]
+pub struct Watches {
+    pub list: Vec<Watch>,
+}
+
+/// The clauses of a search.
+#[derive(Drop)]
+pub struct Clauses {
+    pub list: Vec<Clause>,
+    pub literals: Vec<Literal>,
+    pub watches: Vec<Watches>,
+    /// How many learned ones there are.
+    pub learned: usize,
+    // The watches of the bound that is looked at.
+    pub open: Vec<Watch>,
+    // How many literals belong to clauses that are gone.
+    gone: usize,
+}
+
+/// What a clause that may not hold comes to.
+#[derive(Clone, Copy)]
+pub enum Found {
+    /// It holds, or isn't watched here any longer but goes on being watched elsewhere.
+    Kept,
+    Left,
+    /// The others are contradicted, so this one holds.
+    Last(Literal),
+}
+
+impl Clauses {
+    /// None, over so many bounds. The error says that there was no memory.
+    pub fn none(alloc: Global, bounds: usize) -> Result<Clauses, NoMemory> {
+        let mut watches = Vec::with_capacity(alloc, bounds)?;
+        for _ in 0..bounds {
+            let none = Watches {
+                list: Vec::new(alloc),
+            };
+            watches.push(none).map_err(|_| NoMemory)?;
+        }
+        Ok(Clauses {
+            list: Vec::new(alloc),
+            literals: Vec::new(alloc),
+            watches,
+            learned: 0,
+            open: Vec::new(alloc),
+            gone: 0,
+        })
+    }
+
+    /// The clause of this number.
+    pub fn clause(&self, number: u32) -> Clause {
+        match self.list.get(number as usize) {
+            Some(clause) => *clause,
+            None => no_clause(),
+        }
+    }
+
+    /// The literals of a clause.
+    pub fn literals_of(&self, number: u32) -> &[Literal] {
+        let clause = self.clause(number);
+        part_of(&self.literals, clause.start, clause.count)
+    }
+
+    /// Adds a clause of two literals or more, which is watched at the first two, and answers its number.
+    pub fn add(
+        &mut self,
+        literals: &[Literal],
+        shown: u32,
+        levels: u32,
+        used: u64,
+        is_learned: bool,
+    ) -> Result<u32, NoMemory> {
+        let number = index(self.list.len());
+        let start = self.literals.len();
+        for literal in literals {
+            self.literals.push(*literal).map_err(|_| NoMemory)?;
+        }
+        for literal in literals.iter().take(2) {
+            self.watch(*literal, number)?;
+        }
+        self.list
+            .push(Clause {
+                start,
+                count: literals.len(),
+                shown,
+                levels,
+                used,
+                is_learned,
+                is_gone: false,
+            })
+            .map_err(|_| NoMemory)?;
+        if is_learned {
+            self.learned = self.learned.wrapping_add(1);
+        }
+        Ok(number)
+    }
+
+    /// Notes that a clause was needed.
+    pub fn note_use(&mut self, number: u32, now: u64) {
+        if let Some(clause) = self.list.get_mut(number as usize) {
+            clause.used = now;
+        }
+    }
+
+    /// Takes the watches of a bound in hand.
+    pub fn take(&mut self, bound: u32) {
+        if let Some(watches) = self.watches.get_mut(bound as usize) {
+            mem::swap(&mut watches.list, &mut self.open);
+        }
+    }
+
+    /// Puts those back that are kept: the first so many in hand. Further ones may have come in between.
+    pub fn put_back(&mut self, bound: u32, kept: usize) -> Result<(), NoMemory> {
+        self.open.truncate(kept);
+        if let Some(watches) = self.watches.get_mut(bound as usize) {
+            mem::swap(&mut watches.list, &mut self.open);
+            for watch in &self.open {
+                watches.list.push(*watch).map_err(|_| NoMemory)?;
+            }
+        }
+        self.open.clear();
+        Ok(())
+    }
+
+    /// Writes a watch in hand.
+    pub fn keep(&mut self, place: usize, watch: Watch) {
+        if let Some(old) = self.open.get_mut(place) {
+            *old = watch;
+        }
+    }
+
+    /// The watch in hand of this place.
+    pub fn in_hand(&self, place: usize) -> Watch {
+        match self.open.get(place) {
+            Some(watch) => *watch,
+            None => Watch {
+                clause: 0,
+                least: i64::MAX,
+            },
+        }
+    }
+
+    /// Looks at a clause one of whose watched literals, this one, is contradicted by now.
+    pub fn look(
+        &mut self,
+        number: u32,
+        contradicted: Literal,
+        values: &[i64],
+    ) -> Result<Found, NoMemory> {
+        let clause = self.clause(number);
+        if clause.is_gone {
+            return Ok(Found::Left);
+        }
+        let second = clause.start.wrapping_add(1);
+        if is_same(literal_at(&self.literals, clause.start), contradicted) {
+            exchange(&mut self.literals, clause.start, second);
+        }
+        if !is_same(literal_at(&self.literals, second), contradicted) {
+            return Ok(Found::Left);
+        }
+        let first = literal_at(&self.literals, clause.start);
+        if is_true(values, first) {
+            return Ok(Found::Kept);
+        }
+        match self.open_literal(clause, values) {
+            Some(place) => {
+                let other = literal_at(&self.literals, place);
+                exchange(&mut self.literals, second, place);
+                self.watch(other, number)?;
+                Ok(Found::Left)
+            }
+            None => Ok(Found::Last(first)),
+        }
+    }
+
+    // The place of a literal behind the second that isn't contradicted.
+    fn open_literal(&self, clause: Clause, values: &[i64]) -> Option<usize> {
+        let start = clause.start.wrapping_add(2);
+        let rest = part_of(&self.literals, start, clause.count.wrapping_sub(2));
+        for (number, literal) in rest.iter().enumerate() {
+            if !is_true(values, literal.opposite()) {
+                return Some(start.wrapping_add(number));
+            }
+        }
+        None
+    }
+
+    fn watch(&mut self, literal: Literal, clause: u32) -> Result<(), NoMemory> {
+        let opposite = literal.opposite();
+        match self.watches.get_mut(opposite.place()) {
+            Some(watches) => watches
+                .list
+                .push(Watch {
+                    clause,
+                    least: opposite.least,
+                })
+                .map_err(|_| NoMemory),
+            None => Ok(()),
+        }
+    }
+
+    /// Forgets about half of the learned clauses of more than two literals and levels, those that were needed longest ago, but none
+    /// that is marked.
+    pub fn forget(&mut self, alloc: Global, is_needed: &[bool]) -> Result<(), NoMemory> {
+        let last = self.middle_use(alloc, is_needed)?;
+        for (number, clause) in self.list.iter_mut().enumerate() {
+            if may_go(clause, number, is_needed) && clause.used < last {
+                clause.is_gone = true;
+                self.learned = self.learned.wrapping_sub(1);
+                self.gone = self.gone.wrapping_add(clause.count);
+            }
+        }
+        for bound in 0..self.watches.len() {
+            self.sweep(bound);
+        }
+        if self.gone > self.literals.len() / 2 {
+            self.compact(alloc)?;
+        }
+        Ok(())
+    }
+
+    // When the middle one of those that may go was needed last.
+    fn middle_use(&self, alloc: Global, is_needed: &[bool]) -> Result<u64, NoMemory> {
+        let mut uses = Vec::new(alloc);
+        for (number, clause) in self.list.iter().enumerate() {
+            if may_go(clause, number, is_needed) {
+                uses.push(clause.used).map_err(|_| NoMemory)?;
+            }
+        }
+        uses.sort_unstable();
+        match uses.get(uses.len() / 2) {
+            Some(middle) => Ok(*middle),
+            None => Ok(0),
+        }
+    }
+
+    // Drops the watches of clauses that are gone.
+    fn sweep(&mut self, bound: usize) {
+        self.take(index(bound));
+        let mut kept: usize = 0;
+        for place in 0..self.open.len() {
+            let watch = self.in_hand(place);
+            if !self.clause(watch.clause).is_gone {
+                self.keep(kept, watch);
+                kept = kept.wrapping_add(1);
+            }
+        }
+        self.open.truncate(kept);
+        self.take(index(bound));
+        self.open.clear();
+    }
+
+    // Moves the literals together.
+    fn compact(&mut self, alloc: Global) -> Result<(), NoMemory> {
+        let mut literals = Vec::new(alloc);
+        for clause in self.list.iter_mut() {
+            if clause.is_gone {
+                clause.count = 0;
+            }
+            let start = literals.len();
+            for literal in part_of(&self.literals, clause.start, clause.count) {
+                literals.push(*literal).map_err(|_| NoMemory)?;
+            }
+            clause.start = start;
+        }
+        self.literals = literals;
+        self.gone = 0;
+        Ok(())
+    }
+}
+
+/// So many literals from this place on.
+pub fn part_of(literals: &[Literal], start: usize, count: usize) -> &[Literal] {
+    match literals.get(start..start.wrapping_add(count)) {
+        Some(part) => part,
+        None => &[],
+    }
+}
+
+fn no_clause() -> Clause {
+    Clause {
+        start: 0,
+        count: 0,
+        shown: 0,
+        levels: 0,
+        used: 0,
+        is_learned: false,
+        is_gone: true,
+    }
+}
+
+fn may_go(clause: &Clause, number: usize, is_needed: &[bool]) -> bool {
+    let is_free = match is_needed.get(number) {
+        Some(needed) => !*needed,
+        None => true,
+    };
+    is_free && clause.is_learned && !clause.is_gone && clause.count > 2 && clause.levels > 2
+}
+
+fn is_same(one: Literal, other: Literal) -> bool {
+    one.bound == other.bound && one.least == other.least
+}
+
+fn is_true(values: &[i64], literal: Literal) -> bool {
+    match values.get(literal.place()) {
+        Some(value) => *value >= literal.least,
+        None => false,
+    }
+}

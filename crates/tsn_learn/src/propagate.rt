@@ -1,0 +1,253 @@
+//! What follows from the bounds that changed.
+use crate::arcs::Arc;
+use crate::clauses::Found;
+use crate::literal::Literal;
+use crate::number::{NONE, at, index, less, next, sum};
+use crate::reason::Why;
+use crate::search::Search;
+use crate::table::Visit;
+use crate::trail::holds;
+use tsn_model::NoMemory;
+
+impl Search {
+    /// Works out what follows, until nothing changes. False at a contradiction, which is noted as the clash.
+    pub fn propagate(&mut self) -> Result<bool, NoMemory> {
+        for _ in 0..u64::MAX {
+            if !self.follow_changes()? {
+                return Ok(false);
+            }
+            let Some(link) = self.rooms.next() else {
+                return Ok(true);
+            };
+            if !self.look_at_link(link)? {
+                return Ok(false);
+            }
+        }
+        Ok(true)
+    }
+
+    // What follows from changes by clauses, arcs and orders.
+    fn follow_changes(&mut self) -> Result<bool, NoMemory> {
+        for _ in 0..u64::MAX {
+            let Some(event) = self.trail.events.get(self.trail.looked) else {
+                break;
+            };
+            let bound = event.bound;
+            self.trail.looked = next(self.trail.looked);
+            if !self.follow_clauses(bound)? {
+                return Ok(false);
+            }
+            let goes_on = if bound < self.times {
+                self.follow_arcs(bound)?
+            } else {
+                self.follow_order(bound)?
+            };
+            if !goes_on {
+                return Ok(false);
+            }
+        }
+        Ok(true)
+    }
+
+    fn follow_clauses(&mut self, bound: u32) -> Result<bool, NoMemory> {
+        let value = self.trail.value(bound);
+        self.clauses.take(bound);
+        let count = self.clauses.open.len();
+        self.pace.spend(count);
+        let mut kept: usize = 0;
+        let mut goes_on = true;
+        for place in 0..count {
+            let watch = self.clauses.in_hand(place);
+            let is_kept = if goes_on && watch.least <= value {
+                let contradicted = Literal::of(bound ^ 1, less(1, watch.least));
+                match self
+                    .clauses
+                    .look(watch.clause, contradicted, &self.trail.values)?
+                {
+                    Found::Kept => true,
+                    Found::Left => false,
+                    Found::Last(literal) => {
+                        goes_on = self.assert(literal, watch.clause)?;
+                        true
+                    }
+                }
+            } else {
+                true
+            };
+            if is_kept {
+                self.clauses.keep(kept, watch);
+                kept = next(kept);
+            }
+        }
+        self.clauses.put_back(bound, kept)?;
+        Ok(goes_on)
+    }
+
+    // The literal of a clause whose others are contradicted.
+    fn assert(&mut self, literal: Literal, clause: u32) -> Result<bool, NoMemory> {
+        if !self.trail.is_false(literal) {
+            return self.raise(literal, Why::Clause(clause));
+        }
+        self.clash.clear();
+        for other in self.clauses.literals_of(clause) {
+            self.clash.push(other.opposite()).map_err(|_| NoMemory)?;
+        }
+        self.clash_deed = self.deed_of(literal.bound, Why::Clause(clause));
+        self.clauses.note_use(clause, self.pace.conflicts);
+        Ok(false)
+    }
+
+    // The arcs from a bound of an offset or the flowspan.
+    fn follow_arcs(&mut self, bound: u32) -> Result<bool, NoMemory> {
+        let from = self.arcs.start(bound as usize);
+        let to = self.arcs.start(next(bound as usize));
+        self.pace.spend(less_place(to, from));
+        let value = self.trail.value(bound);
+        for number in from..to {
+            let arc = self.arcs.arc(index(number));
+            let least = sum(value, arc.weight);
+            if arc.order == NONE || self.trail.holds(arc.order) {
+                if !self.raise(Literal::of(arc.to, least), Why::Arc(index(number)))? {
+                    return Ok(false);
+                }
+            } else if least > self.trail.value(arc.to ^ 1).wrapping_neg()
+                && !self.trail.holds(arc.order ^ 1)
+            {
+                let needed = self.least_to_turn(arc);
+                let turned = Literal::of(arc.order ^ 1, holds(arc.order ^ 1));
+                if !self.raise(turned, Why::Turn(index(number), needed))? {
+                    return Ok(false);
+                }
+            }
+        }
+        Ok(true)
+    }
+
+    // An arc can't be met: how great its source has to be for that. What is known before the first decision counts most, then what
+    // came to be known first.
+    fn least_to_turn(&self, arc: Arc) -> i64 {
+        let value = self.trail.value(arc.from);
+        let needed = less(less(1, self.trail.value(arc.to ^ 1)), arc.weight);
+        let ground = at(&self.trail.ground, arc.from as usize);
+        if ground >= needed {
+            return ground;
+        }
+        let most = at(&self.trail.ground, (arc.to ^ 1) as usize);
+        let by_ground = less(less(1, most), arc.weight);
+        if by_ground <= value {
+            return by_ground;
+        }
+        match self.trail.event_of(Literal::of(arc.from, needed)) {
+            Some(number) => self.trail.event(number).new,
+            None => needed,
+        }
+    }
+
+    // An order that is known: its arcs.
+    fn follow_order(&mut self, order: u32) -> Result<bool, NoMemory> {
+        let least = self.arcs.least_arc(order);
+        let greatest = self.arcs.greatest_arc(order);
+        Ok(self.follow_arc(least)? && self.follow_arc(greatest)?)
+    }
+
+    fn follow_arc(&mut self, number: u32) -> Result<bool, NoMemory> {
+        let arc = self.arcs.arc(number);
+        let least = sum(self.trail.value(arc.from), arc.weight);
+        self.raise(Literal::of(arc.to, least), Why::Arc(number))
+    }
+
+    // Looks at a link from both sides, from the second one only where nothing changed by the first.
+    fn look_at_link(&mut self, link: usize) -> Result<bool, NoMemory> {
+        let Some(shared) = self.table.links.get(link) else {
+            return Ok(true);
+        };
+        self.pace.spend(shared.visits.len());
+        if !self.rooms.take(link, shared, &self.trail.values) {
+            return Ok(true);
+        }
+        self.pace.spend(shared.visits.len().wrapping_mul(16));
+        for side in 0..2 {
+            if !self.look_from(link, side)? {
+                return Ok(false);
+            }
+            if self.trail.looked < self.trail.events.len() {
+                return self.call_again(link);
+            }
+        }
+        self.rooms.leave(link);
+        Ok(true)
+    }
+
+    fn call_again(&mut self, link: usize) -> Result<bool, NoMemory> {
+        self.rooms.call(link)?;
+        Ok(true)
+    }
+
+    fn look_from(&mut self, link: usize, side: u32) -> Result<bool, NoMemory> {
+        let Some(shared) = self.table.links.get(link) else {
+            return Ok(true);
+        };
+        if let Some(overload) = self.rooms.look(link, side, shared)? {
+            self.note_overload(overload)?;
+            return Ok(false);
+        }
+        for number in 0..self.rooms.found.len() {
+            if !self.place(number)? {
+                return Ok(false);
+            }
+        }
+        Ok(true)
+    }
+
+    // A stream that goes last of others on a link, by its number among those that were found.
+    fn place(&mut self, number: usize) -> Result<bool, NoMemory> {
+        let Some(&found) = self.rooms.found.get(number) else {
+            return Ok(true);
+        };
+        let visit = self
+            .table
+            .visit(found.placing.link as usize, found.placing.place);
+        let literal = Literal::of(
+            bound_of(visit, found.placing.side),
+            less(found.head, lead(visit, found.placing.side)),
+        );
+        if self.trail.is_true(literal) {
+            return Ok(true);
+        }
+        let why = Why::Placing(index(self.trail.placings.len()));
+        self.trail
+            .placings
+            .push(found.placing)
+            .map_err(|_| NoMemory)?;
+        self.raise(literal, why)
+    }
+}
+
+/// The bound that gives a stream's head, as seen from a side.
+pub fn bound_of(visit: Visit, side: u32) -> u32 {
+    index(visit.stream.wrapping_mul(2)).wrapping_add(side)
+}
+
+/// How much a stream's head on a link is more than its bound, as seen from a side.
+pub fn lead(visit: Visit, side: u32) -> i64 {
+    if side == 0 {
+        visit.start
+    } else {
+        sum(visit.start, visit.work).wrapping_neg()
+    }
+}
+
+/// That a stream's head is at least this.
+pub fn head_literal(visit: Visit, side: u32, head: i64) -> Literal {
+    Literal::of(bound_of(visit, side), less(head, lead(visit, side)))
+}
+
+/// That a stream's end is at most this.
+pub fn end_literal(visit: Visit, side: u32, end: i64) -> Literal {
+    let least = less(sum(lead(visit, side), visit.work), end);
+    Literal::of(bound_of(visit, side) ^ 1, least)
+}
+
+fn less_place(one: usize, other: usize) -> usize {
+    one.wrapping_sub(other)
+}

@@ -1,0 +1,125 @@
+//! What was shown: the learned clauses, each with the deeds by which it follows.
+use crate::clauses::part_of;
+use crate::literal::Literal;
+use crate::number::{index, next};
+use crate::reason::{Deed, Packing, Placing};
+use std::alloc::Global;
+use tsn_model::NoMemory;
+
+// Where a clause begins in each list.
+#[derive(Clone, Copy)]
+struct Shown {
+    literals: usize,
+    deeds: usize,
+    grounds: usize,
+}
+
+/// What was shown, one clause after another.
+#[derive(Drop)]
+pub struct Record {
+    list: Vec<Shown>,
+    literals: Vec<Literal>,
+    deeds: Vec<Deed>,
+    // Changes before the first decision that are needed.
+    grounds: Vec<u32>,
+    pub placings: Vec<Placing>,
+    pub packings: Vec<Packing>,
+}
+
+impl Record {
+    /// Nothing.
+    pub fn none(alloc: Global) -> Record {
+        Record {
+            list: Vec::new(alloc),
+            literals: Vec::new(alloc),
+            deeds: Vec::new(alloc),
+            grounds: Vec::new(alloc),
+            placings: Vec::new(alloc),
+            packings: Vec::new(alloc),
+        }
+    }
+
+    /// How many clauses were shown.
+    pub fn count(&self) -> usize {
+        self.list.len()
+    }
+
+    /// Adds a clause, and answers its number.
+    pub fn add(
+        &mut self,
+        literals: &[Literal],
+        deeds: &[Deed],
+        grounds: &[u32],
+    ) -> Result<u32, NoMemory> {
+        let number = index(self.list.len());
+        self.list
+            .push(Shown {
+                literals: self.literals.len(),
+                deeds: self.deeds.len(),
+                grounds: self.grounds.len(),
+            })
+            .map_err(|_| NoMemory)?;
+        for literal in literals {
+            self.literals.push(*literal).map_err(|_| NoMemory)?;
+        }
+        for deed in deeds {
+            self.deeds.push(*deed).map_err(|_| NoMemory)?;
+        }
+        for ground in grounds {
+            self.grounds.push(*ground).map_err(|_| NoMemory)?;
+        }
+        Ok(number)
+    }
+
+    /// Keeps a placing, and answers its number.
+    pub fn keep_placing(&mut self, placing: Placing) -> Result<u32, NoMemory> {
+        let number = index(self.placings.len());
+        self.placings.push(placing).map_err(|_| NoMemory)?;
+        Ok(number)
+    }
+
+    /// Keeps a packing, and answers its number.
+    pub fn keep_packing(&mut self, packing: Packing) -> Result<u32, NoMemory> {
+        let number = index(self.packings.len());
+        self.packings.push(packing).map_err(|_| NoMemory)?;
+        Ok(number)
+    }
+
+    /// The literals of a clause.
+    pub fn literals(&self, number: usize) -> &[Literal] {
+        let from = self.begin(number).literals;
+        let to = self.begin(next(number)).literals;
+        part_of(&self.literals, from, to.wrapping_sub(from))
+    }
+
+    /// The deeds by which a clause follows.
+    pub fn deeds(&self, number: usize) -> &[Deed] {
+        let from = self.begin(number).deeds;
+        let to = self.begin(next(number)).deeds;
+        match self.deeds.get(from..to) {
+            Some(part) => part,
+            None => &[],
+        }
+    }
+
+    /// The changes before the first decision that a clause needs.
+    pub fn grounds(&self, number: usize) -> &[u32] {
+        let from = self.begin(number).grounds;
+        let to = self.begin(next(number)).grounds;
+        match self.grounds.get(from..to) {
+            Some(part) => part,
+            None => &[],
+        }
+    }
+
+    fn begin(&self, number: usize) -> Shown {
+        match self.list.get(number) {
+            Some(shown) => *shown,
+            None => Shown {
+                literals: self.literals.len(),
+                deeds: self.deeds.len(),
+                grounds: self.grounds.len(),
+            },
+        }
+    }
+}

@@ -1,0 +1,47 @@
+//! Sets of places among the streams of a link: numbers below 128.
+
+/// A set of numbers below 128.
+#[derive(Clone, Copy)]
+pub struct Set {
+    bits: u128,
+}
+
+impl Set {
+    /// No number.
+    pub fn none() -> Set {
+        Set { bits: 0 }
+    }
+
+    /// This number alone.
+    pub fn of(number: usize) -> Set {
+        Set {
+            bits: 1u128.wrapping_shl((number % 128) as u32),
+        }
+    }
+
+    pub fn has(self, number: usize) -> bool {
+        self.bits & Set::of(number).bits != 0
+    }
+
+    pub fn is_empty(self) -> bool {
+        self.bits == 0
+    }
+
+    pub fn put(&mut self, number: usize) {
+        self.bits |= Set::of(number).bits;
+    }
+
+    pub fn drop_out(&mut self, number: usize) {
+        self.bits &= !Set::of(number).bits;
+    }
+
+    /// Takes the least number out.
+    pub fn take(&mut self) -> Option<usize> {
+        if self.bits == 0 {
+            return None;
+        }
+        let first = self.bits.trailing_zeros() as usize;
+        self.bits &= self.bits.wrapping_sub(1);
+        Some(first)
+    }
+}

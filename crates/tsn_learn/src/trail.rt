@@ -1,0 +1,195 @@
+//! The bounds of the variables, and the changes that led to them, one after another.
+use crate::literal::Literal;
+use crate::number::{NONE, at, index, index_at, indices, put, put_index};
+use crate::reason::{Placing, Why};
+use std::alloc::Global;
+use tsn_model::NoMemory;
+
+/// A change of a bound.
+#[derive(Clone, Copy)]
+pub struct Event {
+    pub bound: u32,
+    /// The change of the same bound before this one.
+    pub before: u32,
+    /// How many decisions there were.
+    pub level: u32,
+    /// How many clauses were shown.
+    pub shown: u32,
+    pub old: i64,
+    pub new: i64,
+    pub why: Why,
+}
+
+// Where a level begins.
+#[derive(Clone, Copy)]
+struct Mark {
+    events: usize,
+    placings: usize,
+}
+
+/// Bounds and their changes.
+#[derive(Drop)]
+pub struct Trail {
+    pub values: Vec<i64>,
+    /// The bounds before the first decision.
+    pub ground: Vec<i64>,
+    pub events: Vec<Event>,
+    pub placings: Vec<Placing>,
+    /// How many changes were looked at.
+    pub looked: usize,
+    // The last change of each bound.
+    tops: Vec<u32>,
+    marks: Vec<Mark>,
+}
+
+impl Trail {
+    /// These bounds, without changes. The error says that there was no memory.
+    pub fn of(alloc: Global, values: Vec<i64>) -> Result<Trail, NoMemory> {
+        let tops = indices(alloc, NONE, values.len())?;
+        let mut ground = Vec::with_capacity(alloc, values.len())?;
+        for value in &values {
+            ground.push(*value).map_err(|_| NoMemory)?;
+        }
+        Ok(Trail {
+            values,
+            ground,
+            events: Vec::new(alloc),
+            placings: Vec::new(alloc),
+            looked: 0,
+            tops,
+            marks: Vec::new(alloc),
+        })
+    }
+
+    /// How many decisions there are.
+    pub fn level(&self) -> usize {
+        self.marks.len()
+    }
+
+    /// How many changes there were before the first decision.
+    pub fn grounded(&self) -> usize {
+        match self.marks.first() {
+            Some(mark) => mark.events,
+            None => self.events.len(),
+        }
+    }
+
+    /// Where the bound stands.
+    pub fn value(&self, bound: u32) -> i64 {
+        at(&self.values, bound as usize)
+    }
+
+    /// Whether the literal holds.
+    pub fn is_true(&self, literal: Literal) -> bool {
+        at(&self.values, literal.place()) >= literal.least
+    }
+
+    /// Whether its opposite holds.
+    pub fn is_false(&self, literal: Literal) -> bool {
+        self.is_true(literal.opposite())
+    }
+
+    /// Whether the order's side of this bound, or its other side, is known.
+    pub fn is_known(&self, order: u32) -> bool {
+        at(&self.values, order as usize) >= holds(order)
+            || at(&self.values, (order ^ 1) as usize) >= holds(order ^ 1)
+    }
+
+    /// Whether the order's side of this bound holds.
+    pub fn holds(&self, order: u32) -> bool {
+        at(&self.values, order as usize) >= holds(order)
+    }
+
+    /// The change of this number.
+    pub fn event(&self, number: u32) -> Event {
+        match self.events.get(number as usize) {
+            Some(event) => *event,
+            None => Event {
+                bound: NONE,
+                before: NONE,
+                level: 0,
+                shown: 0,
+                old: 0,
+                new: 0,
+                why: Why::Decided,
+            },
+        }
+    }
+
+    /// The number of the change by which the literal came to hold. None where it held from the start.
+    pub fn event_of(&self, literal: Literal) -> Option<u32> {
+        let mut number = index_at(&self.tops, literal.place());
+        for _ in 0..u32::MAX {
+            let event = self.events.get(number as usize)?;
+            if event.old < literal.least {
+                return Some(number);
+            }
+            number = event.before;
+        }
+        None
+    }
+
+    /// The level at which the literal came to hold.
+    pub fn level_of(&self, literal: Literal) -> u32 {
+        match self.event_of(literal) {
+            Some(number) => self.event(number).level,
+            None => 0,
+        }
+    }
+
+    /// Begins a level.
+    pub fn open(&mut self) -> Result<(), NoMemory> {
+        let mark = Mark {
+            events: self.events.len(),
+            placings: self.placings.len(),
+        };
+        self.marks.push(mark).map_err(|_| NoMemory)
+    }
+
+    /// Narrows a bound.
+    pub fn change(&mut self, literal: Literal, why: Why, shown: usize) -> Result<(), NoMemory> {
+        let number = index(self.events.len());
+        let event = Event {
+            bound: literal.bound,
+            before: index_at(&self.tops, literal.place()),
+            level: index(self.marks.len()),
+            shown: index(shown),
+            old: at(&self.values, literal.place()),
+            new: literal.least,
+            why,
+        };
+        self.events.push(event).map_err(|_| NoMemory)?;
+        put_index(&mut self.tops, literal.place(), number);
+        put(&mut self.values, literal.place(), literal.least);
+        if self.marks.is_empty() {
+            put(&mut self.ground, literal.place(), literal.least);
+        }
+        Ok(())
+    }
+
+    /// Takes the last change back, where it is behind the beginning of this level.
+    pub fn take_back(&mut self, level: usize) -> Option<Event> {
+        let mark = self.marks.get(level)?;
+        if self.events.len() <= mark.events {
+            return None;
+        }
+        let event = self.events.pop()?;
+        put(&mut self.values, event.bound as usize, event.old);
+        put_index(&mut self.tops, event.bound as usize, event.before);
+        Some(event)
+    }
+
+    /// Ends the levels from this one on, whose changes were taken back.
+    pub fn close(&mut self, level: usize) {
+        if let Some(mark) = self.marks.get(level) {
+            self.placings.truncate(mark.placings);
+        }
+        self.marks.truncate(level);
+        self.looked = self.events.len();
+    }
+}
+
+/// What the bound of an order's side is where the side holds.
+pub fn holds(order: u32) -> i64 {
+    if order & 1 == 0 { 1 } else { 0 }
+}
