@@ -3,8 +3,9 @@
 
 real_files.py [PROGRAM..]   the program as each of the two compilers builds it, unless programs are given
 
-Each program runs in a folder of its own: a copy of bench/real-files, with an empty folder `made` and `long.toml`, a network that
-takes long. Standard input is the two streams' network. docs/rows.md says how a table is written.
+Each program runs in a folder of its own: a copy of bench/real-files, with an empty folder `made`, copies of `examples` and of
+bench/networks/suite (as `suite`), and `long.toml`, a network that takes long. Standard input is the two streams' network.
+docs/rows.md says how a table is written.
 """
 
 import os
@@ -24,6 +25,7 @@ DATA = os.path.join(ROOT, "bench", "real-files")
 TABLE = "real-files.rows"
 INPUT = "two-streams.toml"
 LONG = os.path.join(ROOT, "bench", "networks", "random-40.toml")
+COPIED = {"examples": os.path.join(ROOT, "examples"), "suite": os.path.join(ROOT, "bench", "networks", "suite")}
 NOBODY = 65534
 
 
@@ -256,6 +258,8 @@ def main():
             os.chmod(folder, 0o755)
             shutil.copytree(DATA, folder, dirs_exist_ok=True)
             shutil.copy(LONG, os.path.join(folder, "long.toml"))
+            for name, source in COPIED.items():
+                shutil.copytree(source, os.path.join(folder, name))
             # (whoever has no rights has to be able to start it)
             copy = os.path.join(folder, "program")
             shutil.copy(program, copy)

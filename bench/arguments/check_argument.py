@@ -1,0 +1,537 @@
+#!/usr/bin/env python3
+"""Checks an argument (a certificate of format 3) slowly and plainly, written apart from the program, from what arguments mean.
+
+check_argument.py NET PLAN CERT    prints the line that `tsn check` prints of these files, and ends with its status
+
+The network has to be one that isn't refused. Certificates of formats 1 and 2 aren't judged here, and end with status 2.
+docs/formats.md and docs/definitions.md say what arguments are; bench/arguments/mutate.py runs both checkers side by side.
+"""
+
+import json
+import re
+import sys
+import tomllib
+
+ACCEPTED, REFUSED, NOT_SHOWN, NOT_JUDGED = 0, 3, 6, 2
+MOST_TIME = 2_000_000_000
+MOST_NUMBER = 4_294_967_295
+MOST_U64 = 18_446_744_073_709_551_615
+MOST_LISTED = 128
+MOST_NESTED = 127
+GOALS = ("first", "least", "none")
+
+
+# Networks.
+
+
+class Network:
+    """What an argument needs of a network: the cycle, and of each stream when it starts on its links and for how long."""
+
+    def __init__(self, data):
+        text = tomllib.loads(data.decode())
+        self.cycle = text["cycle"]
+        nodes = {node["name"]: node for node in text["node"]}
+        links = {}
+        for number, cable in enumerate(text["link"]):
+            way = {10: 800, 100: 80, 1000: 8}[cable["mbps"]], cable["prop"]
+            links[cable["a"], cable["b"]] = 2 * number, *way
+            links[cable["b"], cable["a"]] = 2 * number + 1, *way
+        self.streams = [Stream(it, nodes, links, self.cycle) for it in text["stream"]]
+
+    def fault(self, offsets):
+        """Whether these offsets are no valid schedule."""
+        if len(offsets) != len(self.streams):
+            return True
+        on = {}
+        for offset, stream in zip(offsets, self.streams):
+            if offset < stream.release or offset + stream.span > self.cycle or offset + stream.arrival > stream.latest:
+                return True
+            for link, start in stream.start.items():
+                on.setdefault(link, []).append((offset + start, offset + start + stream.occupancy[link]))
+        for windows in on.values():
+            windows.sort()
+            if any(before[1] > after[0] for before, after in zip(windows, windows[1:])):
+                return True
+        return False
+
+    def flowspan(self, offsets):
+        return max(offset + stream.arrival for offset, stream in zip(offsets, self.streams))
+
+    def has_stream(self, i):
+        return i < len(self.streams)
+
+    def uses(self, i, link):
+        return self.has_stream(i) and link in self.streams[i].start
+
+    def is_conflict(self, i, j, link):
+        return i != j and self.uses(i, link) and self.uses(j, link)
+
+    def weight(self, i, j, link):
+        """By how much j starts behind i at least, where i goes before j on the link."""
+        return self.streams[i].start[link] + self.streams[i].occupancy[link] - self.streams[j].start[link]
+
+
+class Stream:
+    def __init__(self, text, nodes, links, cycle):
+        self.release, self.latest = text.get("release", 0), text.get("latest", cycle)
+        self.start, self.occupancy = {}, {}
+        route, at, ends = text["route"], 0, []
+        for here, there in zip(route, route[1:]):
+            link, octet, prop = links[here, there]
+            self.start[link], self.occupancy[link] = at, (text["octets"] + 20) * octet
+            ends.append(at + self.occupancy[link])
+            self.arrival = at + (text["octets"] + 8) * octet + prop
+            at = self.arrival + nodes[there].get("proc", 0)
+        self.span = max(ends + [self.arrival])
+
+
+# Files.
+
+
+class FileFault(Exception):
+    """A file that is refused, with its code."""
+
+
+class NotHere(Exception):
+    """A certificate of another format."""
+
+
+def number_of(text):
+    """A number as it is read: one that isn't whole or has more than 64 bits is a float, whatever it is."""
+    if abs(float(text)) == float("inf"):
+        raise ValueError("out of range")
+    whole = text.isdigit() and len(text) <= 20 and int(text) <= MOST_U64
+    return int(text) if whole else 0.5
+
+
+def nesting(text):
+    """How deep arrays and objects stand in each other at most."""
+    depth = deepest = 0
+    for mark in re.sub(r'"(\\.|[^"\\])*"', "", text, flags=re.DOTALL):
+        if mark in "[{":
+            depth += 1
+            deepest = max(deepest, depth)
+        elif mark in "]}":
+            depth -= 1
+    return deepest
+
+
+def refuse_halves(value):
+    """Refuses half a pair of surrogates, which is no character. (Objects were looked at when they were made.)"""
+    if isinstance(value, str) and any("\ud800" <= it <= "\udfff" for it in value):
+        raise ValueError("half a character")
+    if isinstance(value, list):
+        for it in value:
+            refuse_halves(it)
+
+
+def made(pairs):
+    """An object: a key that stands twice has its last value."""
+    for key, value in pairs:
+        refuse_halves(key)
+        refuse_halves(value)
+    return dict(pairs)
+
+
+def no_number(_):
+    raise ValueError("no number")
+
+
+def value_of(data):
+    """The value that a text of JSON is."""
+    try:
+        text = data.decode()
+        if nesting(text) > MOST_NESTED:
+            raise ValueError("too deep")
+        value = json.loads(text, parse_int=number_of, parse_float=number_of, parse_constant=no_number, object_pairs_hook=made)
+        refuse_halves(value)
+    except (ValueError, RecursionError):
+        raise FileFault("C1") from None
+    return value
+
+
+def is_number(value):
+    return isinstance(value, int) and not isinstance(value, bool)
+
+
+def need(condition, code="C2"):
+    if not condition:
+        raise FileFault(code)
+
+
+def plan_of(data):
+    """The flowspan and the offsets of a plan, or None where it is that there is no schedule."""
+    value = value_of(data)
+    need(isinstance(value, dict) and set(value) == {"flowspan", "offsets"})
+    flowspan, offsets = value["flowspan"], value["offsets"]
+    if flowspan is None and offsets is None:
+        return None
+    need(is_number(flowspan) and isinstance(offsets, list) and all(is_number(it) for it in offsets))
+    need(max([flowspan, *offsets]) <= MOST_TIME, "C3")
+    return flowspan, offsets
+
+
+# The parts of facts and moves: n a number, t a time (a number v), s streams, o orders.
+FACTS = {"from": "nt", "until": "nt", "order": "nnn", "done_from": "t", "done_until": "t"}
+MOVES = {
+    "go": "nnn", "turn": "nnn", "use": "n", "arrive": "n", "last": "nnss", "first": "nnss", "pack": "ns", "round": "o",
+}
+
+
+class Shape:
+    """Whether an argument is in the grammar, and whether a number in it is above its limit."""
+
+    def __init__(self):
+        self.is_above = False
+
+    def number(self, value, limit=MOST_NUMBER):
+        need(is_number(value))
+        self.is_above |= value > limit
+
+    def listed(self, value, most=MOST_LISTED):
+        need(isinstance(value, list) and 1 <= len(value) <= most)
+        return value
+
+    def part(self, kind, value):
+        if kind == "n":
+            self.number(value)
+        elif kind == "t":
+            self.number(value, MOST_TIME)
+        elif kind == "s":
+            for stream in self.listed(value):
+                self.number(stream)
+        else:
+            for order in self.listed(value):
+                need(isinstance(order, list) and len(order) == 3)
+                for it in order:
+                    self.number(it)
+
+    def named(self, forms, value):
+        need(isinstance(value, list) and value and isinstance(value[0], str) and value[0] in forms)
+        kinds = forms[value[0]]
+        need(len(value) == 1 + len(kinds))
+        for kind, part in zip(kinds, value[1:]):
+            self.part(kind, part)
+
+    def steps(self, value):
+        need(isinstance(value, list))
+        for step in value:
+            need(isinstance(step, list) and len(step) == 2 and isinstance(step[0], list) and isinstance(step[1], list))
+            for fact in step[0]:
+                self.named(FACTS, fact)
+            for move in step[1]:
+                self.named(MOVES, move)
+
+
+def argument_of(data):
+    """The goal, the steps and the target of an argument."""
+    value = value_of(data)
+    need(isinstance(value, dict))
+    if set(value) == {"format", "nodes", "target"} and is_number(value["format"]) and value["format"] in (1, 2):
+        raise NotHere
+    need(set(value) == {"format", "goal", "steps", "target"})
+    need(is_number(value["format"]) and value["format"] == 3)
+    need(isinstance(value["goal"], str) and value["goal"] in GOALS)
+    shape = Shape()
+    shape.number(value["target"], MOST_TIME)
+    shape.steps(value["steps"])
+    need(not shape.is_above, "C3")
+    return value["goal"], value["steps"], value["target"]
+
+
+# What is argued.
+
+
+class Fault(Exception):
+    """What refuses an argument: its code, and of a step's fault the step."""
+
+    def __init__(self, code, step=None):
+        super().__init__(code)
+        self.code, self.step = code, step
+
+
+class View:
+    """What is known of offsets: the least and the greatest of each stream, some decisions, and the least and greatest flowspan."""
+
+    def __init__(self, low, high, orders, done_low, done_high):
+        self.low, self.high, self.orders = list(low), list(high), set(orders)
+        self.done_low, self.done_high = done_low, done_high
+
+    def copy(self):
+        return View(self.low, self.high, self.orders, self.done_low, self.done_high)
+
+    def is_impossible(self):
+        return self.done_low > self.done_high or any(low > high for low, high in zip(self.low, self.high))
+
+    def learn(self, fact):
+        kind, *of = fact
+        if kind == "from":
+            self.low[of[0]] = max(self.low[of[0]], of[1])
+        elif kind == "until":
+            self.high[of[0]] = min(self.high[of[0]], of[1])
+        elif kind == "order":
+            self.orders.add(tuple(of))
+        elif kind == "done_from":
+            self.done_low = max(self.done_low, of[0])
+        else:
+            self.done_high = min(self.done_high, of[0])
+
+    def contradicts(self, fact):
+        kind, *of = fact
+        if kind == "from":
+            return self.high[of[0]] < of[1]
+        if kind == "until":
+            return self.low[of[0]] > of[1]
+        if kind == "order":
+            return (of[1], of[0], of[2]) in self.orders
+        if kind == "done_from":
+            return self.done_high < of[0]
+        return self.done_low > of[0]
+
+
+def opposite(fact):
+    """What holds of a valid schedule of which the fact doesn't hold."""
+    kind, *of = fact
+    if kind == "from":
+        return ["until", of[0], of[1] - 1]
+    if kind == "until":
+        return ["from", of[0], of[1] + 1]
+    if kind == "order":
+        return ["order", of[1], of[0], of[2]]
+    if kind == "done_from":
+        return ["done_until", of[0] - 1]
+    return ["done_from", of[0] + 1]
+
+
+class Checker:
+    def __init__(self, network, plan, goal):
+        self.network, self.goal = network, goal
+        self.clauses = []
+        if goal == "none":
+            self.flowspan, self.offsets, greatest = None, None, network.cycle
+        else:
+            self.flowspan, self.offsets = plan
+            greatest = self.flowspan if goal == "first" else self.flowspan - 1
+        streams = network.streams
+        low = [it.release for it in streams]
+        high = [min(network.cycle - it.span, it.latest - it.arrival) for it in streams]
+        self.ground = View(low, high, (), 0, greatest)
+        self.settle()
+
+    def settle(self):
+        """What the ground learns besides, when it has changed."""
+        if self.goal != "first" or self.ground.done_low < self.flowspan:
+            return
+        for k, offset in enumerate(self.offsets):
+            self.ground.high[k] = min(self.ground.high[k], offset)
+            if self.ground.low[k] < offset:
+                break
+
+    def is_shown(self):
+        """Whether the end has what the goal asks."""
+        if self.ground.is_impossible():
+            return True
+        ground = self.ground
+        if self.goal != "first" or ground.done_low < self.flowspan:
+            return False
+        return all(low >= offset for low, offset in zip(ground.low, self.offsets))
+
+    def check(self, steps):
+        for number, (clause, moves) in enumerate(steps):
+            try:
+                self.step(clause, moves)
+            except Fault as fault:
+                raise Fault(fault.code, number) from None
+        if not self.is_shown():
+            raise Fault("K3", len(steps))
+
+    def step(self, clause, moves):
+        if self.ground.is_impossible():
+            raise Fault("K4")
+        for fact in clause:
+            self.try_fact(fact)
+        view = self.ground.copy()
+        for fact in clause:
+            view.learn(opposite(fact))
+        for move in moves:
+            if view.is_impossible():
+                raise Fault("K4")
+            self.move(view, move)
+        if not clause:
+            self.ground = view
+        else:
+            if not view.is_impossible():
+                raise Fault("K7")
+            self.clauses.append(clause)
+            if len(clause) == 1:
+                self.ground.learn(clause[0])
+        self.settle()
+
+    def try_fact(self, fact):
+        """The streams of a fact are there, and its decision is on a conflict."""
+        if fact[0] == "order":
+            self.try_conflict(*fact[1:])
+        elif fact[0] in ("from", "until") and not self.network.has_stream(fact[1]):
+            raise Fault("K9")
+
+    def try_conflict(self, i, j, link):
+        if not self.network.is_conflict(i, j, link):
+            raise Fault("K5")
+
+    def move(self, view, move):
+        kind, *of = move
+        getattr(self, "move_" + kind)(view, *of)
+
+    def shut(self, view):
+        """Makes a view impossible."""
+        view.done_low = view.done_high + 1
+
+    def end(self, view):
+        """The end of a move that narrowed a view: where that is impossible now, its flowspan says so too."""
+        if view.is_impossible():
+            self.shut(view)
+
+    def move_go(self, view, i, j, link):
+        if (i, j, link) not in view.orders:
+            raise Fault("K6")
+        weight = self.network.weight(i, j, link)
+        low, high = view.low[i] + weight, view.high[j] - weight
+        view.learn(["from", j, low])
+        view.learn(["until", i, high])
+        self.end(view)
+
+    def move_turn(self, view, i, j, link):
+        self.try_conflict(i, j, link)
+        if not view.low[j] + self.network.weight(j, i, link) > view.high[i]:
+            raise Fault("K7")
+        view.learn(["order", i, j, link])
+
+    def move_use(self, view, k):
+        if k >= len(self.clauses):
+            raise Fault("K6")
+        left = [fact for fact in self.clauses[k] if not view.contradicts(fact)]
+        if len(left) > 1:
+            raise Fault("K7")
+        if not left:
+            self.shut(view)
+        else:
+            view.learn(left[0])
+            self.end(view)
+
+    def move_arrive(self, view, i):
+        if not self.network.has_stream(i):
+            raise Fault("K9")
+        arrival = self.network.streams[i].arrival
+        done, high = view.low[i] + arrival, view.done_high - arrival
+        view.learn(["done_from", done])
+        view.learn(["until", i, high])
+        self.end(view)
+
+    def try_users(self, link, streams):
+        """The streams use the link, and are different."""
+        for k, i in enumerate(streams):
+            if not self.network.uses(i, link):
+                raise Fault("K9")
+            if i in streams[:k]:
+                raise Fault("K8")
+
+    def try_some(self, all_of, some):
+        """Some streams of these, each once."""
+        for k, i in enumerate(some):
+            if i not in all_of:
+                raise Fault("K6")
+            if i in some[:k]:
+                raise Fault("K8")
+
+    def least_head(self, view, link, streams):
+        return min(view.low[i] + self.network.streams[i].start[link] for i in streams)
+
+    def greatest_end(self, view, link, streams):
+        return max(view.high[i] + self.network.streams[i].start[link] + self.network.streams[i].occupancy[link] for i in streams)
+
+    def work(self, link, streams):
+        return sum(self.network.streams[i].occupancy[link] for i in streams)
+
+    def move_last(self, view, link, j, others, some):
+        self.try_users(link, [j, *others])
+        self.try_some(others, some)
+        every = [j, *others]
+        if not self.least_head(view, link, every) + self.work(link, every) > self.greatest_end(view, link, others):
+            raise Fault("K7")
+        ready = self.least_head(view, link, some) + self.work(link, some)
+        view.learn(["from", j, ready - self.network.streams[j].start[link]])
+        self.end(view)
+
+    def move_first(self, view, link, j, others, some):
+        self.try_users(link, [j, *others])
+        self.try_some(others, some)
+        every = [j, *others]
+        if not self.greatest_end(view, link, every) - self.work(link, every) < self.least_head(view, link, others):
+            raise Fault("K7")
+        stream = self.network.streams[j]
+        begun = self.greatest_end(view, link, some) - self.work(link, some)
+        view.learn(["until", j, begun - stream.occupancy[link] - stream.start[link]])
+        self.end(view)
+
+    def move_pack(self, view, link, streams):
+        self.try_users(link, streams)
+        if not self.least_head(view, link, streams) + self.work(link, streams) > self.greatest_end(view, link, streams):
+            raise Fault("K7")
+        self.shut(view)
+
+    def move_round(self, view, orders):
+        if any(tuple(order) not in view.orders for order in orders):
+            raise Fault("K6")
+        if any(here[1] != there[0] for here, there in zip(orders, orders[1:] + orders[:1])):
+            raise Fault("K6")
+        if not sum(self.network.weight(*order) for order in orders) > 0:
+            raise Fault("K7")
+        self.shut(view)
+
+
+def verdict(network, plan, argument, checker):
+    goal, steps, target = argument
+    if plan is not None:
+        flowspan, offsets = plan
+        if network.fault(offsets):
+            raise Fault("K1")
+        if flowspan != network.flowspan(offsets):
+            raise Fault("K2")
+    if target != (network.cycle + 1 if plan is None else plan[0]) or (goal == "none") != (plan is None):
+        raise Fault("K2")
+    checker(network, plan, goal).check(steps)
+    return {"first": f"accepted first {target}", "least": f"accepted optimal {target}", "none": "accepted no schedule"}[goal]
+
+
+def judged(network, plan, cert, checker=Checker):
+    """The line and the status of a network, and of the bytes of a plan and a certificate."""
+    name = "plan"
+    try:
+        plan = plan_of(plan)
+        name = "cert"
+        argument = argument_of(cert)
+        return verdict(network, plan, argument, checker), ACCEPTED
+    except NotHere:
+        return "another format", NOT_JUDGED
+    except FileFault as fault:
+        return f"refused {name} {fault}", REFUSED
+    except Fault as fault:
+        place = "" if fault.step is None else f" node {fault.step}"
+        return f"certificate refused {fault.code}{place}", NOT_SHOWN
+
+
+def read(path):
+    with open(path, "rb") as file:
+        return file.read()
+
+
+def main():
+    if len(sys.argv) != 4:
+        sys.exit(__doc__)
+    line, status = judged(Network(read(sys.argv[1])), read(sys.argv[2]), read(sys.argv[3]))
+    print(line)
+    sys.exit(status)
+
+
+if __name__ == "__main__":
+    main()
