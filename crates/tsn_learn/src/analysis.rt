@@ -1,13 +1,14 @@
 //! What a contradiction teaches: the clause of the first unique implication point, over bounds (Marques-Silva and Sakallah 1996;
 //! Ohrimenko, Stuckey and Codish 2007), without what the others imply.
 use crate::literal::{Literal, exchange, literal_at};
-use crate::number::{NONE, at, index_at, indices, is_marked, list, mark, marks, put, put_index};
+use crate::number::{
+    NONE, at, index_at, is_marked, lengthen, lengthen_indices, lengthen_marks, mark, put, put_index,
+};
 use crate::propagate::{end_literal, head_literal, lead};
 use crate::reason::{Deed, Placing, Why};
 use crate::search::Search;
 use crate::trail::holds;
-use std::alloc::Global;
-use tsn_model::NoMemory;
+use std::alloc::{AllocError, Global};
 
 /// How deep it's looked whether a literal is implied, and how many changes are looked at for that.
 const DEPTH: u32 = 3;
@@ -46,13 +47,13 @@ pub struct Lesson {
 }
 
 impl Analysis {
-    /// The error says that there was no memory.
-    pub fn of(alloc: Global, bounds: usize) -> Result<Analysis, NoMemory> {
-        Ok(Analysis {
-            wanted: list(alloc, 0, bounds)?,
-            changes: indices(alloc, NONE, bounds)?,
+    /// Over no bounds.
+    pub fn none(alloc: Global) -> Analysis {
+        Analysis {
+            wanted: Vec::new(alloc),
+            changes: Vec::new(alloc),
             touched: Vec::new(alloc),
-            is_touched: marks(alloc, bounds)?,
+            is_touched: Vec::new(alloc),
             open: 0,
             used: Vec::new(alloc),
             grounds: Vec::new(alloc),
@@ -61,7 +62,14 @@ impl Analysis {
             levels: Vec::new(alloc),
             stack: Vec::new(alloc),
             left: 0,
-        })
+        }
+    }
+
+    /// Makes it one over so many bounds. The error says that there was no memory.
+    pub fn size(&mut self, bounds: usize) -> Result<(), AllocError> {
+        lengthen(&mut self.wanted, 0, bounds)?;
+        lengthen_indices(&mut self.changes, NONE, bounds)?;
+        lengthen_marks(&mut self.is_touched, bounds)
     }
 
     fn change(&self, bound: u32) -> u32 {
@@ -73,12 +81,13 @@ impl Analysis {
         Literal::of(bound, at(&self.wanted, bound as usize))
     }
 
-    fn touch(&mut self, bound: u32) -> Result<(), NoMemory> {
+    fn touch(&mut self, bound: u32) -> Result<(), AllocError> {
         if is_marked(&self.is_touched, bound as usize) {
             return Ok(());
         }
         mark(&mut self.is_touched, bound as usize, true);
-        self.touched.push(bound).map_err(|_| NoMemory)
+        self.touched.push(bound)?;
+        Ok(())
     }
 
     // Nothing is needed any longer.
@@ -109,16 +118,13 @@ impl Search {
     }
 
     /// Learns a clause from the clash, whose last level is the search's.
-    pub fn analyze(&mut self) -> Result<Lesson, NoMemory> {
+    pub fn analyze(&mut self) -> Result<Lesson, AllocError> {
         self.analysis.clear();
         for number in 0..self.clash.len() {
             self.need_of(number, false)?;
         }
         let point = self.resolve()?;
-        self.analysis
-            .learned
-            .push(point.opposite())
-            .map_err(|_| NoMemory)?;
+        self.analysis.learned.push(point.opposite())?;
         for number in 0..self.analysis.touched.len() {
             let bound = index_at(&self.analysis.touched, number);
             self.keep_or_drop(bound, point)?;
@@ -135,12 +141,12 @@ impl Search {
     }
 
     /// Notes that what is given contradicts itself, by the clash, whose literals hold before the first decision.
-    pub fn end(&mut self) -> Result<(), NoMemory> {
+    pub fn end(&mut self) -> Result<(), AllocError> {
         self.is_open = false;
         self.analysis.clear();
         for literal in &self.clash {
             if let Some(number) = self.trail.event_of(*literal) {
-                self.analysis.grounds.push(number).map_err(|_| NoMemory)?;
+                self.analysis.grounds.push(number)?;
             }
         }
         let _ = self.note_lesson()?;
@@ -148,7 +154,7 @@ impl Search {
     }
 
     // Needs a literal of the clash, or of those by which another one holds.
-    fn need_of(&mut self, number: usize, is_reason: bool) -> Result<(), NoMemory> {
+    fn need_of(&mut self, number: usize, is_reason: bool) -> Result<(), AllocError> {
         let literal = if is_reason {
             literal_at(&self.needs, number)
         } else {
@@ -159,7 +165,7 @@ impl Search {
         };
         let level = self.trail.event(number).level;
         if level == 0 {
-            return self.analysis.grounds.push(number).map_err(|_| NoMemory);
+            return Ok(self.analysis.grounds.push(number)?);
         }
         let old = self.analysis.change(literal.bound);
         if old != NONE {
@@ -191,7 +197,7 @@ impl Search {
     }
 
     // Replaces changes of the last level by why they came, the last first, until one is left.
-    fn resolve(&mut self) -> Result<Literal, NoMemory> {
+    fn resolve(&mut self) -> Result<Literal, AllocError> {
         for place in (0..self.trail.events.len()).rev() {
             let number = crate::number::index(place);
             let event = self.trail.event(number);
@@ -208,7 +214,7 @@ impl Search {
                 self.clauses.note_use(clause, self.pace.conflicts);
             }
             self.explain(literal, event.why)?;
-            self.analysis.used.push(number).map_err(|_| NoMemory)?;
+            self.analysis.used.push(number)?;
             for place in 0..self.needs.len() {
                 self.need_of(place, true)?;
             }
@@ -217,7 +223,7 @@ impl Search {
     }
 
     // What is needed of a bound belongs to the clause, but where the others imply it.
-    fn keep_or_drop(&mut self, bound: u32, point: Literal) -> Result<(), NoMemory> {
+    fn keep_or_drop(&mut self, bound: u32, point: Literal) -> Result<(), AllocError> {
         let number = self.analysis.change(bound);
         if number == NONE || bound == point.bound {
             return Ok(());
@@ -226,14 +232,12 @@ impl Search {
         if self.is_dropped(literal)? {
             return Ok(());
         }
-        self.analysis
-            .learned
-            .push(literal.opposite())
-            .map_err(|_| NoMemory)
+        self.analysis.learned.push(literal.opposite())?;
+        Ok(())
     }
 
     // Whether the others imply the literal; then what shows it is noted.
-    fn is_dropped(&mut self, literal: Literal) -> Result<bool, NoMemory> {
+    fn is_dropped(&mut self, literal: Literal) -> Result<bool, AllocError> {
         let used = self.analysis.used.len();
         let grounds = self.analysis.grounds.len();
         self.analysis.left = LOOKS;
@@ -246,7 +250,7 @@ impl Search {
     }
 
     // Whether all by which a literal came to hold is needed anyway, by earlier changes, or implied in turn.
-    fn is_implied(&mut self, literal: Literal, depth: u32) -> Result<bool, NoMemory> {
+    fn is_implied(&mut self, literal: Literal, depth: u32) -> Result<bool, AllocError> {
         let Some(number) = self.trail.event_of(literal) else {
             return Ok(true);
         };
@@ -257,10 +261,10 @@ impl Search {
         let below = depth - 1;
         self.analysis.left = self.analysis.left.wrapping_sub(1);
         self.explain(literal, why)?;
-        self.analysis.used.push(number).map_err(|_| NoMemory)?;
+        self.analysis.used.push(number)?;
         let start = self.analysis.stack.len();
         for need in &self.needs {
-            self.analysis.stack.push(*need).map_err(|_| NoMemory)?;
+            self.analysis.stack.push(*need)?;
         }
         let end = self.analysis.stack.len();
         let mut is_implied = true;
@@ -278,12 +282,12 @@ impl Search {
     }
 
     // Whether a literal held before the first decision, or is needed by a change before this one.
-    fn is_needed_before(&mut self, literal: Literal, number: u32) -> Result<bool, NoMemory> {
+    fn is_needed_before(&mut self, literal: Literal, number: u32) -> Result<bool, AllocError> {
         let Some(other) = self.trail.event_of(literal) else {
             return Ok(true);
         };
         if self.trail.event(other).level == 0 {
-            self.analysis.grounds.push(other).map_err(|_| NoMemory)?;
+            self.analysis.grounds.push(other)?;
             return Ok(true);
         }
         Ok(
@@ -326,7 +330,7 @@ impl Search {
     }
 
     // Records the clause with its deeds, in the order of the changes.
-    fn note_lesson(&mut self) -> Result<u32, NoMemory> {
+    fn note_lesson(&mut self) -> Result<u32, AllocError> {
         self.analysis.used.sort_unstable();
         let mut last = NONE;
         for place in 0..self.analysis.used.len() {
@@ -337,11 +341,11 @@ impl Search {
             }
             last = number;
             if let Some(deed) = self.kept_deed(event.bound, event.why)? {
-                self.analysis.deeds.push(deed).map_err(|_| NoMemory)?;
+                self.analysis.deeds.push(deed)?;
             }
         }
         if let Some(deed) = self.clash_deed {
-            self.analysis.deeds.push(deed).map_err(|_| NoMemory)?;
+            self.analysis.deeds.push(deed)?;
         }
         self.record.add(
             &self.analysis.learned,
@@ -351,7 +355,7 @@ impl Search {
     }
 
     /// Notes the literals by which one holds that came to hold so.
-    pub fn explain(&mut self, literal: Literal, why: Why) -> Result<(), NoMemory> {
+    pub fn explain(&mut self, literal: Literal, why: Why) -> Result<(), AllocError> {
         self.needs.clear();
         match why {
             Why::Decided | Why::Shown(_) => Ok(()),
@@ -372,20 +376,21 @@ impl Search {
         }
     }
 
-    fn add_need(&mut self, literal: Literal) -> Result<(), NoMemory> {
-        self.needs.push(literal).map_err(|_| NoMemory)
+    fn add_need(&mut self, literal: Literal) -> Result<(), AllocError> {
+        self.needs.push(literal)?;
+        Ok(())
     }
 
-    fn explain_clause(&mut self, literal: Literal, clause: u32) -> Result<(), NoMemory> {
+    fn explain_clause(&mut self, literal: Literal, clause: u32) -> Result<(), AllocError> {
         for other in self.clauses.literals_of(clause) {
             if other.bound != literal.bound || other.least < literal.least {
-                self.needs.push(other.opposite()).map_err(|_| NoMemory)?;
+                self.needs.push(other.opposite())?;
             }
         }
         Ok(())
     }
 
-    fn explain_arc(&mut self, literal: Literal, number: u32) -> Result<(), NoMemory> {
+    fn explain_arc(&mut self, literal: Literal, number: u32) -> Result<(), AllocError> {
         let arc = self.arcs.arc(number);
         let least = crate::number::less(literal.least, arc.weight);
         self.add_need(Literal::of(arc.from, least))?;
@@ -396,7 +401,7 @@ impl Search {
     }
 
     // A placing, with the heads as early as will do.
-    fn explain_placing(&mut self, literal: Literal, placing: Placing) -> Result<(), NoMemory> {
+    fn explain_placing(&mut self, literal: Literal, placing: Placing) -> Result<(), AllocError> {
         let link = placing.link as usize;
         let side = placing.side;
         let own = self.table.visit(link, placing.place);

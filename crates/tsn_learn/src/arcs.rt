@@ -1,10 +1,9 @@
 //! What bounds give other bounds: the arcs of orders, and the arrivals. Bounds stand in this order: the least and the greatest offset
 //! of each stream, the least and the greatest flowspan, and for each order whether its left stream goes first, and whether its right
 //! one does. Times are in nanoseconds.
-use crate::number::{NONE, index, indices, put_index};
+use crate::number::{NONE, index, lengthen_indices, put_index};
 use crate::table::{Order, Table};
-use std::alloc::Global;
-use tsn_model::NoMemory;
+use std::alloc::{AllocError, Global};
 
 /// Where a bound is `least`, another one is at least `weight` more, if the order holds.
 #[derive(Clone, Copy)]
@@ -30,34 +29,52 @@ pub struct Arcs {
 }
 
 impl Arcs {
-    /// Those of a network. The error says that there was no memory.
-    pub fn of(alloc: Global, table: &Table) -> Result<Arcs, NoMemory> {
-        let streams = table.streams();
-        let bounds = table.orders.len().wrapping_mul(2);
-        let mut arcs = Arcs {
+    /// None.
+    pub fn none(alloc: Global) -> Arcs {
+        Arcs {
             list: Vec::new(alloc),
             starts: Vec::new(alloc),
-            least: indices(alloc, NONE, bounds)?,
-            greatest: indices(alloc, NONE, bounds)?,
-            times: streams.wrapping_mul(2).wrapping_add(2),
-        };
-        for stream in 0..streams {
-            arcs.begin()?;
-            let arrival = index(streams.wrapping_mul(2));
-            arcs.add(stream.wrapping_mul(2), arrival, NONE, table.arrival(stream))?;
-            arcs.note_least(table, stream)?;
-            arcs.begin()?;
-            arcs.note_greatest(table, stream)?;
+            least: Vec::new(alloc),
+            greatest: Vec::new(alloc),
+            times: 0,
         }
-        arcs.begin()?;
-        arcs.begin()?;
+    }
+
+    /// Puts those of a network in. The error says that there was no memory.
+    pub fn fill(&mut self, table: &Table) -> Result<(), AllocError> {
+        let streams = table.streams();
+        let bounds = table.orders.len().wrapping_mul(2);
+        self.times = streams.wrapping_mul(2).wrapping_add(2);
+        lengthen_indices(&mut self.least, NONE, bounds)?;
+        lengthen_indices(&mut self.greatest, NONE, bounds)?;
         for stream in 0..streams {
+            self.note_stream(table, stream)?;
+        }
+        self.begin()?;
+        self.note_latest(table)?;
+        self.begin()
+    }
+
+    // The arcs from the bounds of a stream.
+    fn note_stream(&mut self, table: &Table, stream: usize) -> Result<(), AllocError> {
+        self.begin()?;
+        let arrival = index(self.times.wrapping_sub(2));
+        let weight = table.arrival(stream);
+        self.add(stream.wrapping_mul(2), arrival, NONE, weight)?;
+        self.note_least(table, stream)?;
+        self.begin()?;
+        self.note_greatest(table, stream)
+    }
+
+    // The arcs from the greatest flowspan.
+    fn note_latest(&mut self, table: &Table) -> Result<(), AllocError> {
+        self.begin()?;
+        let from = self.times.wrapping_sub(1);
+        for stream in 0..table.streams() {
             let to = index(stream.wrapping_mul(2).wrapping_add(1));
-            let from = streams.wrapping_mul(2).wrapping_add(1);
-            arcs.add(from, to, NONE, table.arrival(stream))?;
+            self.add(from, to, NONE, table.arrival(stream))?;
         }
-        arcs.begin()?;
-        Ok(arcs)
+        Ok(())
     }
 
     /// The arc of this number.
@@ -91,22 +108,24 @@ impl Arcs {
         arc_at(&self.greatest, (order as usize).wrapping_sub(self.times))
     }
 
-    fn begin(&mut self) -> Result<(), NoMemory> {
-        self.starts.push(self.list.len()).map_err(|_| NoMemory)
+    fn begin(&mut self) -> Result<(), AllocError> {
+        self.starts.push(self.list.len())?;
+        Ok(())
     }
 
-    fn add(&mut self, from: usize, to: u32, order: u32, weight: i64) -> Result<(), NoMemory> {
+    fn add(&mut self, from: usize, to: u32, order: u32, weight: i64) -> Result<(), AllocError> {
         let arc = Arc {
             from: index(from),
             to,
             order,
             weight,
         };
-        self.list.push(arc).map_err(|_| NoMemory)
+        self.list.push(arc)?;
+        Ok(())
     }
 
     // The arcs from the least offset of a stream.
-    fn note_least(&mut self, table: &Table, stream: usize) -> Result<(), NoMemory> {
+    fn note_least(&mut self, table: &Table, stream: usize) -> Result<(), AllocError> {
         for (number, order) in table.orders.iter().enumerate() {
             if let Some((place, other, weight)) = from_stream(order, number, stream) {
                 put_index(&mut self.least, place, index(self.list.len()));
@@ -119,7 +138,7 @@ impl Arcs {
     }
 
     // The arcs from the greatest offset of a stream: those that lead to it, turned around.
-    fn note_greatest(&mut self, table: &Table, stream: usize) -> Result<(), NoMemory> {
+    fn note_greatest(&mut self, table: &Table, stream: usize) -> Result<(), AllocError> {
         for (number, order) in table.orders.iter().enumerate() {
             if let Some((place, other, weight)) = to_stream(order, number, stream) {
                 put_index(&mut self.greatest, place, index(self.list.len()));

@@ -1,10 +1,10 @@
-//! Questions: whether there is a schedule in which a literal holds.
+//! Questions: whether there is a schedule in which some literals hold, the premises.
 use crate::literal::Literal;
-use crate::number::{mark, marks};
+use crate::number::{lengthen_marks, mark};
 use crate::reason::Why;
 use crate::search::Search;
 use crate::trail::holds;
-use tsn_model::NoMemory;
+use std::alloc::AllocError;
 
 /// How many more learned clauses are kept each time that some are forgotten.
 const MORE: usize = 300;
@@ -21,26 +21,38 @@ pub enum Answered {
 }
 
 impl Search {
-    /// Whether there is a schedule in which a literal holds, if any is asked for. So many conflicts are made at most.
-    pub fn ask(&mut self, literal: Option<Literal>, conflicts: u64) -> Result<Answered, NoMemory> {
-        self.go_back(0)?;
+    /// Whether there is a schedule in which the premises hold. So many conflicts are made at most. What is learned holds without the
+    /// premises. The decisions for all premises but the last one stay.
+    pub fn ask(&mut self, conflicts: u64) -> Result<Answered, AllocError> {
         self.pace.begin(conflicts);
         for _ in 0..u64::MAX {
-            if let Some(answered) = self.step(literal)? {
-                self.go_back(0)?;
+            if let Some(answered) = self.step()? {
+                let level = self.premises.len().saturating_sub(1);
+                self.go_back(level)?;
                 return Ok(answered);
             }
         }
-        self.go_back(0)?;
         Ok(Answered::Unknown)
     }
 
+    /// One more premise.
+    pub fn add_premise(&mut self, literal: Literal) -> Result<(), AllocError> {
+        self.premises.push(literal)?;
+        Ok(())
+    }
+
+    /// Without premises.
+    pub fn drop_premises(&mut self) -> Result<(), AllocError> {
+        self.premises.clear();
+        self.go_back(0)
+    }
+
     /// Gives a literal, which need not follow. False where there is no schedule with it.
-    pub fn give(&mut self, literal: Literal) -> Result<bool, NoMemory> {
+    pub fn give(&mut self, literal: Literal) -> Result<bool, AllocError> {
         self.assert_ground(literal, Why::Decided)
     }
 
-    fn assert_ground(&mut self, literal: Literal, why: Why) -> Result<bool, NoMemory> {
+    fn assert_ground(&mut self, literal: Literal, why: Why) -> Result<bool, AllocError> {
         self.go_back(0)?;
         if !self.is_open {
             return Ok(false);
@@ -51,8 +63,8 @@ impl Search {
         Ok(self.is_open)
     }
 
-    // Works out what follows, and then learns, begins anew, or decides.
-    fn step(&mut self, literal: Option<Literal>) -> Result<Option<Answered>, NoMemory> {
+    // Works out what follows, and then learns, begins anew, or decides: the premises first.
+    fn step(&mut self) -> Result<Option<Answered>, AllocError> {
         if !self.is_open {
             return Ok(Some(Answered::No));
         }
@@ -65,13 +77,11 @@ impl Search {
         if self.pace.is_run_over() {
             self.begin_run()?;
         }
-        if self.trail.level() == 0 {
-            if let Some(literal) = literal {
-                if self.trail.is_false(literal) {
-                    return Ok(Some(Answered::No));
-                }
-                return self.decide(literal);
+        if let Some(&premise) = self.premises.get(self.trail.level()) {
+            if self.trail.is_false(premise) {
+                return Ok(Some(Answered::No));
             }
+            return self.decide(premise);
         }
         match self.choose()? {
             Some(choice) => self.decide(choice),
@@ -82,14 +92,14 @@ impl Search {
         }
     }
 
-    fn decide(&mut self, literal: Literal) -> Result<Option<Answered>, NoMemory> {
+    fn decide(&mut self, literal: Literal) -> Result<Option<Answered>, AllocError> {
         self.trail.open()?;
         let _ = self.raise(literal, Why::Decided)?;
         Ok(None)
     }
 
     // Learns from the clash.
-    fn learn(&mut self) -> Result<Option<Answered>, NoMemory> {
+    fn learn(&mut self) -> Result<Option<Answered>, AllocError> {
         self.pace.count_conflict();
         let level = self.clash_level();
         self.go_back(level)?;
@@ -118,12 +128,14 @@ impl Search {
     }
 
     // Begins anew, and forgets clauses where there are many.
-    fn begin_run(&mut self) -> Result<(), NoMemory> {
+    fn begin_run(&mut self) -> Result<(), AllocError> {
         self.pace.begin_run();
-        self.go_back(0)?;
+        let level = self.premises.len();
+        self.go_back(level)?;
         if self.clauses.learned > self.most_kept {
             self.most_kept = self.most_kept.wrapping_add(MORE);
-            let mut is_needed = marks(self.alloc, self.clauses.list.len())?;
+            let mut is_needed = Vec::new(self.alloc);
+            lengthen_marks(&mut is_needed, self.clauses.list.len())?;
             for event in &self.trail.events {
                 if let Why::Clause(clause) = event.why {
                     mark(&mut is_needed, clause as usize, true);
@@ -135,7 +147,7 @@ impl Search {
     }
 
     // The side of the most active order that isn't known. None where the least offsets are a schedule.
-    fn choose(&mut self) -> Result<Option<Literal>, NoMemory> {
+    fn choose(&mut self) -> Result<Option<Literal>, AllocError> {
         for _ in 0..self.table.orders.len() {
             let Some(number) = self.choice.take() else {
                 return Ok(None);
@@ -158,7 +170,7 @@ impl Search {
     }
 
     // Whether all orders are kept by the least offsets; it's looked at now and then where that of a number is.
-    fn is_calm(&mut self, number: u32) -> Result<bool, NoMemory> {
+    fn is_calm(&mut self, number: u32) -> Result<bool, AllocError> {
         if !self.is_kept(number as usize) {
             return Ok(false);
         }
@@ -179,11 +191,11 @@ impl Search {
         true
     }
 
-    fn note_found(&mut self) -> Result<(), NoMemory> {
+    fn note_found(&mut self) -> Result<(), AllocError> {
         self.found.clear();
         for stream in 0..self.table.streams() {
             let least = self.low(stream);
-            self.found.push(least).map_err(|_| NoMemory)?;
+            self.found.push(least)?;
         }
         Ok(())
     }

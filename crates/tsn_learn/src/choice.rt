@@ -1,8 +1,9 @@
 //! Which order is decided next: the one that conflicts asked for most of late (Moskewicz, Madigan, Zhao, Zhang and Malik 2001), from a
 //! binary heap.
-use crate::number::{NONE, index, index_at, indices, is_marked, mark, marks, put_index};
-use std::alloc::Global;
-use tsn_model::NoMemory;
+use crate::number::{
+    NONE, index, index_at, is_marked, lengthen_indices, lengthen_marks, mark, put_index,
+};
+use std::alloc::{AllocError, Global};
 
 /// The orders that may be decided, by their numbers.
 #[derive(Drop)]
@@ -18,27 +19,33 @@ pub struct Choice {
 }
 
 impl Choice {
-    /// All orders are equal. The error says that there was no memory.
-    pub fn of(alloc: Global, orders: usize) -> Result<Choice, NoMemory> {
-        let mut choice = Choice {
+    /// There are none.
+    pub fn none(alloc: Global) -> Choice {
+        Choice {
             activities: Vec::new(alloc),
             step: 1.0,
             heap: Vec::new(alloc),
-            places: indices(alloc, NONE, orders)?,
-            sides: marks(alloc, orders)?,
-        };
-        for order in 0..orders {
-            choice.activities.push(0.0).map_err(|_| NoMemory)?;
-            choice.put_in(index(order))?;
+            places: Vec::new(alloc),
+            sides: Vec::new(alloc),
         }
-        Ok(choice)
+    }
+
+    /// Puts so many orders in, all equal. The error says that there was no memory.
+    pub fn fill(&mut self, orders: usize) -> Result<(), AllocError> {
+        lengthen_indices(&mut self.places, NONE, orders)?;
+        lengthen_marks(&mut self.sides, orders)?;
+        for order in 0..orders {
+            self.activities.push(0.0)?;
+            self.put_in(index(order))?;
+        }
+        Ok(())
     }
 
     /// Puts an order in, if it isn't.
-    pub fn put_in(&mut self, order: u32) -> Result<(), NoMemory> {
+    pub fn put_in(&mut self, order: u32) -> Result<(), AllocError> {
         if (order as usize) < self.places.len() && index_at(&self.places, order as usize) == NONE {
             let place = self.heap.len();
-            self.heap.push(order).map_err(|_| NoMemory)?;
+            self.heap.push(order)?;
             self.rise(order, place);
         }
         Ok(())

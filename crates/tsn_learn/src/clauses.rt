@@ -1,9 +1,8 @@
 //! Clauses, each watched at two of its literals (Moskewicz, Madigan, Zhao, Zhang and Malik 2001).
 use crate::literal::{Literal, exchange, literal_at};
 use crate::number::index;
-use std::alloc::Global;
+use std::alloc::{AllocError, Global};
 use std::mem;
-use tsn_model::NoMemory;
 
 /// A clause: where its literals begin in the list of all, and how many there are.
 #[derive(Clone, Copy)]
@@ -58,23 +57,27 @@ pub enum Found {
 }
 
 impl Clauses {
-    /// None, over so many bounds. The error says that there was no memory.
-    pub fn none(alloc: Global, bounds: usize) -> Result<Clauses, NoMemory> {
-        let mut watches = Vec::with_capacity(alloc, bounds)?;
+    /// None, over no bounds.
+    pub fn none(alloc: Global) -> Clauses {
+        Clauses {
+            list: Vec::new(alloc),
+            literals: Vec::new(alloc),
+            watches: Vec::new(alloc),
+            learned: 0,
+            open: Vec::new(alloc),
+            gone: 0,
+        }
+    }
+
+    /// Makes them ones over so many bounds. The error says that there was no memory.
+    pub fn size(&mut self, alloc: Global, bounds: usize) -> Result<(), AllocError> {
         for _ in 0..bounds {
             let none = Watches {
                 list: Vec::new(alloc),
             };
-            watches.push(none).map_err(|_| NoMemory)?;
+            self.watches.push(none)?;
         }
-        Ok(Clauses {
-            list: Vec::new(alloc),
-            literals: Vec::new(alloc),
-            watches,
-            learned: 0,
-            open: Vec::new(alloc),
-            gone: 0,
-        })
+        Ok(())
     }
 
     /// The clause of this number.
@@ -99,26 +102,24 @@ impl Clauses {
         levels: u32,
         used: u64,
         is_learned: bool,
-    ) -> Result<u32, NoMemory> {
+    ) -> Result<u32, AllocError> {
         let number = index(self.list.len());
         let start = self.literals.len();
         for literal in literals {
-            self.literals.push(*literal).map_err(|_| NoMemory)?;
+            self.literals.push(*literal)?;
         }
         for literal in literals.iter().take(2) {
             self.watch(*literal, number)?;
         }
-        self.list
-            .push(Clause {
-                start,
-                count: literals.len(),
-                shown,
-                levels,
-                used,
-                is_learned,
-                is_gone: false,
-            })
-            .map_err(|_| NoMemory)?;
+        self.list.push(Clause {
+            start,
+            count: literals.len(),
+            shown,
+            levels,
+            used,
+            is_learned,
+            is_gone: false,
+        })?;
         if is_learned {
             self.learned = self.learned.wrapping_add(1);
         }
@@ -140,12 +141,12 @@ impl Clauses {
     }
 
     /// Puts those back that are kept: the first so many in hand. Further ones may have come in between.
-    pub fn put_back(&mut self, bound: u32, kept: usize) -> Result<(), NoMemory> {
+    pub fn put_back(&mut self, bound: u32, kept: usize) -> Result<(), AllocError> {
         self.open.truncate(kept);
         if let Some(watches) = self.watches.get_mut(bound as usize) {
             mem::swap(&mut watches.list, &mut self.open);
             for watch in &self.open {
-                watches.list.push(*watch).map_err(|_| NoMemory)?;
+                watches.list.push(*watch)?;
             }
         }
         self.open.clear();
@@ -176,7 +177,7 @@ impl Clauses {
         number: u32,
         contradicted: Literal,
         values: &[i64],
-    ) -> Result<Found, NoMemory> {
+    ) -> Result<Found, AllocError> {
         let clause = self.clause(number);
         if clause.is_gone {
             return Ok(Found::Left);
@@ -215,23 +216,21 @@ impl Clauses {
         None
     }
 
-    fn watch(&mut self, literal: Literal, clause: u32) -> Result<(), NoMemory> {
+    fn watch(&mut self, literal: Literal, clause: u32) -> Result<(), AllocError> {
         let opposite = literal.opposite();
-        match self.watches.get_mut(opposite.place()) {
-            Some(watches) => watches
-                .list
-                .push(Watch {
-                    clause,
-                    least: opposite.least,
-                })
-                .map_err(|_| NoMemory),
-            None => Ok(()),
+        let watch = Watch {
+            clause,
+            least: opposite.least,
+        };
+        if let Some(watches) = self.watches.get_mut(opposite.place()) {
+            watches.list.push(watch)?;
         }
+        Ok(())
     }
 
     /// Forgets about half of the learned clauses of more than two literals and levels, those that were needed longest ago, but none
     /// that is marked.
-    pub fn forget(&mut self, alloc: Global, is_needed: &[bool]) -> Result<(), NoMemory> {
+    pub fn forget(&mut self, alloc: Global, is_needed: &[bool]) -> Result<(), AllocError> {
         let last = self.middle_use(alloc, is_needed)?;
         for (number, clause) in self.list.iter_mut().enumerate() {
             if may_go(clause, number, is_needed) && clause.used < last {
@@ -250,11 +249,11 @@ impl Clauses {
     }
 
     // When the middle one of those that may go was needed last.
-    fn middle_use(&self, alloc: Global, is_needed: &[bool]) -> Result<u64, NoMemory> {
+    fn middle_use(&self, alloc: Global, is_needed: &[bool]) -> Result<u64, AllocError> {
         let mut uses = Vec::new(alloc);
         for (number, clause) in self.list.iter().enumerate() {
             if may_go(clause, number, is_needed) {
-                uses.push(clause.used).map_err(|_| NoMemory)?;
+                uses.push(clause.used)?;
             }
         }
         uses.sort_unstable();
@@ -281,7 +280,7 @@ impl Clauses {
     }
 
     // Moves the literals together.
-    fn compact(&mut self, alloc: Global) -> Result<(), NoMemory> {
+    fn compact(&mut self, alloc: Global) -> Result<(), AllocError> {
         let mut literals = Vec::new(alloc);
         for clause in self.list.iter_mut() {
             if clause.is_gone {
@@ -289,7 +288,7 @@ impl Clauses {
             }
             let start = literals.len();
             for literal in part_of(&self.literals, clause.start, clause.count) {
-                literals.push(*literal).map_err(|_| NoMemory)?;
+                literals.push(*literal)?;
             }
             clause.start = start;
         }

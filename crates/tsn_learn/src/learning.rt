@@ -1,19 +1,15 @@
-//! The order of the questions: a first schedule, then the flowspan, then stream after stream in list order; and once more with the plan
-//! known, for a shorter argument. Times are in nanoseconds.
-use crate::ask::Answered;
-use crate::first::first_schedule;
-use crate::literal::Literal;
-use crate::number::{at, less, signed, sum};
-use crate::search::Search;
-use crate::table::Table;
+//! Searches for the first of the optimal schedules; and once more with the plan known, for a shorter argument. Times are in nanoseconds.
+use crate::course::{Course, State, begin, course_of};
+use crate::number::{copy, sum, unsigned_list};
+use crate::pace::Pace;
 use crate::writing::{Aim, write_argument};
-use std::alloc::Global;
+use std::alloc::{AllocError, Global};
 use tsn_argument::{Argument, Goal};
 use tsn_model::NoMemory;
 use tsn_timing::Timing;
 
-/// How many conflicts a question is worth at first.
-const SHARE: u64 = 200;
+/// How many more conflicts the second time may take than the first.
+const MORE: u64 = 1000;
 
 /// How much a search may do.
 #[derive(Clone, Copy)]
@@ -37,12 +33,14 @@ pub enum Answer {
     GaveUp(BestSoFar),
 }
 
-/// A schedule, and an argument of it where there is one: the offsets and the flowspan in nanoseconds.
+/// A schedule with its argument: the offsets and the flowspan in nanoseconds.
 #[derive(Drop)]
 pub struct Plan {
     pub offsets: Vec<u64>,
     pub flowspan: u64,
     pub argument: Argument,
+    /// How many conflicts there were.
+    pub conflicts: u64,
 }
 
 /// What was found so far.
@@ -54,6 +52,8 @@ pub struct BestSoFar {
     pub bound: u64,
     /// That no valid schedule has a lesser flowspan than this one, where that is known.
     pub argument: Option<Argument>,
+    /// How many conflicts there were.
+    pub conflicts: u64,
 }
 
 /// How far a search has got.
@@ -77,28 +77,6 @@ pub trait Hear {
     fn hear(&self, news: News);
 }
 
-// A search for the first of the optimal schedules.
-#[derive(Drop)]
-struct Course {
-    search: Search,
-    // The best schedule so far, and its flowspan; more than the cycle where there is none.
-    best: Vec<i64>,
-    flowspan: i64,
-    // How many conflicts there may be.
-    conflicts: u64,
-}
-
-/// What became of a course.
-#[derive(Clone, Copy, PartialEq, Eq)]
-enum State {
-    /// It's decided.
-    Decided,
-    /// There is no schedule.
-    Empty,
-    /// It isn't decided.
-    Open,
-}
-
 /// Searches for the first of the optimal schedules, from one that is known on where there is one, in bounded work, and the same one at
 /// each run. The error says that there was no memory.
 pub fn learn<H: Hear>(
@@ -109,232 +87,80 @@ pub fn learn<H: Hear>(
     hear: &H,
 ) -> Result<Answer, NoMemory> {
     let mut course = begin(alloc, timing, known, budget)?;
-    let state = course.decide(hear)?;
-    match state {
-        State::Empty => course.answer_none(alloc, budget),
-        State::Open => course.answer_open(alloc, timing, budget),
-        State::Decided => {
-            let again = course.again(alloc, timing, budget, hear)?;
-            course.answer_first(alloc, timing, again, budget)
-        }
-    }
+    let answered = course.answer(alloc, timing, budget, hear);
+    drop(course);
+    Ok(answered?)
 }
 
-fn begin(
-    alloc: Global,
-    timing: &Timing,
-    known: Option<&[u64]>,
-    budget: Budget,
-) -> Result<Course, NoMemory> {
-    let mut search = Search::of(alloc, Table::of(alloc, timing)?)?;
-    search.pace.last_work = budget.work;
-    let cycle = search.table.cycle;
-    let mut course = Course {
-        search,
-        best: Vec::new(alloc),
-        flowspan: sum(cycle, 1),
-        conflicts: budget.conflicts,
-    };
-    if let Some(offsets) = known {
-        course.take_known(alloc, timing, offsets)?;
-    }
-    let streams = course.search.table.streams();
-    let least = course.search.low(streams);
-    if course.search.is_open && course.flowspan > least {
-        if let Some(best) = first_schedule(alloc, &course.search.table, least)? {
-            course.take(best);
+impl Budget {
+    // As much again as was used, and a little more.
+    fn to_end_by(self, pace: &Pace) -> Budget {
+        let double = pace.conflicts.saturating_mul(2);
+        Budget {
+            conflicts: self.conflicts.min(double.saturating_add(MORE)),
+            ..self
         }
     }
-    Ok(course)
 }
 
 impl Course {
-    fn take_known(
+    fn answer<H: Hear>(
         &mut self,
         alloc: Global,
         timing: &Timing,
-        offsets: &[u64],
-    ) -> Result<(), NoMemory> {
-        if timing.is_valid(offsets) {
-            self.take(signed_list(alloc, offsets)?);
-        }
-        Ok(())
-    }
-
-    // A schedule that was found: it's kept where its flowspan is less.
-    fn take(&mut self, offsets: Vec<i64>) {
-        let flowspan = self.search.table.flowspan(&offsets);
-        if flowspan < self.flowspan {
-            self.flowspan = flowspan;
-            self.search.set_sides(&offsets);
-            self.best = offsets;
-        }
-    }
-
-    fn decide<H: Hear>(&mut self, hear: &H) -> Result<State, NoMemory> {
-        let state = self.lower_flowspan(hear)?;
-        if state != State::Decided {
-            return Ok(state);
-        }
-        let most = self.flowspan.wrapping_neg();
-        let span = self.search.span();
-        let _ = self.search.give(Literal::of(span ^ 1, most))?;
-        for stream in 0..self.search.table.streams() {
-            self.tell(hear, Some(stream));
-            if self.lower_offset(stream)? != State::Decided {
-                self.tell(hear, Some(stream));
-                return Ok(State::Open);
-            }
-            let most = at(&self.best, stream).wrapping_neg();
-            let least = self.search.least(stream);
-            let _ = self.search.give(Literal::of(least ^ 1, most))?;
-        }
-        Ok(State::Decided)
-    }
-
-    // Finds the least flowspan, from both ends.
-    fn lower_flowspan<H: Hear>(&mut self, hear: &H) -> Result<State, NoMemory> {
-        let span = self.search.span();
-        let streams = self.search.table.streams();
-        let mut turn = Turn::first();
-        for _ in 0..u64::MAX {
-            self.tell(hear, None);
-            if !self.search.is_open {
-                return Ok(if self.best.is_empty() {
-                    State::Empty
-                } else {
-                    State::Decided
-                });
-            }
-            let least = self.search.low(streams);
-            if least >= self.flowspan {
-                return Ok(State::Decided);
-            }
-            let most = turn.target(least, self.flowspan);
-            let literal = Literal::of(span ^ 1, most.wrapping_neg());
-            match self.ask(literal, turn.share)? {
-                Answered::Yes => {}
-                Answered::No => turn.note_none(),
-                Answered::Unknown if self.is_used_up() => return Ok(State::Open),
-                Answered::Unknown => turn.note_unknown(),
+        budget: Budget,
+        hear: &H,
+    ) -> Result<Answer, AllocError> {
+        match self.decide(hear)? {
+            State::Empty => self.answer_none(alloc, budget),
+            State::Open => self.answer_open(alloc, timing, budget),
+            State::Decided => {
+                let again = self.again(alloc, timing, budget, hear)?;
+                self.answer_first(alloc, timing, again, budget)
             }
         }
-        Ok(State::Open)
     }
 
-    // Finds the least offset of a stream.
-    fn lower_offset(&mut self, stream: usize) -> Result<State, NoMemory> {
-        let bound = self.search.least(stream);
-        let mut turn = Turn::first();
-        for _ in 0..u64::MAX {
-            let least = self.search.low(stream);
-            let own = at(&self.best, stream);
-            if least >= own || !self.search.is_open {
-                return Ok(State::Decided);
-            }
-            let most = turn.target(least, own);
-            let literal = Literal::of(bound ^ 1, most.wrapping_neg());
-            match self.ask(literal, turn.share)? {
-                Answered::Yes => {}
-                Answered::No => turn.note_none(),
-                Answered::Unknown if self.is_used_up() => return Ok(State::Open),
-                Answered::Unknown => turn.note_unknown(),
-            }
-        }
-        Ok(State::Open)
-    }
-
-    // Asks for a schedule in which the literal holds; it's the best so far where there is one.
-    fn ask(&mut self, literal: Literal, share: u64) -> Result<Answered, NoMemory> {
-        let left = self.conflicts.saturating_sub(self.search.pace.conflicts);
-        self.search.set_sides(&self.best);
-        let answered = self.search.ask(Some(literal), share.min(left))?;
-        if answered == Answered::Yes {
-            std::mem::swap(&mut self.best, &mut self.search.found);
-            self.flowspan = self.flowspan.min(self.search.table.flowspan(&self.best));
-        }
-        Ok(answered)
-    }
-
-    fn is_used_up(&self) -> bool {
-        let pace = &self.search.pace;
-        pace.conflicts >= self.conflicts || pace.work >= pace.last_work
-    }
-
-    fn tell<H: Hear>(&self, hear: &H, stream: Option<usize>) {
-        hear.hear(News {
-            flowspan: if self.best.is_empty() {
-                None
-            } else {
-                Some(self.flowspan.unsigned_abs())
-            },
-            bound: self.bound(),
-            stream,
-            conflicts: self.search.pace.conflicts,
-            work: self.search.pace.work,
-        });
-    }
-
-    fn bound(&self) -> u64 {
-        let streams = self.search.table.streams();
-        self.search.low(streams).unsigned_abs()
-    }
-
-    // Decides it once more, with the plan known. None where that doesn't succeed.
+    // Decides it once more, with the plan known, in about the same time. None where that doesn't succeed.
     fn again<H: Hear>(
         &mut self,
         alloc: Global,
         timing: &Timing,
         budget: Budget,
         hear: &H,
-    ) -> Result<Option<Argument>, NoMemory> {
-        let mut search = Search::of(alloc, Table::of(alloc, timing)?)?;
+    ) -> Result<Option<Argument>, AllocError> {
+        let mut course = self.begin_again(alloc, timing, budget)?;
+        let argument = course.argue_again(alloc, hear);
+        drop(course);
+        argument
+    }
+
+    fn begin_again(
+        &self,
+        alloc: Global,
+        timing: &Timing,
+        budget: Budget,
+    ) -> Result<Course, AllocError> {
+        let mut course = course_of(alloc, timing, budget.to_end_by(&self.search.pace))?;
         // The budget is one for both.
-        search.pace = self.search.pace;
-        let mut course = Course {
-            search,
-            best: copy(alloc, &self.best)?,
-            flowspan: self.flowspan,
-            conflicts: budget.conflicts,
-        };
-        if course.confirm(hear)? {
-            course.argue_first(alloc)
-        } else {
-            Ok(None)
-        }
+        course.search.pace = self.search.pace;
+        course.best = copy(alloc, &self.best)?;
+        course.flowspan = self.flowspan;
+        Ok(course)
     }
 
-    // Asks for one less than the plan's flowspan, and than each of its offsets. Whether there is none.
-    fn confirm<H: Hear>(&mut self, hear: &H) -> Result<bool, NoMemory> {
-        let most = self.flowspan.wrapping_neg();
-        let span = self.search.span() ^ 1;
-        let _ = self.search.give(Literal::of(span, most))?;
-        if !self.is_none_below(span, self.flowspan)? {
-            return Ok(false);
+    fn argue_again<H: Hear>(
+        &mut self,
+        alloc: Global,
+        hear: &H,
+    ) -> Result<Option<Argument>, AllocError> {
+        if !self.confirm(hear)? {
+            return Ok(None);
         }
-        for stream in 0..self.search.table.streams() {
-            self.tell(hear, Some(stream));
-            let own = at(&self.best, stream);
-            let greatest = self.search.least(stream) ^ 1;
-            if !self.is_none_below(greatest, own)? {
-                return Ok(false);
-            }
-            let _ = self.search.give(Literal::of(greatest, own.wrapping_neg()))?;
-        }
-        Ok(true)
+        self.argue_first(alloc)
     }
 
-    fn is_none_below(&mut self, greatest: u32, most: i64) -> Result<bool, NoMemory> {
-        if self.search.trail.value(greatest ^ 1) >= most {
-            return Ok(true);
-        }
-        let literal = Literal::of(greatest, less(1, most));
-        let left = self.conflicts.saturating_sub(self.search.pace.conflicts);
-        self.search.set_sides(&self.best);
-        Ok(self.search.ask(Some(literal), left)? == Answered::No)
-    }
-
-    fn argue_first(&mut self, alloc: Global) -> Result<Option<Argument>, NoMemory> {
+    fn argue_first(&mut self, alloc: Global) -> Result<Option<Argument>, AllocError> {
         let plan = copy(alloc, &self.best)?;
         let aim = Aim {
             goal: Goal::First,
@@ -345,27 +171,29 @@ impl Course {
     }
 
     fn answer_first(
-        mut self,
+        &mut self,
         alloc: Global,
         timing: &Timing,
         again: Option<Argument>,
         budget: Budget,
-    ) -> Result<Answer, NoMemory> {
+    ) -> Result<Answer, AllocError> {
         let own = self.argue_first(alloc)?;
         let offsets = unsigned_list(alloc, &self.best)?;
+        let conflicts = self.search.pace.conflicts;
         match shorter(own, again) {
             Some(argument) if argument.steps.list().len() <= budget.steps => {
                 Ok(Answer::First(Plan {
                     offsets,
                     flowspan: self.flowspan.unsigned_abs(),
                     argument,
+                    conflicts,
                 }))
             }
             _ => self.answer_open(alloc, timing, budget),
         }
     }
 
-    fn answer_none(mut self, alloc: Global, budget: Budget) -> Result<Answer, NoMemory> {
+    fn answer_none(&mut self, alloc: Global, budget: Budget) -> Result<Answer, AllocError> {
         let aim = Aim {
             goal: Goal::None,
             plan: &[],
@@ -376,11 +204,11 @@ impl Course {
     }
 
     fn answer_open(
-        mut self,
+        &mut self,
         alloc: Global,
         timing: &Timing,
         budget: Budget,
-    ) -> Result<Answer, NoMemory> {
+    ) -> Result<Answer, AllocError> {
         let offsets = unsigned_list(alloc, &self.best)?;
         let bound = self.bound();
         let mut argument = None;
@@ -395,106 +223,17 @@ impl Course {
             },
             bound,
             argument: within(argument, budget),
+            conflicts: self.search.pace.conflicts,
         }))
     }
 
-    fn argue_least(&mut self, alloc: Global) -> Result<Option<Argument>, NoMemory> {
+    fn argue_least(&mut self, alloc: Global) -> Result<Option<Argument>, AllocError> {
         let aim = Aim {
             goal: Goal::Least,
             plan: &[],
             flowspan: self.flowspan,
         };
         write_argument(alloc, &mut self.search, aim)
-    }
-}
-
-// How a question is asked next: how far above the least value, and with how many conflicts.
-#[derive(Clone, Copy)]
-struct Turn {
-    number: u32,
-    share: u64,
-}
-
-impl Turn {
-    fn first() -> Turn {
-        Turn {
-            number: 0,
-            share: SHARE,
-        }
-    }
-
-    // A value from the least one on that is below this one: at first the least, then a little more, half way, and one less.
-    fn target(self, least: i64, below: i64) -> i64 {
-        let room = less(less(below, 1), least);
-        match self.number % 3 {
-            0 if self.number == 0 => least,
-            0 => sum(least, room / 8),
-            1 => sum(least, room / 2),
-            _ => less(below, 1),
-        }
-    }
-
-    fn note_none(&mut self) {
-        if self.number % 3 != 2 {
-            self.number = self.number.wrapping_add(1);
-        }
-    }
-
-    fn note_unknown(&mut self) {
-        self.number = self.number.wrapping_add(1);
-        if self.number % 3 == 0 {
-            self.share = self.share.saturating_add(self.share / 2);
-        }
-    }
-}
-
-/// What is known of a schedule's flowspan.
-#[derive(Drop)]
-pub enum LeastAnswer {
-    /// No valid schedule has a lesser one, with the argument for that.
-    Least(Argument),
-    /// A valid schedule of lesser flowspan: its offsets in nanoseconds.
-    Better(Vec<u64>),
-    /// The budget is used up, or the argument has too many steps, or what was given is no valid schedule.
-    GaveUp,
-}
-
-/// Shows that no valid schedule has a lesser flowspan than this one, or finds one that has. The offsets are in nanoseconds. The error
-/// says that there was no memory.
-pub fn show_least(
-    alloc: Global,
-    timing: &Timing,
-    plan: &[u64],
-    budget: Budget,
-) -> Result<LeastAnswer, NoMemory> {
-    if !timing.is_valid(plan) {
-        return Ok(LeastAnswer::GaveUp);
-    }
-    let best = signed_list(alloc, plan)?;
-    let mut search = Search::of(alloc, Table::of(alloc, timing)?)?;
-    search.pace.last_work = budget.work;
-    let flowspan = search.table.flowspan(&best);
-    search.set_sides(&best);
-    let below = Literal::of(search.span() ^ 1, less(1, flowspan));
-    let _ = search.give(below)?;
-    match search.ask(None, budget.conflicts)? {
-        Answered::Yes => {
-            let offsets = unsigned_list(alloc, &search.found)?;
-            Ok(LeastAnswer::Better(offsets))
-        }
-        Answered::No => {
-            let aim = Aim {
-                goal: Goal::Least,
-                plan: &[],
-                flowspan,
-            };
-            let argument = write_argument(alloc, &mut search, aim)?;
-            Ok(match within(argument, budget) {
-                Some(argument) => LeastAnswer::Least(argument),
-                None => LeastAnswer::GaveUp,
-            })
-        }
-        Answered::Unknown => Ok(LeastAnswer::GaveUp),
     }
 }
 
@@ -510,33 +249,10 @@ fn shorter(one: Option<Argument>, other: Option<Argument>) -> Option<Argument> {
     }
 }
 
-fn within(argument: Option<Argument>, budget: Budget) -> Option<Argument> {
+/// The argument, if it has no more steps than may be.
+pub fn within(argument: Option<Argument>, budget: Budget) -> Option<Argument> {
     match argument {
         Some(argument) if argument.steps.list().len() <= budget.steps => Some(argument),
         _ => None,
     }
-}
-
-fn signed_list(alloc: Global, offsets: &[u64]) -> Result<Vec<i64>, NoMemory> {
-    let mut list = Vec::with_capacity(alloc, offsets.len())?;
-    for offset in offsets {
-        list.push(signed(*offset)).map_err(|_| NoMemory)?;
-    }
-    Ok(list)
-}
-
-fn unsigned_list(alloc: Global, offsets: &[i64]) -> Result<Vec<u64>, NoMemory> {
-    let mut list = Vec::with_capacity(alloc, offsets.len())?;
-    for offset in offsets {
-        list.push(offset.unsigned_abs()).map_err(|_| NoMemory)?;
-    }
-    Ok(list)
-}
-
-fn copy(alloc: Global, offsets: &[i64]) -> Result<Vec<i64>, NoMemory> {
-    let mut list = Vec::with_capacity(alloc, offsets.len())?;
-    for offset in offsets {
-        list.push(*offset).map_err(|_| NoMemory)?;
-    }
-    Ok(list)
 }

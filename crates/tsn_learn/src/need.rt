@@ -1,9 +1,9 @@
 //! What an argument needs of what a search found out: by going back from its end.
 use crate::literal::Literal;
-use crate::number::{index, is_marked, mark, marks};
+use crate::number::{index, is_marked, lengthen_marks, mark};
 use crate::reason::{Deed, Why};
 use crate::search::Search;
-use tsn_model::NoMemory;
+use std::alloc::{AllocError, Global};
 
 /// The changes before the first decision that are needed, and the clauses that were shown.
 #[derive(Drop)]
@@ -16,54 +16,77 @@ pub struct Needed {
 }
 
 impl Needed {
-    fn meet_event(&mut self, number: u32) -> Result<(), NoMemory> {
+    fn none(alloc: Global) -> Needed {
+        Needed {
+            events: Vec::new(alloc),
+            shown: Vec::new(alloc),
+            open_events: Vec::new(alloc),
+            open_shown: Vec::new(alloc),
+        }
+    }
+
+    fn meet_event(&mut self, number: u32) -> Result<(), AllocError> {
         if is_marked(&self.events, number as usize) {
             return Ok(());
         }
         mark(&mut self.events, number as usize, true);
-        self.open_events.push(number).map_err(|_| NoMemory)
+        self.open_events.push(number)?;
+        Ok(())
     }
 
-    fn meet_shown(&mut self, number: u32) -> Result<(), NoMemory> {
+    fn meet_shown(&mut self, number: u32) -> Result<(), AllocError> {
         if is_marked(&self.shown, number as usize) {
             return Ok(());
         }
         mark(&mut self.shown, number as usize, true);
-        self.open_shown.push(number).map_err(|_| NoMemory)
+        self.open_shown.push(number)?;
+        Ok(())
     }
 }
 
 impl Search {
     /// What is needed for these literals to hold; or, where what is given contradicts itself, for that.
-    pub fn needed_for(&mut self, literals: &[Literal]) -> Result<Needed, NoMemory> {
+    pub fn needed_for(&mut self, literals: &[Literal]) -> Result<Needed, AllocError> {
         self.go_back(0)?;
-        let mut needed = Needed {
-            events: marks(self.alloc, self.trail.events.len())?,
-            shown: marks(self.alloc, self.record.count())?,
-            open_events: Vec::new(self.alloc),
-            open_shown: Vec::new(self.alloc),
-        };
+        let mut needed = Needed::none(self.alloc);
+        self.meet_first(literals, &mut needed)?;
+        self.go_through(&mut needed)?;
+        Ok(needed)
+    }
+
+    fn meet_first(&self, literals: &[Literal], needed: &mut Needed) -> Result<(), AllocError> {
+        lengthen_marks(&mut needed.events, self.trail.events.len())?;
+        lengthen_marks(&mut needed.shown, self.record.count())?;
         if !self.is_open {
             needed.meet_shown(index(self.record.count().wrapping_sub(1)))?;
         }
         for literal in literals {
-            if let Some(number) = self.trail.event_of(*literal) {
-                needed.meet_event(number)?;
-            }
+            self.meet(*literal, needed)?;
         }
+        Ok(())
+    }
+
+    fn meet(&self, literal: Literal, needed: &mut Needed) -> Result<(), AllocError> {
+        match self.trail.event_of(literal) {
+            Some(number) => needed.meet_event(number),
+            None => Ok(()),
+        }
+    }
+
+    fn go_through(&mut self, needed: &mut Needed) -> Result<(), AllocError> {
         for _ in 0..u64::MAX {
             if let Some(number) = needed.open_events.pop() {
-                self.go_through_event(number, &mut needed)?;
+                self.go_through_event(number, needed)?;
             } else if let Some(number) = needed.open_shown.pop() {
-                self.go_through_shown(number as usize, &mut needed)?;
+                self.go_through_shown(number as usize, needed)?;
             } else {
                 break;
             }
         }
-        Ok(needed)
+        Ok(())
     }
 
-    fn go_through_event(&mut self, number: u32, needed: &mut Needed) -> Result<(), NoMemory> {
+    fn go_through_event(&mut self, number: u32, needed: &mut Needed) -> Result<(), AllocError> {
         let event = self.trail.event(number);
         match event.why {
             Why::Clause(clause) => needed.meet_shown(self.clauses.clause(clause).shown)?,
@@ -72,14 +95,12 @@ impl Search {
         }
         self.explain(Literal::of(event.bound, event.new), event.why)?;
         for literal in &self.needs {
-            if let Some(other) = self.trail.event_of(*literal) {
-                needed.meet_event(other)?;
-            }
+            self.meet(*literal, needed)?;
         }
         Ok(())
     }
 
-    fn go_through_shown(&self, number: usize, needed: &mut Needed) -> Result<(), NoMemory> {
+    fn go_through_shown(&self, number: usize, needed: &mut Needed) -> Result<(), AllocError> {
         for event in self.record.grounds(number) {
             needed.meet_event(*event)?;
         }

@@ -1,6 +1,5 @@
 //! Numbers in lists, where a place that a list doesn't have is passed over, and sums that never stop. Times are in nanoseconds.
-use std::alloc::Global;
-use tsn_model::NoMemory;
+use std::alloc::{AllocError, Global};
 
 /// Later than any instant of a cycle.
 pub const FAR: i64 = 1_000_000_000_000;
@@ -80,31 +79,40 @@ pub fn next(place: usize) -> usize {
     place.wrapping_add(1)
 }
 
-/// So many times the same number.
-pub fn list(alloc: Global, number: i64, count: usize) -> Result<Vec<i64>, NoMemory> {
-    let mut numbers = Vec::with_capacity(alloc, count)?;
+/// Puts the same number behind the others so many times.
+pub fn lengthen(numbers: &mut Vec<i64>, number: i64, count: usize) -> Result<(), AllocError> {
     for _ in 0..count {
-        numbers.push(number).map_err(|_| NoMemory)?;
+        numbers.push(number)?;
     }
-    Ok(numbers)
+    Ok(())
 }
 
-/// So many times the same index.
-pub fn indices(alloc: Global, index: u32, count: usize) -> Result<Vec<u32>, NoMemory> {
-    let mut list = Vec::with_capacity(alloc, count)?;
+/// Puts the same index behind the others so many times.
+pub fn lengthen_indices(
+    indices: &mut Vec<u32>,
+    index: u32,
+    count: usize,
+) -> Result<(), AllocError> {
     for _ in 0..count {
-        list.push(index).map_err(|_| NoMemory)?;
+        indices.push(index)?;
     }
-    Ok(list)
+    Ok(())
 }
 
-/// So many marks that aren't set.
-pub fn marks(alloc: Global, count: usize) -> Result<Vec<bool>, NoMemory> {
-    let mut list = Vec::with_capacity(alloc, count)?;
+/// Puts so many marks that aren't set behind the others.
+pub fn lengthen_marks(marks: &mut Vec<bool>, count: usize) -> Result<(), AllocError> {
     for _ in 0..count {
-        list.push(false).map_err(|_| NoMemory)?;
+        marks.push(false)?;
     }
-    Ok(list)
+    Ok(())
+}
+
+/// Puts the numbers below this one behind the others.
+pub fn count_up(places: &mut Vec<usize>, count: usize) -> Result<(), AllocError> {
+    for place in 0..count {
+        places.push(place)?;
+    }
+    Ok(())
 }
 
 /// The number with a sign.
@@ -113,4 +121,31 @@ pub fn signed(number: u64) -> i64 {
         Ok(number) => number,
         Err(_) => i64::MAX,
     }
+}
+
+/// The offsets with a sign.
+pub fn signed_list(alloc: Global, offsets: &[u64]) -> Result<Vec<i64>, AllocError> {
+    let mut list = Vec::with_capacity(alloc, offsets.len())?;
+    for offset in offsets {
+        list.push(signed(*offset))?;
+    }
+    Ok(list)
+}
+
+/// The offsets without a sign.
+pub fn unsigned_list(alloc: Global, offsets: &[i64]) -> Result<Vec<u64>, AllocError> {
+    let mut list = Vec::with_capacity(alloc, offsets.len())?;
+    for offset in offsets {
+        list.push(offset.unsigned_abs())?;
+    }
+    Ok(list)
+}
+
+/// The same offsets.
+pub fn copy(alloc: Global, offsets: &[i64]) -> Result<Vec<i64>, AllocError> {
+    let mut list = Vec::with_capacity(alloc, offsets.len())?;
+    for offset in offsets {
+        list.push(*offset)?;
+    }
+    Ok(list)
 }

@@ -5,11 +5,11 @@ use crate::propagate::{end_literal, head_literal};
 use crate::reason::Deed;
 use crate::rooms::Overload;
 use crate::search::Search;
-use tsn_model::NoMemory;
+use std::alloc::AllocError;
 
 impl Search {
     /// Notes the clash of streams that don't fit on a link.
-    pub fn note_overload(&mut self, found: Overload) -> Result<(), NoMemory> {
+    pub fn note_overload(&mut self, found: Overload) -> Result<(), AllocError> {
         let mut overload = found;
         self.note_lateness(overload);
         self.lighten(&mut overload);
@@ -25,9 +25,9 @@ impl Search {
             };
             let visit = self.table.visit(packing.link as usize, place);
             let head = head_literal(visit, packing.side, begin);
-            self.clash.push(head).map_err(|_| NoMemory)?;
+            self.clash.push(head)?;
             let last = end_literal(visit, packing.side, end);
-            self.clash.push(last).map_err(|_| NoMemory)?;
+            self.clash.push(last)?;
         }
         let kept = self.record.keep_packing(packing)?;
         self.clash_deed = Some(Deed::Pack(kept));

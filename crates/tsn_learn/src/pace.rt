@@ -59,9 +59,14 @@ impl Pace {
         self.conflicts >= self.again
     }
 
+    /// Whether so many conflicts, or the work that there may be, are used up.
+    pub fn is_used_up(&self, conflicts: u64) -> bool {
+        self.conflicts >= conflicts || self.work >= self.last_work
+    }
+
     /// Whether the question's share is used up.
     pub fn is_over(&self) -> bool {
-        self.conflicts >= self.last_conflict || self.work >= self.last_work
+        self.is_used_up(self.last_conflict)
     }
 }
 

@@ -7,11 +7,11 @@ use crate::reason::Why;
 use crate::search::Search;
 use crate::table::Visit;
 use crate::trail::holds;
-use tsn_model::NoMemory;
+use std::alloc::AllocError;
 
 impl Search {
     /// Works out what follows, until nothing changes. False at a contradiction, which is noted as the clash.
-    pub fn propagate(&mut self) -> Result<bool, NoMemory> {
+    pub fn propagate(&mut self) -> Result<bool, AllocError> {
         for _ in 0..u64::MAX {
             if !self.follow_changes()? {
                 return Ok(false);
@@ -27,7 +27,7 @@ impl Search {
     }
 
     // What follows from changes by clauses, arcs and orders.
-    fn follow_changes(&mut self) -> Result<bool, NoMemory> {
+    fn follow_changes(&mut self) -> Result<bool, AllocError> {
         for _ in 0..u64::MAX {
             let Some(event) = self.trail.events.get(self.trail.looked) else {
                 break;
@@ -49,7 +49,7 @@ impl Search {
         Ok(true)
     }
 
-    fn follow_clauses(&mut self, bound: u32) -> Result<bool, NoMemory> {
+    fn follow_clauses(&mut self, bound: u32) -> Result<bool, AllocError> {
         let value = self.trail.value(bound);
         self.clauses.take(bound);
         let count = self.clauses.open.len();
@@ -84,13 +84,13 @@ impl Search {
     }
 
     // The literal of a clause whose others are contradicted.
-    fn assert(&mut self, literal: Literal, clause: u32) -> Result<bool, NoMemory> {
+    fn assert(&mut self, literal: Literal, clause: u32) -> Result<bool, AllocError> {
         if !self.trail.is_false(literal) {
             return self.raise(literal, Why::Clause(clause));
         }
         self.clash.clear();
         for other in self.clauses.literals_of(clause) {
-            self.clash.push(other.opposite()).map_err(|_| NoMemory)?;
+            self.clash.push(other.opposite())?;
         }
         self.clash_deed = self.deed_of(literal.bound, Why::Clause(clause));
         self.clauses.note_use(clause, self.pace.conflicts);
@@ -98,7 +98,7 @@ impl Search {
     }
 
     // The arcs from a bound of an offset or the flowspan.
-    fn follow_arcs(&mut self, bound: u32) -> Result<bool, NoMemory> {
+    fn follow_arcs(&mut self, bound: u32) -> Result<bool, AllocError> {
         let from = self.arcs.start(bound as usize);
         let to = self.arcs.start(next(bound as usize));
         self.pace.spend(less_place(to, from));
@@ -144,20 +144,20 @@ impl Search {
     }
 
     // An order that is known: its arcs.
-    fn follow_order(&mut self, order: u32) -> Result<bool, NoMemory> {
+    fn follow_order(&mut self, order: u32) -> Result<bool, AllocError> {
         let least = self.arcs.least_arc(order);
         let greatest = self.arcs.greatest_arc(order);
         Ok(self.follow_arc(least)? && self.follow_arc(greatest)?)
     }
 
-    fn follow_arc(&mut self, number: u32) -> Result<bool, NoMemory> {
+    fn follow_arc(&mut self, number: u32) -> Result<bool, AllocError> {
         let arc = self.arcs.arc(number);
         let least = sum(self.trail.value(arc.from), arc.weight);
         self.raise(Literal::of(arc.to, least), Why::Arc(number))
     }
 
     // Looks at a link from both sides, from the second one only where nothing changed by the first.
-    fn look_at_link(&mut self, link: usize) -> Result<bool, NoMemory> {
+    fn look_at_link(&mut self, link: usize) -> Result<bool, AllocError> {
         let Some(shared) = self.table.links.get(link) else {
             return Ok(true);
         };
@@ -178,12 +178,12 @@ impl Search {
         Ok(true)
     }
 
-    fn call_again(&mut self, link: usize) -> Result<bool, NoMemory> {
+    fn call_again(&mut self, link: usize) -> Result<bool, AllocError> {
         self.rooms.call(link)?;
         Ok(true)
     }
 
-    fn look_from(&mut self, link: usize, side: u32) -> Result<bool, NoMemory> {
+    fn look_from(&mut self, link: usize, side: u32) -> Result<bool, AllocError> {
         let Some(shared) = self.table.links.get(link) else {
             return Ok(true);
         };
@@ -200,7 +200,7 @@ impl Search {
     }
 
     // A stream that goes last of others on a link, by its number among those that were found.
-    fn place(&mut self, number: usize) -> Result<bool, NoMemory> {
+    fn place(&mut self, number: usize) -> Result<bool, AllocError> {
         let Some(&found) = self.rooms.found.get(number) else {
             return Ok(true);
         };
@@ -215,10 +215,7 @@ impl Search {
             return Ok(true);
         }
         let why = Why::Placing(index(self.trail.placings.len()));
-        self.trail
-            .placings
-            .push(found.placing)
-            .map_err(|_| NoMemory)?;
+        self.trail.placings.push(found.placing)?;
         self.raise(literal, why)
     }
 }

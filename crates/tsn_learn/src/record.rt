@@ -3,8 +3,7 @@ use crate::clauses::part_of;
 use crate::literal::Literal;
 use crate::number::{index, next};
 use crate::reason::{Deed, Packing, Placing};
-use std::alloc::Global;
-use tsn_model::NoMemory;
+use std::alloc::{AllocError, Global};
 
 // Where a clause begins in each list.
 #[derive(Clone, Copy)]
@@ -50,38 +49,36 @@ impl Record {
         literals: &[Literal],
         deeds: &[Deed],
         grounds: &[u32],
-    ) -> Result<u32, NoMemory> {
+    ) -> Result<u32, AllocError> {
         let number = index(self.list.len());
-        self.list
-            .push(Shown {
-                literals: self.literals.len(),
-                deeds: self.deeds.len(),
-                grounds: self.grounds.len(),
-            })
-            .map_err(|_| NoMemory)?;
+        self.list.push(Shown {
+            literals: self.literals.len(),
+            deeds: self.deeds.len(),
+            grounds: self.grounds.len(),
+        })?;
         for literal in literals {
-            self.literals.push(*literal).map_err(|_| NoMemory)?;
+            self.literals.push(*literal)?;
         }
         for deed in deeds {
-            self.deeds.push(*deed).map_err(|_| NoMemory)?;
+            self.deeds.push(*deed)?;
         }
         for ground in grounds {
-            self.grounds.push(*ground).map_err(|_| NoMemory)?;
+            self.grounds.push(*ground)?;
         }
         Ok(number)
     }
 
     /// Keeps a placing, and answers its number.
-    pub fn keep_placing(&mut self, placing: Placing) -> Result<u32, NoMemory> {
+    pub fn keep_placing(&mut self, placing: Placing) -> Result<u32, AllocError> {
         let number = index(self.placings.len());
-        self.placings.push(placing).map_err(|_| NoMemory)?;
+        self.placings.push(placing)?;
         Ok(number)
     }
 
     /// Keeps a packing, and answers its number.
-    pub fn keep_packing(&mut self, packing: Packing) -> Result<u32, NoMemory> {
+    pub fn keep_packing(&mut self, packing: Packing) -> Result<u32, AllocError> {
         let number = index(self.packings.len());
-        self.packings.push(packing).map_err(|_| NoMemory)?;
+        self.packings.push(packing)?;
         Ok(number)
     }
 

@@ -2,12 +2,13 @@
 //! the streams of the link in the order of their heads (Vilim 2004). A stream's head is the least instant at which its frame may start
 //! on the link, its end the greatest at which its occupancy may end. Seen from the end of the cycle, on side 1, each number's sign is
 //! turned and heads are ends. Times are in nanoseconds.
-use crate::number::{FAR, at, index, less, list, mark, marks, next, put, sum};
+use crate::number::{
+    FAR, at, count_up, index, lengthen, lengthen_marks, less, mark, next, put, sum,
+};
 use crate::reason::{Packing, Placing};
 use crate::set::Set;
 use crate::table::{Shared, Table, Visit, visit_at};
-use std::alloc::Global;
-use tsn_model::NoMemory;
+use std::alloc::{AllocError, Global};
 
 /// That a stream goes last of some, and its least head by that.
 #[derive(Clone, Copy)]
@@ -116,32 +117,41 @@ const NOTHING: Node = Node {
 };
 
 impl Rooms {
-    /// The error says that there was no memory.
-    pub fn of(alloc: Global, table: &Table) -> Result<Rooms, NoMemory> {
-        let mut rooms = Vec::new(alloc);
+    /// No links.
+    pub fn none(alloc: Global) -> Rooms {
+        Rooms {
+            found: Vec::new(alloc),
+            rooms: Vec::new(alloc),
+            waiting: Vec::new(alloc),
+            passed: 0,
+            is_waiting: Vec::new(alloc),
+            head_of: Vec::new(alloc),
+            end_of: Vec::new(alloc),
+            view: View::none(alloc),
+        }
+    }
+
+    /// Puts the links of a network in. The error says that there was no memory.
+    pub fn fill(&mut self, alloc: Global, table: &Table) -> Result<(), AllocError> {
         let mut most: usize = 0;
         for shared in &table.links {
             let count = shared.visits.len();
             most = most.max(count);
-            let room = Room {
-                by_head: count_up(alloc, count)?,
-                by_end: count_up(alloc, count)?,
-                heads: list(alloc, 0, count)?,
-                ends: list(alloc, 0, count)?,
-                ease: NO_EASE,
-            };
-            rooms.push(room).map_err(|_| NoMemory)?;
+            self.add_room(alloc, count)?;
         }
-        Ok(Rooms {
-            found: Vec::new(alloc),
-            waiting: Vec::new(alloc),
-            passed: 0,
-            is_waiting: marks(alloc, rooms.len())?,
-            rooms,
-            head_of: list(alloc, 0, most)?,
-            end_of: list(alloc, 0, most)?,
-            view: view_of(alloc, most)?,
-        })
+        lengthen_marks(&mut self.is_waiting, table.links.len())?;
+        lengthen(&mut self.head_of, 0, most)?;
+        lengthen(&mut self.end_of, 0, most)?;
+        self.view.size_streams(most)?;
+        self.view.size_tree()
+    }
+
+    fn add_room(&mut self, alloc: Global, count: usize) -> Result<(), AllocError> {
+        self.rooms.push(Room::none(alloc))?;
+        match self.rooms.last_mut() {
+            Some(room) => room.size(count),
+            None => Ok(()),
+        }
     }
 
     /// How many links there are.
@@ -150,11 +160,11 @@ impl Rooms {
     }
 
     /// Notes that a link is to be looked at.
-    pub fn call(&mut self, link: usize) -> Result<(), NoMemory> {
+    pub fn call(&mut self, link: usize) -> Result<(), AllocError> {
         if let Some(is_waiting) = self.is_waiting.get_mut(link) {
             if !*is_waiting {
                 *is_waiting = true;
-                return self.waiting.push(index(link)).map_err(|_| NoMemory);
+                return Ok(self.waiting.push(index(link))?);
             }
         }
         Ok(())
@@ -222,7 +232,7 @@ impl Rooms {
         link: usize,
         side: u32,
         shared: &Shared,
-    ) -> Result<Option<Overload>, NoMemory> {
+    ) -> Result<Option<Overload>, AllocError> {
         self.found.clear();
         if let Some(room) = self.rooms.get(link) {
             self.view.begin(shared.visits.len());
@@ -240,6 +250,24 @@ impl Rooms {
 }
 
 impl Room {
+    fn none(alloc: Global) -> Room {
+        Room {
+            by_head: Vec::new(alloc),
+            by_end: Vec::new(alloc),
+            heads: Vec::new(alloc),
+            ends: Vec::new(alloc),
+            ease: NO_EASE,
+        }
+    }
+
+    // Makes it one of so many streams.
+    fn size(&mut self, count: usize) -> Result<(), AllocError> {
+        count_up(&mut self.by_head, count)?;
+        count_up(&mut self.by_end, count)?;
+        lengthen(&mut self.heads, 0, count)?;
+        lengthen(&mut self.ends, 0, count)
+    }
+
     // Whether heads and ends didn't change by more than may be.
     fn is_at_ease(&self, heads: &[i64], ends: &[i64]) -> bool {
         if self.ease.closer < 0 {
@@ -253,6 +281,48 @@ impl Room {
 }
 
 impl View {
+    fn none(alloc: Global) -> View {
+        View {
+            count: 0,
+            heads: Vec::new(alloc),
+            ends: Vec::new(alloc),
+            works: Vec::new(alloc),
+            places: Vec::new(alloc),
+            ranks: Vec::new(alloc),
+            by_end: Vec::new(alloc),
+            rest: Vec::new(alloc),
+            done: Vec::new(alloc),
+            source: Vec::new(alloc),
+            most_work: Vec::new(alloc),
+            size: 1,
+            tree: Vec::new(alloc),
+            late: 0,
+            ease: NO_EASE,
+        }
+    }
+
+    // Makes it one of so many streams.
+    fn size_streams(&mut self, most: usize) -> Result<(), AllocError> {
+        lengthen(&mut self.heads, 0, most)?;
+        lengthen(&mut self.ends, 0, most)?;
+        lengthen(&mut self.works, 0, most)?;
+        lengthen(&mut self.rest, 0, most)?;
+        lengthen(&mut self.done, 0, most)?;
+        lengthen(&mut self.most_work, 0, most)?;
+        count_up(&mut self.places, most)?;
+        count_up(&mut self.ranks, most)?;
+        count_up(&mut self.by_end, most)?;
+        count_up(&mut self.source, most)
+    }
+
+    // Makes the tree as large as it gets.
+    fn size_tree(&mut self) -> Result<(), AllocError> {
+        for _ in 0..512 {
+            self.tree.push(NOTHING)?;
+        }
+        Ok(())
+    }
+
     fn begin(&mut self, count: usize) {
         self.count = count;
         self.late = 0;
@@ -311,7 +381,7 @@ impl View {
         link: u32,
         side: u32,
         found: &mut Vec<Found>,
-    ) -> Result<Option<Overload>, NoMemory> {
+    ) -> Result<Option<Overload>, AllocError> {
         for number in 0..self.count {
             let rank = place_at(&self.by_end, number);
             let end = at(&self.ends, rank);
@@ -325,8 +395,12 @@ impl View {
             if done > end {
                 return Ok(Some(self.overload(sight)));
             }
-            self.insert_late(done, end);
-            let late = self.node(1).late;
+            // One more is done by then and its work.
+            let mut late = sum(done, at(&self.most_work, number));
+            if late > end {
+                self.insert_late(done, end);
+                late = self.node(1).late;
+            }
             if late > end {
                 self.sum_up_rest(end);
                 self.place_others(sight, found)?;
@@ -454,7 +528,7 @@ impl View {
     }
 
     // Finds which streams of a greater end go last.
-    fn place_others(&self, sight: Sight, found: &mut Vec<Found>) -> Result<(), NoMemory> {
+    fn place_others(&self, sight: Sight, found: &mut Vec<Found>) -> Result<(), AllocError> {
         let mut latest = -FAR;
         let mut window = 0usize;
         for rank in 0..self.count {
@@ -475,9 +549,7 @@ impl View {
                 continue;
             }
             if at(&self.done, from) > head {
-                found
-                    .push(self.placing(sight, rank, from))
-                    .map_err(|_| NoMemory)?;
+                found.push(self.placing(sight, rank, from))?;
             }
         }
         Ok(())
@@ -552,38 +624,6 @@ fn place_at(places: &[usize], rank: usize) -> usize {
         Some(place) => *place,
         None => 0,
     }
-}
-
-fn count_up(alloc: Global, count: usize) -> Result<Vec<usize>, NoMemory> {
-    let mut places = Vec::with_capacity(alloc, count)?;
-    for place in 0..count {
-        places.push(place).map_err(|_| NoMemory)?;
-    }
-    Ok(places)
-}
-
-fn view_of(alloc: Global, most: usize) -> Result<View, NoMemory> {
-    let mut tree = Vec::new(alloc);
-    for _ in 0..512 {
-        tree.push(NOTHING).map_err(|_| NoMemory)?;
-    }
-    Ok(View {
-        count: 0,
-        heads: list(alloc, 0, most)?,
-        ends: list(alloc, 0, most)?,
-        works: list(alloc, 0, most)?,
-        places: count_up(alloc, most)?,
-        ranks: count_up(alloc, most)?,
-        by_end: count_up(alloc, most)?,
-        rest: list(alloc, 0, most)?,
-        done: list(alloc, 0, most)?,
-        source: count_up(alloc, most)?,
-        most_work: list(alloc, 0, most)?,
-        size: 1,
-        tree,
-        late: 0,
-        ease: NO_EASE,
-    })
 }
 
 // Brings places in order by their numbers, which are in order but for a few.

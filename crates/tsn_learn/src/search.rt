@@ -5,15 +5,15 @@ use crate::arcs::Arcs;
 use crate::choice::Choice;
 use crate::clauses::Clauses;
 use crate::literal::Literal;
-use crate::number::{NONE, at, index, indices, less, sum};
+use crate::number::{NONE, at, index, lengthen_indices, less, sum};
 use crate::pace::Pace;
 use crate::reason::{Deed, Why};
 use crate::record::Record;
 use crate::rooms::Rooms;
 use crate::table::Table;
 use crate::trail::Trail;
-use std::alloc::Global;
-use tsn_model::NoMemory;
+use std::alloc::{AllocError, Global};
+use tsn_timing::Timing;
 
 /// A search over a network.
 #[derive(Drop)]
@@ -32,6 +32,8 @@ pub struct Search {
     pub clash_deed: Option<Deed>,
     /// Literals by which another one holds.
     pub needs: Vec<Literal>,
+    /// What is to hold in the schedule that is asked for.
+    pub premises: Vec<Literal>,
     pub pace: Pace,
     /// Whether nothing is known to contradict what is given.
     pub is_open: bool,
@@ -49,33 +51,57 @@ pub struct Search {
 
 impl Search {
     /// A search with nothing given but the network. The error says that there was no memory.
-    pub fn of(alloc: Global, table: Table) -> Result<Search, NoMemory> {
-        let arcs = Arcs::of(alloc, &table)?;
-        let values = values_of(alloc, &table)?;
-        let bounds = values.len();
-        let mut search = Search {
+    pub fn of(alloc: Global, timing: &Timing) -> Result<Search, AllocError> {
+        let mut search = Search::none(alloc, timing);
+        search.fill(timing)?;
+        Ok(search)
+    }
+
+    fn none(alloc: Global, timing: &Timing) -> Search {
+        Search {
             alloc,
-            trail: Trail::of(alloc, values)?,
-            clauses: Clauses::none(alloc, bounds)?,
-            rooms: Rooms::of(alloc, &table)?,
-            choice: Choice::of(alloc, table.orders.len())?,
+            table: Table::none(alloc, timing),
+            arcs: Arcs::none(alloc),
+            trail: Trail::none(alloc),
+            clauses: Clauses::none(alloc),
+            rooms: Rooms::none(alloc),
+            choice: Choice::none(alloc),
             record: Record::none(alloc),
-            analysis: Analysis::of(alloc, bounds)?,
+            analysis: Analysis::none(alloc),
             clash: Vec::new(alloc),
             clash_deed: None,
             needs: Vec::new(alloc),
+            premises: Vec::new(alloc),
             pace: Pace::none(),
             is_open: true,
-            times: index(table.streams().wrapping_mul(2).wrapping_add(2)),
+            times: 0,
             found: Vec::new(alloc),
             most_kept: 4000,
             calm: 0,
-            late: indices(alloc, 0, 128)?,
-            arcs,
-            table,
-        };
-        search.begin()?;
-        Ok(search)
+            late: Vec::new(alloc),
+        }
+    }
+
+    fn fill(&mut self, timing: &Timing) -> Result<(), AllocError> {
+        let alloc = self.alloc;
+        self.table.fill(alloc, timing)?;
+        self.arcs.fill(&self.table)?;
+        self.rooms.fill(alloc, &self.table)?;
+        self.table.put_values(&mut self.trail.values)?;
+        self.table.put_values(&mut self.trail.ground)?;
+        self.trail.size()?;
+        self.size()?;
+        self.begin()
+    }
+
+    fn size(&mut self) -> Result<(), AllocError> {
+        let bounds = self.trail.values.len();
+        let streams = self.table.streams();
+        self.times = index(streams.wrapping_mul(2).wrapping_add(2));
+        self.clauses.size(self.alloc, bounds)?;
+        self.analysis.size(bounds)?;
+        self.choice.fill(self.table.orders.len())?;
+        lengthen_indices(&mut self.late, 0, 128)
     }
 
     /// The bound of the least offset of a stream.
@@ -104,13 +130,8 @@ impl Search {
         false
     }
 
-    /// The bounds before anything is given. The error says that there was no memory.
-    pub fn first_values(&self) -> Result<Vec<i64>, NoMemory> {
-        values_of(self.alloc, &self.table)
-    }
-
     // What follows before anything is given.
-    fn begin(&mut self) -> Result<(), NoMemory> {
+    fn begin(&mut self) -> Result<(), AllocError> {
         if self.is_empty() {
             self.is_open = false;
             return Ok(());
@@ -132,7 +153,7 @@ impl Search {
     }
 
     // Two orders of the same streams: where the left stream goes first in the later one, it does in the one before.
-    fn join(&mut self, number: usize) -> Result<(), NoMemory> {
+    fn join(&mut self, number: usize) -> Result<(), AllocError> {
         let before = self.table.order(number.wrapping_sub(1));
         let order = self.table.order(number);
         if before.left != order.left || before.right != order.right {
@@ -150,7 +171,7 @@ impl Search {
     }
 
     /// Narrows a bound. False where that contradicts what is known; then the clash is noted.
-    pub fn raise(&mut self, literal: Literal, why: Why) -> Result<bool, NoMemory> {
+    pub fn raise(&mut self, literal: Literal, why: Why) -> Result<bool, AllocError> {
         if self.trail.is_true(literal) {
             return Ok(true);
         }
@@ -164,17 +185,18 @@ impl Search {
     }
 
     // The literal and its opposite both hold: why the literal does, as far as the opposite bound goes.
-    fn note_clash(&mut self, literal: Literal, why: Why) -> Result<(), NoMemory> {
+    fn note_clash(&mut self, literal: Literal, why: Why) -> Result<(), AllocError> {
         let opposite = literal.bound ^ 1;
         let known = Literal::of(opposite, self.trail.value(opposite));
         self.clash_deed = self.kept_deed(literal.bound, why)?;
         self.explain(known.opposite(), why)?;
         std::mem::swap(&mut self.needs, &mut self.clash);
-        self.clash.push(known).map_err(|_| NoMemory)
+        self.clash.push(known)?;
+        Ok(())
     }
 
     // The links of a stream whose offset's bound changed are to be looked at.
-    fn call_links(&mut self, bound: u32) -> Result<(), NoMemory> {
+    fn call_links(&mut self, bound: u32) -> Result<(), AllocError> {
         if bound < self.times {
             if let Some(stays) = self.table.stays.get((bound / 2) as usize) {
                 for link in &stays.links {
@@ -197,7 +219,7 @@ impl Search {
     }
 
     // The same, with its placing kept.
-    pub fn kept_deed(&mut self, bound: u32, why: Why) -> Result<Option<Deed>, NoMemory> {
+    pub fn kept_deed(&mut self, bound: u32, why: Why) -> Result<Option<Deed>, AllocError> {
         if let Why::Placing(number) = why {
             if let Some(placing) = self.trail.placings.get(number as usize) {
                 let kept = self.record.keep_placing(*placing)?;
@@ -219,7 +241,7 @@ impl Search {
     }
 
     /// Goes back to the end of a level.
-    pub fn go_back(&mut self, level: usize) -> Result<(), NoMemory> {
+    pub fn go_back(&mut self, level: usize) -> Result<(), AllocError> {
         for _ in 0..self.trail.events.len() {
             let Some(event) = self.trail.take_back(level) else {
                 break;
@@ -252,24 +274,4 @@ impl Search {
         let right = self.low(order.right);
         right >= sum(left, order.left_first) || left >= sum(right, order.right_first)
     }
-}
-
-// The bounds before anything is given.
-fn values_of(alloc: Global, table: &Table) -> Result<Vec<i64>, NoMemory> {
-    let mut values = Vec::new(alloc);
-    for body in &table.bodies {
-        values.push(body.release).map_err(|_| NoMemory)?;
-        values
-            .push(body.latest.wrapping_neg())
-            .map_err(|_| NoMemory)?;
-    }
-    values.push(0).map_err(|_| NoMemory)?;
-    values
-        .push(table.cycle.wrapping_neg())
-        .map_err(|_| NoMemory)?;
-    for _ in 0..table.orders.len() {
-        values.push(0).map_err(|_| NoMemory)?;
-        values.push(-1).map_err(|_| NoMemory)?;
-    }
-    Ok(values)
 }

@@ -1,9 +1,9 @@
 //! The numbers of a network that the search asks for. Times are in nanoseconds.
-ghost use Rattle.std.specs.Prelude.{◌≤◌, length};
+ghost use Rattle.std.specs.Prelude.{◌<◌, ◌≤◌, length};
+ghost use Rattle.tsn_model.specs.Network.{stream_count};
 
-use crate::number::{NONE, index, indices, less, put_index, signed, sum};
-use std::alloc::Global;
-use tsn_model::NoMemory;
+use crate::number::{NONE, index, lengthen_indices, less, put_index, signed, sum};
+use std::alloc::{AllocError, Global};
 use tsn_timing::Timing;
 
 /// A stream.
@@ -80,29 +80,67 @@ pub struct Table {
 }
 
 impl Table {
-    /// Those of a network. The error says that there was no memory.
-    pub fn of(alloc: Global, timing: &Timing) -> Result<Table, NoMemory> {
-        let mut table = Table {
+    /// Those of a network without streams.
+    pub fn none(alloc: Global, timing: &Timing) -> Table {
+        Table {
             cycle: signed(timing.cycle()),
-            bodies: bodies_of(alloc, timing)?,
+            bodies: Vec::new(alloc),
             links: Vec::new(alloc),
             stays: Vec::new(alloc),
             conflicts: Vec::new(alloc),
             orders: Vec::new(alloc),
-        };
-        let mut places = indices(alloc, NONE, timing.links())?;
-        for link in 0..timing.links() {
-            let visits = visits_of(alloc, timing, link)?;
-            table.note_link(&mut places, link, visits)?;
         }
+    }
+
+    /// Puts the streams in. The error says that there was no memory.
+    pub fn fill(&mut self, alloc: Global, timing: &Timing) -> Result<(), AllocError> {
+        let mut places = Vec::new(alloc);
+        lengthen_indices(&mut places, NONE, timing.links())?;
+        self.note_links(alloc, timing, &mut places)?;
         for stream in 0..timing.streams() {
             let stays = stays_of(alloc, timing, stream, &places)?;
-            table.stays.push(stays).map_err(|_| NoMemory)?;
+            self.stays.push(stays)?;
         }
+        self.note_bodies(timing)?;
         for left in 0..timing.streams() {
-            table.note_pairs(alloc, timing, left)?;
+            self.note_pairs(alloc, timing, left)?;
         }
-        Ok(table)
+        Ok(())
+    }
+
+    fn note_links(
+        &mut self,
+        alloc: Global,
+        timing: &Timing,
+        places: &mut [u32],
+    ) -> Result<(), AllocError> {
+        for link in 0..timing.links() {
+            let visits = visits_of(alloc, timing, link)?;
+            self.note_link(places, link, visits)?;
+        }
+        Ok(())
+    }
+
+    fn note_bodies(&mut self, timing: &Timing) -> Result<(), AllocError> {
+        for stream in 0..timing.streams() {
+            self.bodies.push(body_of(timing, stream))?;
+        }
+        Ok(())
+    }
+
+    /// Puts the bounds that there are before anything is given behind the others.
+    pub fn put_values(&self, values: &mut Vec<i64>) -> Result<(), AllocError> {
+        for body in &self.bodies {
+            values.push(body.release)?;
+            values.push(body.latest.wrapping_neg())?;
+        }
+        values.push(0)?;
+        values.push(self.cycle.wrapping_neg())?;
+        for _ in 0..self.orders.len() {
+            values.push(0)?;
+            values.push(-1)?;
+        }
+        Ok(())
     }
 
     pub fn streams(&self) -> usize {
@@ -193,7 +231,7 @@ impl Table {
         places: &mut [u32],
         link: usize,
         visits: Vec<Visit>,
-    ) -> Result<(), NoMemory> {
+    ) -> Result<(), AllocError> {
         if visits.len() < 3 {
             return Ok(());
         }
@@ -202,11 +240,17 @@ impl Table {
             number: link,
             visits,
         };
-        self.links.push(shared).map_err(|_| NoMemory)
+        self.links.push(shared)?;
+        Ok(())
     }
 
     // The conflicts of a stream with those of greater numbers.
-    fn note_pairs(&mut self, alloc: Global, timing: &Timing, left: usize) -> Result<(), NoMemory> {
+    fn note_pairs(
+        &mut self,
+        alloc: Global,
+        timing: &Timing,
+        left: usize,
+    ) -> Result<(), AllocError> {
         let mut conflicts = Vec::new(alloc);
         for right in left.wrapping_add(1)..timing.streams() {
             conflicts.clear();
@@ -222,18 +266,18 @@ impl Table {
         left: usize,
         right: usize,
         conflicts: &[Conflict],
-    ) -> Result<(), NoMemory> {
+    ) -> Result<(), AllocError> {
         let mut open = None;
         for conflict in conflicts {
             let number = self.conflicts.len();
-            self.conflicts.push(*conflict).map_err(|_| NoMemory)?;
+            self.conflicts.push(*conflict)?;
             open = match open {
                 Some(order) => Some(self.note_conflict(order, *conflict, number)?),
                 None => Some(order_of(left, right, *conflict, number)),
             };
         }
         match open {
-            Some(order) => self.orders.push(order).map_err(|_| NoMemory),
+            Some(order) => Ok(self.orders.push(order)?),
             None => Ok(()),
         }
     }
@@ -244,9 +288,9 @@ impl Table {
         mut order: Order,
         conflict: Conflict,
         number: usize,
-    ) -> Result<Order, NoMemory> {
+    ) -> Result<Order, AllocError> {
         if conflict.right_first.wrapping_neg() >= order.left_first {
-            self.orders.push(order).map_err(|_| NoMemory)?;
+            self.orders.push(order)?;
             return Ok(order_of(order.left, order.right, conflict, number));
         }
         order.end = number.wrapping_add(1);
@@ -285,27 +329,24 @@ fn order_of(left: usize, right: usize, conflict: Conflict, number: usize) -> Ord
     }
 }
 
-fn bodies_of(alloc: Global, timing: &Timing) -> Result<Vec<Body>, NoMemory> {
-    let mut bodies = Vec::new(alloc);
-    for stream in 0..timing.streams() {
-        let arrival = signed(timing.arrival(stream));
-        let done = less(signed(timing.cycle()), signed(timing.span(stream)));
-        let arrived = less(signed(timing.latest(stream)), arrival);
-        let body = Body {
-            release: signed(timing.release(stream)),
-            arrival,
-            latest: done.min(arrived),
-        };
-        bodies.push(body).map_err(|_| NoMemory)?;
+fn body_of(timing: &Timing, stream: usize) -> Body
+    requires { stream < stream_count timing.now }
+{
+    let arrival = signed(timing.arrival(stream));
+    let done = less(signed(timing.cycle()), signed(timing.span(stream)));
+    let arrived = less(signed(timing.latest(stream)), arrival);
+    Body {
+        release: signed(timing.release(stream)),
+        arrival,
+        latest: done.min(arrived),
     }
-    Ok(bodies)
 }
 
-fn visits_of(alloc: Global, timing: &Timing, link: usize) -> Result<Vec<Visit>, NoMemory> {
+fn visits_of(alloc: Global, timing: &Timing, link: usize) -> Result<Vec<Visit>, AllocError> {
     let mut visits = Vec::new(alloc);
     for stream in 0..timing.streams() {
         if let Some(visit) = visit_of(timing, stream, link) {
-            visits.push(visit).map_err(|_| NoMemory)?;
+            visits.push(visit)?;
         }
     }
     Ok(visits)
@@ -332,13 +373,13 @@ fn stays_of(
     timing: &Timing,
     stream: usize,
     places: &[u32],
-) -> Result<Stays, NoMemory> {
+) -> Result<Stays, AllocError> {
     let mut links = Vec::new(alloc);
     if stream < timing.streams() {
         for hop in 0..timing.hops(stream) {
             if let Some(place) = places.get(timing.route_link(stream, hop)) {
                 if *place != NONE {
-                    links.push(*place).map_err(|_| NoMemory)?;
+                    links.push(*place)?;
                 }
             }
         }
@@ -352,7 +393,7 @@ fn collect(
     timing: &Timing,
     left: usize,
     right: usize,
-) -> Result<(), NoMemory> {
+) -> Result<(), AllocError> {
     if left >= timing.streams() {
         return Ok(());
     }
@@ -367,7 +408,7 @@ fn collect(
                 right_first: less(sum(other.start, other.work), one.start),
             };
             let place = place_for(conflicts, conflict.right_first);
-            conflicts.insert(place, conflict).map_err(|_| NoMemory)?;
+            conflicts.insert(place, conflict)?;
         }
     }
     Ok(())

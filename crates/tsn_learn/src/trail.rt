@@ -1,9 +1,8 @@
 //! The bounds of the variables, and the changes that led to them, one after another.
 use crate::literal::Literal;
-use crate::number::{NONE, at, index, index_at, indices, put, put_index};
+use crate::number::{NONE, at, index, index_at, lengthen_indices, put, put_index};
 use crate::reason::{Placing, Why};
-use std::alloc::Global;
-use tsn_model::NoMemory;
+use std::alloc::{AllocError, Global};
 
 /// A change of a bound.
 #[derive(Clone, Copy)]
@@ -43,22 +42,22 @@ pub struct Trail {
 }
 
 impl Trail {
-    /// These bounds, without changes. The error says that there was no memory.
-    pub fn of(alloc: Global, values: Vec<i64>) -> Result<Trail, NoMemory> {
-        let tops = indices(alloc, NONE, values.len())?;
-        let mut ground = Vec::with_capacity(alloc, values.len())?;
-        for value in &values {
-            ground.push(*value).map_err(|_| NoMemory)?;
-        }
-        Ok(Trail {
-            values,
-            ground,
+    /// No bounds.
+    pub fn none(alloc: Global) -> Trail {
+        Trail {
+            values: Vec::new(alloc),
+            ground: Vec::new(alloc),
             events: Vec::new(alloc),
             placings: Vec::new(alloc),
             looked: 0,
-            tops,
+            tops: Vec::new(alloc),
             marks: Vec::new(alloc),
-        })
+        }
+    }
+
+    /// Notes that no bound was changed. The error says that there was no memory.
+    pub fn size(&mut self) -> Result<(), AllocError> {
+        lengthen_indices(&mut self.tops, NONE, self.values.len())
     }
 
     /// How many decisions there are.
@@ -138,16 +137,17 @@ impl Trail {
     }
 
     /// Begins a level.
-    pub fn open(&mut self) -> Result<(), NoMemory> {
+    pub fn open(&mut self) -> Result<(), AllocError> {
         let mark = Mark {
             events: self.events.len(),
             placings: self.placings.len(),
         };
-        self.marks.push(mark).map_err(|_| NoMemory)
+        self.marks.push(mark)?;
+        Ok(())
     }
 
     /// Narrows a bound.
-    pub fn change(&mut self, literal: Literal, why: Why, shown: usize) -> Result<(), NoMemory> {
+    pub fn change(&mut self, literal: Literal, why: Why, shown: usize) -> Result<(), AllocError> {
         let number = index(self.events.len());
         let event = Event {
             bound: literal.bound,
@@ -158,7 +158,7 @@ impl Trail {
             new: literal.least,
             why,
         };
-        self.events.push(event).map_err(|_| NoMemory)?;
+        self.events.push(event)?;
         put_index(&mut self.tops, literal.place(), number);
         put(&mut self.values, literal.place(), literal.least);
         if self.marks.is_empty() {

@@ -2,18 +2,18 @@
 use crate::literal::Literal;
 use crate::need::Needed;
 use crate::number::{
-    NONE, at, index, index_at, indices, is_marked, mark, marks, next, put_index, sum,
+    NONE, at, index, index_at, is_marked, lengthen_indices, lengthen_marks, mark, next, put_index,
+    sum,
 };
 use crate::reason::{Deed, Placing, Why};
 use crate::search::Search;
 use crate::set::Set;
 use crate::trail::Event;
 use crate::view::{Made, is_impossible, narrow};
-use std::alloc::Global;
+use std::alloc::{AllocError, Global};
 use tsn_argument::{
     Argument, Clause, Fact, Goal, Move, Moves, Orders, Placing as Placed, Step, Steps, Streams,
 };
-use tsn_model::NoMemory;
 
 /// What is shown, of which plan.
 #[derive(Clone, Copy)]
@@ -51,73 +51,91 @@ pub fn write_argument(
     alloc: Global,
     search: &mut Search,
     aim: Aim<'_>,
-) -> Result<Option<Argument>, NoMemory> {
+) -> Result<Option<Argument>, AllocError> {
     let goals = goals_of(alloc, search, aim)?;
     let needed = search.needed_for(&goals)?;
-    let mut writing = begin(alloc, search, aim)?;
-    writing.settle();
-    if !writing.is_ground_impossible() && !writing.write_all(&needed)? {
+    let mut writing = begin(alloc, search, aim);
+    if !writing.write(&needed)? {
         return Ok(None);
     }
-    let is_shown = writing.is_ground_impossible() || writing.is_plan_alone();
-    let steps = writing.steps;
-    if !is_shown {
-        return Ok(None);
-    }
-    Ok(Some(Argument {
-        goal: aim.goal,
-        target: aim.flowspan.unsigned_abs(),
-        steps: Steps::of(steps),
-    }))
+    Ok(Some(writing.into_argument()))
 }
 
 // What has to hold in the end.
-fn goals_of(alloc: Global, search: &Search, aim: Aim<'_>) -> Result<Vec<Literal>, NoMemory> {
+fn goals_of(alloc: Global, search: &Search, aim: Aim<'_>) -> Result<Vec<Literal>, AllocError> {
     let mut goals = Vec::new(alloc);
     if !search.is_open {
         return Ok(goals);
     }
-    goals
-        .push(Literal::of(search.span(), aim.flowspan))
-        .map_err(|_| NoMemory)?;
+    goals.push(Literal::of(search.span(), aim.flowspan))?;
     if aim.goal == Goal::First {
         for (stream, offset) in aim.plan.iter().enumerate() {
             let literal = Literal::of(search.least(stream), *offset);
-            goals.push(literal).map_err(|_| NoMemory)?;
+            goals.push(literal)?;
         }
     }
     Ok(goals)
 }
 
-fn begin<'a>(alloc: Global, search: &'a Search, aim: Aim<'a>) -> Result<Writing<'a>, NoMemory> {
-    let orders = search.table.orders.len();
-    let mut ground = search.first_values()?;
-    let most = match aim.goal {
-        Goal::First => aim.flowspan,
-        Goal::Least | Goal::None => aim.flowspan.wrapping_sub(1),
-    };
-    narrow(
-        &mut ground,
-        Literal::of(search.span() ^ 1, most.wrapping_neg()),
-    );
-    Ok(Writing {
+fn begin<'a>(alloc: Global, search: &'a Search, aim: Aim<'a>) -> Writing<'a> {
+    Writing {
         alloc,
         search,
         aim,
-        ground,
-        view: search.first_values()?,
+        ground: Vec::new(alloc),
+        view: Vec::new(alloc),
         steps: Vec::new(alloc),
         moves: Vec::new(alloc),
         clauses: 0,
-        numbers: indices(alloc, NONE, search.record.count())?,
-        bridges: indices(alloc, NONE, orders)?,
-        is_ground_over: marks(alloc, orders)?,
-        is_over: marks(alloc, orders)?,
+        numbers: Vec::new(alloc),
+        bridges: Vec::new(alloc),
+        is_ground_over: Vec::new(alloc),
+        is_over: Vec::new(alloc),
         over: Vec::new(alloc),
-    })
+    }
 }
 
 impl Writing<'_> {
+    // Whether what is written shows the aim.
+    fn write(&mut self, needed: &Needed) -> Result<bool, AllocError> {
+        self.size()?;
+        self.begin_ground()?;
+        self.settle();
+        if !self.is_ground_impossible() && !self.write_all(needed)? {
+            return Ok(false);
+        }
+        Ok(self.is_ground_impossible() || self.is_plan_alone())
+    }
+
+    fn into_argument(self) -> Argument {
+        Argument {
+            goal: self.aim.goal,
+            target: self.aim.flowspan.unsigned_abs(),
+            steps: Steps::of(self.steps),
+        }
+    }
+
+    fn size(&mut self) -> Result<(), AllocError> {
+        let orders = self.search.table.orders.len();
+        lengthen_indices(&mut self.numbers, NONE, self.search.record.count())?;
+        lengthen_indices(&mut self.bridges, NONE, orders)?;
+        lengthen_marks(&mut self.is_ground_over, orders)?;
+        lengthen_marks(&mut self.is_over, orders)
+    }
+
+    fn begin_ground(&mut self) -> Result<(), AllocError> {
+        let search = self.search;
+        search.table.put_values(&mut self.view)?;
+        search.table.put_values(&mut self.ground)?;
+        let most = match self.aim.goal {
+            Goal::First => self.aim.flowspan,
+            Goal::Least | Goal::None => self.aim.flowspan.wrapping_sub(1),
+        };
+        let span = search.span();
+        narrow(&mut self.ground, Literal::of(span ^ 1, most.wrapping_neg()));
+        Ok(())
+    }
+
     fn is_ground_impossible(&self) -> bool {
         is_impossible(&self.ground, self.search.times as usize)
     }
@@ -157,7 +175,7 @@ impl Writing<'_> {
     }
 
     // Writes what is needed, in order. False where something doesn't follow.
-    fn write_all(&mut self, needed: &Needed) -> Result<bool, NoMemory> {
+    fn write_all(&mut self, needed: &Needed) -> Result<bool, AllocError> {
         let mut following: usize = 0;
         for number in 0..self.search.trail.events.len() {
             if !is_marked(&needed.events, number) {
@@ -184,7 +202,7 @@ impl Writing<'_> {
         self.end()
     }
 
-    fn end(&mut self) -> Result<bool, NoMemory> {
+    fn end(&mut self) -> Result<bool, AllocError> {
         self.write_ground()?;
         Ok(true)
     }
@@ -195,7 +213,7 @@ impl Writing<'_> {
         following: &mut usize,
         to: usize,
         needed: &Needed,
-    ) -> Result<bool, NoMemory> {
+    ) -> Result<bool, AllocError> {
         for number in *following..to {
             *following = next(number);
             if !is_marked(&needed.shown, number) {
@@ -216,7 +234,7 @@ impl Writing<'_> {
     }
 
     // A change of the ground.
-    fn write_event(&mut self, number: usize) -> Result<bool, NoMemory> {
+    fn write_event(&mut self, number: usize) -> Result<bool, AllocError> {
         let search = self.search;
         let event = search.trail.event(index(number));
         let Some(deed) = search.deed_of(event.bound, event.why) else {
@@ -261,7 +279,7 @@ impl Writing<'_> {
     }
 
     // Ends the step that changes the ground.
-    fn write_ground(&mut self) -> Result<(), NoMemory> {
+    fn write_ground(&mut self) -> Result<(), AllocError> {
         if self.moves.is_empty() {
             return Ok(());
         }
@@ -271,18 +289,19 @@ impl Writing<'_> {
         Ok(())
     }
 
-    fn push_step(&mut self, facts: Vec<Fact>) -> Result<(), NoMemory> {
+    fn push_step(&mut self, facts: Vec<Fact>) -> Result<(), AllocError> {
         let mut moves = Vec::new(self.alloc);
         std::mem::swap(&mut moves, &mut self.moves);
         let step = Step {
             clause: Clause::of(facts),
             moves: Moves::of(moves),
         };
-        self.steps.push(step).map_err(|_| NoMemory)
+        self.steps.push(step)?;
+        Ok(())
     }
 
     // A clause that was shown.
-    fn write_shown(&mut self, number: usize) -> Result<bool, NoMemory> {
+    fn write_shown(&mut self, number: usize) -> Result<bool, AllocError> {
         let search = self.search;
         let literals = search.record.literals(number);
         let mut facts = Vec::new(self.alloc);
@@ -290,7 +309,7 @@ impl Writing<'_> {
             return Ok(false);
         }
         for literal in literals {
-            facts.push(self.fact(*literal)).map_err(|_| NoMemory)?;
+            facts.push(self.fact(*literal))?;
         }
         self.push_step(facts)?;
         self.forget_bridges();
@@ -320,7 +339,7 @@ impl Writing<'_> {
     }
 
     // The moves by which a clause follows; where it does so, by the weights of the orders' left links. False where it doesn't.
-    fn write_deeds(&mut self, number: usize, is_lean: bool) -> Result<bool, NoMemory> {
+    fn write_deeds(&mut self, number: usize, is_lean: bool) -> Result<bool, AllocError> {
         let search = self.search;
         self.moves.clear();
         self.forget_bridges();
@@ -340,7 +359,7 @@ impl Writing<'_> {
     }
 
     // A move of a clause.
-    fn write_one(&mut self, deed: Deed, is_lean: bool) -> Result<Made, NoMemory> {
+    fn write_one(&mut self, deed: Deed, is_lean: bool) -> Result<Made, AllocError> {
         let search = self.search;
         if let Deed::Go(bound) = deed {
             if let (true, Some(weight)) = (is_lean, self.own_weight(bound)) {
@@ -357,7 +376,7 @@ impl Writing<'_> {
 
 // The moves of deeds.
 impl Writing<'_> {
-    fn write_deed(&mut self, deed: Deed, is_ground: bool) -> Result<bool, NoMemory> {
+    fn write_deed(&mut self, deed: Deed, is_ground: bool) -> Result<bool, AllocError> {
         let search = self.search;
         match deed {
             Deed::Go(bound) => {
@@ -389,13 +408,13 @@ impl Writing<'_> {
         }
     }
 
-    fn push_move(&mut self, one: Move) -> Result<bool, NoMemory> {
-        self.moves.push(one).map_err(|_| NoMemory)?;
+    fn push_move(&mut self, one: Move) -> Result<bool, AllocError> {
+        self.moves.push(one)?;
         Ok(true)
     }
 
     // The arc of an order: of the left side that of its left link, of the right side that of its right link.
-    fn write_go(&mut self, bound: u32, is_ground: bool) -> Result<(), NoMemory> {
+    fn write_go(&mut self, bound: u32, is_ground: bool) -> Result<(), AllocError> {
         let number = self.order_number(bound);
         let order = self.search.table.order(number);
         if bound & 1 == 0 {
@@ -410,7 +429,7 @@ impl Writing<'_> {
     }
 
     // The arc of the order's left link.
-    fn write_own_go(&mut self, bound: u32) -> Result<(), NoMemory> {
+    fn write_own_go(&mut self, bound: u32) -> Result<(), AllocError> {
         let order = self.search.table.order(self.order_number(bound));
         let _ = self.push_move(Move::Go(right_first(&order, order.left_link)))?;
         Ok(())
@@ -428,7 +447,7 @@ impl Writing<'_> {
         sum(least, order.own_right_first) > most.wrapping_neg()
     }
 
-    fn write_turn(&mut self, bound: u32, is_ground: bool) -> Result<(), NoMemory> {
+    fn write_turn(&mut self, bound: u32, is_ground: bool) -> Result<(), AllocError> {
         let number = self.order_number(bound);
         let order = self.search.table.order(number);
         if bound & 1 == 0 && self.is_own_out_of_reach(&order, is_ground) {
@@ -455,7 +474,7 @@ impl Writing<'_> {
     }
 
     // Goes from the order's left link to its right one, or back.
-    fn cross(&mut self, number: usize, is_ground: bool) -> Result<(), NoMemory> {
+    fn cross(&mut self, number: usize, is_ground: bool) -> Result<(), AllocError> {
         if index_at(&self.bridges, number) == NONE {
             let mut moves = Vec::new(self.alloc);
             std::mem::swap(&mut moves, &mut self.moves);
@@ -468,7 +487,7 @@ impl Writing<'_> {
             mark(&mut self.is_ground_over, number, true);
         } else {
             mark(&mut self.is_over, number, true);
-            self.over.push(index(number)).map_err(|_| NoMemory)?;
+            self.over.push(index(number))?;
         }
         Ok(())
     }
@@ -481,7 +500,7 @@ impl Writing<'_> {
     }
 
     // Shows that the left stream goes first on the order's left link, or the right one on its right link.
-    fn build_bridge(&mut self, number: usize) -> Result<(), NoMemory> {
+    fn build_bridge(&mut self, number: usize) -> Result<(), AllocError> {
         let order = self.search.table.order(number);
         let mut link = order.left_link;
         let mut clauses = Vec::new(self.alloc);
@@ -492,7 +511,7 @@ impl Writing<'_> {
             let other = self.search.table.overlapping(&order, link);
             let _ = self.push_round(right_first(&order, link), left_first(&order, other))?;
             let clause = self.push_clause(left_first(&order, link), right_first(&order, other))?;
-            clauses.push(clause).map_err(|_| NoMemory)?;
+            clauses.push(clause)?;
             link = other;
         }
         let mut bridge = match clauses.first() {
@@ -516,17 +535,17 @@ impl Writing<'_> {
         &mut self,
         one: tsn_argument::Order,
         other: tsn_argument::Order,
-    ) -> Result<u32, NoMemory> {
+    ) -> Result<u32, AllocError> {
         let mut facts = Vec::new(self.alloc);
-        facts.push(Fact::Order(one)).map_err(|_| NoMemory)?;
-        facts.push(Fact::Order(other)).map_err(|_| NoMemory)?;
+        facts.push(Fact::Order(one))?;
+        facts.push(Fact::Order(other))?;
         self.push_step(facts)?;
         let clause = index(self.clauses);
         self.clauses = next(self.clauses);
         Ok(clause)
     }
 
-    fn write_placing(&mut self, placing: Placing) -> Result<bool, NoMemory> {
+    fn write_placing(&mut self, placing: Placing) -> Result<bool, AllocError> {
         let link = placing.link as usize;
         let others = self.streams_of(link, placing.others)?;
         let some = self.streams_of(link, placing.some)?;
@@ -546,7 +565,7 @@ impl Writing<'_> {
         })
     }
 
-    fn write_packing(&mut self, number: usize) -> Result<bool, NoMemory> {
+    fn write_packing(&mut self, number: usize) -> Result<bool, AllocError> {
         let Some(&packing) = self.search.record.packings.get(number) else {
             return Ok(false);
         };
@@ -561,7 +580,7 @@ impl Writing<'_> {
     }
 
     // Of two orders of the same streams, the later one's left side with the other one's right side.
-    fn write_round(&mut self, number: usize) -> Result<bool, NoMemory> {
+    fn write_round(&mut self, number: usize) -> Result<bool, AllocError> {
         let order = self.search.table.order(number);
         let before = self.search.table.order(number.wrapping_sub(1));
         self.push_round(
@@ -575,10 +594,10 @@ impl Writing<'_> {
         &mut self,
         one: tsn_argument::Order,
         other: tsn_argument::Order,
-    ) -> Result<bool, NoMemory> {
+    ) -> Result<bool, AllocError> {
         let mut round = Vec::new(self.alloc);
-        round.push(one).map_err(|_| NoMemory)?;
-        round.push(other).map_err(|_| NoMemory)?;
+        round.push(one)?;
+        round.push(other)?;
         if round.is_empty() || round.len() > 128 {
             return Ok(false);
         }
@@ -586,15 +605,14 @@ impl Writing<'_> {
     }
 
     // The streams of places on a link. None where there are none.
-    fn streams_of(&self, link: usize, places: Set) -> Result<Option<Streams>, NoMemory> {
+    fn streams_of(&self, link: usize, places: Set) -> Result<Option<Streams>, AllocError> {
         let mut list = Vec::new(self.alloc);
         let mut rest = places;
         for _ in 0..128 {
             let Some(place) = rest.take() else {
                 break;
             };
-            list.push(self.search.table.visit(link, place).stream)
-                .map_err(|_| NoMemory)?;
+            list.push(self.search.table.visit(link, place).stream)?;
         }
         if list.is_empty() || list.len() > 128 {
             return Ok(None);

@@ -1,0 +1,335 @@
+//! The order of the questions: a first schedule, then the flowspan, then stream after stream in list order. A stream whose question
+//! takes too long is left, and come back to with what is left of the budget. Times are in nanoseconds.
+use crate::ask::Answered;
+use crate::first::first_schedule;
+use crate::learning::{Budget, Hear, News};
+use crate::literal::Literal;
+use crate::number::{at, lengthen, less, next, put, signed, signed_list, sum};
+use crate::search::Search;
+use crate::turn::Turn;
+use std::alloc::{AllocError, Global};
+use tsn_timing::Timing;
+
+/// A search for the first of the optimal schedules.
+#[derive(Drop)]
+pub struct Course {
+    pub search: Search,
+    /// The best schedule so far, and its flowspan; more than the cycle where there is none.
+    pub best: Vec<i64>,
+    pub flowspan: i64,
+    // How many conflicts and how much work there may be.
+    last_conflict: u64,
+    last_work: u64,
+    // Where the question of a stream is left.
+    part_conflict: u64,
+    // Of how many streams, the first ones, no lesser offset than the best schedule's is in question.
+    shown: usize,
+    // For each stream: where the streams before it have their offsets of the best schedule, its own is at least this.
+    lows: Vec<i64>,
+}
+
+/// What became of a course.
+#[derive(Clone, Copy, PartialEq, Eq)]
+pub enum State {
+    /// It's decided.
+    Decided,
+    /// There is no schedule.
+    Empty,
+    /// It isn't decided.
+    Open,
+}
+
+/// A course from a known schedule on, where there is one that is valid. The error says that there was no memory.
+pub fn begin(
+    alloc: Global,
+    timing: &Timing,
+    known: Option<&[u64]>,
+    budget: Budget,
+) -> Result<Course, AllocError> {
+    let mut course = course_of(alloc, timing, budget)?;
+    if let Some(offsets) = known {
+        course.take_known(alloc, timing, offsets)?;
+    }
+    course.take_first(alloc)?;
+    Ok(course)
+}
+
+/// A course without a schedule. The error says that there was no memory.
+pub fn course_of(alloc: Global, timing: &Timing, budget: Budget) -> Result<Course, AllocError> {
+    let mut lows = Vec::new(alloc);
+    lengthen(&mut lows, 0, timing.streams())?;
+    Ok(Course {
+        search: Search::of(alloc, timing)?,
+        best: Vec::new(alloc),
+        flowspan: sum(signed(timing.cycle()), 1),
+        last_conflict: budget.conflicts,
+        last_work: budget.work,
+        part_conflict: budget.conflicts,
+        shown: 0,
+        lows,
+    })
+}
+
+impl Course {
+    fn take_known(
+        &mut self,
+        alloc: Global,
+        timing: &Timing,
+        offsets: &[u64],
+    ) -> Result<(), AllocError> {
+        if timing.is_valid(offsets) {
+            self.take(signed_list(alloc, offsets)?);
+        }
+        Ok(())
+    }
+
+    fn take_first(&mut self, alloc: Global) -> Result<(), AllocError> {
+        let streams = self.search.table.streams();
+        let least = self.search.low(streams);
+        if self.search.is_open && self.flowspan > least {
+            let first = first_schedule(alloc, &self.search.table, least)?;
+            if let Some(best) = first {
+                self.take(best);
+            }
+        }
+        Ok(())
+    }
+
+    // A schedule that was found: it's kept where its flowspan is less.
+    fn take(&mut self, offsets: Vec<i64>) {
+        let flowspan = self.search.table.flowspan(&offsets);
+        if flowspan < self.flowspan {
+            self.flowspan = flowspan;
+            self.best = offsets;
+        }
+    }
+
+    /// Asks till it's decided, or the budget is used up.
+    pub fn decide<H: Hear>(&mut self, hear: &H) -> Result<State, AllocError> {
+        let state = self.lower_flowspan(hear)?;
+        if state != State::Decided {
+            return Ok(state);
+        }
+        self.give_flowspan()?;
+        for parts in [8, 4, 2, 1] {
+            self.lower_offsets(parts, hear)?;
+            if self.shown >= self.search.table.streams() {
+                return Ok(State::Decided);
+            }
+        }
+        Ok(State::Open)
+    }
+
+    /// Gives that no later schedule is in question.
+    pub fn give_flowspan(&mut self) -> Result<(), AllocError> {
+        let most = self.flowspan.wrapping_neg();
+        let span = self.search.span();
+        let _ = self.search.give(Literal::of(span ^ 1, most))?;
+        Ok(())
+    }
+
+    // Finds the least flowspan, from both ends.
+    fn lower_flowspan<H: Hear>(&mut self, hear: &H) -> Result<State, AllocError> {
+        let streams = self.search.table.streams();
+        let mut turn = Turn::first();
+        self.take_part(1);
+        for _ in 0..u64::MAX {
+            self.tell(hear, None);
+            if !self.search.is_open {
+                return Ok(self.state_of_end());
+            }
+            let least = self.search.low(streams);
+            if least >= self.flowspan {
+                return Ok(State::Decided);
+            }
+            if self.is_part_over() {
+                return Ok(State::Open);
+            }
+            let most = turn.target(least, self.flowspan);
+            match self.ask(streams, most, turn.share)? {
+                Answered::Yes => {}
+                Answered::No => turn.note_none(),
+                Answered::Unknown => turn.note_unknown(),
+            }
+        }
+        Ok(State::Open)
+    }
+
+    // What it means that nothing is in question.
+    fn state_of_end(&self) -> State {
+        if self.best.is_empty() {
+            State::Empty
+        } else {
+            State::Decided
+        }
+    }
+
+    // Lowers the offsets of the streams that aren't shown, one after another. Each may take one of so many parts of what is left.
+    fn lower_offsets<H: Hear>(&mut self, parts: u64, hear: &H) -> Result<(), AllocError> {
+        let mut is_exact = true;
+        self.search.drop_premises()?;
+        for stream in self.shown..self.search.table.streams() {
+            self.take_part(parts);
+            let is_least = self.lower_offset(stream, hear)?;
+            is_exact = self.settle(stream, is_least, is_exact)?;
+        }
+        self.search.drop_premises()
+    }
+
+    // Finds the least offset of a stream by the premises. False where it's left.
+    fn lower_offset<H: Hear>(&mut self, stream: usize, hear: &H) -> Result<bool, AllocError> {
+        let mut turn = Turn::first();
+        for _ in 0..u64::MAX {
+            self.tell(hear, Some(stream));
+            let least = self.known_low(stream);
+            let own = at(&self.best, stream);
+            if least >= own || !self.search.is_open {
+                return Ok(true);
+            }
+            if self.is_part_over() {
+                return Ok(false);
+            }
+            let most = turn.target(least, own);
+            match self.ask(stream, most, turn.share)? {
+                Answered::Yes => {}
+                Answered::No => {
+                    put(&mut self.lows, stream, sum(most, 1));
+                    turn.note_none();
+                }
+                Answered::Unknown => turn.note_unknown(),
+            }
+        }
+        Ok(false)
+    }
+
+    // What the stream's offset is no less than, by the premises.
+    fn known_low(&self, stream: usize) -> i64 {
+        let low = self.search.low(stream);
+        if self.search.premises.is_empty() {
+            low
+        } else {
+            low.max(at(&self.lows, stream))
+        }
+    }
+
+    // From here on the stream's offset is that of the best schedule: no greater for good, as long as all streams before it are shown,
+    // else by a premise; no less by a premise, where that isn't shown. Whether all up to this one are shown.
+    fn settle(
+        &mut self,
+        stream: usize,
+        is_least: bool,
+        is_exact: bool,
+    ) -> Result<bool, AllocError> {
+        let own = at(&self.best, stream);
+        let least = self.search.least(stream);
+        let no_greater = Literal::of(least ^ 1, own.wrapping_neg());
+        if is_exact {
+            let _ = self.search.give(no_greater)?;
+        } else {
+            self.search.add_premise(no_greater)?;
+        }
+        if !is_least {
+            self.search.add_premise(Literal::of(least, own))?;
+        } else if is_exact {
+            self.shown = next(stream);
+        }
+        Ok(is_exact && is_least)
+    }
+
+    // Asks for a schedule in which a stream's offset, or the flowspan behind all streams, is at most this; it's the best so far where
+    // there is one.
+    fn ask(&mut self, stream: usize, most: i64, share: u64) -> Result<Answered, AllocError> {
+        let literal = Literal::of(self.search.least(stream) ^ 1, most.wrapping_neg());
+        let left = self
+            .part_conflict
+            .saturating_sub(self.search.pace.conflicts);
+        self.search.set_sides(&self.best);
+        self.search.add_premise(literal)?;
+        let answered = self.search.ask(share.min(left))?;
+        let _ = self.search.premises.pop();
+        if answered == Answered::Yes {
+            self.take_found();
+        }
+        Ok(answered)
+    }
+
+    // What was known of streams behind the first that has another offset now isn't any longer.
+    fn take_found(&mut self) {
+        let mut is_changed = false;
+        for stream in 0..self.search.found.len() {
+            if is_changed {
+                put(&mut self.lows, stream, 0);
+            }
+            is_changed |= at(&self.search.found, stream) != at(&self.best, stream);
+        }
+        std::mem::swap(&mut self.best, &mut self.search.found);
+        self.flowspan = self.flowspan.min(self.search.table.flowspan(&self.best));
+    }
+
+    /// Asks for one less than the plan's flowspan, and than each of its offsets. Whether there is none.
+    pub fn confirm<H: Hear>(&mut self, hear: &H) -> Result<bool, AllocError> {
+        let streams = self.search.table.streams();
+        self.take_part(1);
+        self.give_flowspan()?;
+        if !self.is_none_below(streams, self.flowspan)? {
+            return Ok(false);
+        }
+        for stream in 0..streams {
+            self.tell(hear, Some(stream));
+            let own = at(&self.best, stream);
+            if !self.is_none_below(stream, own)? {
+                return Ok(false);
+            }
+            let greatest = self.search.least(stream) ^ 1;
+            let _ = self.search.give(Literal::of(greatest, own.wrapping_neg()))?;
+        }
+        Ok(true)
+    }
+
+    fn is_none_below(&mut self, stream: usize, most: i64) -> Result<bool, AllocError> {
+        if self.search.low(stream) >= most {
+            return Ok(true);
+        }
+        Ok(self.ask(stream, less(most, 1), u64::MAX)? == Answered::No)
+    }
+
+    // The next questions may take one of so many parts of what is left.
+    fn take_part(&mut self, parts: u64) {
+        let pace = &mut self.search.pace;
+        let work = self.last_work.saturating_sub(pace.work);
+        let conflicts = self.last_conflict.saturating_sub(pace.conflicts);
+        pace.last_work = pace.work.saturating_add(part_of(work, parts));
+        self.part_conflict = pace.conflicts.saturating_add(part_of(conflicts, parts));
+    }
+
+    fn is_part_over(&self) -> bool {
+        self.search.pace.is_used_up(self.part_conflict)
+    }
+
+    fn tell<H: Hear>(&self, hear: &H, stream: Option<usize>) {
+        hear.hear(News {
+            flowspan: if self.best.is_empty() {
+                None
+            } else {
+                Some(self.flowspan.unsigned_abs())
+            },
+            bound: self.bound(),
+            stream,
+            conflicts: self.search.pace.conflicts,
+            work: self.search.pace.work,
+        });
+    }
+
+    /// No valid schedule has a lesser flowspan.
+    pub fn bound(&self) -> u64 {
+        let streams = self.search.table.streams();
+        self.search.low(streams).unsigned_abs()
+    }
+}
+
+fn part_of(whole: u64, parts: u64) -> u64 {
+    match whole.checked_div(parts) {
+        Some(part) => part,
+        None => whole,
+    }
+}
