@@ -69,6 +69,20 @@ impl Tree {
         self.stop_at(place)
     }
 
+    /// The triple of a split that was settled, by its number.
+    pub fn split_by(&self, number: usize) -> Option<Triple> {
+        if number >= self.events.len() {
+            return None;
+        }
+        match self.events.get(number).look {
+            Look::Split(triple) => Some(triple),
+            Look::Solved { .. } => None,
+            Look::Pruned { .. } => None,
+            Look::Tied { .. } => None,
+            Look::Refuted(_) => None,
+        }
+    }
+
     // What ends a walk at a place.
     fn stop_at(&self, place: usize) -> Stop
         requires tree { IsArena self.now }

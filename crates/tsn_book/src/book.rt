@@ -21,7 +21,7 @@ use crate::spelling::Spelling;
 use std::alloc::{AllocError, Global};
 use std::marker::Model;
 use tsn_branch::outcome::Look;
-use tsn_branch::{Decision, NoMemory, Node};
+use tsn_branch::{Decision, NoMemory, Node, Triple};
 use tsn_cert::Cert;
 use tsn_model::Tally;
 use tsn_timing::{Solved, Timing};
@@ -202,6 +202,15 @@ impl Book {
         ensures lawful { IsLawful self.now }
     {
         any_solved(&self.ledger.tree.events, teller, flowspan)
+    }
+
+    /// The triple on which the node at the end of a path was split; none where it wasn't, or where the path leads outside the tree.
+    pub fn split_at(&self, path: &[Decision]) -> Option<Triple> {
+        match self.ledger.tree.find(path) {
+            Stop::Settled(number) => self.ledger.tree.split_by(number),
+            Stop::Open(_) => None,
+            Stop::Outside => None,
+        }
     }
 
     // What the network says of times.

@@ -10,4 +10,3 @@ pub mod Shown
 pub mod Calm
 pub mod Tying
 pub mod Tied
-pub mod SomeStreams

@@ -2,7 +2,7 @@
 use Rattle.std.proofs.Common.{◌≡◌, ◌≢◌, ℕ, ◌≤◌, List, Option, None, Some, sym, subst, arith, inl, inr}
 use Rattle.std.specs.Prelude.{IfSome, IsSomeAnd, Contains}
 use Rattle.std.proofs.lemmas.Int.{ints}
-use Rattle.std.proofs.lemmas.List.Elements.{All-weaker, Contains-get_or}
+use Rattle.std.proofs.lemmas.List.Elements.{All-weaker}
 use Rattle.tsn_model.specs.declared.Triple.{Triple}
 use Rattle.tsn_model.specs.declared.Side.{Side}
 use Rattle.tsn_model.specs.declared.Side.TheVariants.{Left, Right}
@@ -12,13 +12,11 @@ use Rattle.tsn_model.specs.Schedule.{flowspan, Overlaps}
 use Rattle.tsn_model.specs.Arcs.{arc_between, arc_on, arc_of, arcs_of, conflicts_of, Holds, HoldsAll}
 use Rattle.tsn_model.specs.Certificate.{Leaf, late, overrun, positive_cycle, load, overload, late_bound, Overruns, Proves, HasBound, AreChains, ShowsAfter}
 use Rattle.tsn_model.specs.Search.{Outcome, split, solved, pruned, tied, refuted, Refutes}
-use Rattle.tsn_model.proofs.Conflicts.{conflict_listed, listed_conflict}
+use Rattle.tsn_model.proofs.Conflicts.{conflict_listed}
 use Rattle.tsn_model.proofs.Lists.{All-unmap}
 use Rattle.tsn_model.proofs.Ties.{shown_chains, shown_after}
 use Rattle.tsn_timing.specs.Solution.{Solution, IsSolved}
-use Rattle.tsn_conflict.specs.Raised.{triple_at}
 use Rattle.tsn_branch.specs.Path.{IsUndecided}
-use Rattle.tsn_branch.specs.Guided.{IsViolatedAt}
 use Rattle.tsn_branch.proofs.Shown.{entries_shown, busy_shown, load_shown}
 use Rattle.tsn_branch.specs.Look.{IsLook, IsRefutation, IsPruning, IsTie, ShowsFlowspan, HasProof, SplitsUndecided, SplitsAmong, PrunesFrom, SolvesBelow, TiesWith}
 
@@ -124,14 +122,6 @@ SplitsUndecided-from network path target best (solved offsets bound leaf chains)
 SplitsUndecided-from network path target best (pruned bound leaf) found = tt
 SplitsUndecided-from network path target best (tied bound leaf chains) found = tt
 SplitsUndecided-from network path target best (refuted leaf) found = tt
-
--- so is a split on any conflict whose streams overlap by the least offsets
-pub SplitsUndecided-at : (network : Network) (path : List Decision) (number : ℕ) → IsViolatedAt network path number → SplitsUndecided network path (split (triple_at (conflicts_of network) number))
-SplitsUndecided-at network path number at =
-    let triple = triple_at (conflicts_of network) number in (
-      listed_conflict network triple (Contains-get_or (conflicts_of network) number (record { left = 0; right = 0; link = 0 }) at.within),
-      undecided network path at.offsets triple at.are_least.held at.overlaps,
-    )
 
 pub PrunesFrom-from : (network : Network) (path : List Decision) (target : ℕ) (best : Option Solution) (outcome : Outcome) → IsLook network path target best outcome → PrunesFrom target outcome
 PrunesFrom-from network path target best (split triple) found = tt

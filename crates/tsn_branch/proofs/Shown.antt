@@ -21,7 +21,6 @@ use Rattle.tsn_diff.specs.Answers.{Solves}
 use Rattle.tsn_branch.specs.declared.loads.User.{User}
 use Rattle.tsn_branch.specs.Loads.{user_on, entry_by}
 use Rattle.tsn_branch.specs.Releases.{releases_of}
-use Rattle.tsn_branch.specs.Guided.{AreOn}
 use Rattle.tsn_branch.proofs.Leasts.{IsShownBy-from}
 
 users_differ : (network : Network) (link : ℕ) → AllPairs (λ i j. i ≢ j) (users_of network link)
@@ -38,24 +37,20 @@ module _ (network : Network) (path : List Decision) (offsets : List ℕ) (link :
   stream_of : Entry → ℕ
   stream_of entry = entry.stream
 
-  -- some of the link's streams, each once, with chains of the path
-  pub part_entries : (streams : List ℕ) (entries : List Entry) → AreOn network link streams → map (λ entry. entry.stream) entries ≡ streams
-      → All (λ entry. IsShownBy network path offsets entry.stream entry.chain) entries → AreEntries network path link entries
+  pub entries_shown : (entries : List Entry) → ShowsLink network path offsets link entries → AreEntries network path link entries
   unfolding stream_of
-  part_entries streams entries on same chains =
+  entries_shown entries shows =
+      let same = shows.streams in
       let theirs = map stream_of entries in
-      let differ : AllPairs (λ i j. i ≢ j) theirs = subst (AllPairs (λ i j. i ≢ j)) (sym same) on.different in
-      let used : All (λ i. UsesLink network i link) theirs = subst (All (λ i. UsesLink network i link)) (sym same) on.used in
+      let differ : AllPairs (λ i j. i ≢ j) theirs = subst (AllPairs (λ i j. i ≢ j)) (sym same) (users_differ network link) in
+      let used : All (λ i. UsesLink network i link) theirs = subst (All (λ i. UsesLink network i link)) (sym same) (users_use network link) in
       record {
         different = λ i j d order below same.
             differ i j d.stream order (omega (arith, length-map entries stream_of))
             (get_or-map stream_of entries i d d.stream (omega arith) ∙ same ∙ sym (get_or-map stream_of entries j d d.stream below));
         on_link = All-unmap (λ i. UsesLink network i link) stream_of entries used;
-        chains = λ k d below. (chains k d below).leads;
+        chains = λ k d below. (shows.chains k d below).leads;
       }
-
-  pub entries_shown : (entries : List Entry) → ShowsLink network path offsets link entries → AreEntries network path link entries
-  entries_shown entries shows = part_entries (users_of network link) entries (record { different = users_differ network link; used = users_use network link }) shows.streams shows.chains
 
   heads : (entries : List Entry) → All (λ entry. IsShownBy network path offsets entry.stream entry.chain) entries
       → map (head_of network path link) entries ≡ map (λ i. pos (offset_of offsets i + start_on network i link)) (map stream_of entries)

@@ -8,5 +8,4 @@ pub mod Least
 pub mod Chains
 pub mod Ends
 pub mod Descent
-pub mod Guided
 pub mod Rates

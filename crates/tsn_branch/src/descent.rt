@@ -14,13 +14,10 @@ ghost use Rattle.tsn_branch.specs.Path.{Fits, IsUndecided};
 ghost use Rattle.tsn_branch.specs.Look.{HasNoOffsets, IsLook, HasProof, SplitsUndecided, SplitsAmong, PrunesFrom, SolvesBelow, TiesWith};
 ghost use Rattle.tsn_branch.specs.Releases.{releases_of};
 ghost use Rattle.tsn_branch.specs.Descent.{Stands, Splits, IsAfter, Leads, IsJudgement};
-ghost use Rattle.tsn_branch.specs.Guided.{IsGuess};
 
 use crate::arcs::net_of;
-use crate::guidance::Guidance;
-use crate::guided::{close, split_number};
 use crate::judge::{judge_least, judge_raised};
-use crate::judgement::{Guess, Judgement, SplitPoint};
+use crate::judgement::{Judgement, SplitPoint};
 use crate::node::Node;
 use crate::outcome::Look;
 use crate::tables::{Aim, Tables};
@@ -133,47 +130,6 @@ impl Descent {
                 Ok(Look::Split(tables.conflicts.triples()[point.triple]))
             }
             Ok(Judgement::Closed(look)) => {
-                self.draw_back();
-                Ok(look)
-            }
-            Err(error) => {
-                self.draw_back();
-                Err(error)
-            }
-        }
-    }
-
-    /// Looks at the node as `look` does, but closes it by some streams of a shared link too, and splits it on any conflict whose
-    /// streams overlap: on the one that the guidance tells, where it tells of such a one.
-    pub fn look_guided(
-        &mut self,
-        alloc: Global,
-        tables: Tables<'_>,
-        guidance: &mut Guidance<'_>,
-        aim: Aim<'_>,
-    ) -> Result<Look, NoMemory>
-        requires best { IfSome (option_copied aim.best) (IsSolved tables.timing.now) }
-        requires fits { Fits tables.conflicts.now.triples self.old.path }
-        requires stands { Stands tables.timing.now self.old }
-        ensures path { self.new.path ≡ self.old.path }
-        ensures proof { IfOk result (λ look. HasProof tables.entry.timing.now self.old.path (outcome_of look)) }
-        ensures undecided { IfOk result (λ look. SplitsUndecided tables.entry.timing.now self.old.path (outcome_of look)) }
-        ensures among { IfOk result (λ look. SplitsAmong tables.entry.conflicts.now.triples (outcome_of look)) }
-        ensures met { IfOk result (λ look. PrunesFrom aim.entry.target (outcome_of look)) }
-        ensures below { IfOk result (λ look. SolvesBelow aim.entry.target (outcome_of look)) }
-        ensures ties { IfOk result (λ look. TiesWith tables.entry.timing.now self.old.path (option_copied aim.entry.best) (outcome_of look)) }
-        ensures after { IfOk result (λ look. IsAfter tables.entry.timing.now (outcome_of look) self.new) }
-        ensures err { OnErr result (Stands tables.entry.timing.now self.new) }
-    {
-        if let Some(cycle) = self.lead(tables.timing, tables.conflicts)? {
-            return Ok(Look::Refuted(Leaf::Cycle(Chain::of(alloc, &cycle)?)));
-        }
-        match self.find_guided(alloc, tables, guidance, aim) {
-            Ok(Guess::Split(point, number)) => {
-                self.found = Some(point);
-                Ok(Look::Split(tables.conflicts.triples()[number]))
-            }
-            Ok(Guess::Closed(look)) => {
                 self.draw_back();
                 Ok(look)
             }
@@ -300,28 +256,5 @@ impl Descent {
             Some(parent) => judge_raised(alloc, tables, &self.stack, *parent, aim),
             None => judge_least(alloc, tables, self.stack.least(), aim),
         }
-    }
-    // What is found at the node by its least offsets, where a conflict is chosen.
-    fn find_guided(
-        &self,
-        alloc: Global,
-        tables: Tables<'_>,
-        guidance: &mut Guidance<'_>,
-        aim: Aim<'_>,
-    ) -> Result<Guess, NoMemory>
-        requires best { IfSome (option_copied aim.best) (IsSolved tables.timing.now) }
-        requires leads { Leads tables.timing.now self.now }
-        ensures { IfOk result (IsGuess tables.entry.timing.now self.now.path aim.entry.target (option_copied aim.entry.best)) }
-    {
-        let point = match self.find(alloc, tables, aim)? {
-            Judgement::Split(point) => point,
-            Judgement::Closed(look) => return Ok(Guess::Closed(look)),
-        };
-        let least = self.stack.least();
-        if let Some(look) = close(alloc, tables, least, point, aim)? {
-            return Ok(Guess::Closed(look));
-        }
-        let chosen = guidance.choose(self.node.path(), least.offsets(), aim)?;
-        Ok(Guess::Split(point, split_number(tables.conflicts, least, point, chosen)))
     }
 }

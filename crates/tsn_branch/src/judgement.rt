@@ -19,11 +19,3 @@ pub enum Judgement {
     Split(SplitPoint),
     Closed(Look),
 }
-
-/// What a look that chooses where to split finds: what the node has with the number of the triple to be decided, or what closes
-/// the node.
-#[derive(Drop)]
-pub enum Guess {
-    Split(SplitPoint, usize),
-    Closed(Look),
-}

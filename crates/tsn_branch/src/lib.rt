@@ -11,17 +11,13 @@ ghost use Rattle.tsn_branch.specs.Least.{IsLeastAbove, ComesWithSplit};
 
 mod arcs;
 mod chains;
-mod crowds;
 pub mod descent;
-pub mod guidance;
-mod guided;
 mod instants;
 mod judge;
 mod judgement;
 mod loads;
 pub mod node;
 pub mod outcome;
-mod parts;
 mod tables;
 
 use crate::arcs::least_at;
@@ -30,7 +26,6 @@ use crate::outcome::Look;
 pub use arcs::fits;
 pub use chains::whole_chains;
 pub use descent::Descent;
-pub use guidance::Guidance;
 pub use loads::Loads;
 pub use node::Node;
 use std::alloc::Global;
@@ -38,7 +33,6 @@ pub use tables::{Aim, Tables};
 use tsn_conflict::sharing::Conflicts;
 pub use tsn_diff::Least;
 pub use tsn_model::{Decision, NoMemory, Side, Triple};
-pub use tsn_outlook::Guide;
 use tsn_timing::{Solved, Timing};
 
 /// Looks at a node: the first of these cases that holds.

@@ -5,7 +5,6 @@ ghost use Rattle.tsn_model.specs.Timing.{hop_on};
 ghost use Rattle.tsn_branch.specs.Links.{shared_links, IsUnloaded};
 ghost use Rattle.tsn_branch.specs.Loads.{AreLoadsOf, IsFirstLoad, IsLoading, Reaches, IsCalm, IsEarly, head_in, link_in, link_with, shared_link, users_upto, shared_upto};
 
-use crate::crowds::{Crowd, crowds_of};
 use std::alloc::{AllocError, Global};
 use std::marker::Model;
 use tsn_model::NoMemory;
@@ -36,7 +35,6 @@ pub struct LinkTable {
 #[derive(Drop)]
 pub struct Loads {
     tables: Vec<LinkTable>,
-    crowds: Vec<Crowd>,
 }
 
 impl Model for Loads {
@@ -75,8 +73,7 @@ impl Loads {
         for link in 0..timing.links() {
             push_shared(alloc, &mut tables, timing, link)?;
         }
-        let crowds = crowds_of(alloc, timing, &tables)?;
-        Ok(Loads { tables, crowds })
+        Ok(Loads { tables })
     }
 
     /// The tables of the shared links, in order.
@@ -84,11 +81,6 @@ impl Loads {
         ensures { map link_in result.now ≡ self.now }
     {
         &self.tables
-    }
-
-    /// What is tried of the shared links.
-    pub(crate) fn crowds(&self) -> &[Crowd] {
-        &self.crowds
     }
 }
 

@@ -13,10 +13,10 @@ pub record IsSearchOf (network : Network) (limit : ℕ) (book : Progress) : Type
   pub same_network : book.network ≡ network
   pub same_limit : book.limit ≡ limit
 
--- the book is of a search for the network of the tables, with that limit, and the number is that of one of its tellers
-pub record IsSearchBy (tables : Tables) (teller limit : ℕ) (book : Progress) : Type 0 where
+-- the book is of a search for the network of the tables, at most so many are to be settled in it, and the number is that of one of its tellers
+pub record IsSearchBy (tables : Tables) (teller until : ℕ) (book : Progress) : Type 0 where
   pub of_network : AreTablesOf book.network tables
-  pub same_limit : book.limit ≡ limit
+  pub within : until ≤ book.limit
   pub is_teller : teller < book.tellers
 
 -- the book of the same search, in which as much or more is settled

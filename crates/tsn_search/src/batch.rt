@@ -11,7 +11,6 @@ use crate::best::BestSoFar;
 use crate::context::Context;
 use crate::gate::{Gate, News};
 use crate::news::{known, splits_among};
-use crate::rule::Rule;
 use crate::settler::Settler;
 use std::sync::Wait;
 use tsn_book::BookFault;
@@ -38,9 +37,8 @@ impl Below {
     pub fn settle_next<K: Named, G: Gate>(
         &mut self,
         rt: &impl Wait,
-        context: &Context<'_, '_, K, G>,
+        context: &Context<'_, K, G>,
         settler: &mut Settler<K>,
-        rule: &mut Rule<'_>,
         most: usize,
     ) -> Advance
         requires tables { AreTablesOf K.names.race.network context.now.setting.now.tables }
@@ -64,7 +62,7 @@ impl Below {
         let best = settler.best.lent(self.untied);
         self.untied = false;
         let incumbent = BestSoFar { seen, best };
-        let Ok(batch) = self.collect(setting.alloc, tables, rule, incumbent, most) else {
+        let Ok(batch) = self.collect(setting.alloc, tables, incumbent, most) else {
             return Advance::Ends;
         };
         let summary = Summary::of(&batch, seen);
@@ -114,12 +112,7 @@ impl Summary {
     }
 
     // Tells the gate and the board, where so many nodes, from the first on, were settled.
-    fn tell<K: Named, G: Gate>(
-        &self,
-        context: &Context<'_, '_, K, G>,
-        number: usize,
-        accepted: usize,
-    ) {
+    fn tell<K: Named, G: Gate>(&self, context: &Context<'_, K, G>, number: usize, accepted: usize) {
         if self.is_solved && accepted == self.nodes {
             context.board.find();
         }

@@ -1,11 +1,12 @@
 //! What is open below a node, walked depth first and looked at by batches.
-ghost use Rattle.std.specs.Prelude.{◌≡◌, ◌≤◌, true, false, None, map, IfOk, IfSome, OnOk, MatchBool, MatchOption, option_copied};
+ghost use Rattle.std.specs.Prelude.{◌≡◌, ◌≤◌, true, false, None, map, IfOk, IfSome, OnOk, IsTrue, ◌↔◌, MatchBool, MatchOption, option_copied};
 ghost use Rattle.tsn_timing.specs.Solution.{IsSolved};
 ghost use Rattle.tsn_conflict.specs.Kept.{AreConflictsOf};
 ghost use Rattle.tsn_branch.specs.Outcome.{outcome_of};
 ghost use Rattle.tsn_model.specs.Certificate.{beyond};
 ghost use Rattle.tsn_model.specs.Search.{split};
 ghost use Rattle.tsn_branch.specs.Look.{PrunesFrom};
+ghost use Rattle.tsn_branch.specs.Path.{IsUndecided};
 ghost use Rattle.tsn_branch.specs.Descent.{Closes};
 ghost use Rattle.tsn_book.specs.Below.{next_path, path_after};
 ghost use Rattle.tsn_share.specs.Teller.{IsUnsolved};
@@ -13,11 +14,10 @@ ghost use Rattle.tsn_search.specs.Below.{StandsAt, IsBelow, IsBatch, IsProved, H
 
 use crate::bag::Bag;
 use crate::best::BestSoFar;
-use crate::rule::Rule;
 use std::alloc::Global;
-use tsn_book::Looks;
+use tsn_book::{Book, Looks};
 use tsn_branch::outcome::Look;
-use tsn_branch::{Aim, Decision, Descent, Guide, NoMemory, Node, Side, Tables, Triple, fits};
+use tsn_branch::{Aim, Decision, Descent, NoMemory, Node, Side, Tables, Triple, fits};
 use tsn_conflict::sharing::Conflicts;
 use tsn_timing::{Solved, Timing};
 
@@ -117,12 +117,12 @@ impl Below {
         true
     }
 
-    /// Goes to the side of the last decision, which is to the left, that the guide keeps to, and gives the other one to the bag.
+    /// Goes to the side of the last decision, which is to the left, that a schedule keeps to, and gives the other one to the bag.
     pub fn choose_side<B: Bag>(
         &mut self,
         alloc: Global,
         tables: Tables<'_>,
-        guide: Guide<'_>,
+        known: &[u64],
         bag: &mut B,
     ) -> Result<(), NoMemory>
         requires below { IsBelow tables.timing.now tables.conflicts.now.triples self.old }
@@ -132,7 +132,7 @@ impl Below {
         let Some(right) = self.from.other_side(depth)? else {
             return Ok(());
         };
-        if keeps_left(tables.conflicts, guide, self.from.path().last()) {
+        if keeps_left(tables.conflicts, known, self.from.path().last()) {
             let _ = bag.push(right);
             return Ok(());
         }
@@ -198,7 +198,6 @@ impl Below {
         &mut self,
         alloc: Global,
         tables: Tables<'_>,
-        rule: &mut Rule<'_>,
         incumbent: BestSoFar<'_>,
         most: usize,
     ) -> Result<Batch, NoMemory>
@@ -217,7 +216,7 @@ impl Below {
         };
         let mut looks = Looks::with_capacity(alloc, most)?;
         for _ in 0..most {
-            let found = look_on(alloc, tables, rule, &mut self.descent, self.floor, aim)?;
+            let found = look_on(alloc, tables, &mut self.descent, self.floor, aim)?;
             let last = found.is_last();
             looks.push(found.look)?;
             if last {
@@ -236,23 +235,56 @@ impl Below {
     }
 }
 
-/// Whether the guide keeps to a decision to the left.
-fn keeps_left(conflicts: &Conflicts, guide: Guide<'_>, last: Option<&Decision>) -> bool {
-    let Some(decision) = last else {
-        return true;
-    };
-    let triple = decision.triple;
+/// Whether a schedule keeps to a decision to the left.
+fn keeps_left(conflicts: &Conflicts, known: &[u64], last: Option<&Decision>) -> bool {
+    match last {
+        Some(decision) => goes_left(conflicts, known, decision.triple),
+        None => true,
+    }
+}
+
+/// Whether a schedule keeps to the left side of a triple.
+fn goes_left(conflicts: &Conflicts, known: &[u64], triple: Triple) -> bool {
     if !conflicts.has(triple) {
         return true;
     }
     let raise = conflicts.arc(triple, Side::Left).weight;
-    match (
-        guide.offsets.get(triple.left),
-        guide.offsets.get(triple.right),
-    ) {
+    match (known.get(triple.left), known.get(triple.right)) {
         (Some(left), Some(right)) => left.saturating_add_signed(raise) <= *right,
         _ => true,
     }
+}
+
+/// The node below all splits in a book by which a schedule goes, each by the side that it keeps to.
+pub fn node_along(
+    alloc: Global,
+    conflicts: &Conflicts,
+    book: &Book,
+    known: &[u64],
+) -> Result<Node, NoMemory> {
+    let mut node = Node::root(alloc);
+    for _ in 0..u64::MAX {
+        let Some(triple) = book.split_at(node.path()) else {
+            break;
+        };
+        if !is_undecided(node.path(), triple) {
+            break;
+        }
+        let side = if goes_left(conflicts, known, triple) {
+            Side::Left
+        } else {
+            Side::Right
+        };
+        node.push(triple, side)?;
+    }
+    Ok(node)
+}
+
+/// Whether a path decides something else than the triple.
+fn is_undecided(path: &[Decision], triple: Triple) -> bool
+    ensures { IsTrue result ↔ IsUndecided path.now triple }
+{
+    path.iter().all(|decision| decision.triple != triple)
 }
 
 /// A way down to a node. None where the node decides what is no conflict, or decisions that contradict one another.
@@ -276,7 +308,6 @@ fn descent_at(
 fn look_on(
     alloc: Global,
     tables: Tables<'_>,
-    rule: &mut Rule<'_>,
     descent: &mut Descent,
     floor: usize,
     aim: Aim<'_>,
@@ -289,7 +320,7 @@ fn look_on(
     ensures next { IfOk result (λ found. MatchBool found.more
         (StandsAt tables.entry.timing.now tables.entry.conflicts.now.triples (next_path descent.old.path (outcome_of found.look)) descent.new) (Unit {0})) }
 {
-    let look = rule.look(alloc, tables, descent, aim)?;
+    let look = descent.look(alloc, tables, aim)?;
     let solved = match schedule_of(&look) {
         Ok(solved) => solved,
         Err(fault) => {

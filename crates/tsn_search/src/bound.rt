@@ -5,41 +5,34 @@ ghost use Rattle.tsn_search.specs.Bound.{IsLowerBound, HasBoundAt};
 
 use std::alloc::Global;
 use tsn_branch::outcome::Look;
-use tsn_branch::{Aim, Descent, Guidance, NoMemory, Tables};
+use tsn_branch::{Aim, Descent, NoMemory, Tables};
 
-/// How often a greater bound is sought, at most: more often than a network has links and streams on them.
+/// How often a greater bound is sought, at most: more often than a network has links and streams.
 const ROUNDS: usize = 1_000_000;
 
 /// What no valid schedule's flowspan is below, in nanoseconds: the latest arrival of a stream that starts at its release, or,
-/// where that is greater, the load of some streams of a shared link. The error says that there was no memory.
+/// where that is greater, the load of a shared link. The error says that there was no memory.
 pub fn lower_bound(alloc: Global, tables: Tables<'_>) -> Result<u64, NoMemory>
     ensures { IfOk result (IsLowerBound tables.entry.timing.now) }
 {
-    let mut guidance = Guidance::of(alloc, tables.timing, tables.conflicts, None)?;
     let mut bound = 0u64;
     for _ in 0..ROUNDS {
-        let higher = bound_at(alloc, tables, &mut guidance, bound.saturating_add(1))?;
+        let higher = bound_at(alloc, tables, bound.saturating_add(1))?;
         if higher <= bound {
             break;
         }
         bound = higher;
     }
-    drop(guidance);
     Ok(bound)
 }
 
 // The bound with which the root is pruned at a target; 0 where it isn't.
-fn bound_at(
-    alloc: Global,
-    tables: Tables<'_>,
-    guidance: &mut Guidance<'_>,
-    target: u64,
-) -> Result<u64, NoMemory>
+fn bound_at(alloc: Global, tables: Tables<'_>, target: u64) -> Result<u64, NoMemory>
     ensures { IfOk result (IsLowerBound tables.entry.timing.now) }
 {
     let mut descent = Descent::root(alloc, tables.timing)?;
     let aim = Aim { target, best: None };
-    let look = descent.look_guided(alloc, tables, guidance, aim)?;
+    let look = descent.look(alloc, tables, aim)?;
     drop(descent);
     let bound = bound_of(&look);
     drop(look);

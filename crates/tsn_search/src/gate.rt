@@ -1,6 +1,4 @@
 //! Where a planner can be held and watched.
-use tsn_hint::{HintNews, Watch};
-
 /// A gate that is passed before each settling, told what was settled, and asked whether a worker starts and goes on.
 pub trait Gate {
     /// Passes the gate, on behalf of the teller of this number.
@@ -15,8 +13,8 @@ pub trait Gate {
     /// Hears that a phase begins.
     fn begin(&self, _phase: Phase) {}
 
-    /// Hears how far the search for a hint has got.
-    fn hear_hint(&self, _news: HintNews) {}
+    /// Hears how far the search that learns has got.
+    fn hear_learned(&self, _news: LearnedNews) {}
 
     /// Whether the worker of this number starts. It is asked before the worker's first round; a worker that doesn't start does
     /// nothing.
@@ -35,22 +33,10 @@ pub trait Gate {
 pub enum Phase {
     /// The search in the order of the file.
     File,
-    /// The search for a hint.
-    Hint,
-    /// The search along the hint.
-    Guided,
-}
-
-/// Hands what is heard of a hint to a gate.
-#[derive(Clone, Copy)]
-pub struct Watcher<'a, G> {
-    pub gate: &'a G,
-}
-
-impl<'a, G: Gate> Watch for Watcher<'a, G> {
-    fn hear_hint(&self, news: HintNews) {
-        self.gate.hear_hint(news);
-    }
+    /// The search that learns.
+    Learning,
+    /// The search in the order of the file, along the best schedule known, where the search that learns gave up.
+    Along,
 }
 
 /// A gate that holds nobody.
@@ -68,4 +54,19 @@ pub struct News {
     pub nodes: usize,
     pub splits: usize,
     pub flowspan: Option<u64>,
+}
+
+/// How far the search that learns has got.
+#[derive(Clone, Copy, Debug)]
+pub struct LearnedNews {
+    /// The least flowspan that it found, in nanoseconds, if any.
+    pub flowspan: Option<u64>,
+    /// By its own count no flowspan is less, in nanoseconds. Nothing is proved of it before its argument is accepted.
+    pub bound: u64,
+    /// Once the flowspan stands: which stream's offset is being lowered, from 0.
+    pub stream: Option<usize>,
+    /// How many streams there are.
+    pub streams: usize,
+    /// How many contradictions taught something.
+    pub conflicts: u64,
 }

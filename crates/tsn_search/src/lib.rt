@@ -12,7 +12,6 @@ pub mod context;
 pub mod gate;
 mod news;
 pub mod prepared;
-mod rule;
 pub mod search;
 mod settler;
 mod start;
@@ -21,7 +20,6 @@ pub mod threads;
 mod worker;
 
 pub use bag::{Bag, DequeBag};
-pub use context::{Order, Setting};
-pub use gate::{Gate, News, OpenGate, Phase, Watcher};
+pub use context::Setting;
+pub use gate::{Gate, LearnedNews, News, OpenGate, Phase};
 pub use prepared::Prepared;
-pub use tsn_hint::HintNews;

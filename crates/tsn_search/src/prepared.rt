@@ -5,7 +5,7 @@ ghost use Rattle.tsn_conflict.specs.Kept.{AreConflictsOf};
 ghost use Rattle.tsn_branch.specs.Loads.{AreLoadsOf};
 ghost use Rattle.tsn_branch.specs.Rates.{rate-prop};
 
-use crate::context::{Order, Setting};
+use crate::context::Setting;
 use std::alloc::Global;
 use tsn_branch::{Loads, NoMemory, Tables};
 use tsn_conflict::conflicts;
@@ -56,12 +56,7 @@ impl Prepared {
     }
 
     /// What a search is given that reads it.
-    pub fn setting<'a, 'h, G>(
-        &'a self,
-        alloc: Global,
-        order: Order<'h>,
-        gate: &'a G,
-    ) -> Setting<'a, 'h, G>
+    pub fn setting<'a, G>(&'a self, alloc: Global, gate: &'a G) -> Setting<'a, G>
         ensures timing { result.tables.timing.now ≡ self.now.timing }
         ensures conflicts { result.tables.conflicts.now ≡ self.now.conflicts }
         ensures loads { result.tables.loads.now ≡ self.now.loads }
@@ -74,7 +69,6 @@ impl Prepared {
         Setting {
             alloc,
             tables,
-            order,
             gate,
         }
     }

@@ -9,45 +9,45 @@ ghost use Rattle.tsn_search.specs.Below.{IsBelow, IsBatch, outcomes_of};
 ghost use Rattle.tsn_book.specs.Below.{path_after};
 
 use crate::bag::Bag;
-use crate::below::{BATCH, Batch, Below, beyond};
+use crate::below::{BATCH, Batch, Below, beyond, node_along};
 use crate::best::BestSoFar;
-use crate::context::{Order, Setting};
+use crate::context::Setting;
 use crate::gate::{Gate, News};
 use crate::news::{is_split, known, splits_among};
-use crate::rule::Rule;
 use crate::start::OpenNodes;
 use tsn_book::{Book, BookFault, Event, EventRefusal};
-use tsn_branch::{Guide, NoMemory, Node, look};
+use tsn_branch::{NoMemory, Node, look};
 
-/// One who settles nodes in a book: by which number, and how many are settled in all, at most.
+/// One who settles nodes in a book: by which number, and until how many are settled in all.
 #[derive(Drop)]
-struct Course<'a, 'h, G> {
-    setting: &'a Setting<'a, 'h, G>,
+struct Course<'a, G> {
+    setting: &'a Setting<'a, G>,
     teller: usize,
-    limit: usize,
+    until: usize,
 }
 
-/// Settles open nodes until none is open or the limit is met. The error says that there was no memory.
+/// Settles open nodes until none is open or so many are settled, at most the limit. The error says that there was no memory.
 ///
-/// In a guided search for which nothing is settled yet the nodes on the way that the hint keeps to come first, and then what is
-/// open below those beside it, the nearest first. Else the first open node is taken, again and again.
+/// Where a schedule is known the nodes on its way come first, and then what is open below those beside it, the nearest first. Else
+/// the first open node is taken, again and again.
 pub fn settle_open<G: Gate>(
-    setting: &Setting<'_, '_, G>,
+    setting: &Setting<'_, G>,
     teller: usize,
-    limit: usize,
+    until: usize,
+    known: Option<&[u64]>,
     book: Book,
 ) -> Result<Book, NoMemory>
-    requires search { IsSearchBy setting.now.tables teller limit book }
+    requires search { IsSearchBy setting.now.tables teller until book }
     ensures further { IfOk result (IsFurther book) }
-    ensures done { IfOk result (λ searched. (open_paths searched.history ≡ []) ⊎ (length searched.history ≡ limit)) }
+    ensures done { IfOk result (λ searched. (open_paths searched.history ≡ []) ⊎ (until ≤ length searched.history)) }
 {
     let course = Course {
         setting,
         teller,
-        limit,
+        until,
     };
     let mut book = book;
-    match settle_all(&course, &mut book) {
+    match settle_all(&course, known, &mut book) {
         Ok(()) => Ok(book),
         Err(fault) => {
             drop(book);
@@ -56,54 +56,62 @@ pub fn settle_open<G: Gate>(
     }
 }
 
-// Settles open nodes until none is open or the limit is met.
-fn settle_all<G: Gate>(course: &Course<'_, '_, G>, book: &mut Book) -> Result<(), NoMemory>
-    requires search { IsSearchBy course.now.setting.now.tables course.now.teller course.now.limit book.old }
+// Settles open nodes until none is open or so many are settled.
+fn settle_all<G: Gate>(
+    course: &Course<'_, G>,
+    known: Option<&[u64]>,
+    book: &mut Book,
+) -> Result<(), NoMemory>
+    requires search { IsSearchBy course.now.setting.now.tables course.now.teller course.now.until book.old }
     ensures further { IsFurther book.old book.new }
-    ensures done { OnOk result ((open_paths book.new.history ≡ []) ⊎ (length book.new.history ≡ course.now.limit)) }
+    ensures done { OnOk result ((open_paths book.new.history ≡ []) ⊎ (course.now.until ≤ length book.new.history)) }
 {
     let setting = course.setting;
-    let mut rule = Rule::of(setting.alloc, setting.tables, setting.order)?;
     let mut others = OpenNodes::none(setting.alloc);
-    if let Order::Guided(Some(guide)) = setting.order {
-        if book.count() == 0 {
-            dive(course, &mut rule, book, guide, &mut others)?;
-        }
+    if let Some(known) = known {
+        dive(course, book, known, &mut others)?;
     }
     // Each loop is proved to end. This one's measure is how many settlements are left, and the label names it in its proof.
     // Where a loop has no measure at hand, as in `dive`, it goes over `0..u64::MAX`, which no run comes to the end of.
-    'settlements: while book.count() < course.limit {
-        if book.open_count() == 0 || !settle_more(course, &mut rule, book, &mut others)? {
+    'settlements: while book.count() < course.until {
+        if book.open_count() == 0 || !settle_more(course, book, &mut others)? {
             break;
         }
     }
-    drop(rule);
     drop(others);
     Ok(())
 }
 
-// Settles the nodes on the way that the guide keeps to, and gives the other sides to the bag.
+// Settles the nodes on the way that a schedule keeps to, from where it is open, and gives the other sides to the bag.
 fn dive<G: Gate>(
-    course: &Course<'_, '_, G>,
-    rule: &mut Rule<'_>,
+    course: &Course<'_, G>,
     book: &mut Book,
-    guide: Guide<'_>,
+    known: &[u64],
     others: &mut OpenNodes,
 ) -> Result<(), NoMemory>
-    requires search { IsSearchBy course.now.setting.now.tables course.now.teller course.now.limit book.old }
+    requires search { IsSearchBy course.now.setting.now.tables course.now.teller course.now.until book.old }
     ensures further { IsFurther book.old book.new }
 {
     let setting = course.setting;
-    let mut below = Below::root(setting.alloc, setting.tables.timing)?;
+    let tables = setting.tables;
+    let node = node_along(setting.alloc, tables.conflicts, book, known)?;
+    let mut below = match Below::at(setting.alloc, tables.timing, tables.conflicts, node) {
+        Ok(Some(below)) => below,
+        Ok(None) => return Ok(()),
+        Err(node) => {
+            drop(node);
+            return Err(NoMemory);
+        }
+    };
     for _ in 0..u64::MAX {
         let depth = below.from.path().len();
-        if !settle_batch(course, rule, book, &mut below, 1)? {
+        if !settle_batch(course, book, &mut below, 1)? {
             break;
         }
         if below.from.path().len() <= depth {
             break;
         }
-        below.choose_side(setting.alloc, setting.tables, guide, others)?;
+        below.choose_side(setting.alloc, tables, known, others)?;
     }
     drop(below);
     Ok(())
@@ -112,14 +120,13 @@ fn dive<G: Gate>(
 // Takes an open node, and settles what is open below it, or the first open node alone where no way leads to that one. False
 // where nothing is open then.
 fn settle_more<G: Gate>(
-    course: &Course<'_, '_, G>,
-    rule: &mut Rule<'_>,
+    course: &Course<'_, G>,
     book: &mut Book,
     others: &mut OpenNodes,
 ) -> Result<bool, NoMemory>
-    requires search { IsSearchBy course.now.setting.now.tables course.now.teller course.now.limit book.old }
+    requires search { IsSearchBy course.now.setting.now.tables course.now.teller course.now.until book.old }
     requires some_open { 0 < length (open_paths book.old.history) }
-    requires some_left { length book.old.history < course.now.limit }
+    requires some_left { length book.old.history < course.now.until }
     ensures further { IsFurther book.old book.new }
     ensures more { IfOk result (λ more. MatchBool more (length book.old.history < length book.new.history) (open_paths book.new.history ≡ [])) }
 {
@@ -128,7 +135,7 @@ fn settle_more<G: Gate>(
         Some(node) => node,
         None => first_open(course, book)?,
     };
-    settle_under(course, rule, book, node)?;
+    settle_under(course, book, node)?;
     if book.count() > before {
         return Ok(true);
     }
@@ -140,7 +147,7 @@ fn settle_more<G: Gate>(
 }
 
 // The open node that is first in preorder.
-fn first_open<G: Gate>(course: &Course<'_, '_, G>, book: &Book) -> Result<Node, NoMemory>
+fn first_open<G: Gate>(course: &Course<'_, G>, book: &Book) -> Result<Node, NoMemory>
     requires some_open { 0 < length (open_paths book.now.history) }
     ensures { IfOk result (Contains (open_paths book.now.history)) }
 {
@@ -151,14 +158,13 @@ fn first_open<G: Gate>(course: &Course<'_, '_, G>, book: &Book) -> Result<Node, 
     Ok(node)
 }
 
-// Settles what is open below a node, up to the limit.
+// Settles what is open below a node, until so many are settled.
 fn settle_under<G: Gate>(
-    course: &Course<'_, '_, G>,
-    rule: &mut Rule<'_>,
+    course: &Course<'_, G>,
     book: &mut Book,
     node: Node,
 ) -> Result<(), NoMemory>
-    requires search { IsSearchBy course.now.setting.now.tables course.now.teller course.now.limit book.old }
+    requires search { IsSearchBy course.now.setting.now.tables course.now.teller course.now.until book.old }
     ensures further { IsFurther book.old book.new }
 {
     let setting = course.setting;
@@ -172,7 +178,7 @@ fn settle_under<G: Gate>(
         }
     };
     for _ in 0..u64::MAX {
-        if !settle_batch(course, rule, book, &mut below, BATCH)? {
+        if !settle_batch(course, book, &mut below, BATCH)? {
             break;
         }
     }
@@ -183,13 +189,12 @@ fn settle_under<G: Gate>(
 // Looks at up to so many nodes where the walk stands, and settles them, once the gate was passed for each. False where the walk
 // doesn't go on.
 fn settle_batch<G: Gate>(
-    course: &Course<'_, '_, G>,
-    rule: &mut Rule<'_>,
+    course: &Course<'_, G>,
     book: &mut Book,
     below: &mut Below,
     most: usize,
 ) -> Result<bool, NoMemory>
-    requires search { IsSearchBy course.now.setting.now.tables course.now.teller course.now.limit book.old }
+    requires search { IsSearchBy course.now.setting.now.tables course.now.teller course.now.until book.old }
     requires below { IsBelow course.now.setting.now.tables.timing.now course.now.setting.now.tables.conflicts.now.triples below.old }
     requires most { (1 ≤ most) × (most ≤ BATCH) }
     ensures further { IsFurther book.old book.new }
@@ -197,15 +202,15 @@ fn settle_batch<G: Gate>(
 {
     let setting = course.setting;
     let count = book.count();
-    if count >= course.limit {
+    if count >= course.until {
         return Ok(false);
     }
     let incumbent = BestSoFar {
         seen: book.best(),
         best: book.kept(),
     };
-    let most = most.min(course.limit - count);
-    let batch = below.collect(setting.alloc, setting.tables, rule, incumbent, most)?;
+    let most = most.min(course.until - count);
+    let batch = below.collect(setting.alloc, setting.tables, incumbent, most)?;
     for _node in 0..batch.looks.len() {
         setting.gate.pass(course.teller);
     }
@@ -214,12 +219,12 @@ fn settle_batch<G: Gate>(
 
 // Settles what was found at the nodes of a walk. False where the walk doesn't go on.
 fn record_batch<G: Gate>(
-    course: &Course<'_, '_, G>,
+    course: &Course<'_, G>,
     book: &mut Book,
     from: &mut Node,
     batch: Batch,
 ) -> Result<bool, NoMemory>
-    requires search { IsSearchBy course.now.setting.now.tables course.now.teller course.now.limit book.old }
+    requires search { IsSearchBy course.now.setting.now.tables course.now.teller course.now.until book.old }
     requires batch { (seen : _) × IsBatch book.old.network seen from.old batch }
     ensures further { IsFurther book.old book.new }
     ensures goes_on { IfOk result (λ more. more ≡ true → (batch.more ≡ true) × (from.new ≡ path_after from.old (outcomes_of batch))) }
@@ -245,7 +250,7 @@ fn record_batch<G: Gate>(
 }
 
 // Tells the gate of nodes that were settled.
-fn tell<G: Gate>(course: &Course<'_, '_, G>, book: &Book, nodes: usize, splits: usize) {
+fn tell<G: Gate>(course: &Course<'_, G>, book: &Book, nodes: usize, splits: usize) {
     let setting = course.setting;
     let flowspan = known(setting.tables.timing, book.best());
     let news = News {
@@ -257,8 +262,8 @@ fn tell<G: Gate>(course: &Course<'_, '_, G>, book: &Book, nodes: usize, splits: 
 }
 
 // Settles the open node that is first in preorder, looked at by itself.
-fn settle_first_open<G: Gate>(course: &Course<'_, '_, G>, book: &mut Book) -> Result<(), NoMemory>
-    requires search { IsSearchBy course.now.setting.now.tables course.now.teller course.now.limit book.old }
+fn settle_first_open<G: Gate>(course: &Course<'_, G>, book: &mut Book) -> Result<(), NoMemory>
+    requires search { IsSearchBy course.now.setting.now.tables course.now.teller course.now.until book.old }
     requires some_open { 0 < length (open_paths book.old.history) }
     requires some_left { length book.old.history < book.old.limit }
     ensures further { IsFurther book.old book.new }

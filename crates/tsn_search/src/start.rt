@@ -6,13 +6,12 @@ ghost use Rattle.tsn_search.specs.Context.{AreTablesOf};
 use crate::bag::Bag;
 use crate::batch::Advance;
 use crate::below::Below;
-use crate::context::{Context, Order};
+use crate::context::Context;
 use crate::gate::Gate;
-use crate::rule::Rule;
 use crate::settler::Settler;
 use std::alloc::Global;
 use std::sync::Wait;
-use tsn_branch::{Guide, NoMemory, Node};
+use tsn_branch::{NoMemory, Node};
 use tsn_share::Named;
 
 /// The nodes that are open, the first in preorder last.
@@ -59,11 +58,12 @@ impl Bag for OpenNodes {
     }
 }
 
-/// Settles nodes, each by itself: those on the way that a guide keeps to, where there is one, or else first open ones until so many
-/// are open; then tells which are open. The error says that there was no memory to begin.
+/// Settles nodes, each by itself: those on the way that a known schedule keeps to, where there is one, or else first open ones until
+/// so many are open; then tells which are open. The error says that there was no memory to begin.
 pub fn settle_first<K: Named, G: Gate>(
     rt: &impl Wait,
-    context: &Context<'_, '_, K, G>,
+    context: &Context<'_, K, G>,
+    known: Option<&[u64]>,
     enough: usize,
     caller: &mut Settler<K>,
 ) -> Result<OpenNodes, NoMemory>
@@ -72,18 +72,17 @@ pub fn settle_first<K: Named, G: Gate>(
     ensures even { IsEven caller.new.teller }
     ensures number { caller.new.teller.standing.number ≡ caller.old.teller.standing.number }
 {
-    let setting = context.setting;
-    match setting.order {
-        Order::Guided(Some(guide)) => dive(rt, context, guide, caller),
-        Order::Guided(None) | Order::File => settle_until(rt, context, enough, caller),
+    match known {
+        Some(known) => dive(rt, context, known, caller),
+        None => settle_until(rt, context, enough, caller),
     }
 }
 
-// Settles the nodes on the way that the guide keeps to; the other sides are left open, the first of them first.
+// Settles the nodes on the way that the schedule keeps to; the other sides are left open, the first of them first.
 fn dive<K: Named, G: Gate>(
     rt: &impl Wait,
-    context: &Context<'_, '_, K, G>,
-    guide: Guide<'_>,
+    context: &Context<'_, K, G>,
+    known: &[u64],
     caller: &mut Settler<K>,
 ) -> Result<OpenNodes, NoMemory>
     requires tables { AreTablesOf K.names.race.network context.now.setting.now.tables }
@@ -93,19 +92,18 @@ fn dive<K: Named, G: Gate>(
 {
     let setting = context.setting;
     let tables = setting.tables;
-    let mut rule = Rule::of(setting.alloc, tables, setting.order)?;
     let mut below = Below::root(setting.alloc, tables.timing)?;
     let mut open_nodes = OpenNodes::none(setting.alloc);
     for _ in 0..u64::MAX {
         let depth = below.from.path().len();
-        match below.settle_next(rt, context, caller, &mut rule, 1) {
+        match below.settle_next(rt, context, caller, 1) {
             Advance::GoesOn => {}
             Advance::Ends | Advance::Finished | Advance::LooksAgain => break,
         }
         if below.from.path().len() <= depth {
             break;
         }
-        below.choose_side(setting.alloc, tables, guide, &mut open_nodes)?;
+        below.choose_side(setting.alloc, tables, known, &mut open_nodes)?;
     }
     drop(below);
     Ok(open_nodes)
@@ -115,7 +113,7 @@ fn dive<K: Named, G: Gate>(
 // open. The error says that there was no memory to begin.
 fn settle_until<K: Named, G: Gate>(
     rt: &impl Wait,
-    context: &Context<'_, '_, K, G>,
+    context: &Context<'_, K, G>,
     enough: usize,
     caller: &mut Settler<K>,
 ) -> Result<OpenNodes, NoMemory>
@@ -126,14 +124,13 @@ fn settle_until<K: Named, G: Gate>(
 {
     let setting = context.setting;
     let tables = setting.tables;
-    let mut rule = Rule::of(setting.alloc, tables, setting.order)?;
     let mut below = Below::root(setting.alloc, tables.timing)?;
     let mut open_nodes = OpenNodes::none(setting.alloc);
     for _ in 0..u64::MAX {
         if below.has_open(enough) {
             break;
         }
-        match below.settle_next(rt, context, caller, &mut rule, 1) {
+        match below.settle_next(rt, context, caller, 1) {
             Advance::GoesOn => {}
             Advance::Ends => break,
             Advance::Finished | Advance::LooksAgain => {

@@ -20,13 +20,14 @@ use tsn_book::Book;
 use tsn_branch::NoMemory;
 use tsn_share::{Named, Parts, Teller, gather};
 
-/// The caller begins, the workers go on, one a bag, and what all have settled is gathered. The error says that there was no
-/// memory for the caller.
+/// The caller begins, along a schedule where one is known, the workers go on, one a bag, and what all have settled is gathered.
+/// The error says that there was no memory for the caller.
 pub fn search<K: Named + Send + Sync, R: Threads + Wait + Sync, G: Gate + Sync, B: Bag + Send>(
     rt: &R,
-    setting: &Setting<'_, '_, G>,
+    setting: &Setting<'_, G>,
     bags: Vec<B>,
     parts: Parts,
+    known: Option<&[u64]>,
 ) -> Result<Book, NoMemory>
     requires names { parts ≡ K.names }
     requires tables { AreTablesOf K.names.race.network setting.now.tables }
@@ -41,7 +42,7 @@ pub fn search<K: Named + Send + Sync, R: Threads + Wait + Sync, G: Gate + Sync, 
         shared: &shared,
         board: &board,
     };
-    let back = settle_all(rt, &context, bags, tellers);
+    let back = settle_all(rt, &context, known, bags, tellers);
     drop(context);
     drop(board);
     match back {
@@ -59,7 +60,8 @@ pub fn search<K: Named + Send + Sync, R: Threads + Wait + Sync, G: Gate + Sync, 
 // The caller, who is the last of the tellers, settles the first nodes, and the workers the others. All tellers come back.
 fn settle_all<K: Named + Send + Sync, R: Threads + Wait + Sync, G: Gate + Sync, B: Bag + Send>(
     rt: &R,
-    context: &Context<'_, '_, K, G>,
+    context: &Context<'_, K, G>,
+    known: Option<&[u64]>,
     bags: Vec<B>,
     tellers: Vec<Teller<K>>,
 ) -> Result<Vec<Teller<K>>, NoMemory>
@@ -77,7 +79,7 @@ fn settle_all<K: Named + Send + Sync, R: Threads + Wait + Sync, G: Gate + Sync, 
     };
     let workers = bags.len();
     let mut caller = Settler::new(workers, last);
-    let open_nodes = match settle_first(rt, context, workers, &mut caller) {
+    let open_nodes = match settle_first(rt, context, known, workers, &mut caller) {
         Ok(open_nodes) => open_nodes,
         Err(fault) => {
             drop(caller);
@@ -99,7 +101,7 @@ fn settle_all<K: Named + Send + Sync, R: Threads + Wait + Sync, G: Gate + Sync, 
 // Runs each worker in a thread of its own, or one after another where no thread can be made. Each teller is left even.
 fn run<K: Named + Send + Sync, B: Bag + Send, G: Gate + Sync, R: Threads + Wait + Sync>(
     rt: &R,
-    context: &Context<'_, '_, K, G>,
+    context: &Context<'_, K, G>,
     members: &mut [Member<K, B>],
 )
     requires tables { AreTablesOf K.names.race.network context.now.setting.now.tables }

@@ -9,7 +9,6 @@ use crate::below::{BATCH, Below};
 use crate::board::Board;
 use crate::context::Context;
 use crate::gate::Gate;
-use crate::rule::Rule;
 use crate::settler::Settler;
 use std::sync::Wait;
 use std::thread;
@@ -34,7 +33,7 @@ pub struct Member<K: Named, B: Bag> {
 /// The board tells how long it is worth to wait for a node, and when the best schedule has to be copied anew.
 pub fn work<K: Named, B: Bag, G: Gate>(
     rt: &impl Wait,
-    context: &Context<'_, '_, K, G>,
+    context: &Context<'_, K, G>,
     member: &mut Member<K, B>,
 )
     requires tables { AreTablesOf K.names.race.network context.now.setting.now.tables }
@@ -52,7 +51,7 @@ pub fn work<K: Named, B: Bag, G: Gate>(
 // Works until no more nodes are found, or the worker ends, as it does for want of memory too.
 fn work_on<K: Named, B: Bag, G: Gate>(
     rt: &impl Wait,
-    context: &Context<'_, '_, K, G>,
+    context: &Context<'_, K, G>,
     member: &mut Member<K, B>,
 )
     requires tables { AreTablesOf K.names.race.network context.now.setting.now.tables }
@@ -60,19 +59,14 @@ fn work_on<K: Named, B: Bag, G: Gate>(
     ensures even { IsEven member.new.settler.teller }
     ensures number { member.new.settler.teller.standing.number ≡ member.old.settler.teller.standing.number }
 {
-    let setting = context.setting;
-    let Ok(mut rule) = Rule::of(setting.alloc, setting.tables, setting.order) else {
-        return;
-    };
     for _ in 0..u64::MAX {
         let Some(node) = find(&mut member.bag, context.board) else {
             break;
         };
-        if !work_below(rt, context, member, &mut rule, node) {
+        if !work_below(rt, context, member, node) {
             break;
         }
     }
-    drop(rule);
 }
 
 // A node of its own bag, or else of another's. None after so many rounds that found none.
@@ -118,9 +112,8 @@ fn next_node<B: Bag>(bag: &mut B) -> Option<Node> {
 // Settles what is open below a node, and shares it. What is left open is in the bag then. False where the worker ends.
 fn work_below<K: Named, B: Bag, G: Gate>(
     rt: &impl Wait,
-    context: &Context<'_, '_, K, G>,
+    context: &Context<'_, K, G>,
     member: &mut Member<K, B>,
-    rule: &mut Rule<'_>,
     node: Node,
 ) -> bool
     requires tables { AreTablesOf K.names.race.network context.now.setting.now.tables }
@@ -139,7 +132,7 @@ fn work_below<K: Named, B: Bag, G: Gate>(
         }
     };
     for _ in 0..u64::MAX {
-        match below.settle_next(rt, context, &mut member.settler, rule, BATCH) {
+        match below.settle_next(rt, context, &mut member.settler, BATCH) {
             Advance::GoesOn => {}
             Advance::Ends => break,
             Advance::Finished | Advance::LooksAgain => {

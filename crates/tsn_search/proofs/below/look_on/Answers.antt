@@ -12,7 +12,7 @@ pub returns-in-Ok-down-clause-next : goal.returns-in-Ok-down-clause-next
 returns-in-Ok-down-clause-next c =
     let network = c.args.tables.timing.now in
     let triples = c.args.tables.conflicts.now.triples in
-    let before = c.look.new.descent in
+    let before = c.look.new.self in
     let is = c.in-Some.ensures in
     let down = c.in-Ok-down.ensures in
     let same = c.look.ensures.path in
@@ -25,5 +25,5 @@ returns-in-Ok-down-clause-next c =
 pub returns-in-None-clause-next : goal.returns-in-None-clause-next
 returns-in-None-clause-next c =
     let over = c.next_under-more.ensures in
-    walked_over c.args.tables.timing.now c.args.tables.conflicts.now.triples c.args.descent.now.path (outcome_of c.in_ok-look.look) c.look.new.descent c.next_under-more.new.self c.next_under-more.result
+    walked_over c.args.tables.timing.now c.args.tables.conflicts.now.triples c.args.descent.now.path (outcome_of c.in_ok-look.look) c.look.new.self c.next_under-more.new.self c.next_under-more.result
     c.in-None.ensures c.look.ensures.path c.in_ok-look.ensures.after c.requires.stands.fits over.stands over.fits over.next

@@ -6,4 +6,4 @@ abbrev pub invariant-settlements : goal.invariant-settlements
 invariant-settlements g l = record { further : IsFurther l.fn.book l.book }
 
 abbrev pub decreases-settlements : goal.decreases-settlements
-decreases-settlements g l = l.course.limit - length l.book.history
+decreases-settlements g l = l.course.until - length l.book.history
