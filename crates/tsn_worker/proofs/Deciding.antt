@@ -14,17 +14,29 @@ use Rattle.tsn_cert.specs.declared.cert.Cert.{Cert}
 use Rattle.tsn_cert.specs.declared.cert.Format.{Format}
 use Rattle.tsn_cert.specs.declared.cert.Format.TheVariants.{Two}
 use Rattle.tsn_check.specs.Faults.{IsPlanRight, leaf_target, tie_plan, offsets_in}
-use Rattle.tsn_worker.specs.Answer.{Shows, IsStopped, IsFinished, IsFoundPlan, IsCertOf, IsAnswer, IsFound, HasNoneOpen, plan_kept, answer_for}
+use Rattle.tsn_check.specs.Faults.{IsFirstPlan}
+use Rattle.tsn_check.specs.declared.verdict.Verdict.{Verdict}
+use Rattle.tsn_check.specs.declared.verdict.Verdict.TheVariants.{First, NoSchedule}
+use Rattle.tsn_argument.specs.declared.argument.Argument.{Argument}
+use Rattle.tsn_argument.specs.declared.argument.Goal.{Goal}
+use Rattle.tsn_argument.specs.declared.argument.Goal.TheVariants as aim
+use Rattle.tsn_argument.specs.declared.certificate.Certificate.{Certificate}
+use Rattle.tsn_argument.specs.declared.certificate.Certificate.TheVariants.{Tree, Argument as Argued}
+use Rattle.tsn_argue.specs.Faults as argue
+use Rattle.tsn_argue.specs.Faults.{argument_verdict, goal_for}
+use Rattle.tsn_worker.specs.Answer.{Shows, IsStopped, IsFinished, IsFoundPlan, IsArgued, IsCertOf, IsAnswer, IsFound, HasNoneOpen, plan_kept, answer_for, whole_verdict}
 use Rattle.tsn_worker.specs.declared.found.Found.{Found}
 use Rattle.tsn_worker.specs.declared.found.Found.TheVariants as found
 use Rattle.tsn_book.specs.Book.{Progress, IsLawful}
 use Rattle.tsn_search.specs.Search.{IsSearchOf}
 
-found_plan : (network : Network) (kept : Option (List ℕ)) → MatchOption kept (HasNoSchedule network) (IsFirst network) → IsFoundPlan network (plan_kept network kept)
+found_plan : (network : Network) (kept : Option (List ℕ)) → MatchOption kept (HasNoSchedule network) (IsFirst network)
+    → IsFoundPlan network (plan_kept network kept)
 found_plan network None nothing = nothing
 found_plan network (Some offsets) first = ((first.optimal, refl), (first, refl))
 
-right_plan : (network : Network) (kept : Option (List ℕ)) → MatchOption kept (HasNoSchedule network) (IsFirst network) → IsPlanRight network (plan_kept network kept)
+right_plan : (network : Network) (kept : Option (List ℕ)) → MatchOption kept (HasNoSchedule network) (IsFirst network)
+    → IsPlanRight network (plan_kept network kept)
 right_plan network None nothing = tt
 right_plan network (Some offsets) first = (first.optimal.valid, refl)
 
@@ -33,8 +45,9 @@ planned_kept network None = refl
 planned_kept network (Some offsets) = refl
 
 -- a plan that is right, and what is kept, is shown by each certificate of a book
-shown : (limit : ℕ) (book : Progress) → IsLawful book → length book.history ≤ limit → (plan : Plan) → kept_of book.network book.history ≡ offsets_in plan → IsPlanRight book.network plan
-    → (cert : Cert) → IsCertOf book cert → Shows book.network limit plan cert (length book.history)
+shown : (limit : ℕ) (book : Progress) → IsLawful book → length book.history ≤ limit → (plan : Plan)
+    → kept_of book.network book.history ≡ offsets_in plan → IsPlanRight book.network plan
+    → (cert : Cert) → IsCertOf book cert → Shows book.network limit plan (Tree cert) (length book.history)
 shown limit book lawful within plan is right cert of =
     let network = book.network in
     let found = of.tree in
@@ -48,13 +61,14 @@ shown limit book lawful within plan is right cert of =
         spelled = found.spelled;
         accepted = subst (λ f. Accepted f cert.target) (sym of.of_format_two) (subst (Accepted Two) (sym target) (subst (λ o. AcceptsFirst network o [] found.tree) is found.accepted));
       };
-      of_format_two = of.of_format_two;
+      whole = of.of_format_two;
       counted = sym of.counted;
       within = within;
     }
 
 -- a lawful search that has left nothing open
-pub finished : (limit : ℕ) (book : Progress) → IsWellFormed book.network → IsLawful book → length book.history ≤ limit → open_paths book.history ≡ [] → IsFinished book.network limit book
+pub finished : (limit : ℕ) (book : Progress) → IsWellFormed book.network → IsLawful book → length book.history ≤ limit → open_paths book.history ≡ []
+    → IsFinished book.network limit book
 finished limit book formed lawful within none_open =
     let network = book.network in
     let kept = kept_of network book.history in
@@ -69,14 +83,16 @@ finished limit book formed lawful within none_open =
     }
 
 -- a search for the network
-pub finished_for : (network : Network) (limit : ℕ) (book : Progress) → IsWellFormed network → IsLawful book → IsSearchOf network limit book → open_paths book.history ≡ [] → IsFinished network limit book
+pub finished_for : (network : Network) (limit : ℕ) (book : Progress) → IsWellFormed network → IsLawful book → IsSearchOf network limit book
+    → open_paths book.history ≡ [] → IsFinished network limit book
 finished_for network limit book formed lawful search none_open =
     let same = search.same_network in
     subst (λ n. IsFinished n limit book) same
     (finished limit book (subst IsWellFormed (sym same) formed) lawful (subst (λ l. length book.history ≤ l) search.same_limit lawful.within_limit) none_open)
 
 -- with a greater limit
-pub finished_within : (network : Network) (limit greater : ℕ) (book : Progress) → limit ≤ greater → IsFinished network limit book → IsFinished network greater book
+pub finished_within : (network : Network) (limit greater : ℕ) (book : Progress) → limit ≤ greater → IsFinished network limit book
+    → IsFinished network greater book
 finished_within network limit greater book more done = record {
   same_network = done.same_network;
   lawful = done.lawful;
@@ -85,30 +101,76 @@ finished_within network limit greater book more done = record {
   found = done.found;
   shown = λ cert of.
       let shows = done.shown cert of in
-      record { certifies = shows.certifies; of_format_two = shows.of_format_two; counted = shows.counted; within = omega (arith, shows.within) };
+      record { certifies = shows.certifies; whole = shows.whole; counted = shows.counted; within = omega (arith, shows.within) };
 }
 
 -- a plan that is found and shown is an answer
-pub answers : (network : Network) (limit : ℕ) (plan : Plan) (cert : Cert) (count : ℕ) → IsFoundPlan network plan → Shows network limit plan cert count → IsAnswer network limit (answer_for plan cert count)
-answers network limit (plan.Schedule span offsets) cert count found shows = (found.0, found.1, shows)
-answers network limit plan.None cert count found shows = (found, shows)
+pub answers : (network : Network) (limit : ℕ) (plan : Plan) (certificate : Certificate) (count : ℕ) → IsFoundPlan network plan
+    → Shows network limit plan certificate count
+    → IsAnswer network limit (answer_for plan certificate count)
+answers network limit (plan.Schedule span offsets) certificate count found shows = (found.0, found.1, shows)
+answers network limit plan.None certificate count found shows = (found, shows)
+
+-- so is a plan with an argument
+pub argued : (network : Network) (limit : ℕ) (plan : Plan) (argument : Argument) (count : ℕ) → count ≡ length argument.steps
+    → IsArgued network limit plan argument
+    → IsAnswer network limit (answer_for plan (Argued argument) count)
+argued network limit plan argument count is shown = rw is (answers network limit plan (Argued argument) (length argument.steps) shown.0 shown.1)
+
+-- a first plan is optimal, and is a schedule
+first_found : (network : Network) (plan : Plan) → IsFirstPlan network plan → IsFoundPlan network plan × (First ≡ whole_verdict plan)
+first_found network (plan.Schedule span offsets) first = (((first.0.optimal, first.1), first), refl)
+first_found network plan.None first = absurd first
+
+-- a goal that fits a schedule isn't that there is none
+none_fits : (network : Network) (goal : Goal) (plan : Plan) → NoSchedule ≡ argument_verdict goal → (found : _) → goal_for goal plan ≡ Some found
+    → HasNoSchedule network → IsFoundPlan network plan × (NoSchedule ≡ whole_verdict plan)
+none_fits network aim.First plan is found fits none = cc
+none_fits network aim.Least plan is found fits none = cc
+none_fits network aim.None (plan.Schedule span offsets) is found fits none = cc
+none_fits network aim.None plan.None is found fits none = (none, refl)
+
+-- an argument that was accepted as all that the plan says
+pub accepted_first : (network : Network) (limit : ℕ) (plan : Plan) (argument : Argument) → argue.Shows network plan argument
+    → First ≡ argument_verdict argument.goal → IsFirstPlan network plan
+    → length argument.steps ≤ limit → IsArgued network limit plan argument
+accepted_first network limit plan argument shows is first within =
+    let found = first_found network plan first in
+    (found.0, record { certifies = shows; whole = sym is ∙ found.1; counted = refl; within = within })
+
+pub accepted_none : (network : Network) (limit : ℕ) (plan : Plan) (argument : Argument) → argue.Shows network plan argument
+    → NoSchedule ≡ argument_verdict argument.goal → HasNoSchedule network
+    → length argument.steps ≤ limit → IsArgued network limit plan argument
+accepted_none network limit plan argument shows is none within =
+    let found = none_fits network argument.goal plan is shows.goal shows.fitting.1 none in
+    (found.0, record { certifies = shows; whole = sym is ∙ found.1; counted = refl; within = within })
+
+-- an argument with a greater limit
+pub argued_within : (network : Network) (limit greater : ℕ) (plan : Plan) (argument : Argument) → limit ≤ greater
+    → IsArgued network limit plan argument → IsArgued network greater plan argument
+argued_within network limit greater plan argument more shown =
+    let shows = shown.1 in
+    (shown.0, record { certifies = shows.certifies; whole = shows.whole; counted = shows.counted; within = omega (arith, shows.within) })
 
 -- the answer of a book, with its certificate
-pub certified : (network : Network) (limit : ℕ) (book : Progress) (plan : Plan) (cert : Cert) (count : ℕ) → plan ≡ plan_kept book.network (kept_of book.network book.history) → count ≡ length book.history
-    → IsCertOf book cert → IsFinished network limit book → IsAnswer network limit (answer_for plan cert count)
+pub certified : (network : Network) (limit : ℕ) (book : Progress) (plan : Plan) (cert : Cert) (count : ℕ)
+    → plan ≡ plan_kept book.network (kept_of book.network book.history) → count ≡ length book.history
+    → IsCertOf book cert → IsFinished network limit book → IsAnswer network limit (answer_for plan (Tree cert) count)
 certified network limit book plan cert count is counted of done =
     let here : plan ≡ plan_kept network (kept_of network book.history) = is ∙ ap (λ n. plan_kept n (kept_of n book.history)) done.same_network in
-    rw (here, counted) (answers network limit (plan_kept network (kept_of network book.history)) cert (length book.history) done.found (done.shown cert of))
+    rw (here, counted) (answers network limit (plan_kept network (kept_of network book.history)) (Tree cert) (length book.history) done.found (done.shown cert of))
 
 first_of : {X : Type 0} (xs : List X) → 0 < length xs → (x : X) × Contains xs x
 first_of [] some = absurd (omega arith)
 first_of (x ∷ xs) some = (x, Contains-head x xs)
 
 -- a search that was done, in which a node is open
-pub stopped : (network : Network) (limit : ℕ) (book : Progress) → IsLawful book → IsSearchOf network limit book → (open_paths book.history ≡ []) ⊎ (length book.history ≡ limit) → 0 < length (open_paths book.history)
+pub stopped : (network : Network) (limit : ℕ) (book : Progress) → IsLawful book → IsSearchOf network limit book
+    → (open_paths book.history ≡ []) ⊎ (limit ≤ length book.history) → 0 < length (open_paths book.history)
     → IsStopped network limit book
 stopped network limit book lawful search (inl none) some = absurd (omega (arith, some, ap length none))
-stopped network limit book lawful search (inr full) some =
+stopped network limit book lawful search (inr more) some =
+    let full : length book.history ≡ limit = omega (arith, more, lawful.within_limit, search.same_limit) in
     let first = first_of (open_paths book.history) some in
     let shorter = lawful.shorter first.0 first.1 in
     let same = search.same_network in
@@ -128,4 +190,5 @@ stopped network limit book lawful search (inr full) some =
 -- nothing is open in what is finished
 pub none_open : (network : Network) (limit : ℕ) (found : Found) → IsFound network limit found → HasNoneOpen found
 none_open network limit (found.Finished book) done = done.none_open
+none_open network limit (found.Argued plan argument) argued = tt
 none_open network limit (found.Stopped book) stopped = tt

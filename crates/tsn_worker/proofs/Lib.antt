@@ -1,2 +1,3 @@
 mod Deciding
+mod ShownPlans
 pub mod Agreeing

@@ -1,7 +1,9 @@
 -- What a planner's answers say.
+--     size_of, whole_verdict, IsWhole     a certificate's nodes or steps, and its kind
 --     Shows         a certificate that shows what the plan says
 --     IsStopped     a search that was stopped at its limit
 --     IsFinished    a search that has left nothing open, and what its book shows
+--     IsArgued      a plan with an argument for it
 --     IsFound       what a search leaves
 --     IsAnswer      the answer to a network
 use Rattle.std.specs.Prelude.{◌≡◌, ◌≤◌, ◌<◌, ◌+◌, ◌-◌, ◌^◌, ℕ, List, [], length, Option, Some, None, MatchOption}
@@ -13,18 +15,39 @@ use Rattle.tsn_cert.specs.declared.plan.Plan.{Plan}
 use Rattle.tsn_cert.specs.declared.plan.Plan.TheVariants as plan
 use Rattle.tsn_cert.specs.declared.cert.Cert.{Cert}
 use Rattle.tsn_cert.specs.declared.cert.Format.TheVariants.{Two}
-use Rattle.tsn_check.specs.Faults.{Certifies, IsOptimalPlan, IsFirstPlan}
+use Rattle.tsn_check.specs.declared.verdict.Verdict.{Verdict}
+use Rattle.tsn_check.specs.declared.verdict.Verdict.TheVariants as verdict
+use Rattle.tsn_check.specs.Faults.{IsOptimalPlan, IsFirstPlan}
+use Rattle.tsn_argument.specs.declared.argument.Argument.{Argument}
+use Rattle.tsn_argument.specs.declared.certificate.Certificate.{Certificate}
+use Rattle.tsn_argument.specs.declared.certificate.Certificate.TheVariants.{Tree, Argument as Argued}
+use Rattle.tsn_argue.specs.Faults.{Certifies, argument_verdict}
 use Rattle.tsn_book.specs.Book.{Progress, IsLawful, SpellsAccepted}
 use Rattle.tsn_worker.specs.declared.answer.Answer.{Answer}
 use Rattle.tsn_worker.specs.declared.answer.Answer.TheVariants.{Optimal, NoSchedule, Stopped}
 use Rattle.tsn_worker.specs.declared.found.Found.{Found}
 use Rattle.tsn_worker.specs.declared.found.Found.TheVariants as found
 
--- the certificate, of format 2, shows what the plan says, by so many nodes, at most the limit
-pub record Shows (network : Network) (limit : ℕ) (plan : Plan) (cert : Cert) (count : ℕ) : Type 0 where
-  pub certifies : Certifies network plan cert
-  pub of_format_two : cert.format ≡ Two
-  pub counted : count ≡ length cert.nodes
+-- how many nodes a tree has, or steps an argument
+abbrev pub size_of : Certificate → ℕ
+size_of (Tree cert) = length cert.nodes
+size_of (Argued argument) = length argument.steps
+
+-- what a whole certificate shows of a plan: that it is the first one, or that there is none
+abbrev pub whole_verdict : Plan → Verdict
+whole_verdict (plan.Schedule span offsets) = verdict.First
+whole_verdict plan.None = verdict.NoSchedule
+
+-- a tree is of format 2, and an argument's goal is all that the plan says
+abbrev pub IsWhole : Plan → Certificate → Type 0
+IsWhole plan (Tree cert) = cert.format ≡ Two
+IsWhole plan (Argued argument) = argument_verdict argument.goal ≡ whole_verdict plan
+
+-- the certificate, of format 2 or 3, shows what the plan says, by so many nodes or steps, at most the limit
+pub record Shows (network : Network) (limit : ℕ) (plan : Plan) (certificate : Certificate) (count : ℕ) : Type 0 where
+  pub certifies : Certifies network plan certificate
+  pub whole : IsWhole plan certificate
+  pub counted : count ≡ size_of certificate
   pub within : count ≤ limit
 
 -- a lawful search for the network that has settled as many nodes as it may, while a node is open; what it has kept, if anything, is a valid schedule;
@@ -39,14 +62,14 @@ pub record IsStopped (network : Network) (limit : ℕ) (book : Progress) : Type 
 
 -- what an answer says of the network: of an optimal plan besides that it is the first one
 abbrev pub IsAnswer : Network → ℕ → Answer → Type 0
-IsAnswer network limit (Optimal plan cert count) = IsOptimalPlan network plan × IsFirstPlan network plan × Shows network limit plan cert count
-IsAnswer network limit (NoSchedule cert count) = HasNoSchedule network × Shows network limit plan.None cert count
+IsAnswer network limit (Optimal plan certificate count) = IsOptimalPlan network plan × IsFirstPlan network plan × Shows network limit plan certificate count
+IsAnswer network limit (NoSchedule certificate count) = HasNoSchedule network × Shows network limit plan.None certificate count
 IsAnswer network limit (Stopped book) = IsStopped network limit book
 
 -- the answer that has a plan with its certificate
-abbrev pub answer_for : Plan → Cert → ℕ → Answer
-answer_for (plan.Schedule span offsets) cert count = Optimal (plan.Schedule span offsets) cert count
-answer_for plan.None cert count = NoSchedule cert count
+abbrev pub answer_for : Plan → Certificate → ℕ → Answer
+answer_for (plan.Schedule span offsets) certificate count = Optimal (plan.Schedule span offsets) certificate count
+answer_for plan.None certificate count = NoSchedule certificate count
 
 -- ---- what a search leaves
 
@@ -75,14 +98,20 @@ pub record IsFinished (network : Network) (limit : ℕ) (book : Progress) : Type
   pub none_open : open_paths book.history ≡ []
   pub within : length book.history ≤ limit
   pub found : IsFoundPlan network (plan_kept network (kept_of network book.history))
-  pub shown : (cert : Cert) → IsCertOf book cert → Shows network limit (plan_kept network (kept_of network book.history)) cert (length book.history)
+  pub shown : (cert : Cert) → IsCertOf book cert → Shows network limit (plan_kept network (kept_of network book.history)) (Tree cert) (length book.history)
 
--- what a search leaves: nothing open, or as many nodes settled as it may
+-- the plan is what was to be found, and the argument shows it by at most so many steps
+abbrev pub IsArgued : Network → ℕ → Plan → Argument → Type 0
+IsArgued network limit plan argument = IsFoundPlan network plan × Shows network limit plan (Argued argument) (length argument.steps)
+
+-- what a search leaves: nothing open; an argument; or as many nodes settled as it may
 abbrev pub IsFound : Network → ℕ → Found → Type 0
 IsFound network limit (found.Finished book) = IsFinished network limit book
+IsFound network limit (found.Argued plan argument) = IsArgued network limit plan argument
 IsFound network limit (found.Stopped book) = IsStopped network limit book
 
 -- nothing is open in a book that is finished
 abbrev pub HasNoneOpen : Found → Type 0
 HasNoneOpen (found.Finished book) = open_paths book.history ≡ []
+HasNoneOpen (found.Argued plan argument) = Unit {0}
 HasNoneOpen (found.Stopped book) = Unit {0}

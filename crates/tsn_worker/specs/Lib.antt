@@ -1,2 +1,4 @@
 pub mod Answer
+pub mod Learned
+pub mod Proof
 pub mod Laws

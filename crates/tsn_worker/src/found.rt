@@ -3,12 +3,13 @@ ghost use Rattle.std.specs.Prelude.{◌≡◌, ℕ, [], IfOk};
 ghost use Rattle.tsn_model.specs.Network.{Network};
 ghost use Rattle.tsn_model.specs.Search.{open_paths, kept_of};
 ghost use Rattle.tsn_cert.specs.declared.plan.Plan.TheVariants.{Schedule};
-ghost use Rattle.tsn_worker.specs.Answer.{IsAnswer, IsFinished, IsFound, HasNoneOpen, plan_kept, answer_for};
+ghost use Rattle.tsn_worker.specs.Answer.{IsAnswer, IsArgued, IsFinished, IsFound, HasNoneOpen, plan_kept, answer_for};
 
 use crate::answer::Answer;
 use std::alloc::Global;
+use tsn_argument::{Argument, Certificate};
 use tsn_book::Book;
-use tsn_cert::{Cert, Offsets, Plan};
+use tsn_cert::{Offsets, Plan};
 use tsn_model::NoMemory;
 use tsn_timing::Solved;
 
@@ -17,18 +18,21 @@ use tsn_timing::Solved;
 pub enum Found {
     /// No node is open.
     Finished(Book),
+    /// The plan, and an argument that shows it.
+    Argued(Plan, Argument),
     /// The limit was met while a node was open.
     Stopped(Book),
 }
 
 impl Found {
-    /// The answer, with the certificate of a finished search. The error says that there was no memory.
+    /// The answer, with its certificate. The error says that there was no memory.
     pub fn into_answer(self, alloc: Global) -> Result<Answer, NoMemory>
         requires { HasNoneOpen self }
         ensures { IfOk result (λ answer. (network : Network) (limit : ℕ) → IsFound network limit self → IsAnswer network limit answer) }
     {
         match self {
             Found::Finished(book) => certify(alloc, book),
+            Found::Argued(plan, argument) => Ok(argued(plan, argument)),
             Found::Stopped(book) => Ok(Answer::Stopped(book)),
         }
     }
@@ -58,7 +62,7 @@ fn certify(alloc: Global, book: Book) -> Result<Answer, NoMemory>
         }
     };
     match book.into_cert() {
-        Ok(cert) => Ok(answer_for(plan, cert, count)),
+        Ok(cert) => Ok(answer_for(plan, Certificate::Tree(cert), count)),
         Err(fault) => {
             drop(plan);
             Err(fault)
@@ -66,15 +70,23 @@ fn certify(alloc: Global, book: Book) -> Result<Answer, NoMemory>
     }
 }
 
+// The answer that has a plan with an argument for it.
+fn argued(plan: Plan, argument: Argument) -> Answer
+    ensures { (network : Network) (limit : ℕ) → IsArgued network limit plan argument → IsAnswer network limit result }
+{
+    let count = argument.steps.list().len();
+    answer_for(plan, Certificate::Argument(argument), count)
+}
+
 // The answer that has a plan with its certificate.
-fn answer_for(plan: Plan, cert: Cert, count: usize) -> Answer
-    ensures { result ≡ answer_for plan cert count }
+fn answer_for(plan: Plan, certificate: Certificate, count: usize) -> Answer
+    ensures { result ≡ answer_for plan certificate count }
 {
     match plan {
         Plan::Schedule { flowspan, offsets } => {
-            Answer::Optimal(Plan::Schedule { flowspan, offsets }, cert, count)
+            Answer::Optimal(Plan::Schedule { flowspan, offsets }, certificate, count)
         }
-        Plan::None => Answer::NoSchedule(cert, count),
+        Plan::None => Answer::NoSchedule(certificate, count),
     }
 }
 

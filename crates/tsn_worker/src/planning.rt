@@ -1,25 +1,24 @@
 //! Plans a network.
-ghost use Rattle.std.specs.Prelude.{◌≡◌, ◌≤◌, ◌⊎◌, [], length, IfOk};
+ghost use Rattle.std.specs.Prelude.{◌≡◌, ◌≤◌, ◌<◌, ◌⊎◌, [], length, IfOk};
 ghost use Rattle.tsn_model.specs.Network.{IsWellFormed};
 ghost use Rattle.tsn_model.specs.Search.{open_paths};
 ghost use Rattle.tsn_worker.specs.Answer.{IsAnswer, IsFound};
-ghost use Rattle.tsn_search.specs.Search.{IsSearchOf};
+ghost use Rattle.tsn_search.specs.Search.{IsSearchBy, IsSearchOf};
 
 use crate::answer::Answer;
 use crate::found::Found;
+use crate::learned::{Learned, find_by_learning};
 use std::alloc::Global;
 use std::marker::Brand;
 use std::sync::Wait;
 use std::thread::Threads;
 use tsn_book::Book;
-use tsn_branch::Guide;
-use tsn_hint::{Hint, hint_of};
 use tsn_model::NoMemory;
 use tsn_net::Problem;
 use tsn_search::bound::lower_bound;
 use tsn_search::search::settle_open;
 use tsn_search::threads::search;
-use tsn_search::{Bag, DequeBag, Gate, Order, Phase, Prepared, Setting, Watcher};
+use tsn_search::{Bag, DequeBag, Gate, Phase, Prepared, Setting};
 use tsn_share::Parts;
 use tsn_timing::Timing;
 
@@ -29,20 +28,21 @@ pub const MAX_LIMIT: usize = 1_000_000_000;
 /// The most workers that a run may have.
 pub const MAX_WORKERS: usize = 16;
 
-/// How many nodes are settled in the order of the file, at most, before a search by itself turns to a guided one.
+/// How many nodes are settled in the order of the file, at most, before a search by itself turns to the one that learns.
 pub const FILE_ORDER_LIMIT: usize = 100_000;
 
 /// How the search goes.
 #[derive(Clone, Copy, Debug, PartialEq, Eq)]
 pub enum Method {
-    /// In the order of the file, up to 100,000 settled nodes; where that leaves nodes open and more may be settled, anew and
-    /// guided, with the whole limit for its own count.
+    /// In the order of the file, up to 100,000 settled nodes; where that leaves nodes open and more may be settled, by the search
+    /// that learns; where that gives up, in the order of the file again. One worker goes on in the book that is there; several
+    /// begin anew, with the whole limit for their own count.
     Auto,
     /// A node is split on its first violated conflict in the order of the file, and closed by whole links.
     FileOrder,
-    /// A schedule is found beforehand, where that can be. A node is split on the conflict that the scheme of the guided search
-    /// tells, and closed by some streams of a link too; the nodes on that schedule's way come first.
-    Guided,
+    /// By the search that learns; where it gives up, in the order of the file, the nodes on the way of the best schedule known
+    /// first. It may have as many conflicts as nodes may be settled, and some work for each.
+    Learn,
 }
 
 /// How much is to be done: by 1 to 16 workers, with at most so many nodes settled, 1 to 1,000,000,000.
@@ -112,9 +112,9 @@ pub fn search_by<R: Threads + Wait + Sync, G: Gate + Sync>(
     ensures { IfOk result (IsFound problem.now.network effort.limit) }
 {
     let prepared = Prepared::of(alloc, problem)?;
-    let setting = prepared.setting(alloc, Order::File, gate);
+    let setting = prepared.setting(alloc, gate);
     tell_bound(&setting);
-    let found = found_by(rt, &setting, effort);
+    let found = found_by(rt, problem, &setting, effort);
     drop(setting);
     drop(prepared);
     found
@@ -135,10 +135,10 @@ pub fn plan_over<R: Threads + Wait + Sync, G: Gate + Sync, B: Bag + Send>(
     ensures { IfOk result (IsAnswer problem.now.network limit) }
 {
     let prepared = Prepared::of(alloc, problem)?;
-    let setting = prepared.setting(alloc, Order::File, gate);
+    let setting = prepared.setting(alloc, gate);
     tell_bound(&setting);
     gate.begin(Phase::File);
-    let found = found_over(rt, &setting, limit, bags);
+    let found = found_over(rt, &setting, None, limit, bags);
     drop(setting);
     drop(prepared);
     found?.into_answer(alloc)
@@ -147,123 +147,155 @@ pub fn plan_over<R: Threads + Wait + Sync, G: Gate + Sync, B: Bag + Send>(
 // What is found by a method.
 fn found_by<R: Threads + Wait + Sync, G: Gate + Sync>(
     rt: &R,
-    setting: &Setting<'_, '_, G>,
+    problem: &Problem,
+    setting: &Setting<'_, G>,
     effort: Effort,
 ) -> Result<Found, NoMemory>
     requires workers { (1 ≤ effort.workers) × (effort.workers ≤ MAX_WORKERS) }
     requires some { 1 ≤ effort.limit }
     requires few { effort.limit ≤ MAX_LIMIT }
+    requires timing { setting.now.tables.timing.now ≡ problem.now.network }
     ensures { IfOk result (IsFound setting.now.tables.timing.now effort.limit) }
 {
     match effort.method {
         Method::FileOrder => {
             setting.gate.begin(Phase::File);
-            found_with(rt, setting, effort.workers, effort.limit)
+            found_with(rt, setting, None, effort.workers, effort.limit)
         }
-        Method::Guided => found_guided(rt, setting, effort.workers, effort.limit, None),
-        Method::Auto => found_auto(rt, setting, effort.workers, effort.limit),
+        Method::Learn => found_learned(rt, problem, setting, None, effort.workers, effort.limit),
+        Method::Auto => found_auto(rt, problem, setting, effort.workers, effort.limit),
     }
 }
 
-// What is found in the order of the file, or else by a guided search.
+// What is found in the order of the file, or else by the search that learns.
 fn found_auto<R: Threads + Wait + Sync, G: Gate + Sync>(
     rt: &R,
-    setting: &Setting<'_, '_, G>,
+    problem: &Problem,
+    setting: &Setting<'_, G>,
     workers: usize,
     limit: usize,
 ) -> Result<Found, NoMemory>
     requires workers { (1 ≤ workers) × (workers ≤ MAX_WORKERS) }
     requires some { 1 ≤ limit }
     requires few { limit ≤ MAX_LIMIT }
+    requires timing { setting.now.tables.timing.now ≡ problem.now.network }
     ensures { IfOk result (IsFound setting.now.tables.timing.now limit) }
 {
     setting.gate.begin(Phase::File);
     if limit <= FILE_ORDER_LIMIT {
-        return found_with(rt, setting, workers, limit);
+        return found_with(rt, setting, None, workers, limit);
     }
-    match found_with(rt, setting, workers, FILE_ORDER_LIMIT)? {
+    if workers == 1 {
+        return found_auto_alone(problem, setting, limit);
+    }
+    match found_with(rt, setting, None, workers, FILE_ORDER_LIMIT)? {
         Found::Stopped(book) => {
             let known = known_to(setting.alloc, &book);
             drop(book);
-            found_guided(rt, setting, workers, limit, known)
+            found_learned(rt, problem, setting, known, workers, limit)
         }
+        Found::Argued(plan, argument) => Ok(Found::Argued(plan, argument)),
         Found::Finished(finished) => Ok(Found::Finished(finished)),
     }
 }
 
-// The best schedule of a book, where it has one and there is memory for it.
-fn known_to(alloc: Global, book: &Book) -> Option<Hint> {
-    let kept = book.kept()?;
-    let offsets = Vec::from_slice(alloc, kept.valid().offsets()).ok()?;
-    Some(Hint::new(offsets, kept.flowspan()))
+// What one worker finds in the order of the file, or else by the search that learns; where that gives up it goes on in the same book.
+fn found_auto_alone<G: Gate>(
+    problem: &Problem,
+    setting: &Setting<'_, G>,
+    limit: usize,
+) -> Result<Found, NoMemory>
+    requires some { FILE_ORDER_LIMIT < limit }
+    requires few { limit ≤ MAX_LIMIT }
+    requires timing { setting.now.tables.timing.now ≡ problem.now.network }
+    ensures { IfOk result (IsFound setting.now.tables.timing.now limit) }
+{
+    let alloc = setting.alloc;
+    let timing = setting.tables.timing;
+    let book = Book::new(alloc, timing, 1, limit)?;
+    let book = settle_open(setting, 0, FILE_ORDER_LIMIT, None, book)?;
+    if book.open_count() == 0 {
+        return Ok(found_in(timing, limit, book));
+    }
+    let known = known_to(alloc, &book);
+    match find_by_learning(alloc, problem, timing, known, limit, setting.gate) {
+        Learned::Shown(plan, argument) => {
+            drop(book);
+            Ok(Found::Argued(plan, argument))
+        }
+        Learned::Open(known) => found_along(setting, known, limit, book),
+    }
 }
 
-// What is found along a schedule that is found beforehand, or the one that is known, where that is better.
-fn found_guided<R: Threads + Wait + Sync, G: Gate + Sync>(
+// What the caller finds alone, in a book in which something is settled, along the best schedule that is known.
+fn found_along<G: Gate>(
+    setting: &Setting<'_, G>,
+    known: Option<Vec<u64>>,
+    limit: usize,
+    book: Book,
+) -> Result<Found, NoMemory>
+    requires search { IsSearchBy setting.now.tables 0 limit book }
+    requires limit { book.limit ≡ limit }
+    ensures { IfOk result (IsFound setting.now.tables.timing.now limit) }
+{
+    setting.gate.begin(Phase::Along);
+    let book = settle_open(setting, 0, limit, as_list(&known), book)?;
+    drop(known);
+    Ok(found_in(setting.tables.timing, limit, book))
+}
+
+// The best schedule of a book, where it has one and there is memory for it.
+fn known_to(alloc: Global, book: &Book) -> Option<Vec<u64>> {
+    let kept = book.kept()?;
+    Vec::from_slice(alloc, kept.valid().offsets()).ok()
+}
+
+fn as_list(known: &Option<Vec<u64>>) -> Option<&[u64]> {
+    match known {
+        Some(offsets) => Some(offsets.as_slice()),
+        None => None,
+    }
+}
+
+// What is found by the search that learns, or else in the order of the file, along the best schedule that is known.
+fn found_learned<R: Threads + Wait + Sync, G: Gate + Sync>(
     rt: &R,
-    setting: &Setting<'_, '_, G>,
+    problem: &Problem,
+    setting: &Setting<'_, G>,
+    known: Option<Vec<u64>>,
     workers: usize,
     limit: usize,
-    known: Option<Hint>,
 ) -> Result<Found, NoMemory>
     requires workers { (1 ≤ workers) × (workers ≤ MAX_WORKERS) }
     requires some { 1 ≤ limit }
     requires few { limit ≤ MAX_LIMIT }
+    requires timing { setting.now.tables.timing.now ≡ problem.now.network }
     ensures { IfOk result (IsFound setting.now.tables.timing.now limit) }
 {
-    setting.gate.begin(Phase::Hint);
-    let tables = setting.tables;
-    let watcher = Watcher { gate: setting.gate };
-    let sought = hint_of(setting.alloc, tables.timing, tables.conflicts, &watcher);
-    let hint = better(sought, known);
-    setting.gate.begin(Phase::Guided);
-    let guided = Setting {
-        alloc: setting.alloc,
-        tables,
-        order: Order::Guided(guide_of(&hint)),
-        gate: setting.gate,
-    };
-    let found = found_with(rt, &guided, workers, limit);
-    drop(guided);
-    drop(hint);
-    found
+    let timing = setting.tables.timing;
+    match find_by_learning(setting.alloc, problem, timing, known, limit, setting.gate) {
+        Learned::Shown(plan, argument) => Ok(Found::Argued(plan, argument)),
+        Learned::Open(known) => {
+            setting.gate.begin(Phase::Along);
+            let found = found_with(rt, setting, as_list(&known), workers, limit);
+            drop(known);
+            found
+        }
+    }
 }
 
 // Tells the gate what no schedule undercuts, where there is memory to find it.
-fn tell_bound<G: Gate>(setting: &Setting<'_, '_, G>) {
+fn tell_bound<G: Gate>(setting: &Setting<'_, G>) {
     if let Ok(bound) = lower_bound(setting.alloc, setting.tables) {
         setting.gate.hear_bound(bound);
-    }
-}
-
-// The better one of two.
-fn better(found: Option<Hint>, known: Option<Hint>) -> Option<Hint> {
-    let Some(found) = found else {
-        return known;
-    };
-    let Some(known) = known else {
-        return Some(found);
-    };
-    if found.flowspan() <= known.flowspan() {
-        drop(known);
-        Some(found)
-    } else {
-        drop(found);
-        Some(known)
-    }
-}
-
-fn guide_of(hint: &Option<Hint>) -> Option<Guide<'_>> {
-    match hint {
-        Some(hint) => Some(hint.guide()),
-        None => None,
     }
 }
 
 // What 1 to 16 workers find.
 fn found_with<R: Threads + Wait + Sync, G: Gate + Sync>(
     rt: &R,
-    setting: &Setting<'_, '_, G>,
+    setting: &Setting<'_, G>,
+    known: Option<&[u64]>,
     workers: usize,
     limit: usize,
 ) -> Result<Found, NoMemory>
@@ -273,16 +305,17 @@ fn found_with<R: Threads + Wait + Sync, G: Gate + Sync>(
     ensures { IfOk result (IsFound setting.now.tables.timing.now limit) }
 {
     if workers == 1 {
-        return found_alone(setting, limit);
+        return found_alone(setting, known, limit);
     }
     let bags = DequeBag::make(setting.alloc, workers)?;
-    found_over(rt, setting, limit, bags)
+    found_over(rt, setting, known, limit, bags)
 }
 
 // What 2 to 16 workers find, one a bag.
 fn found_over<R: Threads + Wait + Sync, G: Gate + Sync, B: Bag + Send>(
     rt: &R,
-    setting: &Setting<'_, '_, G>,
+    setting: &Setting<'_, G>,
+    known: Option<&[u64]>,
     limit: usize,
     bags: Vec<B>,
 ) -> Result<Found, NoMemory>
@@ -294,20 +327,24 @@ fn found_over<R: Threads + Wait + Sync, G: Gate + Sync, B: Bag + Send>(
     let workers = bags.len();
     let timing = setting.tables.timing;
     let parts = Parts::new(setting.alloc, timing, workers + 1, limit)?;
-    let book = search::<Brand, R, G, B>(rt, setting, bags, parts)?;
-    let book = settle_open(setting, workers, limit, book)?;
+    let book = search::<Brand, R, G, B>(rt, setting, bags, parts, known)?;
+    let book = settle_open(setting, workers, limit, None, book)?;
     Ok(found_in(timing, limit, book))
 }
 
 // What the caller finds alone.
-fn found_alone<G: Gate>(setting: &Setting<'_, '_, G>, limit: usize) -> Result<Found, NoMemory>
+fn found_alone<G: Gate>(
+    setting: &Setting<'_, G>,
+    known: Option<&[u64]>,
+    limit: usize,
+) -> Result<Found, NoMemory>
     requires some { 1 ≤ limit }
     requires few { limit ≤ MAX_LIMIT }
     ensures { IfOk result (IsFound setting.now.tables.timing.now limit) }
 {
     let timing = setting.tables.timing;
     let book = Book::new(setting.alloc, timing, 1, limit)?;
-    let book = settle_open(setting, 0, limit, book)?;
+    let book = settle_open(setting, 0, limit, known, book)?;
     Ok(found_in(timing, limit, book))
 }
 
@@ -315,7 +352,7 @@ fn found_alone<G: Gate>(setting: &Setting<'_, '_, G>, limit: usize) -> Result<Fo
 fn found_in(timing: &Timing, limit: usize, book: Book) -> Found
     requires formed { IsWellFormed timing.now }
     requires search { IsSearchOf timing.now limit book }
-    requires done { (open_paths book.history ≡ []) ⊎ (length book.history ≡ limit) }
+    requires done { (open_paths book.history ≡ []) ⊎ (limit ≤ length book.history) }
     ensures { IsFound timing.now limit result }
 {
     if book.open_count() > 0 {

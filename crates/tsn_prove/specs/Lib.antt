@@ -1,4 +1,0 @@
-pub mod Answer
-pub mod Filling
-pub mod Walk
-pub mod Laws
