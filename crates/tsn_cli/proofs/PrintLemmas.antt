@@ -3,17 +3,17 @@ use Rattle.std.proofs.Common.{◌≡◌, ℕ, true, false, List, [], ◌∷◌, 
 use Rattle.std.proofs.lemmas.List.Elements.{All-nil, All-cons}
 use Rattle.std.specs.Io.KnownBytes.{Appends}
 use Rattle.tsn_device.specs.declared.device.ReadFault.{ReadFault}
-use Rattle.tsn_cert.specs.declared.cert.Cert.{Cert}
+use Rattle.tsn_cli.specs.declared.answer.Written.{Written}
 use Rattle.tsn_cli.specs.declared.answer.PlanOutput.{PlanOutput}
 use Rattle.tsn_cli.specs.Run.{Output, IsUnwritten, writing_of}
-use Rattle.tsn_cli.specs.PlanOutput.{IsCut, IsPrinted, cert_bytes, printed}
+use Rattle.tsn_cli.specs.PlanOutput.{IsCut, IsPrinted, cert_bytes, printed, written_in}
 use Rattle.tsn_cli.proofs.RunLemmas.{Keeps-same}
 
 -- the plan, so many bytes of the certificate, and the line
-abbrev pub cut : List ℕ → Option Cert → ℕ → Output
-cut plan cert n = record { status = 7; texts = plan ∷ take n (cert_bytes cert) ∷ codes "no memory\n" ∷ [] }
+abbrev pub cut : List ℕ → Option Written → ℕ → Output
+cut plan cert n = record { status = 7; texts = plan ∷ take n (cert_bytes (written_in cert)) ∷ codes "no memory\n" ∷ [] }
 
-pub is_cut : (plan : List ℕ) (cert : Option Cert) (n : ℕ) → IsSome cert → IsCut plan cert (cut plan cert n)
+pub is_cut : (plan : List ℕ) (cert : Option Written) (n : ℕ) → IsSome cert → IsCut plan (written_in cert) (cut plan cert n)
 is_cut plan None n some = cc
 is_cut plan (Some cert) n some = (n, refl)
 

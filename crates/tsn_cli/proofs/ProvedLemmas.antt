@@ -1,17 +1,18 @@
 -- What was proved is accepted by `check`.
-use Rattle.std.proofs.Common.{◌≡◌, inl, inr, ℕ, List, [], ◌∷◌, Result, Ok, Err, sym, ap, ◌∙◌, subst}
+use Rattle.std.proofs.Common.{◌≡◌, inl, inr, ℕ, List, [], ◌∷◌, Result, Ok, Err, sym, ◌∙◌, subst}
 use Rattle.tsn_net.specs.File.{States}
 use Rattle.tsn_net.specs.Problem.{NamedNetwork}
 use Rattle.tsn_net.proofs.Stating.{stated_once}
 use Rattle.tsn_cert.specs.declared.plan.Plan.{Plan}
-use Rattle.tsn_cert.specs.declared.cert.Cert.{Cert}
-use Rattle.tsn_cert.specs.declared.cert.Format.{Format}
-use Rattle.tsn_cert.specs.declared.cert.Format.TheVariants.{One}
 use Rattle.tsn_cert.specs.Plan.{plan_in}
-use Rattle.tsn_cert.specs.Cert.{cert_in}
-use Rattle.tsn_check.specs.Faults.{Certifies, verdict_of}
-use Rattle.tsn_check.specs.Laws.{FirstFaultsRefute}
-use Rattle.tsn_prove.specs.Answer.{IsProof}
+use Rattle.tsn_argument.specs.declared.argument.Argument.{Argument}
+use Rattle.tsn_argument.specs.declared.certificate.Certificate.{Certificate}
+use Rattle.tsn_argument.specs.declared.certificate.Certificate.TheVariants as certificate
+use Rattle.tsn_argument.specs.Certificate.{certificate_in}
+use Rattle.tsn_argue.specs.Faults.{Certifies, argument_verdict, certificate_verdict}
+use Rattle.tsn_argue.specs.Laws.{FirstFaultsRefute}
+use Rattle.tsn_worker.specs.declared.proof.Proof.TheVariants.{Proved}
+use Rattle.tsn_worker.specs.Proof.{IsProof}
 use Rattle.tsn_cli.specs.Run.{Output, IsLine}
 use Rattle.tsn_cli.specs.Check.{CheckAnswers, JudgesCert, accepted_line}
 
@@ -21,23 +22,31 @@ same_ok r x y p q = let both : Ok x ≡ Ok y = sym p ∙ q in cc
 not_both : {A E : Type 0} (r : Result A E) (x : A) (e : E) → r ≡ Ok x → r ≡ Err e → ⊥
 not_both r x e p q = let both : Ok x ≡ Err e = sym p ∙ q in cc
 
-judged : FirstFaultsRefute → (problem : NamedNetwork) (limit : ℕ) (stated : Plan) (cert : Cert) (count : ℕ) (cert_file : List ℕ) (output : Output) → IsProof problem.network limit stated cert count
-    → cert_in cert_file ≡ Ok cert → JudgesCert problem.network stated cert_file output → IsLine 0 (accepted_line (verdict_of One stated) stated) output
-judged refutes problem limit stated cert count cert_file output proof is (inl refused) = absurd (not_both (cert_in cert_file) cert refused.0 is refused.1)
-judged refutes problem limit stated cert count cert_file output proof is (inr read) =
-    let same : read.0 ≡ cert = same_ok (cert_in cert_file) read.0 cert read.1 is in
+-- a certificate that shows what the plan says is accepted
+judged : FirstFaultsRefute → (problem : NamedNetwork) (stated : Plan) (whole : Certificate) (cert_file : List ℕ) (output : Output)
+    → Certifies problem.network stated whole → certificate_in cert_file ≡ Ok whole → JudgesCert problem.network stated cert_file output
+    → IsLine 0 (accepted_line (certificate_verdict whole stated) stated) output
+judged refutes problem stated whole cert_file output certifies is (inl refused) =
+    absurd (not_both (certificate_in cert_file) whole refused.0 is refused.1)
+judged refutes problem stated whole cert_file output certifies is (inr read) =
+    let same : read.0 ≡ whole = same_ok (certificate_in cert_file) read.0 whole read.1 is in
     elim read.2 [
-      | inl shows ↦ subst (λ (f : Format). IsLine 0 (accepted_line (verdict_of f stated) stated) output) (ap (λ (c : Cert). c.format) same ∙ proof.of_format_one) shows.1
-      | inr fault ↦ absurd ((refutes problem.network stated read.0 fault.0 fault.1).0 (subst (Certifies problem.network stated) (sym same) proof.certifies))
+      | inl shows ↦ subst (λ (c : Certificate). IsLine 0 (accepted_line (certificate_verdict c stated) stated) output) same shows.1
+      | inr fault ↦
+          absurd ((refutes problem.network stated read.0 fault.0 fault.1).0 (subst (Certifies problem.network stated) (sym same) certifies))
     ]
 
-pub accepted : FirstFaultsRefute → (limit : ℕ) (network_file plan_file cert_file : List ℕ) (problem : NamedNetwork) (stated : Plan) (cert : Cert) (count : ℕ) (output : Output)
-    → States network_file problem → plan_in plan_file ≡ Ok stated → IsProof problem.network limit stated cert count → cert_in cert_file ≡ Ok cert
-    → CheckAnswers (network_file ∷ plan_file ∷ cert_file ∷ []) output → IsLine 0 (accepted_line (verdict_of One stated) stated) output
-accepted refutes limit network_file plan_file cert_file problem stated cert count output states reads proof is answers =
+pub accepted : FirstFaultsRefute → (limit : ℕ) (network_file plan_file cert_file : List ℕ) (problem : NamedNetwork) (stated : Plan)
+    (argument : Argument) (count : ℕ) (output : Output)
+    → States network_file problem → plan_in plan_file ≡ Ok stated → IsProof problem.network limit stated (Proved argument count)
+    → certificate_in cert_file ≡ Ok (certificate.Argument argument)
+    → CheckAnswers (network_file ∷ plan_file ∷ cert_file ∷ []) output
+    → IsLine 0 (accepted_line (argument_verdict argument.goal) stated) output
+accepted refutes limit network_file plan_file cert_file problem stated argument count output states reads proof is answers =
     let same : answers.0 ≡ problem = stated_once network_file answers.0 problem answers.1 states in
     let found = answers.2 in
     let same_plan : found.0 ≡ stated = same_ok (plan_in plan_file) found.0 stated found.1 reads in
     let judges : JudgesCert problem.network stated cert_file output =
-    subst (λ (p : Plan). JudgesCert problem.network p cert_file output) same_plan (subst (λ (p : NamedNetwork). JudgesCert p.network found.0 cert_file output) same found.2) in
-    judged refutes problem limit stated cert count cert_file output proof is judges
+    subst (λ (p : Plan). JudgesCert problem.network p cert_file output) same_plan
+    (subst (λ (p : NamedNetwork). JudgesCert p.network found.0 cert_file output) same found.2) in
+    judged refutes problem stated (certificate.Argument argument) cert_file output proof.0.shows is judges

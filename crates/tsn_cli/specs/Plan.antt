@@ -1,25 +1,26 @@
 -- What `plan` answers.
 --     optimal_line, settled_line, stopped_line     its lines
 --     finished_output, stopped_output              the texts of what was found
---     ShowsIfAny, IsWanted                         a certificate, if one is written
+--     ShowsIfAny, IsTreeOf, IsWanted               a certificate, if one is written
 --     TellsPlan, TellsStop                         an output that tells of a search of the network
 --     PlanAnswers                                  the answer to the file read
-use Rattle.std.specs.Prelude.{◌≡◌, ◌≤◌, ◌⊎◌, ℕ, Bool, List, [], ◌∷◌, ◌++◌, codes, decimal, length, MatchOption, Option, Some, None, is_some}
+use Rattle.std.specs.Prelude.{◌≡◌, ◌⊎◌, ℕ, Bool, List, [], ◌∷◌, ◌++◌, codes, decimal, length, MatchOption, Option, Some, None, is_some}
 use Rattle.tsn_model.specs.Network.{Network}
 use Rattle.tsn_model.specs.Search.{kept_of, best_bound}
 use Rattle.tsn_net.specs.File.{States}
 use Rattle.tsn_net.specs.Problem.{NamedNetwork}
-use Rattle.tsn_cert.specs.declared.cert.Cert.{Cert}
 use Rattle.tsn_cert.specs.declared.plan.Plan.{Plan}
 use Rattle.tsn_cert.specs.declared.plan.Plan.TheVariants as plan
 use Rattle.tsn_cert.specs.Plan.{plan_text}
+use Rattle.tsn_argument.specs.declared.certificate.Certificate.{Certificate}
+use Rattle.tsn_argument.specs.declared.certificate.Certificate.TheVariants.{Tree, Argument}
 use Rattle.tsn_book.specs.Book.{Progress}
 use Rattle.tsn_worker.specs.Answer.{IsCertOf, IsFoundPlan, IsStopped, Shows}
 use Rattle.tsn_cli.specs.Run.{Output, Command}
 use Rattle.tsn_cli.specs.PlanOutput.{cert_bytes, IsCut}
 use Rattle.tsn_cli.specs.Valid.{RefusesNetwork}
 
--- how many nodes were settled, and the line's end
+-- how many nodes were settled, or steps there are, and the line's end
 abbrev pub settled_text : ℕ → List ℕ
 settled_text count = codes " settled " ++ decimal count ++ codes "\n"
 
@@ -43,8 +44,9 @@ best_text span None = codes "none"
 best_text span (Some offsets) = decimal span
 
 -- what a finished search is told by: the plan file, the certificate file, if one is written, and the line
-abbrev pub finished_output : Plan → Option Cert → ℕ → Output
-finished_output plan cert count = record { status = found_status plan; texts = plan_text plan ∷ cert_bytes cert ∷ optimal_line plan count ∷ [] }
+abbrev pub finished_output : Plan → Option Certificate → ℕ → Output
+finished_output plan certificate count =
+    record { status = found_status plan; texts = plan_text plan ∷ cert_bytes certificate ∷ optimal_line plan count ∷ [] }
 
 -- what a search that was stopped is told by
 abbrev pub stopped_output : Progress → Output
@@ -53,21 +55,27 @@ stopped_output book =
     let kept = kept_of book.network book.history in
     record { status = 5; texts = best_plan_text span kept ∷ [] ∷ (codes "stopped " ++ best_text span kept ++ settled_text (length book.history)) ∷ [] }
 
--- the certificate, if one is written, shows what the plan says, by as many nodes as were settled, at most the limit
-abbrev pub ShowsIfAny : Network → ℕ → Plan → Option Cert → ℕ → Type 0
-ShowsIfAny network limit plan None count = count ≤ limit
-ShowsIfAny network limit plan (Some cert) count = Shows network limit plan cert count
+-- the certificate shows what the plan says, by so many nodes or steps, at most the limit; where none is written there is one that does
+abbrev pub ShowsIfAny : Network → ℕ → Plan → Option Certificate → ℕ → Type 0
+ShowsIfAny network limit plan None count = (certificate : Certificate) × Shows network limit plan certificate count
+ShowsIfAny network limit plan (Some certificate) count = Shows network limit plan certificate count
+
+-- the certificate of a finished search is a tree
+abbrev pub IsTreeOf : Progress → Certificate → Type 0
+IsTreeOf book (Tree cert) = IsCertOf book cert
+IsTreeOf book (Argument argument) = ⊥
 
 -- the certificate of a finished search, where one is wanted, and else none
-abbrev pub IsWanted : Bool → Progress → Option Cert → Type 0
-IsWanted wanted book cert = (is_some cert ≡ wanted) × MatchOption cert (Unit {0}) (IsCertOf book)
+abbrev pub IsWanted : Bool → Progress → Option Certificate → Type 0
+IsWanted wanted book certificate = (is_some certificate ≡ wanted) × MatchOption certificate (Unit {0}) (IsTreeOf book)
 
--- It tells of a finished search: the first schedule of least flowspan, or that there is none, and a certificate that shows it exactly where one is
--- wanted; or as much of that as there is memory for.
+-- It tells of a search that has found what it was for: the first schedule of least flowspan, or that there is none, and a certificate that shows it
+-- exactly where one is wanted; or as much of that as there is memory for.
 abbrev pub TellsPlan : Network → ℕ → Bool → Output → Type 0
 TellsPlan network limit wanted output =
-    (plan : Plan) × ((cert : Option Cert) × ((count : ℕ) × (is_some cert ≡ wanted) × IsFoundPlan network plan × ShowsIfAny network limit plan cert count
-    × ((output ≡ finished_output plan cert count) ⊎ IsCut (plan_text plan) cert output)))
+    (plan : Plan) × ((certificate : Option Certificate) × ((count : ℕ) × (is_some certificate ≡ wanted) × IsFoundPlan network plan
+    × ShowsIfAny network limit plan certificate count
+    × ((output ≡ finished_output plan certificate count) ⊎ IsCut (plan_text plan) certificate output)))
 
 -- it tells of a search that was stopped at its limit
 abbrev pub TellsStop : Network → ℕ → Output → Type 0

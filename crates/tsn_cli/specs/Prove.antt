@@ -2,25 +2,25 @@
 --     claim_text, proved_line, undercut_line, stopped_line     its lines
 --     output_of                                                the texts of what was found of a plan
 --     ProveAnswers                                             the answer to the files read so far
-use Rattle.std.specs.Prelude.{◌≡◌, ◌⊎◌, ℕ, List, [], ◌∷◌, ◌++◌, codes, decimal, length, Ok}
+use Rattle.std.specs.Prelude.{◌≡◌, ◌⊎◌, ℕ, List, [], ◌∷◌, ◌++◌, codes, decimal, Ok}
 use Rattle.tsn_model.specs.Network.{Network}
 use Rattle.tsn_net.specs.File.{States}
 use Rattle.tsn_net.specs.Problem.{NamedNetwork}
 use Rattle.tsn_cert.specs.declared.plan.Plan.{Plan}
 use Rattle.tsn_cert.specs.declared.plan.Plan.TheVariants as plan
 use Rattle.tsn_cert.specs.Plan.{plan_in, plan_text}
-use Rattle.tsn_cert.specs.Cert.{cert_text}
 use Rattle.tsn_check.specs.declared.fault.CheckFault.{CheckFault}
 use Rattle.tsn_check.specs.Faults.{IsPlanRight, IsClaimFault, span_in}
-use Rattle.tsn_prove.specs.declared.answer.Answer.{Answer}
-use Rattle.tsn_prove.specs.declared.answer.Answer.TheVariants.{Proved, Undercut, Stopped}
-use Rattle.tsn_prove.specs.Answer.{IsAnswer}
+use Rattle.tsn_argument.specs.Argument.{argument_text}
+use Rattle.tsn_worker.specs.declared.proof.Proof.{Proof}
+use Rattle.tsn_worker.specs.declared.proof.Proof.TheVariants.{Proved, Undercut, Stopped}
+use Rattle.tsn_worker.specs.Proof.{IsProof}
 use Rattle.tsn_cli.specs.Run.{Output, Command, IsLine}
 use Rattle.tsn_cli.specs.Valid.{RefusesNetwork}
 use Rattle.tsn_cli.specs.Check.{RefusesPlan}
 use Rattle.tsn_cli.specs.Tables.{rejected_plan}
 
--- how many nodes were settled, and the line's end
+-- how many steps an argument has, or how many conflicts there were, and the line's end
 abbrev pub count_text : ℕ → List ℕ
 count_text count = codes " settled " ++ decimal count ++ codes "\n"
 
@@ -43,20 +43,21 @@ abbrev pub stopped_line : Plan → ℕ → List ℕ
 stopped_line stated count = codes "stopped " ++ claim_text stated ++ count_text count
 
 -- what is found of a plan is told by: the certificate file, the plan file, and the line
-abbrev pub output_of : Plan → Answer → Output
-output_of stated (Proved cert count) = record { status = 0; texts = cert_text cert ∷ [] ∷ proved_line stated count ∷ [] }
+abbrev pub output_of : Plan → Proof → Output
+output_of stated (Proved argument count) = record { status = 0; texts = argument_text argument ∷ [] ∷ proved_line stated count ∷ [] }
 output_of stated (Undercut better count) = record { status = 6; texts = [] ∷ plan_text better ∷ undercut_line stated better count ∷ [] }
-output_of stated (Stopped nodes bound) = record { status = 5; texts = [] ∷ [] ∷ stopped_line stated (length nodes) ∷ [] }
+output_of stated (Stopped bound count) = record { status = 5; texts = [] ∷ [] ∷ stopped_line stated count ∷ [] }
 
 -- the plan is a valid schedule with its own flowspan, or that there is none, and this is found of it
 abbrev pub FindsOf : ℕ → Network → Plan → Output → Type 0
-FindsOf limit network stated output = IsPlanRight network stated × ((answer : Answer) × IsAnswer network limit stated answer × (output ≡ output_of stated answer))
+FindsOf limit network stated output =
+    IsPlanRight network stated × ((proof : Proof) × IsProof network limit stated proof × (output ≡ output_of stated proof))
 
 -- it isn't, and this is the first fault
 abbrev pub RejectsClaim : Network → Plan → Output → Type 0
 RejectsClaim network stated output = (fault : CheckFault) × IsClaimFault network stated fault × IsLine 6 (rejected_plan fault) output
 
--- the answer to a plan file for this network, where at most so many nodes are settled
+-- the answer to a plan file for this network, by at most so many steps or conflicts
 abbrev pub ProvesPlan : ℕ → Network → List ℕ → Output → Type 0
 ProvesPlan limit network file output =
     RefusesPlan file output ⊎ ((stated : Plan) × (plan_in file ≡ Ok stated) × (FindsOf limit network stated output ⊎ RejectsClaim network stated output))

@@ -1,6 +1,7 @@
 //! What a command answers, before any of it is written.
 ghost use Rattle.std.specs.Prelude.{◌<◌};
 
+use tsn_argument::Argument;
 use tsn_book::Spelling;
 
 /// A status, and the text that goes with it.
@@ -11,13 +12,22 @@ pub(crate) struct Answer {
     ghost not_device: { status < 8 },
 }
 
+/// A certificate that is to be written.
+#[derive(Drop)]
+pub(crate) enum Written {
+    /// A tree, of format 2, whose nodes are given one at a time.
+    Spelled(Spelling),
+    /// An argument, of format 3.
+    Argued(Argument),
+}
+
 /// What a run of `plan` prints: a status, and what goes with it: the text of a plan, its certificate, where one is written, and
 /// a line.
 #[derive(Drop)]
 pub(crate) struct PlanOutput {
     pub(crate) status: u8,
     pub(crate) plan: String,
-    pub(crate) cert: Option<Spelling>,
+    pub(crate) cert: Option<Written>,
     pub(crate) line: String,
     ghost not_device: { status < 8 },
 }

@@ -1,14 +1,18 @@
-//! Writes a certificate, a node at a time.
+//! Writes a certificate: a tree a node at a time, an argument as one text.
 ghost use Rattle.std.specs.Prelude.{◌≡◌, ◌<◌, ◌+◌, ◌++◌, ◌-◌, ◌^◌, ℕ, List, false, IfOk, IsSome, OnErr, OnOk, string_bytes, take};
 ghost use Rattle.std.specs.Io.KnownBytes.{Appends};
 ghost use Rattle.tsn_cert.specs.Cert.{cert_text};
 ghost use Rattle.tsn_cert.specs.Node.{tree_node};
 ghost use Rattle.tsn_cert.specs.Text.{node_text, nodes_text};
 ghost use Rattle.tsn_cli.specs.Run.{taken_in, failed_in};
-ghost use Rattle.tsn_cli.specs.PlanOutput.{cert_bytes};
+ghost use Rattle.tsn_argument.specs.Argument.{argument_text};
+ghost use Rattle.tsn_argument.specs.Certificate.{certificate_text};
+ghost use Rattle.tsn_cli.specs.PlanOutput.{cert_bytes, certificate_of, written_in};
 ghost use Rattle.tsn_cli.specs.Pieces.{IsParted};
 
+use crate::answer::Written;
 use std::alloc::{AllocError, Global};
+use tsn_argument::{Argument, argument_to_json};
 use tsn_book::Spelling;
 use tsn_cert::{Node, head_to_json, node_to_json, tail_to_json};
 use tsn_device::device::{Broken, Sink, write_all, write_whole};
@@ -20,7 +24,7 @@ const PIECE: usize = 65_536;
 /// Why a certificate wasn't written whole.
 #[derive(Clone, Copy, Debug, PartialEq, Eq)]
 pub(crate) enum CertFault {
-    /// There was no memory for the text of a node.
+    /// There was no memory for the text of a node, or of an argument.
     Memory,
     /// A write failed.
     Broken,
@@ -64,13 +68,13 @@ impl From<Broken> for CertFault {
 pub(crate) fn write_wanted<C: Sink>(
     alloc: Global,
     sink: &mut Option<C>,
-    cert: Option<Spelling>,
+    cert: Option<Written>,
 ) -> Result<(), CertFault>
     requires few_failures { failed_in C.failed sink.old < 2 ^ 64 - 1 }
     requires wanted { IsSome cert → IsSome sink.old }
-    ensures whole { OnOk result (Appends (taken_in C.taken sink.old) (taken_in C.taken sink.new) (cert_bytes cert)) }
+    ensures whole { OnOk result (Appends (taken_in C.taken sink.old) (taken_in C.taken sink.new) (cert_bytes (written_in cert))) }
     ensures beginning { OnErr result ((n : ℕ)
-        × Appends (taken_in C.taken sink.old) (taken_in C.taken sink.new) (take n (cert_bytes cert))) }
+        × Appends (taken_in C.taken sink.old) (taken_in C.taken sink.new) (take n (cert_bytes (written_in cert)))) }
     ensures some { OnErr result (IsSome cert) }
     ensures kept { (result ≡ Err CertFault.Broken → ⊥) → failed_in C.failed sink.new ≡ failed_in C.failed sink.old }
     ensures broken { result ≡ Err CertFault.Broken → failed_in C.failed sink.new ≡ failed_in C.failed sink.old + 1 }
@@ -81,10 +85,41 @@ pub(crate) fn write_wanted<C: Sink>(
     let Some(sink) = sink else {
         unreachable!();
     };
-    write_cert(alloc, sink, cert)
+    write_certificate(alloc, sink, cert)
 }
 
 /// Writes a certificate, and says that it is whole.
+fn write_certificate<C: Sink>(alloc: Global, sink: &mut C, cert: Written) -> Result<(), CertFault>
+    requires { C.failed sink.old < 2 ^ 64 - 1 }
+    ensures whole { OnOk result (Appends (C.taken sink.old) (C.taken sink.new) (certificate_text (certificate_of cert))) }
+    ensures beginning { OnErr result ((n : ℕ)
+        × Appends (C.taken sink.old) (C.taken sink.new) (take n (certificate_text (certificate_of cert)))) }
+    ensures kept { (result ≡ Err CertFault.Broken → ⊥) → C.failed sink.new ≡ C.failed sink.old }
+    ensures broken { result ≡ Err CertFault.Broken → C.failed sink.new ≡ C.failed sink.old + 1 }
+{
+    match cert {
+        Written::Spelled(cert) => write_cert(alloc, sink, cert),
+        Written::Argued(argument) => write_argument(alloc, sink, argument),
+    }
+}
+
+/// Writes an argument, and says that it is whole. Where there is no memory for its text nothing of it is written.
+fn write_argument<C: Sink>(alloc: Global, sink: &mut C, argument: Argument) -> Result<(), CertFault>
+    requires { C.failed sink.old < 2 ^ 64 - 1 }
+    ensures whole { OnOk result (Appends (C.taken sink.old) (C.taken sink.new) (argument_text argument)) }
+    ensures beginning { OnErr result ((n : ℕ)
+        × Appends (C.taken sink.old) (C.taken sink.new) (take n (argument_text argument))) }
+    ensures kept { (result ≡ Err CertFault.Broken → ⊥) → C.failed sink.new ≡ C.failed sink.old }
+    ensures broken { result ≡ Err CertFault.Broken → C.failed sink.new ≡ C.failed sink.old + 1 }
+{
+    let text = argument_to_json(alloc, &argument);
+    drop(argument);
+    let text = text?;
+    write_whole(sink, text.as_bytes())?;
+    Ok(())
+}
+
+/// Writes a tree, and says that it is whole.
 fn write_cert<C: Sink>(alloc: Global, sink: &mut C, cert: Spelling) -> Result<(), CertFault>
     requires { C.failed sink.old < 2 ^ 64 - 1 }
     ensures whole { OnOk result (Appends (C.taken sink.old) (C.taken sink.new) (cert_text cert)) }

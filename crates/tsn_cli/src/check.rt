@@ -3,7 +3,6 @@ ghost use Rattle.std.specs.Prelude.{◌≡◌, ◌≢◌, ◌<◌, ◌+◌, ◌-
 ghost use Rattle.std.specs.Io.KnownBytes.{Keeps};
 ghost use Rattle.tsn_net.specs.File.{States};
 ghost use Rattle.tsn_cert.specs.Plan.{plan_in};
-ghost use Rattle.tsn_check.specs.Faults.{IsFirstFault};
 ghost use Rattle.tsn_cli.specs.Run.{BreaksOff, Ends, EndsEarly, IsLine, reading_of, writing_of};
 ghost use Rattle.tsn_cli.specs.Outcome.{ComesTo, output_of};
 ghost use Rattle.tsn_cli.specs.Check.{CheckAnswers, JudgesCert, ShowsClaim, ShowsNothing, accepted_line, refusal_line, rejected_line};
@@ -13,14 +12,16 @@ use crate::run::{DEVICE, DONE, MAX_FILE, REFUSED, REJECTED, respond};
 use crate::valid::refusal;
 use std::alloc::Global;
 use std::fmt;
-use tsn_cert::{Cert, FileFault, Plan, cert_from_json, plan_from_json};
-use tsn_check::{CheckFault, Verdict, check};
+use tsn_argue::check_certificate;
+use tsn_argument::{Certificate, certificate_from_json};
+use tsn_cert::{FileFault, Plan, plan_from_json};
+use tsn_check::{CheckFault, Verdict};
 use tsn_device::device::{ReadFault, Sink, Source, read_all};
 use tsn_model::NoMemory;
 use tsn_net::{Problem, read_problem};
 
-/// Reads a network file, a plan file and a certificate file, each judged before the next is read, and writes a line on
-/// the first that is refused, or on what the certificate shows. The answer is the status.
+/// Reads a network file, a plan file and a certificate file of format 1, 2 or 3, each judged before the next is read, and writes a
+/// line on the first that is refused, or on what the certificate shows. The answer is the status.
 pub fn check_run<N: Source, P: Source, C: Source, W: Sink>(
     alloc: Global,
     network: &mut N,
@@ -183,10 +184,10 @@ fn answer_to_cert(
 ) -> Result<Answer, NoMemory>
     ensures { IfOk result (λ a. JudgesCert problem.now.network plan.now file.now (output_of (Ok a))) }
 {
-    match cert_from_json(alloc, file) {
-        Ok(cert) => {
-            let answer = judgement(alloc, problem, plan, &cert);
-            drop(cert);
+    match certificate_from_json(alloc, file) {
+        Ok(certificate) => {
+            let answer = judgement(alloc, problem, plan, &certificate);
+            drop(certificate);
             answer
         }
         Err(fault) => file_refusal(alloc, "cert", fault),
@@ -194,11 +195,16 @@ fn answer_to_cert(
 }
 
 /// What is said of a plan and its certificate.
-fn judgement(alloc: Global, problem: &Problem, plan: &Plan, cert: &Cert) -> Result<Answer, NoMemory>
-    ensures { IfOk result (λ a. ShowsClaim problem.now.network plan.now cert.now (output_of (Ok a))
-        ⊎ ShowsNothing problem.now.network plan.now cert.now (output_of (Ok a))) }
+fn judgement(
+    alloc: Global,
+    problem: &Problem,
+    plan: &Plan,
+    certificate: &Certificate,
+) -> Result<Answer, NoMemory>
+    ensures { IfOk result (λ a. ShowsClaim problem.now.network plan.now certificate.now (output_of (Ok a))
+        ⊎ ShowsNothing problem.now.network plan.now certificate.now (output_of (Ok a))) }
 {
-    match check(alloc, problem, plan, cert) {
+    match check_certificate(alloc, problem, plan, certificate) {
         Ok(verdict) => acceptance(alloc, verdict, plan),
         Err(fault) => rejection(alloc, fault),
     }
@@ -252,7 +258,7 @@ pub(crate) fn file_refusal(alloc: Global, kind: &str, fault: FileFault) -> Resul
     })
 }
 
-/// A fault of a plan or its certificate, printed with its number, and its node if it has one: `K1`, `K3 node 2`.
+/// A fault of a plan or its certificate, printed with its number, and its node or step if it has one: `K1`, `K3 node 2`.
 #[derive(Clone, Copy)]
 pub(crate) struct Cause(pub(crate) CheckFault);
 

@@ -1,15 +1,15 @@
 //! `plan`: finds the schedule of least flowspan that is first in list order.
-ghost use Rattle.std.specs.Prelude.{◌≡◌, ◌≢◌, ◌≤◌, ◌<◌, ◌+◌, ◌-◌, ◌^◌, ◌⊎◌, ℕ, [], ◌∷◌, IfOk, IsTrue, None, OnErr, is_some, length, string_bytes};
+ghost use Rattle.std.specs.Prelude.{◌≡◌, ◌≢◌, ◌≤◌, ◌<◌, ◌+◌, ◌-◌, ◌^◌, ◌⊎◌, ℕ, [], ◌∷◌, IfOk, IsTrue, None, OnErr, Some, if◌then◌else◌, is_some, length, string_bytes};
 ghost use Rattle.std.specs.Io.KnownBytes.{Keeps};
 ghost use Rattle.tsn_model.specs.Network.{Network};
 ghost use Rattle.tsn_model.specs.Search.{kept_of, open_paths};
 ghost use Rattle.tsn_cli.specs.Run.{Output, Ends, EndsEarly, IsOutput, reading_of, writing_of, taken_in, failed_in};
 ghost use Rattle.tsn_cli.specs.Plan.{IsWanted, PlanAnswers, TellsPlan, TellsStop, optimal_line, found_status, stopped_output};
-ghost use Rattle.tsn_cli.specs.PlanOutput.{IsPrinted, line_alone, printed};
+ghost use Rattle.tsn_cli.specs.PlanOutput.{IsPrinted, line_alone, printed, written_in};
 ghost use Rattle.tsn_cert.specs.Plan.{plan_text};
-ghost use Rattle.tsn_worker.specs.Answer.{IsFinished, IsFound, IsStopped, plan_kept};
+ghost use Rattle.tsn_worker.specs.Answer.{IsArgued, IsFinished, IsFound, IsStopped, plan_kept};
 
-use crate::answer::{Answer as Line, PlanOutput};
+use crate::answer::{Answer as Line, PlanOutput, Written};
 use crate::print::print;
 use crate::run::{DEVICE, DONE, MAX_FILE};
 use crate::valid::refusal;
@@ -17,7 +17,8 @@ use std::alloc::Global;
 use std::mem;
 use std::sync::Wait;
 use std::thread::Threads;
-use tsn_book::{Book, Spelling};
+use tsn_argument::Argument;
+use tsn_book::Book;
 use tsn_cert::{Offsets, Plan, plan_to_json};
 use tsn_device::device::{ReadFault, Sink, Source, read_all};
 use tsn_model::NoMemory;
@@ -27,14 +28,15 @@ use tsn_worker::{Effort, Found, Gate, plan_of, search_by};
 /// There is no schedule.
 pub const NO_SCHEDULE: u8 = 4;
 
-/// The limit of settlements was met.
+/// The limit of settlements, or of conflicts, was met.
 pub const STOPPED: u8 = 5;
 
 /// Reads a network file and plans it by a method, with 1 to 16 workers and at most so many settlements, 1 to 1,000,000,000. It
 /// writes the plan, then its certificate, where there is a sink for it, then a line on what was found; or a line on why the file is
-/// refused. Where the limit is met it writes the best plan so far, if there is one, and no certificate. The certificate is written
-/// a node at a time; where memory is refused for one, the line says that. The gate hears of each settlement. The answer is the
-/// status. The memory of the search stays taken until the process ends.
+/// refused. Where the limit is met it writes the best plan so far, if there is one, and no certificate. The certificate is a tree
+/// (format 2), written a node at a time, or an argument (format 3), and the line tells its nodes or steps; where memory is refused
+/// for a node or for the argument, the line says that. The gate hears of each settlement. The answer is the status. The memory of
+/// the search stays taken until the process ends.
 pub fn plan_run<R: Threads + Wait + Sync, N: Source, G: Gate + Sync, P: Sink, C: Sink, W: Sink>(
     rt: &R,
     alloc: Global,
@@ -148,8 +150,8 @@ fn found_in<R: Threads + Wait + Sync, G: Gate + Sync>(
 
 /// What is printed of what a search found.
 //
-// Here and in `spelled` the book isn't let go of: the process that ran the command is about to end, and gives all memory back at
-// once, where letting go of a million events one by one took a sixth of a search by four workers.
+// Here and in `spelled` and `argument_if` what was found isn't let go of: the process that ran the command is about to end, and gives
+// all memory back at once, where letting go of a million events one by one took a sixth of a search by four workers.
 fn output_for(alloc: Global, found: Found, wanted: bool) -> Result<PlanOutput, NoMemory>
     requires { (network : Network) × ((limit : ℕ) × IsFound network limit found) }
     ensures tells { IfOk result (λ output. (network : Network) (limit : ℕ) → IsFound network limit found
@@ -159,6 +161,11 @@ fn output_for(alloc: Global, found: Found, wanted: bool) -> Result<PlanOutput, N
 {
     match found {
         Found::Finished(book) => finished(alloc, book, wanted),
+        Found::Argued(plan, argument) => {
+            let output = argued(alloc, &plan, argument, wanted);
+            drop(plan);
+            output
+        }
         Found::Stopped(book) => {
             let output = stopped(alloc, &book);
             mem::forget(book);
@@ -205,12 +212,12 @@ fn finished(alloc: Global, book: Book, wanted: bool) -> Result<PlanOutput, NoMem
 }
 
 /// The certificate of a finished search, where that is wanted.
-fn spelled(book: Book, wanted: bool) -> Result<Option<Spelling>, NoMemory>
+fn spelled(book: Book, wanted: bool) -> Result<Option<Written>, NoMemory>
     requires { open_paths book.history ≡ [] }
-    ensures { IfOk result (IsWanted wanted book) }
+    ensures { IfOk result (λ cert. IsWanted wanted book (written_in cert)) }
 {
     if wanted {
-        Ok(Some(book.into_spelling()?))
+        Ok(Some(Written::Spelled(book.into_spelling()?)))
     } else {
         mem::forget(book);
         Ok(None)
@@ -224,13 +231,61 @@ fn texts_of(alloc: Global, book: &Book) -> Result<(u8, String, String), NoMemory
     ensures line { IfOk result (λ texts. string_bytes texts.2 ≡ optimal_line (plan_kept book.now.network (kept_of book.now.network book.now.history)) (length book.now.history)) }
 {
     let plan = plan_of(alloc, book)?;
-    let text = plan_to_json(alloc, &plan)?;
-    let line = line_of(alloc, &plan, book.count())?;
+    texts_for(alloc, &plan, book.count())
+}
+
+/// The status of a plan that was found, its text, and its line.
+fn texts_for(alloc: Global, plan: &Plan, count: usize) -> Result<(u8, String, String), NoMemory>
+    ensures status { IfOk result (λ texts. texts.0 ≡ found_status plan.now) }
+    ensures plan { IfOk result (λ texts. string_bytes texts.1 ≡ plan_text plan.now) }
+    ensures line { IfOk result (λ texts. string_bytes texts.2 ≡ optimal_line plan.now count) }
+{
+    let text = plan_to_json(alloc, plan)?;
+    let line = line_of(alloc, plan, count)?;
     let status = match plan {
         Plan::Schedule { .. } => DONE,
         Plan::None => NO_SCHEDULE,
     };
     Ok((status, text, line))
+}
+
+/// What is said of a plan with an argument for it, and the argument, where that is wanted.
+fn argued(
+    alloc: Global,
+    plan: &Plan,
+    argument: Argument,
+    wanted: bool,
+) -> Result<PlanOutput, NoMemory>
+    ensures tells { IfOk result (λ output. (network : Network) (limit : ℕ) → IsArgued network limit plan.now argument
+        → (shown : Output) → IsPrinted (Ok output) shown → TellsPlan network limit wanted shown) }
+    ensures wanted { IfOk result (λ output. IsTrue (is_some output.cert) → IsTrue wanted) }
+{
+    let count = argument.steps.list().len();
+    let (status, text, line) = match texts_for(alloc, plan, count) {
+        Ok(texts) => texts,
+        Err(fault) => {
+            mem::forget(argument);
+            return Err(fault);
+        }
+    };
+    Ok(PlanOutput {
+        status,
+        plan: text,
+        cert: argument_if(argument, wanted),
+        line,
+    })
+}
+
+/// The argument, where it is wanted.
+fn argument_if(argument: Argument, wanted: bool) -> Option<Written>
+    ensures { result ≡ (if wanted then Some (Written.Argued argument) else None) }
+{
+    if wanted {
+        Some(Written::Argued(argument))
+    } else {
+        mem::forget(argument);
+        None
+    }
 }
 
 /// What is said of a plan that is shown to be optimal, or that there is none.

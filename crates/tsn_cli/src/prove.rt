@@ -4,7 +4,7 @@ ghost use Rattle.std.specs.Io.KnownBytes.{Keeps};
 ghost use Rattle.tsn_net.specs.File.{States};
 ghost use Rattle.tsn_cert.specs.declared.plan.Plan.{Plan};
 ghost use Rattle.tsn_check.specs.Faults.{IsPlanRight, IsClaimFault, span_in};
-ghost use Rattle.tsn_prove.specs.declared.answer.Answer.TheVariants.{Proved, Undercut};
+ghost use Rattle.tsn_worker.specs.declared.proof.Proof.TheVariants.{Proved, Undercut};
 ghost use Rattle.tsn_cli.specs.Run.{BreaksOff, Ends, EndsEarly, reading_of, writing_of};
 ghost use Rattle.tsn_cli.specs.ProofOutput.{Reaches, line_after, shown};
 ghost use Rattle.tsn_cli.specs.Prove.{FindsOf, ProveAnswers, ProvesPlan, RejectsClaim, output_of, proved_line, stopped_line, undercut_line};
@@ -18,19 +18,20 @@ use crate::run::{DEVICE, DONE, MAX_FILE, REJECTED};
 use crate::tables::rejection;
 use crate::valid::refusal;
 use std::alloc::Global;
-use tsn_cert::{Cert, Plan, cert_to_json, plan_from_json, plan_to_json};
+use tsn_argument::{Argument, argument_to_json};
+use tsn_cert::{Plan, plan_from_json, plan_to_json};
 use tsn_check::{CheckFault, check_plan};
 use tsn_device::device::{ReadFault, Sink, Source, read_all};
 use tsn_model::NoMemory;
 use tsn_net::{Problem, read_problem};
-use tsn_prove::{Answer, prove};
 use tsn_timing::Timing;
-use tsn_worker::Gate;
+use tsn_worker::{Gate, Proof, prove};
 
 /// Reads a network file and a plan file, the first judged before the second is read, and seeks a valid schedule that undercuts the
-/// plan, with at most so many nodes settled. Where there is none it writes a certificate of format 1 that `check` accepts; where one
-/// is found it writes that; and then a line on what was found, or on what is refused. Where the limit is met it writes a line
-/// alone. The gate hears of each node. The answer is the status.
+/// plan, by at most so many conflicts. Where there is none it writes a certificate of format 3, an argument of at most so many
+/// steps, that `check` accepts; where one is found it writes that; and then a line on what was found, or on what is refused. The
+/// line tells the steps of the argument, or else the conflicts. Where the limit is met it writes a line alone. The gate hears of the
+/// conflicts. The answer is the status.
 pub fn prove_run<N: Source, P: Source, G: Gate, C: Sink, B: Sink, W: Sink>(
     alloc: Global,
     network: &mut N,
@@ -177,16 +178,11 @@ fn judgement<G: Gate>(
         ⊎ RejectsClaim problem.now.network plan.now (shown (Ok output))) }
 {
     let timing = Timing::of(alloc, problem)?;
-    match judge_claim(alloc, &timing, plan) {
-        Ok(()) => {
-            let answer = prove(alloc, &timing, plan, limit, gate);
-            drop(timing);
-            output_for(alloc, plan, answer?)
-        }
-        Err(fault) => {
-            drop(timing);
-            Ok(alone(alloc, rejection(alloc, fault)?))
-        }
+    let judged = judge_claim(alloc, &timing, plan);
+    drop(timing);
+    match judged {
+        Ok(()) => output_for(alloc, plan, prove(alloc, problem, plan, limit, gate)?),
+        Err(fault) => Ok(alone(alloc, rejection(alloc, fault)?)),
     }
 }
 
@@ -219,40 +215,36 @@ fn alone(alloc: Global, answer: Line) -> ProofOutput
 }
 
 /// What is printed of what was found of a plan.
-fn output_for(alloc: Global, plan: &Plan, answer: Answer) -> Result<ProofOutput, NoMemory>
-    ensures { IfOk result (λ output. shown (Ok output) ≡ output_of plan.now answer) }
+fn output_for(alloc: Global, plan: &Plan, proof: Proof) -> Result<ProofOutput, NoMemory>
+    ensures { IfOk result (λ output. shown (Ok output) ≡ output_of plan.now proof) }
 {
-    match answer {
-        Answer::Proved(cert, count) => {
-            let output = proved(alloc, plan, &cert, count);
-            drop(cert);
+    match proof {
+        Proof::Proved(argument, count) => {
+            let output = proved(alloc, plan, &argument, count);
+            drop(argument);
             output
         }
-        Answer::Undercut(better, count) => {
+        Proof::Undercut(better, count) => {
             let output = undercut(alloc, plan, &better, count);
             drop(better);
             output
         }
-        Answer::Stopped(nodes, _) => {
-            let count = nodes.list().len();
-            drop(nodes);
-            let line = stopped_line(alloc, plan, count)?;
-            let text = Line {
-                status: STOPPED,
-                text: line,
-            };
-            Ok(alone(alloc, text))
-        }
+        Proof::Stopped(_, count) => stopped(alloc, plan, count),
     }
 }
 
 /// What is printed of a plan that no valid schedule undercuts.
-fn proved(alloc: Global, plan: &Plan, cert: &Cert, count: usize) -> Result<ProofOutput, NoMemory>
-    ensures { IfOk result (λ output. shown (Ok output) ≡ output_of plan.now (Proved cert.now count)) }
+fn proved(
+    alloc: Global,
+    plan: &Plan,
+    argument: &Argument,
+    count: usize,
+) -> Result<ProofOutput, NoMemory>
+    ensures { IfOk result (λ output. shown (Ok output) ≡ output_of plan.now (Proved argument.now count)) }
 {
     Ok(ProofOutput {
         status: DONE,
-        cert: cert_to_json(alloc, cert)?,
+        cert: argument_to_json(alloc, argument)?,
         plan: String::new(alloc),
         line: proved_line(alloc, plan, count)?,
     })
@@ -273,6 +265,18 @@ fn undercut(
         plan: plan_to_json(alloc, better)?,
         line: undercut_line(alloc, plan, span_of(better), count)?,
     })
+}
+
+/// What is printed of a plan where the limit was met.
+fn stopped(alloc: Global, plan: &Plan, count: usize) -> Result<ProofOutput, NoMemory>
+    ensures { IfOk result (λ output. shown (Ok output) ≡ line_after STOPPED (stopped_line plan.now count)) }
+{
+    let text = stopped_line(alloc, plan, count)?;
+    let line = Line {
+        status: STOPPED,
+        text,
+    };
+    Ok(alone(alloc, line))
 }
 
 /// The flowspan of a plan in nanoseconds, 0 where it is that there is none.

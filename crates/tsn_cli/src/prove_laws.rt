@@ -2,9 +2,9 @@
 
 ghost use Rattle.tsn_cli.specs.ProveLaws.{ProvedIsAccepted};
 
-use tsn_check::laws::first_faults_refute;
+use tsn_argue::laws::first_faults_refute;
 
-/// A certificate that proves a plan is accepted by `check`, where it answers to the certificate.
+/// An argument that proves a plan is accepted by `check`, where it answers to the argument's file.
 pub fn proved_is_accepted()
     ensures { ProvedIsAccepted }
 {

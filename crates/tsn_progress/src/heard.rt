@@ -2,13 +2,13 @@
 use std::alloc::{AllocError, Global};
 use std::fmt::Write;
 use std::sync::atomic::{AtomicU64, Ordering};
-use tsn_worker::{Gate, News, Phase};
+use tsn_worker::{Gate, LearnedNews, News, Phase};
 
 /// What stands for no number of nanoseconds.
 const NONE: u64 = u64::MAX;
 
-/// A gate that holds nobody, and keeps the least flowspan that was solved since the phase began, and what no schedule's flowspan
-/// is below, as it hears of them.
+/// A gate that holds nobody, and keeps the least flowspan of a schedule that is known, and what no schedule's flowspan is below,
+/// as it hears of them. Once the search in the order of the file begins, or begins anew, only its own schedules are known.
 #[derive(Drop)]
 pub struct Heard {
     flowspan: AtomicU64,
@@ -24,7 +24,7 @@ impl Heard {
         }
     }
 
-    /// The least flowspan solved, in nanoseconds, if any.
+    /// The least flowspan known, in nanoseconds, if any.
     pub fn flowspan(&self) -> Option<u64> {
         number(self.flowspan.load(Ordering::SeqCst))
     }
@@ -39,23 +39,35 @@ impl Heard {
         let bound = self.bound()?;
         line_of(alloc, self.flowspan(), bound).ok()
     }
+
+    fn hear_flowspan(&self, flowspan: Option<u64>) {
+        if let Some(flowspan) = flowspan {
+            self.flowspan.fetch_min(flowspan, Ordering::SeqCst);
+        }
+    }
 }
 
 impl Gate for Heard {
     fn pass(&self, _teller: usize) {}
 
     fn hear(&self, _teller: usize, news: News) {
-        if let Some(flowspan) = news.flowspan {
-            self.flowspan.fetch_min(flowspan, Ordering::SeqCst);
-        }
+        self.hear_flowspan(news.flowspan);
     }
 
     fn hear_bound(&self, bound: u64) {
-        self.bound.store(bound, Ordering::SeqCst);
+        let known = self.bound().unwrap_or(0);
+        self.bound.store(bound.max(known), Ordering::SeqCst);
     }
 
-    fn begin(&self, _phase: Phase) {
-        self.flowspan.store(NONE, Ordering::SeqCst);
+    fn begin(&self, phase: Phase) {
+        match phase {
+            Phase::File | Phase::Along => self.flowspan.store(NONE, Ordering::SeqCst),
+            Phase::Learning => {}
+        }
+    }
+
+    fn hear_learned(&self, news: LearnedNews) {
+        self.hear_flowspan(news.flowspan);
     }
 }
 

@@ -1,16 +1,19 @@
 //! Why a certificate file, or the certificate that it has, is refused.
 
+use crate::argument_file::push_argument_value;
 use crate::bound::{Shown, push_low_bound};
 use crate::json::{elements_at, number_at, push_not_json, push_wrong_keys};
 use crate::text::line_of;
 use crate::{File, Reason};
 use serde_json::Value;
-use std::alloc::Global;
+use std::alloc::{AllocError, Global};
 use std::fmt::Write;
+use tsn_argument::argument::ARGUMENT_FORMAT;
 use tsn_cert::plan::MAX_TIME;
 use tsn_cert::{FileFault, Plan, cert_from_json};
 use tsn_check::CheckFault;
 use tsn_model::NoMemory;
+use tsn_timing::Timing;
 
 /// Why a certificate file with this fault is refused.
 pub fn cert_file_line(alloc: Global, cert: File<'_>, fault: FileFault) -> Reason {
@@ -35,12 +38,31 @@ fn push_cert_value(
     value: &Value,
     fault: FileFault,
 ) -> Result<(), NoMemory> {
+    if !value.is_object() {
+        return Ok(text.push_str("it has to be an object")?);
+    }
+    if value.get("format").is_none() {
+        return Ok(text.push_str("the key format is missing")?);
+    }
+    match number_at(value, "format") {
+        Some(ARGUMENT_FORMAT) => push_argument_value(alloc, text, value, fault),
+        Some(format) if format == 1 || format == 2 => {
+            push_tree_value(alloc, text, format, value, fault)
+        }
+        _ => Ok(text.push_str("format has to be 1, 2 or 3")?),
+    }
+}
+
+/// Writes what is wrong with the value of a certificate file of format 1 or 2.
+fn push_tree_value(
+    alloc: Global,
+    text: &mut String,
+    format: u64,
+    value: &Value,
+    fault: FileFault,
+) -> Result<(), NoMemory> {
     if push_wrong_keys(text, value, &["format", "nodes", "target"])? {
         return Ok(());
-    }
-    let format = number_at(value, "format").unwrap_or(0);
-    if format != 1 && format != 2 {
-        return Ok(text.push_str("format has to be 1 or 2")?);
     }
     let Some(target) = number_at(value, "target") else {
         return Ok(text.push_str("target has to be a whole number")?);
@@ -97,17 +119,14 @@ fn push_node(
     Ok(())
 }
 
-/// Why a certificate with this fault is refused, where its plan is right.
-pub fn certificate_line(
-    alloc: Global,
-    file: File<'_>,
-    shown: Shown<'_>,
-    fault: CheckFault,
-) -> Reason {
+/// Why a tree with this fault is refused, where its plan is right.
+pub fn tree_line(alloc: Global, file: File<'_>, shown: Shown<'_>, fault: CheckFault) -> Reason {
     let mut text = line_of(alloc, file.name)?;
     match fault {
         CheckFault::Memory => return Err(NoMemory),
-        CheckFault::FlowspanWrong => push_wrong_target(&mut text, shown)?,
+        CheckFault::FlowspanWrong => {
+            push_wrong_target(&mut text, shown.timing, shown.plan, shown.cert.target)?
+        }
         CheckFault::BoundTooLow(node) => push_low_bound(alloc, &mut text, shown, node)?,
         _ => write!(text, "{fault}")?,
     }
@@ -115,18 +134,21 @@ pub fn certificate_line(
 }
 
 /// Writes what the target is, and has to be.
-fn push_wrong_target(text: &mut String, shown: Shown<'_>) -> Result<(), NoMemory> {
-    let target = shown.cert.target;
+pub fn push_wrong_target(
+    text: &mut String,
+    timing: &Timing,
+    plan: &Plan,
+    target: u64,
+) -> Result<(), AllocError> {
     write!(text, "target is {target}, and has to be ")?;
-    match shown.plan {
-        Plan::Schedule { flowspan, .. } => write!(text, "{flowspan}, the flowspan of the plan")?,
+    match plan {
+        Plan::Schedule { flowspan, .. } => write!(text, "{flowspan}, the flowspan of the plan"),
         Plan::None => {
-            let past_cycle = shown.timing.cycle().saturating_add(1);
+            let past_cycle = timing.cycle().saturating_add(1);
             write!(
                 text,
                 "{past_cycle}, one more than the cycle, since the plan is that there is no schedule"
-            )?;
+            )
         }
     }
-    Ok(())
 }

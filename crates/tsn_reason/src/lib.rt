@@ -2,6 +2,8 @@
 //! command has to hand it on.
 #![tactic(auto)]
 
+mod argument;
+mod argument_file;
 mod bound;
 mod certificate;
 mod device;
@@ -9,15 +11,20 @@ mod document;
 mod json;
 mod keys;
 mod limits;
+mod motion;
 mod names;
 mod network;
 mod offsets;
 mod plan;
 mod routes;
 mod text;
+mod times;
+mod view;
+mod wrong;
 
+use crate::argument::{Argued, argument_line};
 use crate::bound::Shown;
-use crate::certificate::{cert_file_line, certificate_line};
+use crate::certificate::{cert_file_line, tree_line};
 use crate::network::network_line;
 use crate::offsets::{Schedule, offsets_line};
 use crate::plan::{Stated, is_at_fault, plan_file_line, plan_line};
@@ -25,8 +32,10 @@ pub use device::device_reason;
 use std::alloc::Global;
 use std::fmt::Write;
 pub use text::line_of;
-use tsn_cert::{Cert, Plan, cert_from_json, plan_from_json};
-use tsn_check::{CheckFault, check, check_plan};
+use tsn_argue::check_certificate;
+use tsn_argument::{Certificate, certificate_from_json};
+use tsn_cert::{Plan, plan_from_json};
+use tsn_check::{CheckFault, check_plan};
 use tsn_model::NoMemory;
 use tsn_net::{Problem, read_problem};
 use tsn_timing::{Timing, Validity};
@@ -191,7 +200,7 @@ fn refused_files(alloc: Global, problem: &Problem, file: File<'_>, cert: File<'_
 
 /// Why a certificate file for this plan is refused, or else the plan or the certificate.
 fn refused_cert_file(alloc: Global, claim: Claim<'_>, file: File<'_>) -> Reason {
-    match cert_from_json(alloc, file.bytes) {
+    match certificate_from_json(alloc, file.bytes) {
         Ok(cert) => {
             let reason = refused_cert(alloc, claim, file, &cert);
             drop(cert);
@@ -202,8 +211,8 @@ fn refused_cert_file(alloc: Global, claim: Claim<'_>, file: File<'_>) -> Reason 
 }
 
 /// Why a plan or its certificate is refused.
-fn refused_cert(alloc: Global, claim: Claim<'_>, file: File<'_>, cert: &Cert) -> Reason {
-    match check(alloc, claim.problem, claim.plan, cert) {
+fn refused_cert(alloc: Global, claim: Claim<'_>, file: File<'_>, cert: &Certificate) -> Reason {
+    match check_certificate(alloc, claim.problem, claim.plan, cert) {
         Ok(_) => Ok(None),
         Err(fault) => line_of_fault(alloc, claim, file, cert, fault),
     }
@@ -214,7 +223,7 @@ fn line_of_fault(
     alloc: Global,
     claim: Claim<'_>,
     file: File<'_>,
-    cert: &Cert,
+    cert: &Certificate,
     fault: CheckFault,
 ) -> Reason {
     let Claim {
@@ -231,13 +240,35 @@ fn line_of_fault(
         };
         plan_line(alloc, plan_file, stated, fault)
     } else {
-        let shown = Shown {
-            timing: &timing,
-            plan,
-            cert,
-        };
-        certificate_line(alloc, file, shown, fault)
+        certificate_line(alloc, claim, &timing, file, cert, fault)
     };
     drop(timing);
     reason
+}
+
+/// The line on a certificate with this fault, where its plan is right.
+fn certificate_line(
+    alloc: Global,
+    claim: Claim<'_>,
+    timing: &Timing,
+    file: File<'_>,
+    cert: &Certificate,
+    fault: CheckFault,
+) -> Reason {
+    let Claim { problem, plan, .. } = claim;
+    match cert {
+        Certificate::Tree(cert) => {
+            let shown = Shown { timing, plan, cert };
+            tree_line(alloc, file, shown, fault)
+        }
+        Certificate::Argument(argument) => {
+            let argued = Argued {
+                problem,
+                timing,
+                plan,
+                argument,
+            };
+            argument_line(alloc, file, argued, fault)
+        }
+    }
 }

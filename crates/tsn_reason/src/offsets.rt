@@ -121,7 +121,7 @@ fn push_too_late(
 }
 
 /// Writes a stream by its name.
-fn push_stream(text: &mut String, problem: &Problem, stream: usize) -> Result<(), AllocError> {
+pub fn push_stream(text: &mut String, problem: &Problem, stream: usize) -> Result<(), AllocError> {
     if stream >= problem.streams() {
         return write!(text, "stream {stream}");
     }
@@ -130,7 +130,7 @@ fn push_stream(text: &mut String, problem: &Problem, stream: usize) -> Result<()
 }
 
 /// Writes a directed link by its number, and the nodes that it joins.
-fn push_link(text: &mut String, problem: &Problem, number: usize) -> Result<(), AllocError> {
+pub fn push_link(text: &mut String, problem: &Problem, number: usize) -> Result<(), AllocError> {
     write!(text, "link {number}")?;
     if number >= problem.links() {
         return Ok(());

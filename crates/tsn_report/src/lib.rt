@@ -3,5 +3,5 @@
 
 pub mod told;
 
-pub use told::{Told, told_to_json};
+pub use told::{Told, number_after, told_to_json};
 pub use tsn_model::NoMemory;

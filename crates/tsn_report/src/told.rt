@@ -87,7 +87,7 @@ fn flowspan_in(line: &str) -> Option<u64> {
 }
 
 /// The number behind a word of a line.
-fn number_after(line: &str, key: &str) -> Option<u64> {
+pub fn number_after(line: &str, key: &str) -> Option<u64> {
     let mut is_next = false;
     for word in line.split(' ') {
         if is_next {

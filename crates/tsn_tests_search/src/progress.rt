@@ -9,7 +9,7 @@ use std::process::Abort;
 use std::test::*;
 use std::time::{Clock, Duration};
 use tsn_progress::Progress;
-use tsn_worker::{Gate, HintNews, News, Phase};
+use tsn_worker::{Gate, LearnedNews, News, Phase};
 
 /// A clock, and a standard error that is kept.
 #[derive(Drop)]
@@ -78,7 +78,7 @@ fn news(nodes: usize, splits: usize, flowspan: Option<u64>) -> News {
 #[test]
 fn a_line_is_told_about_once_a_second(rt: HostRuntime) {
     let console = Console::new(rt.alloc());
-    let progress = Progress::new(&console);
+    let progress = Progress::new(&console, 1);
     progress.hear(0, news(200, 100, None));
     progress.hear(1, news(100, 50, Some(2_924)));
     console.expect(&rt, "");
@@ -93,7 +93,7 @@ fn a_line_is_told_about_once_a_second(rt: HostRuntime) {
 #[test]
 fn a_line_waits_for_the_next_second(rt: HostRuntime) {
     let console = Console::new(rt.alloc());
-    let progress = Progress::new(&console);
+    let progress = Progress::new(&console, 1);
     for _ in 0..4 {
         progress.hear(0, news(256, 128, None));
     }
@@ -107,7 +107,7 @@ fn a_line_waits_for_the_next_second(rt: HostRuntime) {
 #[test]
 fn the_end_is_told(rt: HostRuntime) {
     let console = Console::new(rt.alloc());
-    let progress = Progress::new(&console);
+    let progress = Progress::new(&console, 1);
     progress.hear(0, news(3, 1, Some(2_924)));
     progress.end();
     console.expect(
@@ -116,37 +116,41 @@ fn the_end_is_told(rt: HostRuntime) {
     );
 }
 
-/// The clock is looked at as the phase of the hint begins, at 600 ms, and twice for the hint, at 1200 ms and 1800 ms: the first of
-/// these lines is due, the next one isn't.
+fn learned(conflicts: u64, stream: Option<usize>) -> LearnedNews {
+    LearnedNews {
+        flowspan: Some(2_924),
+        bound: 2_910,
+        stream,
+        streams: 2,
+        conflicts,
+    }
+}
+
+/// The clock is looked at as the phase begins, at 600 ms, and at each of the three news and the end: at 1200 ms and 2400 ms a line is
+/// due, and the last one is always told. The bound at the end is the one that is proved.
 #[test]
-fn bounds_and_hints_are_told(rt: HostRuntime) {
+fn what_is_learned_is_told(rt: HostRuntime) {
     let console = Console::new(rt.alloc());
-    let progress = Progress::new(&console);
+    let progress = Progress::new(&console, 1);
     progress.hear_bound(2_900);
-    progress.begin(Phase::Hint);
-    progress.hear_hint(HintNews {
-        flowspan: Some(2_924),
-        stream: Some(0),
-        streams: 2,
-    });
-    progress.hear_hint(HintNews {
-        flowspan: Some(2_924),
-        stream: Some(1),
-        streams: 2,
-    });
+    progress.begin(Phase::Learning);
+    progress.hear_learned(learned(3, None));
+    progress.hear_learned(learned(7, Some(1)));
+    progress.hear_learned(learned(12, Some(1)));
+    progress.end();
     console.expect(
         &rt,
-        "tsn: so far: hint, stream 1 of 2, best 2924 ns, bound 2900 ns, gap 24 ns\n",
+        "tsn: so far: settled 0, conflicts 3, flowspan, best 2924 ns, bound 2910 ns, gap 14 ns, 5 conflicts a second\ntsn: so far: settled 0, conflicts 12, stream 2 of 2, best 2924 ns, bound 2910 ns, gap 14 ns, 6 conflicts a second\ntsn: in all: settled 0, conflicts 12, best 2924 ns, bound 2900 ns, gap 24 ns, 5 conflicts a second\n",
     );
 }
 
-/// A phase begins its count anew, at 600 ms: 256 nodes with 130 splits leave 261 - 256 open at 1200 ms, 600 ms later.
+/// Where several go on along a schedule the count begins anew, at 600 ms: 256 nodes with 130 splits leave 261 - 256 open at 1200 ms, 600 ms later.
 #[test]
 fn a_phase_counts_for_itself(rt: HostRuntime) {
     let console = Console::new(rt.alloc());
-    let progress = Progress::new(&console);
+    let progress = Progress::new(&console, 2);
     progress.hear(0, news(200, 100, Some(3_000)));
-    progress.begin(Phase::Guided);
+    progress.begin(Phase::Along);
     progress.hear(0, news(256, 130, None));
     console.expect(
         &rt,
@@ -157,7 +161,7 @@ fn a_phase_counts_for_itself(rt: HostRuntime) {
 #[test]
 fn nothing_is_told_where_no_node_was_settled(rt: HostRuntime) {
     let console = Console::new(rt.alloc());
-    let progress = Progress::new(&console);
+    let progress = Progress::new(&console, 1);
     progress.end();
     console.expect(&rt, "");
 }

@@ -68,7 +68,7 @@ IsViewOf words view = (view.until ≡ words.until) × (view.shown ≡ shown_of w
 abbrev pub method_of : Search → Method
 method_of search_word.Auto = method.Auto
 method_of search_word.File = method.FileOrder
-method_of search_word.Guided = method.Guided
+method_of search_word.Learn = method.Learn
 
 -- how a plan is searched for
 abbrev pub effort_of : PlanWords → Effort

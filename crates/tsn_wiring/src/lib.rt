@@ -6,6 +6,7 @@ pub mod devices;
 mod files;
 mod json;
 pub mod judged;
+mod kept;
 pub mod options;
 pub mod planning;
 pub mod reason;

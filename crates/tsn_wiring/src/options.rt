@@ -99,6 +99,6 @@ fn method_of(search: Search) -> Method
     match search {
         Search::Auto => Method::Auto,
         Search::File => Method::FileOrder,
-        Search::Guided => Method::Guided,
+        Search::Learn => Method::Learn,
     }
 }

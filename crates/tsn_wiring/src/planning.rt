@@ -8,8 +8,9 @@ ghost use Rattle.tsn_wiring.specs.Runs.{WithSome, Runs};
 use crate::devices::{Given, Made};
 use crate::json::{end_as_json, line_keeper};
 use crate::judged::NetworkRun;
+use crate::kept::KeptLine;
 use crate::options::effort_of;
-use crate::reason::{failure_line, network_line, plan_line, source_line};
+use crate::reason::{failure_line, network_line, plan_line, source_line, undercut_line};
 use crate::told::{Ended, end_at, no_memory};
 use std::alloc::Global;
 use std::io::{Eprint, ErrorKind};
@@ -191,7 +192,7 @@ fn plan_told<'a, T: Threads + Wait + Sync, C: Clock + Eprint + Sync, G: Given<'a
         let run = plan_over(rt, alloc, given, words, files, &known, sink);
         return end_plan(alloc, given, run, &known);
     }
-    let progress = Progress::new(console);
+    let progress = Progress::new(console, words.workers);
     let run = plan_over(rt, alloc, given, words, files, &progress, sink);
     let ended = end_plan(alloc, given, run, progress.known());
     progress.end();
@@ -335,13 +336,13 @@ fn prove_to<'a, C: Clock + Eprint, G: Given<'a>>(
     requires cert { G.makes_cert given.old (option_map (λ path. path.now) words.cert) files.cert }
     requires failures { (G.File.failed files.better ≡ 0) × (G.File.failed files.cert ≡ 0) }
 {
-    let mut output = given.output();
+    let mut output = KeptLine::new(alloc, given.output());
     if !words.progress {
         let known = Heard::new();
         let run = prove_over(alloc, given, words, files, &known, &mut output);
         return end_proof(alloc, given, run, &known, output);
     }
-    let progress = Progress::new(console);
+    let progress = Progress::new(console, 1);
     let run = prove_over(alloc, given, words, files, &progress, &mut output);
     let status = end_proof(alloc, given, run, progress.known(), output);
     progress.end();
@@ -402,7 +403,7 @@ fn end_proof<'a, G: Given<'a>>(
     given: &mut G,
     run: ProofRun<G::Source, G::File>,
     known: &Heard,
-    output: G::Output,
+    output: KeptLine<G::Output>,
 ) -> u8 {
     let ProofRun {
         status,
@@ -415,6 +416,7 @@ fn end_proof<'a, G: Given<'a>>(
         .or(source_line(alloc, status, &plan))
         .or(failure_line(alloc, status, cert.failure()))
         .or(failure_line(alloc, status, better.failure()))
+        .or(undercut_line(alloc, status, &plan, output.text()))
         .or(plan_line(alloc, status, &network, &plan));
     drop(network);
     drop(plan);
@@ -424,6 +426,6 @@ fn end_proof<'a, G: Given<'a>>(
         alloc,
         given,
         with_bound(alloc, Ended { status, line }, known),
-        output,
+        output.into_output(),
     )
 }

@@ -9,6 +9,7 @@ use tsn_device::{Action, Failure};
 use tsn_reason::{
     File, cert_reason, device_reason, line_of, network_reason, offsets_reason, plan_reason,
 };
+use tsn_report::number_after;
 
 /// The line on a source, where it ended a run of this status.
 pub(crate) fn source_line<S: Opened>(alloc: Global, status: u8, source: &S) -> Option<String> {
@@ -103,6 +104,37 @@ pub(crate) fn plan_line<S: Opened>(
         }
         _ => None,
     }
+}
+
+/// The line on a plan that a valid schedule undercuts, by the line on standard output; None where that tells of none, or where
+/// there is no memory for the line.
+pub(crate) fn undercut_line<S: Opened>(
+    alloc: Global,
+    status: u8,
+    plan: &S,
+    told: &str,
+) -> Option<String> {
+    if status != REJECTED {
+        return None;
+    }
+    let better = number_after(told, "by")?;
+    undercut_text(alloc, plan.name(), number_after(told, "undercut"), better).ok()
+}
+
+/// The text on a plan of the file of this name: its flowspan, where it is a schedule, and that of the better one, in nanoseconds.
+fn undercut_text(
+    alloc: Global,
+    name: &str,
+    flowspan: Option<u64>,
+    better: u64,
+) -> Result<String, AllocError> {
+    let mut text = line_of(alloc, name)?;
+    write!(text, "a schedule of flowspan {better} is valid")?;
+    if let Some(flowspan) = flowspan {
+        let less = flowspan.saturating_sub(better);
+        write!(text, ", which is {less} ns less")?;
+    }
+    Ok(text)
 }
 
 pub(crate) fn cert_line<S: Opened>(

@@ -178,7 +178,7 @@ abbrev pub plan_search : Option Text → Option Search
 plan_search None = Some searches.Auto
 plan_search (Some word) =
     if bytes_eq word (codes "auto") then Some searches.Auto
-    else if bytes_eq word (codes "file") then Some searches.File else if bytes_eq word (codes "guided") then Some searches.Guided else None
+    else if bytes_eq word (codes "file") then Some searches.File else if bytes_eq word (codes "learn") then Some searches.Learn else None
 
 -- the file, the numbers, the files to write, the flags and the search of `plan`
 abbrev pub IsPlanOf : List Row → PlanWords → Type 0

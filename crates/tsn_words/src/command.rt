@@ -25,11 +25,19 @@ Status:
   2  the words are refused
   3  a file is refused
   4  there is no schedule
-  5  as many nodes are settled as --steps allows
+  5  the limit of --steps is met
   6  the offsets, the plan or the certificate are refused
   7  there is no memory
   8  a file or a stream can't be read or written
 With status 2, 3, 6 and 8 a line on standard error says why.";
+
+/// What help says of `--steps`, where nodes are settled too.
+const PLAN_STEPS: &str =
+    "The most nodes to settle, and conflicts of the search that learns and steps of an argument, 1000000 if not given";
+
+/// The same where nothing but an argument is sought.
+const PROOF_STEPS: &str =
+    "The most conflicts of the search, and steps of the argument, 1000000 if not given";
 
 /// The command that the words ask for; the first word is the program's name.
 pub fn words_from<'a>(alloc: Global, words: &'a [&'a str]) -> Result<Words<'a>, WordsFault>
@@ -100,7 +108,7 @@ fn plan_command<'a>(alloc: Global) -> Result<Command<'a>, AllocError>
     let arguments = vec![in alloc;
         network_argument(alloc),
         workers_option(alloc),
-        steps_option(alloc),
+        steps_option(alloc, PLAN_STEPS),
         plan_option(alloc),
         cert_option(alloc),
         progress_flag(alloc),
@@ -140,7 +148,7 @@ fn prove_command<'a>(alloc: Global) -> Result<Command<'a>, AllocError>
     let arguments = vec![in alloc;
         network_argument(alloc),
         plan_argument(alloc),
-        steps_option(alloc),
+        steps_option(alloc, PROOF_STEPS),
         plan_option(alloc),
         cert_option(alloc),
         progress_flag(alloc),
@@ -294,17 +302,11 @@ fn workers_option<'a>(alloc: Global) -> Arg<'a>
     )
 }
 
-fn steps_option<'a>(alloc: Global) -> Arg<'a>
+fn steps_option<'a>(alloc: Global, help: &'a str) -> Arg<'a>
     ensures rule { rule_of result ≡ grammar.number_option (codes "steps") 1000000000 }
     ensures local { result.global ≡ false }
 {
-    number_option(
-        alloc,
-        "steps",
-        "1..1000000000",
-        MAX_STEPS,
-        "The most nodes to settle, 1000000 if not given",
-    )
+    number_option(alloc, "steps", "1..1000000000", MAX_STEPS, help)
 }
 
 fn cycles_option<'a>(alloc: Global) -> Arg<'a>
@@ -439,7 +441,7 @@ fn search_option<'a>(alloc: Global) -> Arg<'a>
         alloc,
         "search",
         "SEARCH",
-        "How to search: auto if not given, file or guided",
+        "How to search: auto if not given, file or learn",
     )
 }
 
@@ -604,7 +606,7 @@ fn plan_words<'a>(alloc: Global, words: &ArgMatches<'a>) -> Result<Words<'a>, Wo
 {
     let word = words.get_str("search");
     let Some(search) = plan_search(word) else {
-        return Err(unknown_word(alloc, "--search <SEARCH>", word, "auto, file, guided"));
+        return Err(unknown_word(alloc, "--search <SEARCH>", word, "auto, file, learn"));
     };
     Ok(Words::Plan(PlanWords {
         network: text_of(words, "NET"),
@@ -629,8 +631,8 @@ fn plan_search(word: Option<&str>) -> Option<Search>
         Some(Search::Auto)
     } else if word == "file" {
         Some(Search::File)
-    } else if word == "guided" {
-        Some(Search::Guided)
+    } else if word == "learn" {
+        Some(Search::Learn)
     } else {
         None
     }

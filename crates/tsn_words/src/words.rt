@@ -12,7 +12,7 @@ pub const MAX_OFFSET: u64 = 2_000_000_000;
 /// The most workers that plan.
 pub const MAX_WORKERS: usize = 16;
 
-/// The most nodes that a run may be asked to settle.
+/// The most nodes that a run may be asked to settle, and the most conflicts and steps of an argument that it may be given.
 pub const MAX_STEPS: usize = 1_000_000_000;
 
 /// The most cycles of a replay.
@@ -36,7 +36,7 @@ pub const DEFAULT_ENTRY: u64 = 480;
 /// The greatest number of a directed link.
 pub const MAX_LINK: u64 = 1023;
 
-/// The most nodes that a run settles where the words don't say.
+/// The most nodes that a run settles where the words don't say, and the most conflicts and steps of an argument.
 pub const DEFAULT_STEPS: usize = 1_000_000;
 
 /// The version, and on its second line the toolchain that proved the program, as `rt version` says it.
@@ -118,16 +118,16 @@ pub struct ChartWords<'a> {
     pub ghost link_small: { ForSome link (λ number. number ≤ 1023) },
 }
 
-/// How a plan is searched for: where its nodes are split.
+/// How a plan is searched for.
 #[derive(Clone, Copy, Debug, PartialEq, Eq)]
 pub enum Search {
-    /// `auto`, which goes where the words name none: in the order of the file up to 100,000 settled nodes, and guided where that
-    /// leaves nodes open and more may be settled.
+    /// `auto`, which goes where the words name none: in the order of the file up to 100,000 settled nodes, and by the search that
+    /// learns where that leaves nodes open and more may be settled.
     Auto,
     /// `file`: nodes are split on the first violated conflict, in the order of the file.
     File,
-    /// `guided`: along a schedule that is found beforehand.
-    Guided,
+    /// `learn`: by the search that learns from each contradiction, and in the order of the file where that gives up.
+    Learn,
 }
 
 /// `plan NET`: plan a network.
@@ -137,7 +137,8 @@ pub struct PlanWords<'a> {
     pub network: &'a str,
     /// How many workers plan, 1 to `MAX_WORKERS`.
     pub workers: usize,
-    /// The most nodes that may be settled, 1 to `MAX_STEPS`.
+    /// The most nodes that may be settled, and the most conflicts of the search that learns and steps of its argument, 1 to
+    /// `MAX_STEPS`.
     pub steps: usize,
     /// The file that the plan is written to, if any.
     pub plan: Option<&'a str>,
@@ -162,7 +163,7 @@ pub struct ProveWords<'a> {
     pub network: &'a str,
     /// The plan file that is to be proved optimal.
     pub given: &'a str,
-    /// The most nodes that may be settled, 1 to `MAX_STEPS`.
+    /// The most conflicts of the search, and the most steps of its argument, 1 to `MAX_STEPS`.
     pub steps: usize,
     /// The file that the plan is written to, if any.
     pub plan: Option<&'a str>,

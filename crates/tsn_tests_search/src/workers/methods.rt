@@ -8,8 +8,8 @@ use std::test::*;
 use std::thread::Threads;
 use tsn_worker::{Effort, Gate, Method, Phase, plan_by};
 
-/// A gate that keeps the bound and the phases that it hears of: a digit each, 1 for the order of the file, 2 for the hint, 3 for
-/// the search along it.
+/// A gate that keeps the bound and the phases that it hears of: a digit each, 1 for the order of the file, 2 for the search that
+/// learns, 3 for the order of the file along a known schedule.
 #[derive(Drop)]
 struct ListeningGate {
     bound: AtomicU64,
@@ -26,8 +26,8 @@ impl Gate for ListeningGate {
     fn begin(&self, phase: Phase) {
         let digit = match phase {
             Phase::File => 1,
-            Phase::Hint => 2,
-            Phase::Guided => 3,
+            Phase::Learning => 2,
+            Phase::Along => 3,
         };
         let phases = self.phases.load(Ordering::SeqCst);
         self.phases.store(
@@ -61,6 +61,7 @@ fn expect_plan<R: AllocGlobal + Abort + Threads + Wait + Sync>(
     method: Method,
     workers: usize,
     phases: u64,
+    settled: usize,
 ) -> Result<(), Fail> {
     let gate = ListeningGate {
         bound: AtomicU64::new(0),
@@ -69,7 +70,7 @@ fn expect_plan<R: AllocGlobal + Abort + Threads + Wait + Sync>(
     let outcome = planned(rt, method, workers, &gate)?;
     assert!(rt; outcome.accepted);
     assert_eq!(rt; outcome.flowspan, 2_924);
-    assert_eq!(rt; outcome.settled, 3);
+    assert_eq!(rt; outcome.settled, settled);
     assert_eq!(rt; gate.bound.load(Ordering::SeqCst), 2_924);
     assert_eq!(rt; gate.phases.load(Ordering::SeqCst), phases);
     Ok(())
@@ -77,12 +78,12 @@ fn expect_plan<R: AllocGlobal + Abort + Threads + Wait + Sync>(
 
 #[test]
 fn each_method_plans(rt: HostRuntime) -> Result<(), Fail> {
-    expect_plan(&rt, Method::Auto, 1, 1)?;
-    expect_plan(&rt, Method::FileOrder, 1, 1)?;
-    expect_plan(&rt, Method::Guided, 1, 23)
+    expect_plan(&rt, Method::Auto, 1, 1, 3)?;
+    expect_plan(&rt, Method::FileOrder, 1, 1, 3)?;
+    expect_plan(&rt, Method::Learn, 1, 2, 2)
 }
 
 #[test]
-fn several_workers_are_guided(rt: HostRuntime) -> Result<(), Fail> {
-    expect_plan(&rt, Method::Guided, 2, 23)
+fn several_workers_learn(rt: HostRuntime) -> Result<(), Fail> {
+    expect_plan(&rt, Method::Learn, 2, 2, 2)
 }

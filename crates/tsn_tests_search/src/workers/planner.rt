@@ -5,8 +5,10 @@ use std::process::Abort;
 use std::sync::Wait;
 use std::test::Fail;
 use std::thread::Threads;
-use tsn_cert::{Cert, Plan};
-use tsn_check::{Verdict, check};
+use tsn_argue::check_certificate;
+use tsn_argument::Certificate;
+use tsn_cert::Plan;
+use tsn_check::Verdict;
 use tsn_net::{Problem, read_problem};
 use tsn_worker::{Answer, Bag, Gate, MAX_WORKERS, plan, plan_over};
 
@@ -52,8 +54,8 @@ fn flowspan_of(plan: &Plan) -> Result<u64, Fail> {
     }
 }
 
-fn is_accepted(alloc: Global, problem: &Problem, plan: &Plan, cert: &Cert) -> bool {
-    match check(alloc, problem, plan, cert) {
+fn is_accepted(alloc: Global, problem: &Problem, plan: &Plan, certificate: &Certificate) -> bool {
+    match check_certificate(alloc, problem, plan, certificate) {
         Ok(verdict) => verdict == Verdict::First,
         Err(_) => false,
     }
@@ -61,10 +63,10 @@ fn is_accepted(alloc: Global, problem: &Problem, plan: &Plan, cert: &Cert) -> bo
 
 pub fn judge(alloc: Global, problem: &Problem, answer: Answer) -> Result<Outcome, Fail> {
     match answer {
-        Answer::Optimal(plan, cert, settled) => Ok(Outcome {
+        Answer::Optimal(plan, certificate, settled) => Ok(Outcome {
             flowspan: flowspan_of(&plan)?,
             settled,
-            accepted: is_accepted(alloc, problem, &plan, &cert),
+            accepted: is_accepted(alloc, problem, &plan, &certificate),
         }),
         Answer::NoSchedule(_, _) => Err(Fail::from("no schedule")),
         Answer::Stopped(_) => Err(Fail::from("stopped")),

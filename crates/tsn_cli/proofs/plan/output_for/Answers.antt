@@ -1,6 +1,9 @@
 use Rattle.std.proofs.Common.{rules}
-use Rattle.tsn_cli.proofs.PlanLemmas.{told_finished}
+use Rattle.tsn_cli.proofs.PlanLemmas.{told_argued, told_finished}
 use Rattle.tsn_cli.proofs.plan.output_for.Goals as goal
 
 pub returns-in-Finished-clause-tells : goal.returns-in-Finished-clause-tells
 returns-in-Finished-clause-tells c = told_finished _ _ c.in-Finished.book _ (search rules) c.finished.ensures.tells
+
+pub returns-in-Argued-clause-tells : goal.returns-in-Argued-clause-tells
+returns-in-Argued-clause-tells c = told_argued _ _ c.in-Argued.plan c.in-Argued.argument _ (search rules) c.argued-output.ensures.tells
