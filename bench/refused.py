@@ -5,7 +5,7 @@ refused.py [N]   N, 1 unless given: only each Nth call is refused.
 
 A small library (bench/refused/refuse.c, which needs a C compiler) stands before the allocator of the built program. Each run
 has to end with status 7 and the line `no memory`, or whole, where the call that was refused could be done without. Then the same
-with all calls refused from each one on; and `plan` with 4 workers and along a hint on the star of ten, each call alone: no memory,
+with all calls refused from each one on; and `plan` with 4 workers and by the search that learns on the star of ten, each call alone: no memory,
 or the optimum with a certificate that is accepted, never a stopped run. What is told at the end has how many calls were refused
 in all.
 """
@@ -66,9 +66,12 @@ def commands(folder):
         network = os.path.join(EXAMPLES, name + ".toml")
         plan, cert = os.path.join(folder, name + ".plan"), os.path.join(folder, name + ".cert")
         subprocess.run([PROGRAM, "plan", network, "--plan", plan, "--cert", cert], check=True, capture_output=True)
+        argument = os.path.join(folder, name + ".argument")
+        subprocess.run([PROGRAM, "plan", network, "--search", "learn", "--cert", argument], check=True, capture_output=True)
         yield ["valid", network, "0", "672"]
         yield ["plan", network, "--plan", os.path.join(folder, "plan"), "--cert", os.path.join(folder, "cert")]
         yield ["check", network, plan, cert]
+        yield ["check", network, plan, argument]
         yield ["prove", network, plan, "--cert", os.path.join(folder, "cert")]
         yield ["gates", network, plan]
         yield ["gates", network, plan, "--merge", "2000", "--format", "taprio"]
@@ -127,7 +130,7 @@ def main():
         calls, again = refuse_calls(folder)
         refused += calls
         print(f"calls that no command makes: {calls} calls, {again} made again")
-        for search in (["--workers", "4"], ["--search", "guided"], ["--search", "guided", "--workers", "4"]):
+        for search in (["--workers", "4"], ["--search", "learn"], ["--search", "learn", "--workers", "4"]):
             calls, optimal = refuse_search(program, search)
             refused += calls
             print(f"plan {' '.join(search)} on the star of ten: {calls} calls, {optimal} runs optimal, the others with no memory", flush=True)

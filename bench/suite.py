@@ -1,14 +1,16 @@
 #!/usr/bin/env python3
-"""Plans networks along a hint, has each certificate checked, and each plan proved.
+"""Plans networks, has each certificate checked, and each plan proved.
 
-Usage: bench/guided.py FOLDER [--bin PROGRAM] [--steps N] [--workers W] [--only REGEX]
+Usage: bench/suite.py FOLDER [--bin PROGRAM] [--search HOW] [--steps N] [--workers W] [--plans FILE] [--only REGEX]
 
-For each network file of the folder, a line of a table: what `plan --search guided` says and in how many seconds from start to
-end, what `check` says of its certificate, and what `prove` says of the plan it wrote (the best one, where it was stopped).
-Ends with how many were decided and how many plans were proved, and with status 1 where a certificate or a proof is refused.
+For each network file of the folder, a line of a table: what `plan` says and in how many seconds from start to end, what `check` says
+of its certificate, and what `prove` says of the plan it wrote (the best one, where it was stopped). With --plans each plan that is
+decided is compared with the one that an object of JSON has by the network's name. Ends with how many were decided and how
+many plans were proved, and with status 1 where a certificate or a proof is refused or a plan is another one.
 """
 
 import argparse
+import json
 import os
 import re
 import subprocess
@@ -32,7 +34,7 @@ def tried(program, network, words, room):
     for it in (plan, cert, proof):
         if os.path.exists(it):
             os.remove(it)
-    line, status, seconds = said([program, "plan", network, "--search", "guided", "--plan", plan, "--cert", cert, *words])
+    line, status, seconds = said([program, "plan", network, "--plan", plan, "--cert", cert, *words])
     checked, proved, proof_seconds, right = "", "", 0.0, status in (0, 4, 5)
     if os.path.exists(cert):
         checked, check_status, _ = said([program, "check", network, plan, cert])
@@ -43,27 +45,54 @@ def tried(program, network, words, room):
         if proof_status == 0:
             accepted, accept_status, _ = said([program, "check", network, plan, proof])
             right = right and accept_status == 0 and accepted.startswith("accepted")
-    return line, seconds, checked, proved, proof_seconds, right
+    return line, seconds, checked, proved, proof_seconds, right, plan_in(plan)
+
+
+def plan_in(path):
+    """What a plan's file says; none where there is no file."""
+    if not os.path.exists(path):
+        return None
+    with open(path, encoding="utf-8") as file:
+        return json.load(file)
+
+
+def is_same(found, known):
+    """Whether a plan's file says what is known."""
+    offsets = known.get("offsets") if known else None
+    return found is not None and found.get("offsets") == offsets
+
+
+def known_plans(path):
+    """The plan of each network by its name."""
+    if not path:
+        return {}
+    with open(path, encoding="utf-8") as file:
+        return json.load(file)
 
 
 def main():
     parser = argparse.ArgumentParser(description=__doc__, formatter_class=argparse.RawDescriptionHelpFormatter)
     parser.add_argument("folder")
     parser.add_argument("--bin", default=os.path.join(ROOT, "crates", "tsn", "out", "tsn"))
+    parser.add_argument("--search", default="")
+    parser.add_argument("--plans", default="")
     parser.add_argument("--steps", default="1000000")
     parser.add_argument("--workers", default="1")
     parser.add_argument("--only", default="")
     given = parser.parse_args()
-    words = ["--steps", given.steps, "--workers", given.workers]
+    words = ["--steps", given.steps, "--workers", given.workers] + (["--search", given.search] if given.search else [])
+    known = known_plans(given.plans)
     names = sorted(it for it in os.listdir(given.folder) if it.endswith(".toml") and re.search(given.only, it))
     decided, proofs, total, wrong = 0, 0, 0.0, []
-    print("| Network | `plan --search guided` | Seconds | `check` | `prove` | Seconds |\n|---|---|---|---|---|---|", flush=True)
+    print("| Network | `plan` | Seconds | `check` | `prove` | Seconds |\n|---|---|---|---|---|---|", flush=True)
     with tempfile.TemporaryDirectory() as room:
         for name in names:
-            line, seconds, checked, proved, proof_seconds, right = tried(given.bin, os.path.join(given.folder, name), words, room)
+            line, seconds, checked, proved, proof_seconds, right, found = tried(given.bin, os.path.join(given.folder, name), words, room)
             decided += not line.startswith("stopped")
             proofs += proved.startswith("proved")
             total += seconds
+            if name[:-5] in known and not line.startswith("stopped"):
+                right = right and is_same(found, known[name[:-5]])
             if not right:
                 wrong.append(name)
             print(f"| {name[:-5]} | `{line}` | {seconds:.2f} | `{checked}` | `{proved}` | {proof_seconds:.2f} |", flush=True)
