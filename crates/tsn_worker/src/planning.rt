@@ -31,12 +31,17 @@ pub const MAX_WORKERS: usize = 16;
 /// How many nodes are settled in the order of the file, at most, before a search by itself turns to the one that learns.
 pub const FILE_ORDER_LIMIT: usize = 100_000;
 
+/// From this limit on one worker goes on in the book that is there, where the search that learns gave up. Below it too few nodes may
+/// be left for the way along the best schedule that is known.
+const GOES_ON_FROM: usize = 2 * FILE_ORDER_LIMIT;
+
 /// How the search goes.
 #[derive(Clone, Copy, Debug, PartialEq, Eq)]
 pub enum Method {
     /// In the order of the file, up to 100,000 settled nodes; where that leaves nodes open and more may be settled, by the search
-    /// that learns; where that gives up, in the order of the file again. One worker goes on in the book that is there; several
-    /// begin anew, with the whole limit for their own count.
+    /// that learns; where that gives up, in the order of the file again, along the best schedule known. One worker goes on in the
+    /// book that is there, from a limit of 200,000 on; else, and with several workers, it begins anew, with the whole limit for its
+    /// own count.
     Auto,
     /// A node is split on its first violated conflict in the order of the file, and closed by whole links.
     FileOrder,
@@ -223,8 +228,28 @@ fn found_auto_alone<G: Gate>(
             drop(book);
             Ok(Found::Argued(plan, argument))
         }
+        Learned::Open(known) if limit < GOES_ON_FROM => {
+            drop(book);
+            found_anew(setting, known, limit)
+        }
         Learned::Open(known) => found_along(setting, known, limit, book),
     }
+}
+
+// What the caller finds alone from the root on, along the best schedule that is known.
+fn found_anew<G: Gate>(
+    setting: &Setting<'_, G>,
+    known: Option<Vec<u64>>,
+    limit: usize,
+) -> Result<Found, NoMemory>
+    requires some { 1 ≤ limit }
+    requires few { limit ≤ MAX_LIMIT }
+    ensures { IfOk result (IsFound setting.now.tables.timing.now limit) }
+{
+    setting.gate.begin(Phase::File);
+    let found = found_alone(setting, as_list(&known), limit);
+    drop(known);
+    found
 }
 
 // What the caller finds alone, in a book in which something is settled, along the best schedule that is known.
