@@ -7,8 +7,8 @@ use Rattle.std.proofs.lemmas.Bool.{cases_lt, cond-true, cond-false, lt-ltb, le-l
 use Rattle.std.proofs.Math.Seq.{set-append_seam, get_or-append_seam}
 use Rattle.std.proofs.Math.ListN.{get_or-append}
 use Rattle.tsn_model.specs.declared.GateEntry.{GateEntry}
-use Rattle.tsn_model.specs.Gates.{cycle_of, scheduled_octet}
-use Rattle.tsn_gate.specs.Entries.{octet_at, Appends, LastsLong, NeighboursDiffer}
+use Rattle.tsn_model.specs.Gates.{cycle_of}
+use Rattle.tsn_gate.specs.Entries.{octet_at, Appends, LastsOrNone, NeighboursDiffer}
 
 -- ---- how long entries last
 
@@ -91,11 +91,10 @@ NeighboursDiffer-last xs entry differ d some =
 -- ---- one more entry
 
 abbrev IsLong : ℕ → GateEntry → Type 0
-IsLong least entry = (entry.octet ≡ scheduled_octet) ⊎ (least ≤ entry.interval)
+IsLong least entry = least ≤ entry.interval
 
 longer_long : (least : ℕ) (entry : GateEntry) (interval : ℕ) → IsLong least entry → IsLong least (record { interval = entry.interval + interval; octet = entry.octet })
-longer_long least entry interval (inl scheduled) = inl scheduled
-longer_long least entry interval (inr lasts) = inr (omega arith)
+longer_long least entry interval lasts = omega arith
 
 pub Appends-push : (old : List GateEntry) (entry : GateEntry) → 1 ≤ entry.interval → ((d : GateEntry) → 0 < length old → (get_or old (length old - 1) d).octet ≢ entry.octet) → Appends old (old ++ entry ∷ []) entry.interval entry.octet
 Appends-push old entry lasts other = record {
@@ -183,10 +182,9 @@ pub Appends-push_first : (old : List GateEntry) (entry : GateEntry) → 1 ≤ en
 Appends-push_first old entry lasts none = Appends-push old entry lasts (λ d some. absurd (omega arith))
 
 -- what stands for some time stands long enough
-pub lasts_long : (least interval octet : ℕ) → 1 ≤ interval → LastsLong least interval octet → (octet ≡ scheduled_octet) ⊎ (least ≤ interval)
-lasts_long least interval octet some (inl scheduled) = inl scheduled
-lasts_long least interval octet some (inr (inl lasts)) = inr lasts
-lasts_long least interval octet some (inr (inr none)) = absurd (omega arith)
+pub lasts_long : (least interval : ℕ) → 1 ≤ interval → LastsOrNone least interval → least ≤ interval
+lasts_long least interval some (inl lasts) = lasts
+lasts_long least interval some (inr none) = absurd (omega arith)
 
 -- the last entry is no longer than all of them
 pub last-le : (entries : List GateEntry) (n : ℕ) (last : GateEntry) → n ≡ length entries → 0 < n → last ≡ get_or entries (n - 1) last → last.interval ≤ cycle_of entries

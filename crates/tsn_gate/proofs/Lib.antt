@@ -7,4 +7,9 @@ pub mod Playing
 pub mod Links
 pub mod Tables
 pub mod Unique
+pub mod Rooms
+pub mod Widening
+pub mod UniqueMerged
+pub mod Sparing
+pub mod SmallGates
 pub mod Exchanges

@@ -1,8 +1,9 @@
--- What raised octets keep, and the lists that are made of them.
-use Rattle.std.proofs.Common.{◌≡◌, ℕ, ◌+◌, ◌%◌, ◌≤◌, ◌<◌, List, [], ◌∷◌, length, get_or, take, All, IsBitSet, bit_and, refl, sym, ap, ◌∙◌, subst, arith, inl, inr, suc-ne-zero}
+-- Merged lists keep the wanted gates.
+use Rattle.std.proofs.Common.{◌≡◌, ℕ, ◌+◌, ◌%◌, ◌≤◌, ◌<◌, ◌⊎◌, min, List, [], ◌∷◌, length, get_or, take, All, AllPairs, IsBitSet, bit_and, refl, sym, ap, ap₂, ◌∙◌, subst, arith, inl, inr, suc-ne-zero}
 use Rattle.std.specs.List.{Any}
 use Rattle.std.proofs.lemmas.Bool.{cases_lt}
 use Rattle.std.proofs.lemmas.List.{get_or_default}
+use Rattle.std.proofs.lemmas.List.Elements.{All-nil, All-cons, All-head, All-tail}
 use Rattle.std.proofs.Math.Nat.{mod-lt}
 use Rattle.tsn_model.specs.declared.GateEntry.{GateEntry}
 use Rattle.tsn_model.specs.Network.{Network, IsWellFormed}
@@ -10,59 +11,65 @@ use Rattle.tsn_model.specs.Gates.{cycle_of, IsOctetAt, IsWanted}
 use Rattle.tsn_model.specs.Bridge.{LinkGates}
 use Rattle.tsn_model.specs.Kept.{KeepsOctet, IsKept, KeepsWantedGates}
 use Rattle.tsn_model.proofs.Routes.{UsesLink-exists}
-use Rattle.tsn_gate.specs.Entries.{octet_at, KeepsOctets, IsTimeline, IsGateList}
+use Rattle.tsn_gate.specs.declared.windows.Window.{Window}
+use Rattle.tsn_gate.specs.Entries.{octet_at, AllLast, AllPositive, IsTimeline, IsGateList}
 use Rattle.tsn_gate.specs.GateLists.{IsUsed, IsWantedList, AreWantedLists}
-use Rattle.tsn_gate.specs.Merged.{IsRaised, Raises, IsMerged, AreMerged, IsKeptList, AreMergedLists}
-use Rattle.tsn_gate.proofs.Playing.{cycle_of-pos, octet_at-is, octet_at-entry, octet_exists, IsOctetAt-mod}
+use Rattle.tsn_gate.specs.Merged.{IsSpared, IsMergedOctet, IsPlainOctet, IsMerged, AreMerged, IsKeptList, AreMergedLists, times_kept}
+use Rattle.tsn_gate.proofs.Playing.{cycle_of-pos, cycle_of_part, octet_at-is, octet_at-entry, octet_exists, IsOctetAt-mod}
+use Rattle.tsn_gate.proofs.Rooms.{rooms_of}
+use Rattle.tsn_gate.proofs.Unique.{shows_wanted}
+use Rattle.tsn_gate.proofs.Widening.{spared_background}
 
 -- ---- octets
 
-pub raised_twice : (a b c : ℕ) → IsRaised a b → IsRaised b c → IsRaised a c
-raised_twice a b c first (inl same) = subst (IsRaised a) (sym same) first
-raised_twice a b c first (inr (inl scheduled)) = inr (inl scheduled)
-raised_twice a b c (inl same) (inr (inr (background, closed))) = inr (inr (sym same ∙ background, closed))
-raised_twice a b c (inr (inl scheduled)) (inr (inr (background, closed))) = absurd (omega (arith, scheduled, background))
-raised_twice a b c (inr (inr (from, shut))) (inr (inr (background, closed))) = absurd (omega (arith, shut, background))
-
-pub raised_keeps : (old new : ℕ) → IsRaised old new → KeepsOctet old new
-raised_keeps old new (inl same) = record { scheduled = subst (λ o. IsBitSet o 7) (sym same); others = subst (λ o. bit_and o 127 ≡ 0 → ⊥) same }
-raised_keeps old new (inr (inl scheduled)) = record {
+pub kept_octet : (least : ℕ) (wanted : List GateEntry) (kept : List Window) (t octet : ℕ) → IsPlainOctet (octet_at wanted t)
+    → (IsSpared least kept t → octet_at wanted t ≡ 127)
+    → IsMergedOctet least wanted kept t octet → KeepsOctet (octet_at wanted t) octet
+kept_octet least wanted kept t octet plain background (inl (spared, open_octet)) =
+    let same : octet ≡ octet_at wanted t = open_octet ∙ sym (background spared) in
+    record { scheduled = subst (λ o. IsBitSet o 7) (sym same); others = subst (λ o. bit_and o 127 ≡ 0 → ⊥) same }
+kept_octet least wanted kept t octet plain background (inr (inl (taken, stays, closed))) = record {
+  scheduled = λ is. elim plain [
+    | inl shut ↦ absurd (subst (λ o. IsBitSet o 7) shut is refl)
+    | inr (inl window) ↦ absurd (stays.not_scheduled t stays.begun stays.not_ended window)
+    | inr (inr others) ↦ absurd (subst (λ o. IsBitSet o 7) others is refl)
+  ];
+  others = λ is. absurd (is (ap (λ o. bit_and o 127) closed));
+}
+kept_octet least wanted kept t octet plain background (inr (inr (taken, outside, scheduled))) = record {
   scheduled = λ is. subst (λ o. IsBitSet o 7) (sym scheduled) (λ never. suc-ne-zero _ never);
   others = λ is. absurd (is (ap (λ o. bit_and o 127) scheduled));
 }
-raised_keeps old new (inr (inr (background, closed))) = record {
-  scheduled = λ is. absurd (subst (λ o. IsBitSet o 7) background is refl);
-  others = λ is. absurd (is (ap (λ o. bit_and o 127) closed));
-}
 
-pub Raises-twice : (a b c : List GateEntry) (end : ℕ) → Raises a b end → Raises b c end → Raises a c end
-Raises-twice a b c end first second t below = raised_twice (octet_at a t) (octet_at b t) (octet_at c t) (first t below) (second t below)
+merged_plain : (least : ℕ) (wanted : List GateEntry) (kept : List Window) (t octet : ℕ) → IsMergedOctet least wanted kept t octet → IsPlainOctet octet
+merged_plain least wanted kept t octet (inl (spared, background)) = inr (inr background)
+merged_plain least wanted kept t octet (inr (inl (taken, stays, closed))) = inl closed
+merged_plain least wanted kept t octet (inr (inr (taken, outside, scheduled))) = inr (inl scheduled)
 
--- one more entry, as the octets from `start` on show it
-pub Raises-more : (entries old new : List GateEntry) (i : ℕ) (d : GateEntry) (start end : ℕ) → i < length entries → start ≡ cycle_of (take i entries) → end ≡ start + (get_or entries i d).interval
-    → Raises entries old start → KeepsOctets old new start → ((t : ℕ) → start ≤ t → t < end → IsRaised (get_or entries i d).octet (octet_at new t)) → Raises entries new end
-Raises-more entries old new i d start end inside starts ends raised kept more t below = elim (cases_lt t start) [
-  | inl early ↦ subst (IsRaised (octet_at entries t)) (sym (kept t early)) (raised t early)
-  | inr late ↦ subst (λ o. IsRaised o (octet_at new t)) (sym (octet_at-entry entries i d t inside (omega arith) (omega arith))) (more t late below)
+-- what each instant shows each entry has
+plain_entries : (entries : List GateEntry) → AllPositive entries → ((t : ℕ) → t < cycle_of entries → IsPlainOctet (octet_at entries t))
+    → All (λ (e : GateEntry). IsPlainOctet e.octet) entries
+plain_entries entries positive plain k d below =
+    let part = cycle_of_part entries k d below in
+    let lasts : 1 ≤ (get_or entries k d).interval = positive k d below in
+    let at : octet_at entries (cycle_of (take k entries)) ≡ (get_or entries k d).octet = octet_at-entry entries k d (cycle_of (take k entries)) below
+    (omega arith) (omega arith) in
+    subst IsPlainOctet at (plain (cycle_of (take k entries)) (omega arith))
+
+-- ---- whether a list stays as it is
+
+pub all_or_not : (least : ℕ) (entries : List GateEntry) → AllLast least entries ⊎ (¬ AllLast least entries)
+all_or_not least [] = inl (All-nil (λ (e : GateEntry). least ≤ e.interval))
+all_or_not least (entry ∷ entries) = elim (cases_lt entry.interval least) [
+  | inl short ↦ inr (λ all. let lasts : least ≤ entry.interval = All-head (λ (e : GateEntry). least ≤ e.interval) entry entries all in omega arith)
+  | inr lasts ↦ elim (all_or_not least entries) [
+    | inl all ↦ inl (All-cons (λ (e : GateEntry). least ≤ e.interval) entry entries lasts all)
+    | inr not_all ↦ inr (λ all. not_all (All-tail (λ (e : GateEntry). least ≤ e.interval) entry entries all))
+  ]
 ]
 
--- what a pass makes of entries
-pub record Passed (old new : List GateEntry) : Type 0 where
-  pub timeline : IsTimeline new (cycle_of old)
-  pub raised : Raises old new (cycle_of old)
-
-pub Passed-twice : (a b c : List GateEntry) → Passed a b → Passed b c → Passed a c
-Passed-twice a b c first second =
-    let whole = first.timeline.whole in record {
-      timeline = subst (IsTimeline c) whole second.timeline;
-      raised = Raises-twice a b c (cycle_of a) first.raised (subst (Raises b c) whole second.raised);
-    }
-
-pub passed_thrice : (wanted first closed second joined third lengthened : List GateEntry) → first ≡ wanted → second ≡ closed → third ≡ joined
-    → Passed first closed → Passed second joined → Passed third lengthened → Passed wanted lengthened
-passed_thrice wanted first closed second joined third lengthened is_wanted is_closed is_joined one two three =
-    Passed-twice wanted closed lengthened (subst (λ xs. Passed xs closed) is_wanted one)
-    (Passed-twice closed joined lengthened (subst (λ xs. Passed xs joined) is_closed two) (subst (λ xs. Passed xs lengthened) is_joined three))
+pub some_least : (least : ℕ) (entries : List GateEntry) → ¬ AllLast least entries → 1 ≤ least
+some_least least entries not_all = elim (cases_lt least 1) [ inl none ↦ absurd (not_all (λ k d below. omega arith)) | inr some ↦ some ]
 
 -- ---- a list
 
@@ -81,29 +88,84 @@ IsGateList-merged wanted entries is timeline =
     }
 
 module _ (network : Network) (offsets : List ℕ) (formed : IsWellFormed network) where
-  pub IsKeptList-merged : (least : ℕ) (wanted list : LinkGates) → IsWantedList network offsets wanted → IsMerged least wanted list → IsKeptList network offsets list
-  IsKeptList-merged least wanted list is merged =
-      let whole : cycle_of list.entries ≡ network.cycle = merged.timeline.whole ∙ is.whole in record {
-        kept = λ t octet below at.
-            let some : 1 ≤ cycle_of wanted.entries = (let some_cycle = formed.some_cycle in let long = is.whole in omega arith) in
-            let found = octet_exists wanted.entries t some in
-            let raised = merged.raised t (subst (λ n. t < n) (sym is.whole) below) in
-            let before = octet_at-is wanted.entries network.cycle t found.0 is.whole below found.1 in
-            let after = octet_at-is list.entries network.cycle t octet whole below at in
-            (found.0, subst (λ link. IsWanted network offsets link t found.0) (sym merged.same_link) (is.wanted t found.0 below found.1), raised_keeps found.0 octet (subst (IsRaised found.0) after (subst (λ o. IsRaised o (octet_at list.entries t)) before raised)));
-        positive = merged.timeline.positive;
-        differ = merged.timeline.differ;
-        whole = whole;
-      }
+  wanted_plain : (link t octet : ℕ) → IsWanted network offsets link t octet → IsPlainOctet octet
+  wanted_plain link t octet (inl (inside, window)) = inr (inl window)
+  wanted_plain link t octet (inr (inl (outside, guard, closed))) = inl closed
+  wanted_plain link t octet (inr (inr (outside, no_guard, background))) = inr (inr background)
+
+  -- wanted lists keep themselves
+  wanted_kept : (list : LinkGates) → IsWantedList network offsets list → IsKeptList network offsets list
+  wanted_kept list is = record {
+    kept = λ t octet below at. (octet, is.wanted t octet below at, record { scheduled = λ has. has; others = λ has. has });
+    positive = is.positive;
+    differ = is.differ;
+    whole = is.whole;
+  }
+
+  module _ (least : ℕ) (wanted list : LinkGates) (is : IsWantedList network offsets wanted) (merged : IsMerged least wanted list) where
+    -- a list that stays as it is
+    stays_wanted : AllLast least wanted.entries → IsWantedList network offsets list
+    stays_wanted all =
+        let made : ℕ → List GateEntry → LinkGates = λ link entries. record { link = link; entries = entries } in
+        let same : wanted ≡ list = ap₂ made (sym merged.same_link) (sym (merged.same all)) in
+        subst (IsWantedList network offsets) same is
+
+    widened_kept : ¬ AllLast least wanted.entries → IsKeptList network offsets list
+    widened_kept not_all =
+        let widened = merged.widened not_all in
+        let some = some_least least wanted.entries not_all in
+        let whole : cycle_of list.entries ≡ network.cycle = widened.timeline.whole ∙ is.whole in
+        let rooms = rooms_of least (cycle_of wanted.entries) wanted.entries 0 0 some (omega arith) (λ _. refl) in
+        record {
+          kept = λ t octet below at.
+              let within : t < cycle_of wanted.entries = subst (λ n. t < n) (sym is.whole) below in
+              let gates = shows_wanted network offsets wanted is t below in
+              let after : octet_at list.entries t ≡ octet = octet_at-is list.entries network.cycle t octet whole below at in
+              let shown = subst (IsMergedOctet least wanted.entries (times_kept least wanted.entries) t) after (widened.shown t within) in (
+                octet_at wanted.entries t,
+                subst (λ link. IsWanted network offsets link t (octet_at wanted.entries t)) (sym merged.same_link) gates,
+                kept_octet least wanted.entries (times_kept least wanted.entries) t octet (wanted_plain wanted.link t (octet_at wanted.entries t) gates)
+                    (spared_background least wanted.entries (times_kept least wanted.entries) some rooms t) shown,
+              );
+          positive = widened.timeline.positive;
+          differ = widened.timeline.differ;
+          whole = whole;
+        }
+
+    pub IsKeptList-merged : IsKeptList network offsets list
+    IsKeptList-merged = elim (all_or_not least wanted.entries) [ inl all ↦ wanted_kept list (stays_wanted all) | inr not_all ↦ widened_kept not_all ]
+
+    pub plain_octets : All (λ (e : GateEntry). IsPlainOctet e.octet) list.entries
+    plain_octets = elim (all_or_not least wanted.entries) [
+      | inl all ↦
+          let stays = stays_wanted all in
+          plain_entries list.entries stays.positive (λ t below.
+          let inside : t < network.cycle = subst (λ n. t < n) stays.whole below in
+          wanted_plain list.link t (octet_at list.entries t) (shows_wanted network offsets list stays t inside))
+      | inr not_all ↦
+          let widened = merged.widened not_all in
+          plain_entries list.entries widened.timeline.positive (λ t below.
+          let inside : t < cycle_of wanted.entries = subst (λ n. t < n) widened.timeline.whole below in
+          merged_plain least wanted.entries (times_kept least wanted.entries) t (octet_at list.entries t) (widened.shown t inside))
+    ]
+
+    pub long_entries : AllLast (min least network.cycle) list.entries
+    long_entries = elim (all_or_not least wanted.entries) [
+      | inl all ↦ subst (AllLast (min least network.cycle)) (sym (merged.same all)) (λ k d below. let lasts : least ≤ (get_or wanted.entries k d).interval =
+          all k d below in omega arith)
+      | inr not_all ↦ subst (λ n. AllLast (min least n) list.entries) is.whole (merged.widened not_all).long
+    ]
 
   -- a kept list keeps the wanted gates in each cycle
-  kept_at : (list : LinkGates) → IsKeptList network offsets list → (t octet : ℕ) → IsOctetAt list.entries t octet → IsKept network offsets list.link (t % network.cycle) octet
+  kept_at : (list : LinkGates) → IsKeptList network offsets list → (t octet : ℕ) → IsOctetAt list.entries t octet
+      → IsKept network offsets list.link (t % network.cycle) octet
   kept_at list is t octet at =
       let some : 1 ≤ cycle_of list.entries = (let some_cycle = formed.some_cycle in let long = is.whole in omega arith) in
       is.kept (t % network.cycle) octet (mod-lt t formed.some_cycle)
       (subst (λ n. IsOctetAt list.entries (t % n) octet) is.whole (IsOctetAt-mod list.entries t octet some at))
 
-  pub KeepsWantedGates-lists : (lists : List LinkGates) → All (IsKeptList network offsets) lists → ((link : ℕ) → IsUsed network link → Any (λ list. list.link ≡ link) lists)
+  pub KeepsWantedGates-lists : (lists : List LinkGates) → All (IsKeptList network offsets) lists
+      → ((link : ℕ) → IsUsed network link → Any (λ list. list.link ≡ link) lists)
       → KeepsWantedGates network offsets lists
   KeepsWantedGates-lists lists kept all_used = record {
     kept = λ k d inside i t octet used at. kept_at (get_or lists k d) (kept k d inside) t octet at;
@@ -125,8 +187,14 @@ module _ (network : Network) (offsets : List ℕ) (formed : IsWellFormed network
     same_link : (k : ℕ) (d : LinkGates) → k < length lists → (get_or lists k d).link ≡ (get_or wanted k d).link
     same_link k d below = (merged.each k d (inside_wanted k below)).same_link
 
-    all_kept : All (IsKeptList network offsets) lists
-    all_kept k d below = IsKeptList-merged least (get_or wanted k d) (get_or lists k d) (are.wanted k d (inside_wanted k below)) (merged.each k d (inside_wanted k below))
+    own : (k : ℕ) (d : LinkGates) → k < length lists → IsWantedList network offsets (get_or wanted k d)
+    own k d below = are.wanted k d (inside_wanted k below)
+
+    made : (k : ℕ) (d : LinkGates) → k < length lists → IsMerged least (get_or wanted k d) (get_or lists k d)
+    made k d below = merged.each k d (inside_wanted k below)
+
+    linked : (k : ℕ) (d : LinkGates) → k < length lists → IsUsed network (get_or lists k d).link
+    linked k d below = subst (IsUsed network) (sym (same_link k d below)) (are.used k d (inside_wanted k below))
 
     all_listed : (link : ℕ) → IsUsed network link → Any (λ list. list.link ≡ link) lists
     all_listed link used =
@@ -141,42 +209,34 @@ module _ (network : Network) (offsets : List ℕ) (formed : IsWellFormed network
           same_link has.0 d below ∙ (ap (λ (list : LinkGates). list.link) has.3 ∙ has.4),
         )
 
-    pub AreMergedLists-merged : (least ≡ 0 → ⊥) → AreMergedLists network offsets least lists
-    AreMergedLists-merged some = record {
-      kept = all_kept;
-      used = λ k d below. subst (IsUsed network) (sym (same_link k d below)) (are.used k d (inside_wanted k below));
+    ordered : AllPairs (λ (a b : LinkGates). a.link < b.link) lists
+    ordered j k d order below =
+        let count = merged.count in
+        let first = same_link j d (omega arith) in
+        let second = same_link k d below in
+        let rise = are.in_order j k d order (inside_wanted k below) in
+        omega arith
+
+    pub AreMergedLists-merged : AreMergedLists network offsets least lists
+    AreMergedLists-merged = record {
+      kept = λ k d below. IsKeptList-merged least (get_or wanted k d) (get_or lists k d) (own k d below) (made k d below);
+      used = linked;
       all_used = all_listed;
-      in_order = λ j k d order below.
-          let count = merged.count in
-          let first = same_link j d (omega arith) in
-          let second = same_link k d below in
-          let ordered = are.in_order j k d order (inside_wanted k below) in
-          omega arith;
-      long = λ k d below. (merged.each k d (inside_wanted k below)).long;
-      exact = λ none. absurd (some none);
+      in_order = ordered;
+      octets = λ k d below. plain_octets least (get_or wanted k d) (get_or lists k d) (own k d below) (made k d below);
+      long = λ k d below. long_entries least (get_or wanted k d) (get_or lists k d) (own k d below) (made k d below);
+      merged = λ k d below. (get_or wanted k d, own k d below, made k d below);
+      exact = λ none. record {
+        wanted = λ k d below. stays_wanted least (get_or wanted k d) (get_or lists k d) (own k d below) (made k d below) (λ j e inside. omega arith);
+        used = linked;
+        all_used = all_listed;
+        in_order = ordered;
+      };
     }
-
-  -- wanted lists keep themselves
-  wanted_kept : (list : LinkGates) → IsWantedList network offsets list → IsKeptList network offsets list
-  wanted_kept list is = record {
-    kept = λ t octet below at. (octet, is.wanted t octet below at, record { scheduled = λ has. has; others = λ has. has });
-    positive = is.positive;
-    differ = is.differ;
-    whole = is.whole;
-  }
-
-  pub AreMergedLists-wanted : (least : ℕ) → least ≡ 0 → (lists : List LinkGates) → AreWantedLists network offsets lists → AreMergedLists network offsets least lists
-  AreMergedLists-wanted least none lists are = record {
-    kept = λ k d below. wanted_kept (get_or lists k d) (are.wanted k d below);
-    used = are.used;
-    all_used = are.all_used;
-    in_order = are.in_order;
-    long = λ k d below j e within. inr (omega arith);
-    exact = λ _. are;
-  }
 
   pub KeepsWantedGates-merged : (least : ℕ) (lists : List LinkGates) → AreMergedLists network offsets least lists → KeepsWantedGates network offsets lists
   KeepsWantedGates-merged least lists are = KeepsWantedGates-lists lists are.kept are.all_used
 
-  pub merged_exist : (least : ℕ) (lists : List LinkGates) → AreMergedLists network offsets least lists → All (λ list. list.link < length network.links) lists
+  pub merged_exist : (least : ℕ) (lists : List LinkGates) → AreMergedLists network offsets least lists
+      → All (λ list. list.link < length network.links) lists
   merged_exist least lists are k d inside = let used = are.used k d inside in UsesLink-exists network used.0 (get_or lists k d).link formed used.1

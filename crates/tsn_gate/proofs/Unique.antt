@@ -1,5 +1,6 @@
 -- What a schedule asks for is one list of lists alone.
 use Rattle.std.proofs.Common.{◌≡◌, ◌≢◌, ℕ, suc, ◌+◌, ◌-◌, ◌≤◌, ◌<◌, List, [], ◌∷◌, get_or, All, AllPairs, Contains, refl, sym, ap, ap₂, ◌∙◌, subst, arith, inl, inr}
+use Rattle.std.specs.List.{Any}
 use Rattle.std.proofs.lemmas.Bool.{cases_lt}
 use Rattle.std.proofs.lemmas.List.Elements.{All-head, All-tail, All-contains}
 use Rattle.tsn_model.specs.declared.GateEntry.{GateEntry}
@@ -14,9 +15,9 @@ use Rattle.tsn_gate.proofs.Playing.{octet_at-is, octet_exists}
 
 -- ---- entries that last equally long and show the same octets
 
-record AreAlike (xs ys : List GateEntry) : Type 0 where
-  whole : cycle_of xs ≡ cycle_of ys
-  shown : (t : ℕ) → t < cycle_of xs → octet_at xs t ≡ octet_at ys t
+pub record AreAlike (xs ys : List GateEntry) : Type 0 where
+  pub whole : cycle_of xs ≡ cycle_of ys
+  pub shown : (t : ℕ) → t < cycle_of xs → octet_at xs t ≡ octet_at ys t
 
 alike_back : (xs ys : List GateEntry) → AreAlike xs ys → AreAlike ys xs
 alike_back xs ys alike = record {
@@ -39,14 +40,16 @@ others_last : (x : GateEntry) (xs : List GateEntry) → AllPositive (x ∷ xs) �
 others_last x xs positive = All-tail (λ (e : GateEntry). 1 ≤ e.interval) x xs positive
 
 -- the first entries show the same
-same_octet : (x : GateEntry) (xs : List GateEntry) (y : GateEntry) (ys : List GateEntry) → 1 ≤ x.interval → 1 ≤ y.interval → AreAlike (x ∷ xs) (y ∷ ys) → x.octet ≡ y.octet
+same_octet : (x : GateEntry) (xs : List GateEntry) (y : GateEntry) (ys : List GateEntry) → 1 ≤ x.interval → 1 ≤ y.interval → AreAlike (x ∷ xs) (y ∷ ys)
+    → x.octet ≡ y.octet
 same_octet x xs y ys x_lasts y_lasts alike =
     let whole = cycle_of-cons x xs in
     let some : 0 < cycle_of (x ∷ xs) = omega arith in
     sym (octet_at-first x xs 0 (omega arith)) ∙ (alike.shown 0 some ∙ octet_at-first y ys 0 (omega arith))
 
 -- the first entry doesn't end before the other
-not_shorter : (x : GateEntry) (xs : List GateEntry) (y : GateEntry) (ys : List GateEntry) → AllPositive xs → NeighboursDiffer (x ∷ xs) → x.octet ≡ y.octet → AreAlike (x ∷ xs) (y ∷ ys) → x.interval < y.interval → ⊥
+not_shorter : (x : GateEntry) (xs : List GateEntry) (y : GateEntry) (ys : List GateEntry) → AllPositive xs → NeighboursDiffer (x ∷ xs) → x.octet ≡ y.octet
+    → AreAlike (x ∷ xs) (y ∷ ys) → x.interval < y.interval → ⊥
 not_shorter x [] y ys positive differ same alike shorter =
     let none = cycle_of-nil in
     let left = cycle_of-cons x [] in
@@ -62,7 +65,8 @@ not_shorter x (z ∷ xs) y ys positive differ same alike shorter =
     let next : octet_at (x ∷ z ∷ xs) x.interval ≡ z.octet = octet_at-later x (z ∷ xs) x.interval (omega arith) ∙ (ap (octet_at (z ∷ xs)) none ∙ octet_at-first z xs 0 (omega arith)) in
     differ_head x z xs differ (same ∙ (sym (octet_at-first y ys x.interval shorter) ∙ (sym (alike.shown x.interval inside) ∙ next)))
 
-same_interval : (x : GateEntry) (xs : List GateEntry) (y : GateEntry) (ys : List GateEntry) → AllPositive (x ∷ xs) → AllPositive (y ∷ ys) → NeighboursDiffer (x ∷ xs) → NeighboursDiffer (y ∷ ys)
+same_interval : (x : GateEntry) (xs : List GateEntry) (y : GateEntry) (ys : List GateEntry) → AllPositive (x ∷ xs) → AllPositive (y ∷ ys)
+    → NeighboursDiffer (x ∷ xs) → NeighboursDiffer (y ∷ ys)
     → x.octet ≡ y.octet → AreAlike (x ∷ xs) (y ∷ ys) → x.interval ≡ y.interval
 same_interval x xs y ys x_positive y_positive x_differ y_differ same alike = elim (cases_lt x.interval y.interval) [
   | inl shorter ↦ absurd (not_shorter x xs y ys (others_last x xs x_positive) x_differ same alike shorter)
@@ -78,7 +82,8 @@ shown_behind x xs t =
     let left : t + x.interval - x.interval ≡ t = omega arith in
     octet_at-later x xs (t + x.interval) (omega arith) ∙ ap (octet_at xs) left
 
-alike_behind : (x : GateEntry) (xs : List GateEntry) (y : GateEntry) (ys : List GateEntry) → x.interval ≡ y.interval → AreAlike (x ∷ xs) (y ∷ ys) → AreAlike xs ys
+alike_behind : (x : GateEntry) (xs : List GateEntry) (y : GateEntry) (ys : List GateEntry) → x.interval ≡ y.interval → AreAlike (x ∷ xs) (y ∷ ys)
+    → AreAlike xs ys
 alike_behind x xs y ys same alike =
     let left = cycle_of-cons x xs in
     let right = cycle_of-cons y ys in
@@ -92,7 +97,7 @@ same_entry x y intervals octets =
     let made : ℕ → ℕ → GateEntry = λ interval octet. record { interval = interval; octet = octet } in
     ap₂ made intervals octets
 
-same_entries : (xs ys : List GateEntry) → AllPositive xs → AllPositive ys → NeighboursDiffer xs → NeighboursDiffer ys → AreAlike xs ys → xs ≡ ys
+pub same_entries : (xs ys : List GateEntry) → AllPositive xs → AllPositive ys → NeighboursDiffer xs → NeighboursDiffer ys → AreAlike xs ys → xs ≡ ys
 same_entries [] [] x_positive y_positive x_differ y_differ alike = refl
 same_entries [] (y ∷ ys) x_positive y_positive x_differ y_differ alike =
     let none = cycle_of-nil in
@@ -126,14 +131,15 @@ module _ (network : Network) (offsets : List ℕ) where
   wanted_once link t a b (inr (inr (_, no_guard, p))) (inr (inl (_, guard, q))) = absurd (no_guard guard)
   wanted_once link t a b (inr (inr (_, _, p))) (inr (inr (_, _, q))) = p ∙ sym q
 
-  shows_wanted : (list : LinkGates) → IsWantedList network offsets list → (t : ℕ) → t < network.cycle → IsWanted network offsets list.link t (octet_at list.entries t)
+  pub shows_wanted : (list : LinkGates) → IsWantedList network offsets list → (t : ℕ) → t < network.cycle
+      → IsWanted network offsets list.link t (octet_at list.entries t)
   shows_wanted list wanted t below =
       let whole = wanted.whole in
       let some : 1 ≤ cycle_of list.entries = omega arith in
       let at = octet_exists list.entries t some in
       subst (IsWanted network offsets list.link t) (sym (octet_at-is list.entries network.cycle t at.0 whole below at.1)) (wanted.wanted t at.0 below at.1)
 
-  same_list : (a b : LinkGates) → a.link ≡ b.link → IsWantedList network offsets a → IsWantedList network offsets b → a ≡ b
+  pub same_list : (a b : LinkGates) → a.link ≡ b.link → IsWantedList network offsets a → IsWantedList network offsets b → a ≡ b
   same_list a b links a_wanted b_wanted =
       let made : ℕ → List GateEntry → LinkGates = λ link entries. record { link = link; entries = entries } in
       ap₂ made links (same_entries a.entries b.entries a_wanted.positive b_wanted.positive a_wanted.differ b_wanted.differ (record {
@@ -149,7 +155,8 @@ module _ (network : Network) (offsets : List ℕ) where
 abbrev IsBefore : LinkGates → LinkGates → Type 0
 IsBefore a b = a.link < b.link
 
-same_head : (x : LinkGates) (xs : List LinkGates) (y : LinkGates) (ys : List LinkGates) → All (IsBefore x) xs → All (IsBefore y) ys → Contains (y ∷ ys) x → Contains (x ∷ xs) y → x ≡ y
+same_head : (x : LinkGates) (xs : List LinkGates) (y : LinkGates) (ys : List LinkGates) → All (IsBefore x) xs → All (IsBefore y) ys → Contains (y ∷ ys) x
+    → Contains (x ∷ xs) y → x ≡ y
 same_head x xs y ys x_first y_first x_there y_there = elim (Contains-cons_cases y ys x x_there) [
   | inl same ↦ sym same
   | inr behind ↦ elim (Contains-cons_cases x xs y y_there) [
@@ -161,7 +168,8 @@ same_head x xs y ys x_first y_first x_there y_there = elim (Contains-cons_cases 
   ]
 ]
 
-there_behind : (x : LinkGates) (xs : List LinkGates) (y : LinkGates) (ys : List LinkGates) → All (IsBefore x) xs → x ≡ y → ((l : LinkGates) → Contains (x ∷ xs) l → Contains (y ∷ ys) l)
+there_behind : (x : LinkGates) (xs : List LinkGates) (y : LinkGates) (ys : List LinkGates) → All (IsBefore x) xs → x ≡ y
+    → ((l : LinkGates) → Contains (x ∷ xs) l → Contains (y ∷ ys) l)
     → (l : LinkGates) → Contains xs l → Contains ys l
 there_behind x xs y ys x_first same to l there = elim (Contains-cons_cases y ys l (to l (Contains-more x xs l there))) [
   | inl first ↦
@@ -171,7 +179,8 @@ there_behind x xs y ys x_first same to l there = elim (Contains-cons_cases y ys 
   | inr behind ↦ behind
 ]
 
-same_lists : (xs ys : List LinkGates) → AllPairs IsBefore xs → AllPairs IsBefore ys → ((l : LinkGates) → Contains xs l → Contains ys l) → ((l : LinkGates) → Contains ys l → Contains xs l) → xs ≡ ys
+same_lists : (xs ys : List LinkGates) → AllPairs IsBefore xs → AllPairs IsBefore ys → ((l : LinkGates) → Contains xs l → Contains ys l)
+    → ((l : LinkGates) → Contains ys l → Contains xs l) → xs ≡ ys
 same_lists [] [] x_order y_order to from = refl
 same_lists [] (y ∷ ys) x_order y_order to from = absurd (Contains-nil y (from y (Contains-head y ys)))
 same_lists (x ∷ xs) [] x_order y_order to from = absurd (Contains-nil x (to x (Contains-head x xs)))
@@ -182,12 +191,25 @@ same_lists (x ∷ xs) (y ∷ ys) x_order y_order to from =
     ap₂ (λ z zs. z ∷ zs) same
     (same_lists xs ys (AllPairs-tail IsBefore x xs x_order) (AllPairs-tail IsBefore y ys y_order) (there_behind x xs y ys x_first same to) (there_behind y ys x xs y_first (sym same) from))
 
-module _ (network : Network) (offsets : List ℕ) where
-  there_too : (lists others : List LinkGates) → AreWantedLists network offsets lists → AreWantedLists network offsets others → (l : LinkGates) → Contains lists l → Contains others l
+-- of lists of which there is one for each link, in order
+module _ (network : Network) (IsList : LinkGates → Type 0) (once : (a b : LinkGates) → a.link ≡ b.link → IsList a → IsList b → a ≡ b) where
+  pub record AreListed (lists : List LinkGates) : Type 0 where
+    pub each : All IsList lists
+    pub used : All (λ list. IsUsed network list.link) lists
+    pub all_used : (link : ℕ) → IsUsed network link → Any (λ list. list.link ≡ link) lists
+    pub in_order : AllPairs (λ a b. a.link < b.link) lists
+
+  there_too : (lists others : List LinkGates) → AreListed lists → AreListed others → (l : LinkGates) → Contains lists l → Contains others l
   there_too lists others are others_are l there =
       let has = others_are.all_used l.link (All-contains (λ (list : LinkGates). IsUsed network list.link) lists l are.used there) in
       let found : Contains others has.1 = (has.0, has.2, has.3) in
-      subst (Contains others) (same_list network offsets has.1 l has.4 (All-contains (IsWantedList network offsets) others has.1 others_are.wanted found) (All-contains (IsWantedList network offsets) lists l are.wanted there)) found
+      subst (Contains others) (once has.1 l has.4 (All-contains IsList others has.1 others_are.each found) (All-contains IsList lists l are.each there)) found
 
+  pub listed_once : (lists others : List LinkGates) → AreListed lists → AreListed others → lists ≡ others
+  listed_once lists others are others_are = same_lists lists others are.in_order others_are.in_order (there_too lists others are others_are) (there_too others lists others_are are)
+
+module _ (network : Network) (offsets : List ℕ) where
   pub one_list_of_lists : (lists others : List LinkGates) → AreWantedLists network offsets lists → AreWantedLists network offsets others → lists ≡ others
-  one_list_of_lists lists others are others_are = same_lists lists others are.in_order others_are.in_order (there_too lists others are others_are) (there_too others lists others_are are)
+  one_list_of_lists lists others are others_are = listed_once network (IsWantedList network offsets) (same_list network offsets) lists others
+      (record { each = are.wanted; used = are.used; all_used = are.all_used; in_order = are.in_order })
+      (record { each = others_are.wanted; used = others_are.used; all_used = others_are.all_used; in_order = others_are.in_order })

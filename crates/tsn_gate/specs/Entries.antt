@@ -1,13 +1,13 @@
 -- The entries of a gate control list.
 --     octet_at, HasOctet, KeepsOctets, Appends      what they show when
---     AllLong, LastsLong                   how long they last
+--     AllLast, LastsOrNone                 how long they last
 --     IsTimeline                           entries that are being made
 --     IsGateList                           what every list keeps
 use Rattle.std.specs.Prelude.{◌≡◌, ◌≢◌, ℕ, ◌+◌, ◌-◌, ◌≤◌, ◌<◌, ◌⊎◌, List, [], ◌∷◌, length, All, if◌then◌else◌}
 use Rattle.std.specs.Prelude.{nat_lt}
 use Rattle.std.specs.List.{AllAdjacentBelow}
 use Rattle.tsn_model.specs.declared.GateEntry.{GateEntry}
-use Rattle.tsn_model.specs.Gates.{cycle_of, scheduled_octet}
+use Rattle.tsn_model.specs.Gates.{cycle_of}
 
 -- the octet at instant t, counted from the first entry's start; 0 past the last one's end
 unfoldable pub octet_at : List GateEntry → ℕ → ℕ
@@ -30,13 +30,13 @@ AllPositive entries = All (λ entry. 1 ≤ entry.interval) entries
 abbrev pub NeighboursDiffer : List GateEntry → Type 0
 NeighboursDiffer entries = AllAdjacentBelow (λ a b. a.octet ≢ b.octet) entries (length entries)
 
--- each entry lasts so long, unless the scheduled class alone is open in it
-abbrev pub AllLong : ℕ → List GateEntry → Type 0
-AllLong least entries = All (λ entry. (entry.octet ≡ scheduled_octet) ⊎ (least ≤ entry.interval)) entries
+-- each entry lasts so long
+abbrev pub AllLast : ℕ → List GateEntry → Type 0
+AllLast least entries = All (λ entry. least ≤ entry.interval) entries
 
--- the octet is the scheduled class's, or stands so long, or for no time
-abbrev pub LastsLong : ℕ → ℕ → ℕ → Type 0
-LastsLong least interval octet = (octet ≡ scheduled_octet) ⊎ (least ≤ interval) ⊎ (interval ≡ 0)
+-- so long, or no time
+abbrev pub LastsOrNone : ℕ → ℕ → Type 0
+LastsOrNone least interval = (least ≤ interval) ⊎ (interval ≡ 0)
 
 -- `new` shows the octet for the interval after all of `old`, and stays as tidy
 pub record Appends (old new : List GateEntry) (interval octet : ℕ) : Type 0 where
@@ -45,7 +45,7 @@ pub record Appends (old new : List GateEntry) (interval octet : ℕ) : Type 0 wh
   pub shown : HasOctet new (cycle_of old) (cycle_of old + interval) octet
   pub positive : AllPositive old → AllPositive new
   pub differ : NeighboursDiffer old → NeighboursDiffer new
-  pub long : (least : ℕ) → (octet ≡ scheduled_octet) ⊎ (least ≤ interval) → AllLong least old → AllLong least new
+  pub long : (least : ℕ) → least ≤ interval → AllLast least old → AllLast least new
 
 -- entries from the cycle's start to `end`, as few as there can be
 pub record IsTimeline (entries : List GateEntry) (end : ℕ) : Type 0 where

@@ -2,9 +2,11 @@ pub mod Entries
 pub mod Windows
 pub mod GateLists
 pub mod Merged
+pub mod Widened
 pub mod Fault
 pub mod Table
 pub mod Taprio
 pub mod Device
 pub mod Json
 pub mod Laws
+pub mod Examples

@@ -74,10 +74,15 @@ first_lines =
 unfoldable pub limits_text : ℕ → ℕ → List ℕ
 limits_text most least = codes "MOST=${MOST:-" ++ (decimal most ++ (codes "}\nLEAST=${LEAST:-" ++ (decimal least ++ codes "}\n")))
 
+-- what the variables make
+unfoldable pub setting_lines : List ℕ
+setting_lines =
+    codes "\ncase $FLAGS in\n'') CLOCK=\"clockid $CLOCKID\" ;;\n0x1 | 1) CLOCK=\"flags $FLAGS txtime-delay $TXTIME_DELAY clockid $CLOCKID\" ;;\n*) CLOCK=\"flags $FLAGS\" ;;\nesac\n\n# Ends the script where a variable is no number.\nnumber() {\n    case $2 in\n    '' | *[!0123456789]* | ???????????????????*)\n        echo \"$1 is no number of at most 18 digits: $2\" >&2\n        exit 1\n        ;;\n    esac\n}\nnumber MOST \"$MOST\"\nnumber LEAST \"$LEAST\"\n"
+
 -- what is done with each list
 unfoldable pub middle_lines : List ℕ
 middle_lines =
-    codes "\ncase $FLAGS in\n'') CLOCK=\"clockid $CLOCKID\" ;;\n0x1 | 1) CLOCK=\"flags $FLAGS txtime-delay $TXTIME_DELAY clockid $CLOCKID\" ;;\n*) CLOCK=\"flags $FLAGS\" ;;\nesac\nREFUSED=\n\n# Tells what a device doesn't take of its list: more than MOST entries, or one shorter than LEAST nanoseconds.\njudge() {\n    device=$1\n    entries=0\n    shortest=$LEAST\n    while [ $# -gt 0 ]; do\n        if [ \"$1\" = sched-entry ]; then\n            entries=$((entries + 1))\n            [ \"$4\" -ge \"$shortest\" ] || shortest=$4\n            shift 3\n        fi\n        shift\n    done\n    if [ \"$entries\" -gt \"$MOST\" ]; then\n        echo \"$device: $entries entries, more than $MOST\" >&2\n        REFUSED=1\n    fi\n    if [ \"$shortest\" -lt \"$LEAST\" ]; then\n        echo \"$device: an entry of $shortest ns, shorter than $LEAST\" >&2\n        REFUSED=1\n    fi\n}\n\n# Sets a list on its device.\nput() {\n    device=$1\n    shift\n    if [ -n \"$DRY\" ]; then\n        echo tc qdisc replace dev \"$device\" \"$@\"\n    else\n        tc qdisc replace dev \"$device\" \"$@\"\n    fi\n}\n\neach_list() {\n    :\n"
+    codes "REFUSED=\n\n# Tells what a device doesn't take of its list: more than MOST entries, or one shorter than LEAST nanoseconds.\njudge() {\n    device=$1\n    entries=0\n    shortest=$LEAST\n    while [ $# -gt 0 ]; do\n        if [ \"$1\" = sched-entry ]; then\n            entries=$((entries + 1))\n            [ \"$4\" -ge \"$shortest\" ] || shortest=$4\n            shift 3\n        fi\n        shift\n    done\n    if [ \"$entries\" -gt \"$MOST\" ]; then\n        echo \"$device: $entries entries, more than $MOST\" >&2\n        REFUSED=1\n    fi\n    if [ \"$shortest\" -lt \"$LEAST\" ]; then\n        echo \"$device: an entry of $shortest ns, shorter than $LEAST\" >&2\n        REFUSED=1\n    fi\n}\n\n# Sets a list on its device.\nput() {\n    device=$1\n    shift\n    if [ -n \"$DRY\" ]; then\n        echo tc qdisc replace dev \"$device\" \"$@\"\n    else\n        tc qdisc replace dev \"$device\" \"$@\"\n    fi\n}\n\neach_list() {\n    :\n"
 
 -- that none is set where one is refused
 unfoldable pub last_lines : List ℕ
@@ -88,9 +93,9 @@ last_lines =
 abbrev pub variables_text : ℕ → ℕ → NamedNetwork → List LinkGates → List ℕ
 variables_text most least problem lists = limits_text most least ++ flat_map (device_text problem) lists
 
--- the commands of the lists, between what is done with each
+-- the commands of the lists, between what is made and done with each
 abbrev pub commands_text : NamedNetwork → List LinkGates → List ℕ
-commands_text problem lists = middle_lines ++ (flat_map (part_text problem) lists ++ last_lines)
+commands_text problem lists = setting_lines ++ (middle_lines ++ (flat_map (part_text problem) lists ++ last_lines))
 
 -- the whole
 abbrev pub script_text_within : ℕ → ℕ → NamedNetwork → List LinkGates → List ℕ

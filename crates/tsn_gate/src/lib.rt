@@ -4,6 +4,7 @@
 mod device;
 pub mod fault;
 mod json;
+mod kept;
 pub mod laws;
 pub mod list;
 pub mod lists;
@@ -11,6 +12,7 @@ pub mod merged;
 mod sweep;
 pub mod taprio;
 mod timeline;
+mod widened;
 mod windows;
 
 pub use device::device_lines;

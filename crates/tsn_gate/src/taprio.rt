@@ -1,7 +1,7 @@
 //! Gate control lists as a script for Linux's taprio.
 ghost use Rattle.std.specs.Prelude.{◌≡◌, ◌++◌, ◌<◌, OnOk, IfOk, length, string_bytes, All};
 ghost use Rattle.std.specs.List.{flat_map};
-ghost use Rattle.tsn_gate.specs.Taprio.{escaped, escaped_byte, is_plain, comment_text, limits_text, link_comment, variable_text, device_text, step_text, opening_text, command_text, commands_text, first_lines, last_lines, middle_lines, part_text, variables_text, script_text, script_text_within};
+ghost use Rattle.tsn_gate.specs.Taprio.{escaped, escaped_byte, is_plain, comment_text, limits_text, link_comment, variable_text, device_text, step_text, opening_text, command_text, commands_text, first_lines, last_lines, middle_lines, part_text, setting_lines, variables_text, script_text, script_text_within};
 
 use crate::list::{GateList, names};
 use std::alloc::{AllocError, Global};
@@ -13,9 +13,13 @@ use tsn_net::Problem;
 const FIRST_LINES: &str =
     "#!/bin/sh\n# Each list is set on the device that its variable names, and none where that is empty.\n# BASE_TIME: when the first cycle begins, in nanoseconds of the clock CLOCKID.\n# FLAGS: empty where the kernel runs the lists, 0x2 where the device does, 0x1 for launch times, with TXTIME_DELAY.\n# DRY=1: print the commands and run none. FORCE=1: set lists that are refused for MOST or LEAST, too.\nset -eu\nCLOCKID=${CLOCKID:-CLOCK_TAI}\nBASE_TIME=${BASE_TIME:-0}\nFLAGS=${FLAGS:-}\nTXTIME_DELAY=${TXTIME_DELAY:-0}\nDRY=${DRY:-}\nFORCE=${FORCE:-}\n";
 
-/// The lines between the variables of the devices and the lists: what is done with each list.
+/// The lines behind the variables of the devices: what the variables make.
+const SETTING_LINES: &str =
+    "\ncase $FLAGS in\n'') CLOCK=\"clockid $CLOCKID\" ;;\n0x1 | 1) CLOCK=\"flags $FLAGS txtime-delay $TXTIME_DELAY clockid $CLOCKID\" ;;\n*) CLOCK=\"flags $FLAGS\" ;;\nesac\n\n# Ends the script where a variable is no number.\nnumber() {\n    case $2 in\n    '' | *[!0123456789]* | ???????????????????*)\n        echo \"$1 is no number of at most 18 digits: $2\" >&2\n        exit 1\n        ;;\n    esac\n}\nnumber MOST \"$MOST\"\nnumber LEAST \"$LEAST\"\n";
+
+/// The lines before the lists: what is done with each list.
 const MIDDLE_LINES: &str =
-    "\ncase $FLAGS in\n'') CLOCK=\"clockid $CLOCKID\" ;;\n0x1 | 1) CLOCK=\"flags $FLAGS txtime-delay $TXTIME_DELAY clockid $CLOCKID\" ;;\n*) CLOCK=\"flags $FLAGS\" ;;\nesac\nREFUSED=\n\n# Tells what a device doesn't take of its list: more than MOST entries, or one shorter than LEAST nanoseconds.\njudge() {\n    device=$1\n    entries=0\n    shortest=$LEAST\n    while [ $# -gt 0 ]; do\n        if [ \"$1\" = sched-entry ]; then\n            entries=$((entries + 1))\n            [ \"$4\" -ge \"$shortest\" ] || shortest=$4\n            shift 3\n        fi\n        shift\n    done\n    if [ \"$entries\" -gt \"$MOST\" ]; then\n        echo \"$device: $entries entries, more than $MOST\" >&2\n        REFUSED=1\n    fi\n    if [ \"$shortest\" -lt \"$LEAST\" ]; then\n        echo \"$device: an entry of $shortest ns, shorter than $LEAST\" >&2\n        REFUSED=1\n    fi\n}\n\n# Sets a list on its device.\nput() {\n    device=$1\n    shift\n    if [ -n \"$DRY\" ]; then\n        echo tc qdisc replace dev \"$device\" \"$@\"\n    else\n        tc qdisc replace dev \"$device\" \"$@\"\n    fi\n}\n\neach_list() {\n    :\n";
+    "REFUSED=\n\n# Tells what a device doesn't take of its list: more than MOST entries, or one shorter than LEAST nanoseconds.\njudge() {\n    device=$1\n    entries=0\n    shortest=$LEAST\n    while [ $# -gt 0 ]; do\n        if [ \"$1\" = sched-entry ]; then\n            entries=$((entries + 1))\n            [ \"$4\" -ge \"$shortest\" ] || shortest=$4\n            shift 3\n        fi\n        shift\n    done\n    if [ \"$entries\" -gt \"$MOST\" ]; then\n        echo \"$device: $entries entries, more than $MOST\" >&2\n        REFUSED=1\n    fi\n    if [ \"$shortest\" -lt \"$LEAST\" ]; then\n        echo \"$device: an entry of $shortest ns, shorter than $LEAST\" >&2\n        REFUSED=1\n    fi\n}\n\n# Sets a list on its device.\nput() {\n    device=$1\n    shift\n    if [ -n \"$DRY\" ]; then\n        echo tc qdisc replace dev \"$device\" \"$@\"\n    else\n        tc qdisc replace dev \"$device\" \"$@\"\n    fi\n}\n\neach_list() {\n    :\n";
 
 /// The last lines: each list is judged before any is set.
 const LAST_LINES: &str =
@@ -56,7 +60,7 @@ pub fn to_taprio(alloc: Global, problem: &Problem, lists: &[GateList]) -> Result
 /// traffic class. The device of link 4 is in the variable `DEV_4`, the clock in `CLOCKID` and the instant at which the first
 /// cycle begins in `BASE_TIME`; the caller's environment may set them, and `FLAGS`, `TXTIME_DELAY`, `DRY`, `FORCE`, `MOST` and
 /// `LEAST`, whose meaning the script says. It sets no list where a device's has more entries than the limits allow, or a
-/// shorter one, unless `FORCE` is set. A comment on each link names the nodes that it joins: in it a byte of no printable
+/// shorter one, unless `FORCE` is set, nor where `MOST` or `LEAST` is no number. A comment on each link names the nodes that it joins: in it a byte of no printable
 /// ASCII character, or of a backslash, stands as `\x` and its two hexadecimal digits.
 ///
 /// # Errors
@@ -100,6 +104,7 @@ fn write_commands(
     requires { All (λ list. list.link < length problem.now.network.links) lists.now }
     ensures { OnOk result (string_bytes text.new ≡ string_bytes text.old ++ commands_text problem.now lists.now) }
 {
+    write_setting(text)?;
     write_middle(text)?;
     write_parts(text, problem, lists)?;
     write_last(text)
@@ -111,6 +116,14 @@ fn first_text(alloc: Global) -> Result<String, AllocError>
     ensures { IfOk result (λ text. string_bytes text ≡ first_lines) }
 {
     String::from_str(alloc, FIRST_LINES)
+}
+
+/// Writes the lines behind the variables.
+#[tactic(auto, unfolding(crate::specs::Taprio::setting_lines))]
+fn write_setting(text: &mut String) -> Result<(), AllocError>
+    ensures { OnOk result (string_bytes text.new ≡ string_bytes text.old ++ setting_lines) }
+{
+    text.push_str(SETTING_LINES)
 }
 
 /// Writes the lines before the lists.

@@ -2,7 +2,7 @@
 
 ghost use Rattle.std.specs.Prelude.{◌≡◌, [], ℕ, ◌+◌, ◌-◌, ◌^◌, ◌≤◌, ◌<◌, OnOk, OnErr};
 ghost use Rattle.tsn_model.specs.Gates.{cycle_of};
-ghost use Rattle.tsn_gate.specs.Entries.{HasOctet, KeepsOctets, Appends, AllLong, LastsLong, IsTimeline, octet_at};
+ghost use Rattle.tsn_gate.specs.Entries.{HasOctet, KeepsOctets, Appends, AllLast, LastsOrNone, IsTimeline, octet_at};
 ghost use Rattle.tsn_gate.specs.Windows.{IsGapOctet};
 
 use std::alloc::{AllocError, Global};
@@ -44,7 +44,7 @@ impl Timeline {
         ensures end { OnOk result (self.new.end ≡ end) }
         ensures before { OnOk result (KeepsOctets self.old.entries.items self.new.entries.items self.old.end) }
         ensures shown { OnOk result (HasOctet self.new.entries.items self.old.end end octet) }
-        ensures long { OnOk result ((least : ℕ) → LastsLong least (end - self.old.end) octet → AllLong least self.old.entries.items → AllLong least self.new.entries.items) }
+        ensures long { OnOk result ((least : ℕ) → LastsOrNone least (end - self.old.end) → AllLast least self.old.entries.items → AllLast least self.new.entries.items) }
     {
         if self.end < end {
             append(

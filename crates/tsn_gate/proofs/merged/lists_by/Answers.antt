@@ -10,5 +10,6 @@ pub returns-in-None-clause-gates : goal.returns-in-None-clause-gates
 returns-in-None-clause-gates c =
     let network = c.args.problem.now.network in
     let offsets = c.args.valid.now in
-    IfOk-weaker c.gate_lists.result (λ (lists : Vec GateList). HasWantedGates network offsets lists.items) (λ (lists : Vec GateList). KeepsWantedGates network offsets lists.items)
+    IfOk-weaker c.gate_lists.result (λ (lists : Vec GateList). HasWantedGates network offsets lists.items)
+    (λ (lists : Vec GateList). KeepsWantedGates network offsets lists.items)
     (λ lists has. wanted_kept network offsets lists.items has) c.gate_lists.ensures.gates
