@@ -14,12 +14,14 @@ use Rattle.tsn_argue.specs.Faults.{IsWrongStep, known_by, AreRight, first_known,
 use Rattle.tsn_argue.specs.declared.fault.StepFault.{StepFault}
 use Rattle.tsn_check.specs.declared.fault.CheckFault.{CheckFault}
 use Rattle.tsn_check.specs.declared.fault.CheckFault.TheVariants.{PlanInvalid, FlowspanWrong}
-use Rattle.tsn_check.specs.Faults.{IsScheduleFault, IsClaimFault, IsPlanRight}
+use Rattle.tsn_check.specs.Plans.{IsPlanRight}
+use Rattle.tsn_check.specs.Faults.{IsScheduleFault, IsClaimFault}
 use Rattle.tsn_cert.specs.declared.plan.Plan.{Plan}
 use Rattle.tsn_cert.specs.declared.plan.Plan.TheVariants as plan
 use Rattle.tsn_argument.specs.declared.argument.Argument.{Argument}
 use Rattle.tsn_argument.specs.Meaning.{steps_of}
-use Rattle.tsn_argue.specs.Faults.{IsFitting, Shows, IsShowFault}
+use Rattle.tsn_argue.specs.Certified.{IsFitting, Shows}
+use Rattle.tsn_argue.specs.Faults.{IsShowFault}
 use Rattle.tsn_argue.proofs.FirstLemmas.{first_wrong_refutes, one_first_wrong, same_place, all_there, none_before}
 use Rattle.std.proofs.lemmas.Option.{slice_get_within}
 use Rattle.tsn_argue.proofs.StepLemmas.{AreAllowed-at, AreRight-at, concluded}

@@ -12,10 +12,11 @@ use Rattle.tsn_argument.specs.declared.argument.Argument.{Argument}
 use Rattle.tsn_argument.specs.declared.argument.Goal.{Goal}
 use Rattle.tsn_argument.specs.declared.argument.Goal.TheVariants as aim
 use Rattle.tsn_argument.specs.declared.step.Step.{Step}
-use Rattle.tsn_check.specs.Faults.{IsPlanRight, IsOptimalPlan, IsFirstPlan}
+use Rattle.tsn_check.specs.Plans.{IsPlanRight, IsOptimalPlan, IsFirstPlan}
 use Rattle.tsn_check.specs.declared.fault.CheckFault.{CheckFault}
 use Rattle.tsn_check.specs.declared.verdict.Verdict.TheVariants.{Optimal, First, NoSchedule}
-use Rattle.tsn_argue.specs.Faults.{IsArgumentFault, goal_for, IsFitting, Shows, argument_verdict, IsShowFault}
+use Rattle.tsn_argue.specs.Certified.{goal_for, IsFitting, Shows, argument_verdict}
+use Rattle.tsn_argue.specs.Faults.{IsArgumentFault, IsShowFault}
 
 -- ---- what a goal shows of a plan
 

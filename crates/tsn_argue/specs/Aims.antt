@@ -6,7 +6,7 @@ use Rattle.tsn_cert.specs.declared.plan.Plan.{Plan}
 use Rattle.tsn_argument.specs.declared.argument.Argument.{Argument}
 use Rattle.tsn_check.specs.declared.fault.CheckFault.{CheckFault}
 use Rattle.tsn_check.specs.declared.fault.CheckFault.TheVariants.{FlowspanWrong}
-use Rattle.tsn_argue.specs.Faults.{IsFitting}
+use Rattle.tsn_argue.specs.Certified.{IsFitting}
 use Rattle.tsn_argue.specs.Steps.{goal_of, IsAim}
 use Rattle.tsn_argue.specs.declared.aim.Aim.{Aim}
 

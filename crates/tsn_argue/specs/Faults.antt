@@ -1,30 +1,27 @@
--- What an argument of a plan shows, and the first reason why it shows nothing.
---     goal_for, IsFitting                              what the argument is to show of a plan
---     Holds                                            the plan is right, and so is the argument
+-- The first reason why an argument shows nothing of a plan.
 --     IsWrongFact                                      what is wrong with a fact of a clause
 --     IsWrongStream, IsWrongChoice, IsWrongMove        what is wrong with a move on a view
 --     IsWrongStep                                      what is wrong with a step
 --     IsArgumentFault, IsFirstFault                    the first fault of an argument, and of a plan and a certificate
-use Rattle.std.specs.Prelude.{◌≡◌, ◌≢◌, ◌⊎◌, ℕ, ◌<◌, ◌≤◌, List, [], ◌∷◌, length, Option, Some, None, pos, ◌+ℤ◌, ◌≤ℤ◌, ◌<ℤ◌, All, AllPairs, Contains}
+use Rattle.std.specs.Prelude.{◌≡◌, ◌≢◌, ◌⊎◌, ℕ, ◌<◌, ◌≤◌, List, [], ◌∷◌, length, pos, ◌+ℤ◌, ◌≤ℤ◌, ◌<ℤ◌, All, AllPairs, Contains}
 use Rattle.tsn_model.specs.declared.Decision.{Decision}
 use Rattle.tsn_model.specs.Network.{Network, stream_count}
 use Rattle.tsn_model.specs.Timing.{UsesLink}
-use Rattle.tsn_model.specs.Schedule.{IsConflict, target_of}
+use Rattle.tsn_model.specs.Schedule.{IsConflict}
 use Rattle.tsn_model.specs.Arcs.{arc_of}
 use Rattle.tsn_model.specs.Argument as model
-use Rattle.tsn_model.specs.Argument.{goal_first, goal_least, goal_none, from, until, order, done_from, done_until, IsFact, View, IsImpossible, first_head, last_end, work_on, AreOn, AreSome, go, turn, apply, arrive, put_last, put_first, pack, round, turned, left_open, clause_at, LeadsBy, weight_by, IsOutOfReach, IsAllowed, AreAllowed, narrowed, first_ground, Known, begun, ended, IsRight, known_after, IsSettled, Argues}
+use Rattle.tsn_model.specs.Argument.{from, until, order, done_from, done_until, IsFact, View, IsImpossible, first_head, last_end, work_on, AreOn, AreSome, go, turn, apply, arrive, put_last, put_first, pack, round, turned, left_open, clause_at, LeadsBy, weight_by, IsOutOfReach, AreAllowed, narrowed, first_ground, Known, begun, ended, IsRight, known_after, IsSettled}
 use Rattle.tsn_cert.specs.declared.plan.Plan.{Plan}
 use Rattle.tsn_cert.specs.declared.plan.Plan.TheVariants as plan
 use Rattle.tsn_argument.specs.Meaning.{steps_of}
 use Rattle.tsn_argument.specs.declared.argument.Argument.{Argument}
 use Rattle.tsn_argument.specs.declared.argument.Goal.{Goal}
-use Rattle.tsn_argument.specs.declared.argument.Goal.TheVariants as aim
 use Rattle.tsn_argument.specs.declared.certificate.Certificate.{Certificate}
 use Rattle.tsn_argument.specs.declared.certificate.Certificate.TheVariants.{Tree, Argument as Argued}
 use Rattle.tsn_check.specs.Faults as tree
-use Rattle.tsn_check.specs.Faults.{offsets_in, IsPlanRight, IsClaimFault, verdict_of}
-use Rattle.tsn_check.specs.declared.verdict.Verdict.{Verdict}
-use Rattle.tsn_check.specs.declared.verdict.Verdict.TheVariants.{Optimal, First, NoSchedule}
+use Rattle.tsn_check.specs.Plans.{IsPlanRight}
+use Rattle.tsn_argue.specs.Certified.{IsFitting}
+use Rattle.tsn_check.specs.Faults.{IsClaimFault}
 use Rattle.tsn_check.specs.declared.fault.CheckFault.{CheckFault}
 use Rattle.tsn_check.specs.declared.fault.CheckFault.TheVariants.{FlowspanWrong, TreeUnfinished, TreeTooLong, NotConflict, ChainBroken, BoundTooLow, StreamRepeated, NotOnLink}
 use Rattle.tsn_argue.specs.First.{IsFirstWrong}
@@ -154,45 +151,12 @@ IsArgumentFault network goal steps fault =
 
 -- ---- plans and certificates
 
--- what an argument of this goal is to show of the plan, where the goal fits it: a schedule, or that there is none
-abbrev pub goal_for : Goal → Plan → Option model.Goal
-goal_for aim.First (plan.Schedule span offsets) = Some (goal_first offsets)
-goal_for aim.Least (plan.Schedule span offsets) = Some (goal_least offsets)
-goal_for aim.None plan.None = Some goal_none
-goal_for _ _ = None
-
--- the target is that of the plan, and the goal fits it
-abbrev pub IsFitting : Network → Plan → Argument → model.Goal → Type 0
-IsFitting network plan argument goal = (argument.target ≡ target_of network (offsets_in plan)) × (goal_for argument.goal plan ≡ Some goal)
-
--- the plan is right, and the argument shows its goal of it
-pub record Shows (network : Network) (plan : Plan) (argument : Argument) : Type 0 where
-  pub plan_right : IsPlanRight network plan
-  pub goal : model.Goal
-  pub fitting : IsFitting network plan argument goal
-  pub argues : Argues network goal (steps_of argument.steps)
-
--- what a right argument of the plan shows
-abbrev pub argument_verdict : Goal → Verdict
-argument_verdict aim.First = First
-argument_verdict aim.Least = Optimal
-argument_verdict aim.None = NoSchedule
-
 -- the first fault of a plan and an argument: of the plan, then of the target and the goal, then of the steps in order
 abbrev pub IsShowFault : Network → Plan → Argument → CheckFault → Type 0
 IsShowFault network plan argument fault =
     IsClaimFault network plan fault
     ⊎ (IsPlanRight network plan × ((goal : model.Goal) → IsFitting network plan argument goal → ⊥) × (fault ≡ FlowspanWrong))
     ⊎ (IsPlanRight network plan × ((goal : model.Goal) × IsFitting network plan argument goal × IsArgumentFault network goal (steps_of argument.steps) fault))
-
--- a certificate of either kind shows what it is to show of the plan
-abbrev pub Certifies : Network → Plan → Certificate → Type 0
-Certifies network plan (Tree cert) = tree.Certifies network plan cert
-Certifies network plan (Argued argument) = Shows network plan argument
-
-abbrev pub certificate_verdict : Certificate → Plan → Verdict
-certificate_verdict (Tree cert) plan = verdict_of cert.format plan
-certificate_verdict (Argued argument) plan = argument_verdict argument.goal
 
 -- the first fault of a plan and a certificate of either kind
 abbrev pub IsFirstFault : Network → Plan → Certificate → CheckFault → Type 0

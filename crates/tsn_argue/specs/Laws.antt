@@ -4,7 +4,8 @@ use Rattle.tsn_model.specs.Network.{Network}
 use Rattle.tsn_cert.specs.declared.plan.Plan.{Plan}
 use Rattle.tsn_argument.specs.declared.certificate.Certificate.{Certificate}
 use Rattle.tsn_check.specs.declared.fault.CheckFault.{CheckFault}
-use Rattle.tsn_argue.specs.Faults.{Certifies, IsFirstFault}
+use Rattle.tsn_argue.specs.Certified.{Certifies}
+use Rattle.tsn_argue.specs.Faults.{IsFirstFault}
 
 -- a plan and a certificate with a first fault show nothing, and have no other first fault
 abbrev pub FirstFaultsRefute : Type 0

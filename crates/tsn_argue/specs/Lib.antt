@@ -1,4 +1,5 @@
 pub mod First
+pub mod Certified
 pub mod Faults
 pub mod Numbers
 pub mod Seen

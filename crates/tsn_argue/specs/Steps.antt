@@ -6,7 +6,7 @@ use Rattle.std.specs.Prelude.{◌≡◌, ℕ, ◌<◌, List, [], ◌∷◌, ◌+
 use Rattle.tsn_model.specs.Network.{Network}
 use Rattle.tsn_model.specs.Schedule.{IsValid, flowspan, offset_of}
 use Rattle.tsn_model.specs.Argument as model
-use Rattle.tsn_model.specs.Argument.{goal_first, goal_least, goal_none, IsFact, IsImpossible, low_at, opposite, learned, learned_all, narrowed, IsAllowed, AreAllowed, shown, capped, settled, first_ground, begun, ended, IsRight, known_after}
+use Rattle.tsn_model.specs.Argument.{goal_first, goal_least, goal_none, IsFact, IsImpossible, low_at, learned, learned_all, narrowed, IsAllowed, AreAllowed, shown, capped, first_ground, ended, IsRight, known_after}
 use Rattle.tsn_check.specs.declared.fault.CheckFault.{CheckFault}
 use Rattle.tsn_check.specs.declared.fault.CheckFault.TheVariants.{Memory}
 use Rattle.tsn_argue.specs.First.{IsFirstWrong}

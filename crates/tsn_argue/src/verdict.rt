@@ -1,8 +1,10 @@
 //! Whether a certificate of either kind shows what it is to show of a plan.
 ghost use Rattle.std.specs.Prelude.{◌≡◌, ◌⊎◌, IfOk, IfErr, IsOkUnless, Ok, OnOk};
 ghost use Rattle.tsn_model.specs.Schedule.{HasNoSchedule};
-ghost use Rattle.tsn_check.specs.Faults.{IsOptimalPlan, IsFirstPlan, IsPlanRight, IsClaimFault};
-ghost use Rattle.tsn_argue.specs.Faults.{Shows, IsShowFault, Certifies, IsFirstFault, argument_verdict, certificate_verdict};
+ghost use Rattle.tsn_check.specs.Plans.{IsOptimalPlan, IsFirstPlan, IsPlanRight};
+ghost use Rattle.tsn_check.specs.Faults.{IsClaimFault};
+ghost use Rattle.tsn_argue.specs.Certified.{Shows, Certifies, argument_verdict, certificate_verdict};
+ghost use Rattle.tsn_argue.specs.Faults.{IsShowFault, IsFirstFault};
 ghost use Rattle.tsn_argue.specs.Aims.{FindsAim};
 
 use crate::aim::Aim;

@@ -2,3 +2,4 @@ pub mod Parts
 pub mod Spelled
 pub mod Shape
 pub mod TextParts
+pub mod Plain

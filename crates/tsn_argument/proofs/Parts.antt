@@ -1,22 +1,27 @@
 -- Lists, facts, moves and steps that are printed are read again.
-use Rattle.std.proofs.Common.{◌≡◌, ◌≤◌, ◌<◌, ◌+◌, ℕ, List, [], ◌∷◌, ◌++◌, length, take, get_or, map, true, Option, Some, refl, sym, ap, ap₂, ◌∙◌, arith, Vec}
+use Rattle.std.proofs.Common.{◌≡◌, ◌≤◌, ◌<◌, ◌+◌, ℕ, List, [], ◌∷◌, ◌++◌, length, take, get_or, map, Bool, true, Option, Some, refl, sym, ap, ap₂, ◌∙◌, arith, Vec}
 use Rattle.std.proofs.lemmas.Bool.Decides.{nat_tests}
 use Rattle.std.specs.Prelude.{option_and_then, option_map, nat_le, ◌&&◌}
+use Rattle.std.specs.List.{list_all}
 use Rattle.std.proofs.lemmas.List.{take_more, map-append}
+use Rattle.std.proofs.lemmas.List.Folds.{list_all_more}
 use Rattle.std.specs.declared.alloc.Global.{Global}
-use Rattle.serde_json.specs.Data.{Data}
+use Rattle.serde_json.specs.Data.{Data, string}
 use Rattle.serde_json.specs.View.{view}
 use Rattle.serde_json.specs.declared.value.Value.{Value, Array}
 use Rattle.tsn_cert.specs.Json.{when, each, elements, array_value}
 use Rattle.tsn_cert.proofs.JsonLemmas.{listed-items_of_list, view-printed, taken_all, numbers-array_value, each-printed}
 use Rattle.tsn_cert.proofs.CertLemmas.{each_push}
-use Rattle.tsn_argument.specs.Argument.{streams_of, streams_value, order_in, order_value, order_list, orders_of, orders_value, fact_in, fact_value, clause_in, clause_value, placing_parts, placing_items, move_in, move_value, moves_in, moves_value, step_in, step_value}
+use Rattle.tsn_argument.specs.Argument.{streams_of, streams_value, order_in, order_value, order_list, orders_of, orders_value, fact_in, fact_value, clause_in, clause_value, placing_parts, placing_items, move_in, move_value, moves_in, moves_value, step_in, step_value, steps_in, steps_value, goal_of, goal_word, argument_of, argument_value}
 use Rattle.tsn_argument.specs.declared.order.Order.{Order}
 use Rattle.tsn_argument.specs.declared.fact.Fact.{Fact}
 use Rattle.tsn_argument.specs.declared.fact.Fact.TheVariants as fact
 use Rattle.tsn_argument.specs.declared.motion.Placing.{Placing}
 use Rattle.tsn_argument.specs.declared.motion.Move.TheVariants as form
 use Rattle.tsn_argument.specs.declared.step.Step.{Step}
+use Rattle.tsn_argument.specs.declared.argument.Argument.{Argument}
+use Rattle.tsn_argument.specs.declared.argument.Goal.{Goal}
+use Rattle.tsn_argument.specs.declared.argument.Goal.TheVariants as aim
 
 -- ---- a loop that prints each element
 
@@ -119,3 +124,26 @@ step_back s moves =
     let rest = moves_in (moves_value s.moves) in
     ap (λ o. option_and_then (λ fs. option_and_then (λ ms. Some (record { clause = fs; moves = ms })) rest) o) (clause_back s.clause)
     ∙ ap (λ o. option_and_then (λ ms. Some (record { clause = s.clause; moves = ms })) o) moves
+
+-- ---- arguments
+
+goal_back : (g : Goal) → goal_of (string (goal_word g)) ≡ Some g
+goal_back aim.First = refl
+goal_back aim.Least = refl
+goal_back aim.None = refl
+
+pub argument_back : (a : Argument) → steps_in (steps_value a.steps) ≡ Some a.steps → argument_of (argument_value a) ≡ Some a
+argument_back a steps =
+    let rest = steps_in (steps_value a.steps) in
+    ap (λ o. option_and_then (λ g. option_and_then (λ ss. Some (record { goal = g; target = a.target; steps = ss })) rest) o) (goal_back a.goal)
+    ∙ ap (λ o. option_and_then (λ ss. Some (record { goal = a.goal; target = a.target; steps = ss })) o) steps
+
+-- ---- whether all of a list fit
+
+pub fits_more : {X : Type 0} (fits : X → Bool) (xs : List X) (i : ℕ) (x : X) (old new : Bool) (fit : Bool) → i < length xs → x ≡ get_or xs i x
+    → old ≡ list_all fits (take i xs) → fit ≡ fits x → new ≡ (old && fit) → new ≡ list_all fits (take (i + 1) xs)
+fits_more fits xs i x old new fit within is before here both =
+    both ∙ ap₂ (λ a b. a && b) before (here ∙ ap fits is) ∙ sym (list_all_more fits xs i x within)
+
+pub fits_all : {X : Type 0} (fits : X → Bool) (xs : List X) (i : ℕ) (all : Bool) → length xs ≤ i → all ≡ list_all fits (take i xs) → all ≡ list_all fits xs
+fits_all fits xs i all done e = e ∙ ap (list_all fits) (taken_all xs i done)

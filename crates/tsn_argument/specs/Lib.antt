@@ -2,4 +2,5 @@ pub mod Meaning
 pub mod Argument
 pub mod Certificate
 pub mod Text
+pub mod Laws
 pub mod Spelled

@@ -1,3 +1,8 @@
+ghost use Rattle.std.specs.Prelude.{◌≡◌, true};
+ghost use Rattle.tsn_argument.specs.Argument.{argument_fits};
+ghost use Rattle.tsn_argument.specs.Laws.{ArgumentIsReadAgain};
+
+use crate::limits;
 use crate::step::Steps;
 
 /// The number by which a file tells that it holds an argument.
@@ -20,4 +25,14 @@ pub struct Argument {
     pub goal: Goal,
     pub target: u64,
     pub steps: Steps,
+}
+
+impl Argument {
+    /// Whether each number of the argument is within its limit in a file, so that its file is read again as this argument.
+    pub fn is_within_limits(&self) -> bool
+        ensures fits { result ≡ argument_fits self.now }
+        ensures reads_back { result ≡ true → ArgumentIsReadAgain self.now }
+    {
+        limits::fits(self)
+    }
 }

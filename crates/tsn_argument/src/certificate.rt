@@ -1,7 +1,8 @@
-ghost use Rattle.std.specs.Prelude.{◌≡◌, IfOk, IsTrue, Some, Ok, string_bytes};
+ghost use Rattle.std.specs.Prelude.{◌≡◌, IfOk, IsTrue, OnOk, Some, Ok, string_bytes};
 ghost use Rattle.tsn_cert.specs.Fault.{Gives, shaped};
 ghost use Rattle.tsn_argument.specs.Argument.{argument_fits, argument_in, argument_text};
 ghost use Rattle.tsn_argument.specs.Certificate.{certificate_fits, certificate_in, certificate_text, is_of_format};
+ghost use Rattle.tsn_argument.specs.Laws.{IsArgumentInGrammar};
 
 use crate::argument::Argument;
 use crate::{limits, print, quick, read};
@@ -108,6 +109,7 @@ pub fn argument_to_json(alloc: Global, argument: &Argument) -> Result<String, No
     // What is printed is read again.
     ensures reads_back { IfOk result (λ s. IsTrue (argument_fits argument.now)
         → argument_in (string_bytes s) ≡ Ok argument.now) }
+    ensures grammar { OnOk result (IsArgumentInGrammar argument.now) }
 {
     let value = print::argument_value(alloc, argument)?;
     Ok(document::file_text(alloc, &value)?)

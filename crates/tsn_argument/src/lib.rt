@@ -4,6 +4,7 @@
 pub mod argument;
 pub mod certificate;
 pub mod fact;
+pub mod laws;
 mod limits;
 pub mod motion;
 pub mod order;
@@ -18,6 +19,7 @@ pub use certificate::{
     Certificate, argument_from_json, argument_to_json, certificate_from_json, certificate_to_json,
 };
 pub use fact::{Clause, Fact};
+pub use laws::certificate_text_is_read;
 pub use motion::{Move, Moves, Placing};
 pub use order::{Order, Orders};
 pub use step::{Step, Steps, Streams};

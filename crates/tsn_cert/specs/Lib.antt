@@ -7,4 +7,5 @@ pub mod Leaf
 pub mod Node
 pub mod Cert
 pub mod Text
+pub mod Laws
 pub mod Spelled

@@ -1,6 +1,7 @@
 //! The text of a certificate in parts: its beginning, its nodes one after another, and its end.
-ghost use Rattle.std.specs.Prelude.{◌≡◌, IfOk, string_bytes};
+ghost use Rattle.std.specs.Prelude.{◌≡◌, IfOk, OnOk, string_bytes};
 ghost use Rattle.tsn_cert.specs.Node.{tree_node};
+ghost use Rattle.tsn_cert.specs.Laws.{IsInGrammar};
 ghost use Rattle.tsn_cert.specs.Text.{head_text, node_text, tail_text, CertTextHasParts};
 
 use crate::cert::{Format, Node, node_value};
@@ -22,7 +23,8 @@ pub fn head_to_json(alloc: Global, format: Format) -> Result<String, NoMemory>
 
 /// The text of a node, behind a comma where it is a later one than the first.
 pub fn node_to_json(alloc: Global, later: bool, node: &Node) -> Result<String, NoMemory>
-    ensures { IfOk result (λ s. string_bytes s ≡ node_text later (tree_node node.now)) }
+    ensures text { IfOk result (λ s. string_bytes s ≡ node_text later (tree_node node.now)) }
+    ensures grammar { OnOk result (IsInGrammar (tree_node node.now)) }
 {
     let value = node_value(alloc, node)?;
     let text = value.to_string(alloc)?;

@@ -15,7 +15,9 @@ use Rattle.tsn_check.specs.Numbers.{fault_at}
 use Rattle.tsn_check.specs.Steps.{IsWrongEntry, IsRightEntry, HasFault}
 use Rattle.tsn_check.specs.declared.fault.NodeFault.{NodeFault}
 use Rattle.tsn_check.specs.declared.fault.NodeFault.TheVariants as kinds
-use Rattle.tsn_check.specs.Faults.{offsets_in, leaf_target, tie_plan, IsFirstWrong, Stands, IsTreeFault, IsScheduleFault, IsClaimFault, IsFirstFault}
+use Rattle.tsn_check.specs.Plans.{offsets_in}
+use Rattle.tsn_check.specs.Certified.{leaf_target, tie_plan}
+use Rattle.tsn_check.specs.Faults.{IsFirstWrong, Stands, IsTreeFault, IsScheduleFault, IsClaimFault, IsFirstFault}
 use Rattle.tsn_check.specs.declared.fault.CheckFault.{CheckFault}
 use Rattle.tsn_check.specs.declared.fault.CheckFault.TheVariants.{PlanInvalid, FlowspanWrong, TreeUnfinished, TreeTooLong, NotConflict, ChainBroken, BoundTooLow, StreamRepeated, NotOnLink, Memory}
 use Rattle.tsn_check.proofs.Refusals.{there_below, entry_right, wrong_not_right, first_wrong_refutes, chain_broken, repeated_wrong, off_link_wrong, fault_wrong}

@@ -7,3 +7,4 @@ mod Firsts
 mod Kept
 mod Ties
 mod DecidedArcs
+mod Fitting

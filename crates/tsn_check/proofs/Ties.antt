@@ -10,7 +10,8 @@ use Rattle.tsn_model.specs.Schedule.{offset_of}
 use Rattle.tsn_model.specs.Certificate.{Leaf, Proves, HasBound, AreChains, Ties, leaf_node, tie_node, sum_on, chain_at, SumsAre, ShowsAfter}
 use Rattle.tsn_cert.specs.declared.plan.Plan.{Plan}
 use Rattle.tsn_cert.specs.declared.plan.Plan.TheVariants as plan
-use Rattle.tsn_check.specs.Faults.{HasChains, IsPlanRight, offsets_in, span_in}
+use Rattle.tsn_check.specs.Plans.{IsPlanRight, offsets_in, span_in}
+use Rattle.tsn_check.specs.Faults.{HasChains}
 use Rattle.tsn_check.specs.Steps.{HasFault, HasPartFault}
 use Rattle.tsn_check.specs.declared.fault.NodeFault.{NodeFault}
 use Rattle.tsn_check.specs.declared.fault.NodeFault.TheVariants as kinds

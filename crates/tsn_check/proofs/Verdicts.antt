@@ -15,7 +15,9 @@ use Rattle.tsn_cert.specs.declared.cert.Format.TheVariants.{One, Two}
 use Rattle.tsn_model.specs.Certificate as tree
 use Rattle.tsn_model.specs.Places.{Fills}
 use Rattle.tsn_check.specs.Claims.{IsClaim}
-use Rattle.tsn_check.specs.Faults.{Certifies, leaf_target, tie_plan, span_in, IsPlanRight, IsOptimalPlan, IsFirstPlan, IsClaimFault, IsScheduleFault, IsFirstFault, IsTreeFault, offsets_in, verdict_of}
+use Rattle.tsn_check.specs.Plans.{span_in, IsPlanRight, IsOptimalPlan, IsFirstPlan, offsets_in}
+use Rattle.tsn_check.specs.Certified.{Certifies, leaf_target, tie_plan, verdict_of}
+use Rattle.tsn_check.specs.Faults.{IsClaimFault, IsScheduleFault, IsFirstFault, IsTreeFault}
 use Rattle.tsn_check.specs.declared.verdict.Verdict.TheVariants.{Optimal, First, NoSchedule}
 use Rattle.tsn_check.specs.declared.fault.CheckFault.{CheckFault}
 use Rattle.tsn_check.specs.declared.fault.CheckFault.TheVariants.{PlanInvalid, FlowspanWrong, TreeUnfinished, TreeTooLong, NotConflict, ChainBroken, BoundTooLow, StreamRepeated, NotOnLink, Memory}

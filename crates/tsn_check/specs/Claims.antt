@@ -5,7 +5,7 @@ use Rattle.tsn_model.specs.Schedule.{target_of}
 use Rattle.tsn_cert.specs.declared.plan.Plan.{Plan}
 use Rattle.tsn_cert.specs.declared.plan.TheConstants.{MAX_TIME}
 use Rattle.tsn_conflict.specs.Kept.{AreConflictsOf}
-use Rattle.tsn_check.specs.Faults.{IsPlanRight, offsets_in}
+use Rattle.tsn_check.specs.Plans.{IsPlanRight, offsets_in}
 use Rattle.tsn_check.specs.declared.claim.Claim.{Claim}
 
 pub record IsClaim (network : Network) (plan : Plan) (target : ℕ) : Type 0 where

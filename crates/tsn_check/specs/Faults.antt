@@ -1,43 +1,25 @@
--- What a certificate of a plan shows, and the first reason why it shows nothing.
---     leaf_target, tie_plan                            what the leaves of a format show, and with which schedule they may tie
---     Certifies                                        the plan is right, and the nodes spell an accepted tree
+-- The first reason why a certificate shows nothing of a plan.
+--     IsScheduleFault, IsPlanFault, IsClaimFault       the first fault of a plan
 --     IsFirstFault                                     the first fault of a plan and a certificate
 --     IsFirstWrong                                     the first entry of a leaf that isn't right
 --     IsNoConflict, IsNotOnLink, IsStreamRepeated, IsChainBroken, IsBoundTooLow      what is wrong with a node at the end of a path
-use Rattle.std.specs.Prelude.{◌≡◌, ◌≢◌, ◌⊎◌, ℕ, ◌<◌, List, [], ◌∷◌, length, take, slice_get, Option, Some, None, IsSomeAnd, All, Any}
+use Rattle.std.specs.Prelude.{◌≡◌, ◌≢◌, ◌⊎◌, ℕ, ◌<◌, List, [], ◌∷◌, length, take, slice_get, Option, Some, IsSomeAnd, All, Any}
 use Rattle.tsn_model.specs.declared.Decision.{Decision}
 use Rattle.tsn_model.specs.Network.{Network}
 use Rattle.tsn_model.specs.Timing.{UsesLink}
-use Rattle.tsn_model.specs.Schedule.{IsValid, flowspan, target_of, IsOptimal, IsFirst, IsConflict}
+use Rattle.tsn_model.specs.Schedule.{IsValid, flowspan, target_of, IsConflict}
 use Rattle.tsn_model.specs.Arcs.{arcs_of, IsClosedChain}
-use Rattle.tsn_model.specs.Certificate.{Leaf, late, overrun, positive_cycle, load, overload, Entry, LeadsTo, AreEntries, Proves, beyond, AreChains, Ties, Tree, AcceptsBy, Node, split_node, leaf_node, tie_node, IsNodeShown, Spells}
+use Rattle.tsn_model.specs.Certificate.{Leaf, late, overrun, positive_cycle, load, overload, Entry, LeadsTo, AreEntries, Proves, AreChains, Ties, Node, split_node, leaf_node, tie_node, IsNodeShown}
 use Rattle.tsn_cert.specs.declared.plan.Plan.{Plan}
 use Rattle.tsn_cert.specs.declared.plan.Plan.TheVariants as plan
 use Rattle.tsn_cert.specs.declared.cert.Cert.{Cert}
-use Rattle.tsn_cert.specs.declared.cert.Format.{Format}
-use Rattle.tsn_cert.specs.declared.cert.Format.TheVariants.{One, Two}
 use Rattle.tsn_model.specs.Places.{AreRight, places_after}
-use Rattle.tsn_check.specs.declared.verdict.Verdict.{Verdict}
-use Rattle.tsn_check.specs.declared.verdict.Verdict.TheVariants.{Optimal, First, NoSchedule}
+use Rattle.tsn_check.specs.Plans.{IsPlanRight, offsets_in}
+use Rattle.tsn_check.specs.Certified.{leaf_target, tie_plan}
 use Rattle.tsn_check.specs.declared.fault.CheckFault.{CheckFault}
 use Rattle.tsn_check.specs.declared.fault.CheckFault.TheVariants.{PlanInvalid, FlowspanWrong, TreeUnfinished, TreeTooLong, NotConflict, ChainBroken, BoundTooLow, StreamRepeated, NotOnLink}
 
 -- ---- plans
-
--- the offsets of the plan, if it is a schedule
-abbrev pub offsets_in : Plan → Option (List ℕ)
-offsets_in (plan.Schedule span offsets) = Some offsets
-offsets_in plan.None = None
-
--- its flowspan, 0 where it is that there is no schedule
-abbrev pub span_in : Plan → ℕ
-span_in (plan.Schedule span offsets) = span
-span_in plan.None = 0
-
--- the plan is a valid schedule with its own flowspan, or that there is none
-abbrev pub IsPlanRight : Network → Plan → Type 0
-IsPlanRight network (plan.Schedule span offsets) = IsValid network offsets × (span ≡ flowspan network offsets)
-IsPlanRight network plan.None = Unit {0}
 
 -- the first fault of a schedule: its offsets aren't valid, or its flowspan isn't theirs
 abbrev pub IsScheduleFault : Network → ℕ → List ℕ → CheckFault → Type 0
@@ -54,43 +36,6 @@ IsPlanFault network plan.None fault = fault ≡ PlanInvalid
 abbrev pub IsClaimFault : Network → Plan → CheckFault → Type 0
 IsClaimFault network (plan.Schedule span offsets) fault = IsScheduleFault network span offsets fault
 IsClaimFault network plan.None fault = ⊥
-
--- ---- certificates
-
--- what each leaf shows every flowspan on its path to be at least: the target, or in format 2 what is worse
-abbrev pub leaf_target : Network → Format → ℕ → ℕ
-leaf_target network One target = target
-leaf_target network Two target = beyond network target
-
--- the schedule with which a leaf may tie: none in format 1
-abbrev pub tie_plan : Format → Option (List ℕ) → Option (List ℕ)
-tie_plan One planned = None
-tie_plan Two planned = planned
-
--- The plan is right, and the nodes spell a tree that is accepted, in the certificate's format, for what no schedule may undercut.
-pub record Certifies (network : Network) (plan : Plan) (cert : Cert) : Type 0 where
-  pub plan_right : IsPlanRight network plan
-  pub target_right : cert.target ≡ target_of network (offsets_in plan)
-  pub tree : Tree
-  pub spelled : Spells cert.nodes tree
-  pub accepted : AcceptsBy (IsNodeShown network (leaf_target network cert.format cert.target) (tie_plan cert.format (offsets_in plan))) [] tree
-
--- what a certificate of the plan shows
-abbrev pub verdict_of : Format → Plan → Verdict
-verdict_of One (plan.Schedule span offsets) = Optimal
-verdict_of Two (plan.Schedule span offsets) = First
-verdict_of One plan.None = NoSchedule
-verdict_of Two plan.None = NoSchedule
-
--- the plan is a schedule whose flowspan no valid schedule undercuts
-abbrev pub IsOptimalPlan : Network → Plan → Type 0
-IsOptimalPlan network (plan.Schedule span offsets) = IsOptimal network offsets × (span ≡ flowspan network offsets)
-IsOptimalPlan network plan.None = ⊥
-
--- the plan is a schedule of such a flowspan, and comes before every other one
-abbrev pub IsFirstPlan : Network → Plan → Type 0
-IsFirstPlan network (plan.Schedule span offsets) = IsFirst network offsets × (span ≡ flowspan network offsets)
-IsFirstPlan network plan.None = ⊥
 
 -- ---- the entries of a leaf over a whole link
 

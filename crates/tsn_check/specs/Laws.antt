@@ -3,7 +3,8 @@ use Rattle.std.specs.Prelude.{◌≡◌}
 use Rattle.tsn_model.specs.Network.{Network}
 use Rattle.tsn_cert.specs.declared.plan.Plan.{Plan}
 use Rattle.tsn_cert.specs.declared.cert.Cert.{Cert}
-use Rattle.tsn_check.specs.Faults.{Certifies, IsFirstFault}
+use Rattle.tsn_check.specs.Certified.{Certifies}
+use Rattle.tsn_check.specs.Faults.{IsFirstFault}
 use Rattle.tsn_check.specs.declared.fault.CheckFault.{CheckFault}
 
 -- a plan and a certificate with a first fault show nothing, and have no other first fault

@@ -1,6 +1,9 @@
+pub mod Plans
+pub mod Certified
 pub mod Faults
 pub mod Numbers
 pub mod Claims
 pub mod Turns
 pub mod Steps
 pub mod Laws
+pub mod Limits

@@ -4,7 +4,7 @@ ghost use Rattle.std.specs.Prelude.{◌≡◌, ℕ, MatchBool};
 ghost use Rattle.tsn_model.specs.Network.{IsWellFormed};
 ghost use Rattle.tsn_model.specs.Schedule.{IsValid};
 ghost use Rattle.tsn_model.specs.Certificate.{Leaf, HasBound, AreChains, ShowsAfter, tie_node};
-ghost use Rattle.tsn_check.specs.Faults.{offsets_in, span_in, IsPlanRight};
+ghost use Rattle.tsn_check.specs.Plans.{offsets_in, span_in, IsPlanRight};
 ghost use Rattle.tsn_check.specs.Turns.{AreTurns, decisions};
 ghost use Rattle.tsn_check.specs.Steps.{Judges, FindsBound, FindsChains};
 

@@ -7,7 +7,8 @@ ghost use Rattle.tsn_model.specs.Network.{Network};
 ghost use Rattle.tsn_model.specs.Places.{Fills, next_places, pending};
 ghost use Rattle.tsn_model.specs.Certificate.{Leaf as TreeLeaf, IsNodeShown, leaf_node};
 ghost use Rattle.tsn_check.specs.Claims.{IsWellPosed};
-ghost use Rattle.tsn_check.specs.Faults.{offsets_in, IsTreeFault};
+ghost use Rattle.tsn_check.specs.Plans.{offsets_in};
+ghost use Rattle.tsn_check.specs.Faults.{IsTreeFault};
 ghost use Rattle.tsn_check.specs.Turns.{AreTurns, AreTurnsOf, decisions, places_at};
 ghost use Rattle.tsn_check.specs.Steps.{Judges, FindsBound, IsBranchOf};
 

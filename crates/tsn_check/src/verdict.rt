@@ -5,7 +5,9 @@ ghost use Rattle.tsn_check.specs.Claims.{IsClaim, IsWellPosed};
 ghost use Rattle.tsn_model.specs.Certificate.{IsNodeShown};
 ghost use Rattle.tsn_model.specs.Places.{Fills};
 ghost use Rattle.tsn_cert.specs.Node.{tree_node};
-ghost use Rattle.tsn_check.specs.Faults.{Certifies, IsOptimalPlan, IsFirstPlan, IsClaimFault, IsTreeFault, IsFirstFault, leaf_target, tie_plan, offsets_in, verdict_of};
+ghost use Rattle.tsn_check.specs.Plans.{IsOptimalPlan, IsFirstPlan, offsets_in};
+ghost use Rattle.tsn_check.specs.Certified.{Certifies, leaf_target, tie_plan, verdict_of};
+ghost use Rattle.tsn_check.specs.Faults.{IsClaimFault, IsTreeFault, IsFirstFault};
 
 use crate::claim::Claim;
 use crate::fault::CheckFault;

@@ -5,7 +5,8 @@ use Rattle.tsn_argument.specs.declared.certificate.Certificate.{Certificate}
 use Rattle.tsn_argument.specs.declared.certificate.Certificate.TheVariants.{Tree, Argument as Argued}
 use Rattle.tsn_check.specs.Laws.{FirstFaultsRefute}
 use Rattle.tsn_check.specs.declared.fault.CheckFault.{CheckFault}
-use Rattle.tsn_argue.specs.Faults.{Certifies, IsFirstFault}
+use Rattle.tsn_argue.specs.Certified.{Certifies}
+use Rattle.tsn_argue.specs.Faults.{IsFirstFault}
 use Rattle.tsn_argue.proofs.Refuted.{shows_refuted, one_show_fault}
 use Rattle.tsn_argue.proofs.laws.first_faults_refute.Goals as goal
 

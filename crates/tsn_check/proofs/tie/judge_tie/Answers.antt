@@ -1,7 +1,7 @@
 use Rattle.std.proofs.Common.{sym, subst, MatchBool}
 use Rattle.std.proofs.lemmas.Result.{err_from_is_err_and}
 use Rattle.tsn_model.specs.Certificate.{AreChains, ShowsAfter, Proves}
-use Rattle.tsn_check.specs.Faults.{offsets_in, span_in}
+use Rattle.tsn_check.specs.Plans.{offsets_in, span_in}
 use Rattle.tsn_check.specs.Turns.{decisions}
 use Rattle.tsn_check.proofs.Ties.{tie_part, tie_broken, tie_proves, tie_shows, nothing_ties, tie_made}
 use Rattle.tsn_check.proofs.tie.judge_tie.Goals as goal

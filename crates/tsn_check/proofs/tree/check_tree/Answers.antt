@@ -5,7 +5,7 @@ use Rattle.tsn_model.specs.Certificate as tree
 use Rattle.tsn_cert.specs.Node.{tree_node}
 use Rattle.tsn_model.specs.Certificate.{IsNodeShown}
 use Rattle.tsn_model.specs.Places.{next_places, pending}
-use Rattle.tsn_check.specs.Faults.{offsets_in}
+use Rattle.tsn_check.specs.Plans.{offsets_in}
 use Rattle.tsn_check.specs.Turns.{decisions, places_at}
 use Rattle.tsn_check.specs.Steps.{HasFault}
 use Rattle.tsn_check.proofs.Walks.{start_places, node_there, walk_more, all_filled, fault_there, unfinished_there}

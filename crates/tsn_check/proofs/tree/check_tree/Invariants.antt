@@ -2,7 +2,7 @@ use Rattle.std.proofs.Common.{◌≡◌, [], ◌∷◌, map, take}
 use Rattle.tsn_cert.specs.Node.{tree_node}
 use Rattle.tsn_model.specs.Certificate.{IsNodeShown}
 use Rattle.tsn_model.specs.Places.{AreRight, places_after}
-use Rattle.tsn_check.specs.Faults.{offsets_in}
+use Rattle.tsn_check.specs.Plans.{offsets_in}
 use Rattle.tsn_check.specs.Turns.{AreTurnsOf, decisions, places_at}
 use Rattle.tsn_check.proofs.tree.check_tree.Given as goal
 

@@ -2,7 +2,7 @@ use Rattle.std.proofs.Common.{◌∙◌, sym, subst}
 use Rattle.std.proofs.lemmas.Bool.{false≢true}
 use Rattle.tsn_cert.specs.Leaf.{bound_leaf, leaf_of}
 use Rattle.tsn_cert.proofs.LeafLemmas.{has_bound}
-use Rattle.tsn_check.specs.Faults.{offsets_in}
+use Rattle.tsn_check.specs.Plans.{offsets_in}
 use Rattle.tsn_check.specs.Turns.{decisions}
 use Rattle.tsn_check.specs.Steps.{FindsBound}
 use Rattle.tsn_check.proofs.Kept.{kept_conflict, conflict_kept}

@@ -3,7 +3,8 @@ use Rattle.std.specs.Prelude.{OnOk, IfErr, min}
 use Rattle.tsn_model.specs.Certificate.{beyond, IsNodeShown}
 use Rattle.tsn_model.specs.Places.{Fills}
 use Rattle.tsn_cert.specs.Node.{tree_node}
-use Rattle.tsn_check.specs.Faults.{offsets_in, IsTreeFault}
+use Rattle.tsn_check.specs.Plans.{offsets_in}
+use Rattle.tsn_check.specs.Faults.{IsTreeFault}
 use Rattle.tsn_check.specs.declared.fault.CheckFault.TheVariants.{Memory}
 use Rattle.tsn_check.proofs.verdict.check_nodes.Goals as goal
 
