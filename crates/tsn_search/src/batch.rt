@@ -9,9 +9,9 @@ ghost use Rattle.tsn_search.specs.Context.{AreTablesOf};
 use crate::below::{BATCH, Batch, Below};
 use crate::best::BestSoFar;
 use crate::context::Context;
-use crate::gate::{Gate, News};
 use crate::news::{known, splits_among};
 use crate::settler::Settler;
+use crate::supervisor::{News, Supervisor};
 use std::sync::Wait;
 use tsn_book::BookFault;
 use tsn_branch::Node;
@@ -32,12 +32,12 @@ pub enum Advance {
 }
 
 impl Below {
-    /// Looks at up to so many nodes, settles them behind one pass of the gate, and posts what was solved. The teller is left
+    /// Looks at up to so many nodes, settles them behind one pass of the supervisor, and posts what was solved. The teller is left
     /// even.
-    pub fn settle_next<K: Named, G: Gate>(
+    pub fn settle_next<K: Named, S: Supervisor>(
         &mut self,
         rt: &impl Wait,
-        context: &Context<'_, K, G>,
+        context: &Context<'_, K, S>,
         settler: &mut Settler<K>,
         most: usize,
     ) -> Advance
@@ -66,7 +66,7 @@ impl Below {
             return Advance::Ends;
         };
         let summary = Summary::of(&batch, seen);
-        setting.gate.pass(settler.number);
+        setting.supervisor.pass(settler.number);
         let (advance, accepted) = settle_batch(
             rt,
             shared,
@@ -111,15 +111,20 @@ impl Summary {
         }
     }
 
-    // Tells the gate and the board, where so many nodes, from the first on, were settled.
-    fn tell<K: Named, G: Gate>(&self, context: &Context<'_, K, G>, number: usize, accepted: usize) {
+    // Tells the supervisor and the board, where so many nodes, from the first on, were settled.
+    fn tell<K: Named, S: Supervisor>(
+        &self,
+        context: &Context<'_, K, S>,
+        number: usize,
+        accepted: usize,
+    ) {
         if self.is_solved && accepted == self.nodes {
             context.board.find();
         }
         let setting = context.setting;
         let tables = setting.tables;
         let news = self.news(tables.timing, accepted);
-        setting.gate.hear(number, news);
+        setting.supervisor.hear(number, news);
     }
 
     // What is told where so many nodes, from the first on, were settled.

@@ -1,4 +1,4 @@
-//! What a gate is told.
+//! What a supervisor is told.
 use tsn_book::Looks;
 use tsn_branch::outcome::Look;
 use tsn_timing::Timing;

@@ -56,7 +56,7 @@ impl Prepared {
     }
 
     /// What a search is given that reads it.
-    pub fn setting<'a, G>(&'a self, alloc: Global, gate: &'a G) -> Setting<'a, G>
+    pub fn setting<'a, S>(&'a self, alloc: Global, supervisor: &'a S) -> Setting<'a, S>
         ensures timing { result.tables.timing.now ≡ self.now.timing }
         ensures conflicts { result.tables.conflicts.now ≡ self.now.conflicts }
         ensures loads { result.tables.loads.now ≡ self.now.loads }
@@ -69,7 +69,7 @@ impl Prepared {
         Setting {
             alloc,
             tables,
-            gate,
+            supervisor,
         }
     }
 }

@@ -12,16 +12,16 @@ use crate::bag::Bag;
 use crate::below::{BATCH, Batch, Below, beyond, node_along};
 use crate::best::BestSoFar;
 use crate::context::Setting;
-use crate::gate::{Gate, News};
 use crate::news::{is_split, known, splits_among};
 use crate::start::OpenNodes;
+use crate::supervisor::{News, Supervisor};
 use tsn_book::{Book, BookFault, Event, EventRefusal};
 use tsn_branch::{NoMemory, Node, look};
 
 /// One who settles nodes in a book: by which number, and until how many are settled in all.
 #[derive(Drop)]
-struct Course<'a, G> {
-    setting: &'a Setting<'a, G>,
+struct Course<'a, S> {
+    setting: &'a Setting<'a, S>,
     teller: usize,
     until: usize,
 }
@@ -30,8 +30,8 @@ struct Course<'a, G> {
 ///
 /// Where a schedule is known the nodes on its way come first, and then what is open below those beside it, the nearest first. Else
 /// the first open node is taken, again and again.
-pub fn settle_open<G: Gate>(
-    setting: &Setting<'_, G>,
+pub fn settle_open<S: Supervisor>(
+    setting: &Setting<'_, S>,
     teller: usize,
     until: usize,
     known: Option<&[u64]>,
@@ -57,8 +57,8 @@ pub fn settle_open<G: Gate>(
 }
 
 // Settles open nodes until none is open or so many are settled.
-fn settle_all<G: Gate>(
-    course: &Course<'_, G>,
+fn settle_all<S: Supervisor>(
+    course: &Course<'_, S>,
     known: Option<&[u64]>,
     book: &mut Book,
 ) -> Result<(), NoMemory>
@@ -83,8 +83,8 @@ fn settle_all<G: Gate>(
 }
 
 // Settles the nodes on the way that a schedule keeps to, from where it is open, and gives the other sides to the bag.
-fn dive<G: Gate>(
-    course: &Course<'_, G>,
+fn dive<S: Supervisor>(
+    course: &Course<'_, S>,
     book: &mut Book,
     known: &[u64],
     others: &mut OpenNodes,
@@ -119,8 +119,8 @@ fn dive<G: Gate>(
 
 // Takes an open node, and settles what is open below it, or the first open node alone where no way leads to that one. False
 // where nothing is open then.
-fn settle_more<G: Gate>(
-    course: &Course<'_, G>,
+fn settle_more<S: Supervisor>(
+    course: &Course<'_, S>,
     book: &mut Book,
     others: &mut OpenNodes,
 ) -> Result<bool, NoMemory>
@@ -147,7 +147,7 @@ fn settle_more<G: Gate>(
 }
 
 // The open node that is first in preorder.
-fn first_open<G: Gate>(course: &Course<'_, G>, book: &Book) -> Result<Node, NoMemory>
+fn first_open<S: Supervisor>(course: &Course<'_, S>, book: &Book) -> Result<Node, NoMemory>
     requires some_open { 0 < length (open_paths book.now.history) }
     ensures { IfOk result (Contains (open_paths book.now.history)) }
 {
@@ -159,8 +159,8 @@ fn first_open<G: Gate>(course: &Course<'_, G>, book: &Book) -> Result<Node, NoMe
 }
 
 // Settles what is open below a node, until so many are settled.
-fn settle_under<G: Gate>(
-    course: &Course<'_, G>,
+fn settle_under<S: Supervisor>(
+    course: &Course<'_, S>,
     book: &mut Book,
     node: Node,
 ) -> Result<(), NoMemory>
@@ -186,10 +186,10 @@ fn settle_under<G: Gate>(
     Ok(())
 }
 
-// Looks at up to so many nodes where the walk stands, and settles them, once the gate was passed for each. False where the walk
+// Looks at up to so many nodes where the walk stands, and settles them, once the supervisor was passed for each. False where the walk
 // doesn't go on.
-fn settle_batch<G: Gate>(
-    course: &Course<'_, G>,
+fn settle_batch<S: Supervisor>(
+    course: &Course<'_, S>,
     book: &mut Book,
     below: &mut Below,
     most: usize,
@@ -212,14 +212,14 @@ fn settle_batch<G: Gate>(
     let most = most.min(course.until - count);
     let batch = below.collect(setting.alloc, setting.tables, incumbent, most)?;
     for _node in 0..batch.looks.len() {
-        setting.gate.pass(course.teller);
+        setting.supervisor.pass(course.teller);
     }
     record_batch(course, book, &mut below.from, batch)
 }
 
 // Settles what was found at the nodes of a walk. False where the walk doesn't go on.
-fn record_batch<G: Gate>(
-    course: &Course<'_, G>,
+fn record_batch<S: Supervisor>(
+    course: &Course<'_, S>,
     book: &mut Book,
     from: &mut Node,
     batch: Batch,
@@ -249,8 +249,8 @@ fn record_batch<G: Gate>(
     }
 }
 
-// Tells the gate of nodes that were settled.
-fn tell<G: Gate>(course: &Course<'_, G>, book: &Book, nodes: usize, splits: usize) {
+// Tells the supervisor of nodes that were settled.
+fn tell<S: Supervisor>(course: &Course<'_, S>, book: &Book, nodes: usize, splits: usize) {
     let setting = course.setting;
     let flowspan = known(setting.tables.timing, book.best());
     let news = News {
@@ -258,11 +258,11 @@ fn tell<G: Gate>(course: &Course<'_, G>, book: &Book, nodes: usize, splits: usiz
         splits,
         flowspan,
     };
-    setting.gate.hear(course.teller, news);
+    setting.supervisor.hear(course.teller, news);
 }
 
 // Settles the open node that is first in preorder, looked at by itself.
-fn settle_first_open<G: Gate>(course: &Course<'_, G>, book: &mut Book) -> Result<(), NoMemory>
+fn settle_first_open<S: Supervisor>(course: &Course<'_, S>, book: &mut Book) -> Result<(), NoMemory>
     requires search { IsSearchBy course.now.setting.now.tables course.now.teller course.now.until book.old }
     requires some_open { 0 < length (open_paths book.old.history) }
     requires some_left { length book.old.history < book.old.limit }
@@ -282,7 +282,7 @@ fn settle_first_open<G: Gate>(course: &Course<'_, G>, book: &mut Book) -> Result
         book.kept(),
     )?;
     let splits = usize::from(is_split(&look));
-    setting.gate.pass(course.teller);
+    setting.supervisor.pass(course.teller);
     record(book, course.teller, Event { node, look })?;
     tell(course, book, 1, splits);
     Ok(())

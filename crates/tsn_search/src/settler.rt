@@ -4,7 +4,7 @@ ghost use Rattle.std.specs.Prelude.{◌≡◌};
 use crate::best::Best;
 use tsn_share::{Named, Teller};
 
-/// A teller, with the number by which the gate knows it, and its copy of the best schedule.
+/// A teller, with the number by which the supervisor knows it, and its copy of the best schedule.
 #[derive(Drop)]
 pub struct Settler<K: Named> {
     pub(crate) number: usize,

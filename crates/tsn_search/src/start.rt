@@ -7,8 +7,8 @@ use crate::bag::Bag;
 use crate::batch::Advance;
 use crate::below::Below;
 use crate::context::Context;
-use crate::gate::Gate;
 use crate::settler::Settler;
+use crate::supervisor::Supervisor;
 use std::alloc::Global;
 use std::sync::Wait;
 use tsn_branch::{NoMemory, Node};
@@ -60,9 +60,9 @@ impl Bag for OpenNodes {
 
 /// Settles nodes, each by itself: those on the way that a known schedule keeps to, where there is one, or else first open ones until
 /// so many are open; then tells which are open. The error says that there was no memory to begin.
-pub fn settle_first<K: Named, G: Gate>(
+pub fn settle_first<K: Named, S: Supervisor>(
     rt: &impl Wait,
-    context: &Context<'_, K, G>,
+    context: &Context<'_, K, S>,
     known: Option<&[u64]>,
     enough: usize,
     caller: &mut Settler<K>,
@@ -79,9 +79,9 @@ pub fn settle_first<K: Named, G: Gate>(
 }
 
 // Settles the nodes on the way that the schedule keeps to; the other sides are left open, the first of them first.
-fn dive<K: Named, G: Gate>(
+fn dive<K: Named, S: Supervisor>(
     rt: &impl Wait,
-    context: &Context<'_, K, G>,
+    context: &Context<'_, K, S>,
     known: &[u64],
     caller: &mut Settler<K>,
 ) -> Result<OpenNodes, NoMemory>
@@ -111,9 +111,9 @@ fn dive<K: Named, G: Gate>(
 
 // Settles first open nodes, each by itself, until so many are open, or none, or the book takes no more; then tells which are
 // open. The error says that there was no memory to begin.
-fn settle_until<K: Named, G: Gate>(
+fn settle_until<K: Named, S: Supervisor>(
     rt: &impl Wait,
-    context: &Context<'_, K, G>,
+    context: &Context<'_, K, S>,
     enough: usize,
     caller: &mut Settler<K>,
 ) -> Result<OpenNodes, NoMemory>

@@ -3,14 +3,14 @@ ghost use Rattle.std.specs.Prelude.{◌≡◌, ℕ, ◌+◌, ◌<◌, ◌≤◌,
 ghost use Rattle.tsn_share.specs.Names.{IsBookOf};
 ghost use Rattle.tsn_share.specs.Teller.{IsEven, tellers_from};
 ghost use Rattle.tsn_search.specs.Context.{AreTablesOf};
-ghost use Rattle.tsn_search.specs.Team.{AreBack};
+ghost use Rattle.tsn_search.specs.Team.{AreBack, IsGathered};
 
 use crate::bag::Bag;
 use crate::board::Board;
 use crate::context::{Context, Setting};
-use crate::gate::Gate;
 use crate::settler::Settler;
 use crate::start::settle_first;
+use crate::supervisor::Supervisor;
 use crate::team::{team_of, tellers_of};
 use crate::worker::{Member, work};
 use std::sync::Wait;
@@ -22,9 +22,14 @@ use tsn_share::{Named, Parts, Teller, gather};
 
 /// The caller begins, along a schedule where one is known, the workers go on, one a bag, and what all have settled is gathered.
 /// The error says that there was no memory for the caller.
-pub fn search<K: Named + Send + Sync, R: Threads + Wait + Sync, G: Gate + Sync, B: Bag + Send>(
+pub fn search<
+    K: Named + Send + Sync,
+    R: Threads + Wait + Sync,
+    S: Supervisor + Sync,
+    B: Bag + Send,
+>(
     rt: &R,
-    setting: &Setting<'_, G>,
+    setting: &Setting<'_, S>,
     bags: Vec<B>,
     parts: Parts,
     known: Option<&[u64]>,
@@ -34,6 +39,7 @@ pub fn search<K: Named + Send + Sync, R: Threads + Wait + Sync, G: Gate + Sync, 
     requires tellers { K.names.race.tellers ≡ length bags.items + 1 }
     requires some { 1 ≤ length bags.items }
     ensures book { IfOk result (IsBookOf K.names) }
+    ensures gathered { IfOk result (IsGathered K.names) }
 {
     let (shared, tellers) = parts.share::<K>(setting.alloc)?;
     let board = Board::new(bags.len());
@@ -58,9 +64,14 @@ pub fn search<K: Named + Send + Sync, R: Threads + Wait + Sync, G: Gate + Sync, 
 }
 
 // The caller, who is the last of the tellers, settles the first nodes, and the workers the others. All tellers come back.
-fn settle_all<K: Named + Send + Sync, R: Threads + Wait + Sync, G: Gate + Sync, B: Bag + Send>(
+fn settle_all<
+    K: Named + Send + Sync,
+    R: Threads + Wait + Sync,
+    S: Supervisor + Sync,
+    B: Bag + Send,
+>(
     rt: &R,
-    context: &Context<'_, K, G>,
+    context: &Context<'_, K, S>,
     known: Option<&[u64]>,
     bags: Vec<B>,
     tellers: Vec<Teller<K>>,
@@ -99,9 +110,9 @@ fn settle_all<K: Named + Send + Sync, R: Threads + Wait + Sync, G: Gate + Sync, 
 }
 
 // Runs each worker in a thread of its own, or one after another where no thread can be made. Each teller is left even.
-fn run<K: Named + Send + Sync, B: Bag + Send, G: Gate + Sync, R: Threads + Wait + Sync>(
+fn run<K: Named + Send + Sync, B: Bag + Send, S: Supervisor + Sync, R: Threads + Wait + Sync>(
     rt: &R,
-    context: &Context<'_, K, G>,
+    context: &Context<'_, K, S>,
     members: &mut [Member<K, B>],
 )
     requires tables { AreTablesOf K.names.race.network context.now.setting.now.tables }

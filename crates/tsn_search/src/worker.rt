@@ -8,8 +8,8 @@ use crate::batch::Advance;
 use crate::below::{BATCH, Below};
 use crate::board::Board;
 use crate::context::Context;
-use crate::gate::Gate;
 use crate::settler::Settler;
+use crate::supervisor::Supervisor;
 use std::sync::Wait;
 use std::thread;
 use tsn_branch::Node;
@@ -31,9 +31,9 @@ pub struct Member<K: Named, B: Bag> {
 /// Works below nodes of the bag, until no more are found. The teller is left even.
 ///
 /// The board tells how long it is worth to wait for a node, and when the best schedule has to be copied anew.
-pub fn work<K: Named, B: Bag, G: Gate>(
+pub fn work<K: Named, B: Bag, S: Supervisor>(
     rt: &impl Wait,
-    context: &Context<'_, K, G>,
+    context: &Context<'_, K, S>,
     member: &mut Member<K, B>,
 )
     requires tables { AreTablesOf K.names.race.network context.now.setting.now.tables }
@@ -42,16 +42,16 @@ pub fn work<K: Named, B: Bag, G: Gate>(
     ensures number { member.new.settler.teller.standing.number ≡ member.old.settler.teller.standing.number }
 {
     let setting = context.setting;
-    if setting.gate.may_start(member.settler.number) {
+    if setting.supervisor.may_start(member.settler.number) {
         work_on(rt, context, member);
     }
     context.board.end();
 }
 
 // Works until no more nodes are found, or the worker ends, as it does for want of memory too.
-fn work_on<K: Named, B: Bag, G: Gate>(
+fn work_on<K: Named, B: Bag, S: Supervisor>(
     rt: &impl Wait,
-    context: &Context<'_, K, G>,
+    context: &Context<'_, K, S>,
     member: &mut Member<K, B>,
 )
     requires tables { AreTablesOf K.names.race.network context.now.setting.now.tables }
@@ -110,9 +110,9 @@ fn next_node<B: Bag>(bag: &mut B) -> Option<Node> {
 }
 
 // Settles what is open below a node, and shares it. What is left open is in the bag then. False where the worker ends.
-fn work_below<K: Named, B: Bag, G: Gate>(
+fn work_below<K: Named, B: Bag, S: Supervisor>(
     rt: &impl Wait,
-    context: &Context<'_, K, G>,
+    context: &Context<'_, K, S>,
     member: &mut Member<K, B>,
     node: Node,
 ) -> bool
@@ -137,10 +137,10 @@ fn work_below<K: Named, B: Bag, G: Gate>(
             Advance::Ends => break,
             Advance::Finished | Advance::LooksAgain => {
                 drop(below);
-                return setting.gate.may_go_on(member.settler.number);
+                return setting.supervisor.may_go_on(member.settler.number);
             }
         }
-        if !setting.gate.may_go_on(member.settler.number) {
+        if !setting.supervisor.may_go_on(member.settler.number) {
             break;
         }
         share_if_awaited(context.board, &mut below, &mut member.bag);

@@ -9,7 +9,7 @@ use std::process::Abort;
 use std::test::*;
 use std::time::{Clock, Duration};
 use tsn_progress::Progress;
-use tsn_worker::{Gate, LearnedNews, News, Phase};
+use tsn_worker::{LearnedNews, News, Phase, Supervisor};
 
 /// A clock, and a standard error that is kept.
 #[derive(Drop)]
@@ -145,6 +145,7 @@ fn what_is_learned_is_told(rt: HostRuntime) {
 }
 
 /// Where several go on along a schedule the count begins anew, at 600 ms: 256 nodes with 130 splits leave 261 - 256 open at 1200 ms, 600 ms later.
+/// The schedule that was found before is known still.
 #[test]
 fn a_phase_counts_for_itself(rt: HostRuntime) {
     let console = Console::new(rt.alloc());
@@ -154,7 +155,7 @@ fn a_phase_counts_for_itself(rt: HostRuntime) {
     progress.hear(0, news(256, 130, None));
     console.expect(
         &rt,
-        "tsn: so far: settled 256, open 5, best none, 426 nodes a second\n",
+        "tsn: so far: settled 256, open 5, best 3000 ns, 426 nodes a second\n",
     );
 }
 

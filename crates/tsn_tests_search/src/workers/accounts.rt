@@ -1,8 +1,8 @@
-//! What a gate hears, added up: each node is told of once, behind a pass of the gate.
+//! What a supervisor hears, added up: each node is told of once, behind a pass of the supervisor.
 
-use crate::workers::gates::{AccountingGate, MeetingGate, WaitingGate};
 use crate::workers::networks::{TEN, TWELVE, TWO};
 use crate::workers::planner::{Outcome, expect, planned_by, settled_by};
+use crate::workers::supervisors::{AccountingSupervisor, MeetingSupervisor, WaitingSupervisor};
 use std::process::Abort;
 use std::sync::Wait;
 use std::test::*;
@@ -21,30 +21,33 @@ const PLANS: [(usize, bool, u64); 4] = [(1, true, 0), (4, true, 4), (4, false, 4
 #[test]
 fn each_node_is_told_of_once(rt: HostRuntime) -> Result<(), Fail> {
     for (workers, goes_on, last) in PLANS {
-        let gate = AccountingGate::new(goes_on);
-        let found = planned_by(&rt, rt.alloc(), TEN, &gate, workers)?;
+        let supervisor = AccountingSupervisor::new(goes_on);
+        let found = planned_by(&rt, rt.alloc(), TEN, &supervisor, workers)?;
         expect(&rt, &found, LEAST);
-        expect_sums(&rt, &gate, &found);
-        assert_eq!(rt; gate.last(), last);
+        expect_sums(&rt, &supervisor, &found);
+        assert_eq!(rt; supervisor.last(), last);
     }
     Ok(())
 }
 
 /// Nothing is open at the end, so one node more is closed than is split.
-fn expect_sums(rt: &impl Abort, gate: &AccountingGate, found: &Outcome) {
-    let (nodes, splits) = gate.sums();
+fn expect_sums(rt: &impl Abort, supervisor: &AccountingSupervisor, found: &Outcome) {
+    let (nodes, splits) = supervisor.sums();
     assert_eq!(rt; nodes, found.settled as u64);
     assert_eq!(rt; nodes, splits.saturating_mul(2).saturating_add(1));
-    assert_eq!(rt; gate.least(), found.flowspan);
-    assert_eq!(rt; gate.late(), 0);
+    assert_eq!(rt; supervisor.least(), found.flowspan);
+    assert_eq!(rt; supervisor.late(), 0);
 }
 
-/// Where a worker is held at the gate until the other one has settled what may be settled, it has settled nothing.
+/// Where a worker is held at the supervisor until the other one has settled what may be settled, it has settled nothing.
 #[test]
-fn what_is_held_at_the_gate_isnt_settled(rt: HostRuntime) -> Result<(), Fail> {
-    let gate = WaitingGate::new(LIMIT as u64);
-    assert_eq!(rt; settled_by(&rt, rt.alloc(), TEN, &gate, 2, LIMIT)?, LIMIT);
-    assert_eq!(rt; gate.sums(), (0, LIMIT as u64));
+fn what_is_held_by_the_supervisor_isnt_settled(rt: HostRuntime) -> Result<(), Fail> {
+    let supervisor = WaitingSupervisor::new(LIMIT as u64);
+    assert_eq!(rt;
+        settled_by(&rt, rt.alloc(), TEN, &supervisor, 2, LIMIT)?,
+        LIMIT
+    );
+    assert_eq!(rt; supervisor.sums(), (0, LIMIT as u64));
     Ok(())
 }
 
@@ -52,15 +55,15 @@ fn what_is_held_at_the_gate_isnt_settled(rt: HostRuntime) -> Result<(), Fail> {
 #[test]
 fn a_batch_has_sixty_four_nodes(rt: HostRuntime) -> Result<(), Fail> {
     for workers in 1..3 {
-        let gate = AccountingGate::new(true);
+        let supervisor = AccountingSupervisor::new(true);
         assert_eq!(rt;
-            settled_by(&rt, rt.alloc(), TWELVE, &gate, workers, 100)?,
+            settled_by(&rt, rt.alloc(), TWELVE, &supervisor, workers, 100)?,
             100
         );
-        let (nodes, splits) = gate.sums();
+        let (nodes, splits) = supervisor.sums();
         assert_eq!(rt; nodes, 100);
         assert!(rt; splits <= nodes);
-        assert_eq!(rt; gate.most(), 64);
+        assert_eq!(rt; supervisor.most(), 64);
     }
     Ok(())
 }
@@ -80,22 +83,26 @@ fn expect_told<R: AllocGlobal + Abort + Threads + Wait + Sync>(
     limit: usize,
     flowspan: u64,
 ) -> Result<(), Fail> {
-    let gate = AccountingGate::new(true);
-    let settled = settled_by(rt, rt.alloc(), text, &gate, workers, limit)?;
+    let supervisor = AccountingSupervisor::new(true);
+    let settled = settled_by(rt, rt.alloc(), text, &supervisor, workers, limit)?;
     assert_eq!(rt; settled, limit);
     assert_eq!(rt;
-        gate.sums(),
+        supervisor.sums(),
         (limit as u64, (limit as u64).saturating_sub(1))
     );
-    assert_eq!(rt; gate.least(), flowspan);
+    assert_eq!(rt; supervisor.least(), flowspan);
     Ok(())
 }
 
 /// Two workers that meet are two.
 #[test]
 fn a_plan_by_two_is_made_by_two(rt: HostRuntime) -> Result<(), Fail> {
-    let gate = MeetingGate::new(rt);
-    expect(&rt, &planned_by(&rt, rt.alloc(), TWO, &gate, 2)?, 2_924);
-    assert!(rt; gate.has_brought_together());
+    let supervisor = MeetingSupervisor::new(rt);
+    expect(
+        &rt,
+        &planned_by(&rt, rt.alloc(), TWO, &supervisor, 2)?,
+        2_924,
+    );
+    assert!(rt; supervisor.has_brought_together());
     Ok(())
 }

@@ -1,4 +1,4 @@
-//! The planner by one worker, and the gate that it passes.
+//! The planner by one worker, and the supervisor that it passes.
 use crate::workers::networks::TWO;
 use crate::workers::planner::network;
 use std::process::Abort;
@@ -8,15 +8,15 @@ use std::test::*;
 use std::thread::Threads;
 use tsn_cert::Plan;
 use tsn_net::Problem;
-use tsn_worker::{Answer, Gate, plan};
+use tsn_worker::{Answer, Supervisor, plan};
 
-/// A gate that counts how often the first teller passes.
+/// A supervisor that counts how often the first teller passes.
 #[derive(Drop)]
-struct CountingGate {
+struct CountingSupervisor {
     passes: AtomicU64,
 }
 
-impl Gate for CountingGate {
+impl Supervisor for CountingSupervisor {
     fn pass(&self, teller: usize) {
         if teller == 0 {
             self.passes.fetch_add(1, Ordering::SeqCst);
@@ -29,10 +29,10 @@ fn planned<R: AllocGlobal + Abort + Threads + Wait + Sync>(
     rt: &R,
     problem: &Problem,
     limit: usize,
-    gate: &CountingGate,
+    supervisor: &CountingSupervisor,
 ) -> Answer {
     assert!(rt; 1 <= limit && limit <= 1_000_000_000);
-    plan(rt, rt.alloc(), problem, 1, limit, gate).expect(rt, "memory")
+    plan(rt, rt.alloc(), problem, 1, limit, supervisor).expect(rt, "memory")
 }
 
 fn flowspan_of(rt: &impl Abort, plan: &Plan) -> u64 {
@@ -72,14 +72,14 @@ fn told_plan<R: AllocGlobal + Abort + Threads + Wait + Sync>(
     problem: &Problem,
     limit: usize,
 ) -> String {
-    let gate = CountingGate {
+    let supervisor = CountingSupervisor {
         passes: AtomicU64::new(0),
     };
-    let answer = planned(rt, problem, limit, &gate);
-    answer_text(rt, &answer, gate.passes.load(Ordering::SeqCst))
+    let answer = planned(rt, problem, limit, &supervisor);
+    answer_text(rt, &answer, supervisor.passes.load(Ordering::SeqCst))
 }
 
-/// The root and its two sides are settled, as far as the limit goes, each behind one pass of the gate.
+/// The root and its two sides are settled, as far as the limit goes, each behind one pass of the supervisor.
 const PLANS: [(usize, &str); 4] = [
     (1, "stopped settled 1 passed 1"),
     (2, "stopped settled 2 passed 2"),
@@ -88,7 +88,7 @@ const PLANS: [(usize, &str); 4] = [
 ];
 
 #[test]
-fn passes_the_gate_once_a_settlement(rt: HostRuntime) -> Result<(), Fail> {
+fn passes_the_supervisor_once_a_settlement(rt: HostRuntime) -> Result<(), Fail> {
     let problem = network(rt.alloc(), TWO)?;
     for (limit, wanted) in PLANS {
         let found = told_plan(&rt, &problem, limit);

@@ -1,22 +1,22 @@
-//! Gates that stop workers, and bags that spoil nodes: what is left open the caller settles, and the plan stays the same.
+//! Supervisors that stop workers, and bags that spoil nodes: what is left open the caller settles, and the plan stays the same.
 
 use crate::workers::bags::{
     DoublingBag, ForgingBag, LossyBag, RefusingBag, SpoiledBag, spoiled_bags,
 };
-use crate::workers::gates::{Stop, StoppingGate};
 use crate::workers::networks::TEN;
 use crate::workers::planner::{Outcome, expect, planned};
+use crate::workers::supervisors::{Stop, StoppingSupervisor};
 use std::sync::Wait;
 use std::test::*;
 use std::thread::Threads;
-use tsn_worker::{DequeBag, OpenGate};
+use tsn_worker::{DequeBag, NoSupervisor};
 
 const WORKERS: usize = 4;
 
 /// The least flowspan of the star of ten.
 const LEAST: u64 = 8_300;
 
-/// A worker that doesn't start passes the gate never, and one that doesn't go on once at most.
+/// A worker that doesn't start passes the supervisor never, and one that doesn't go on once at most.
 #[test]
 fn stopped_workers_leave_the_rest_to_others(rt: HostRuntime) -> Result<(), Fail> {
     let alloc = rt.alloc();
@@ -25,11 +25,11 @@ fn stopped_workers_leave_the_rest_to_others(rt: HostRuntime) -> Result<(), Fail>
         (Stop::EachStart, 0),
         (Stop::EachBatch, 4),
     ] {
-        let gate = StoppingGate::new(WORKERS, stop);
+        let supervisor = StoppingSupervisor::new(WORKERS, stop);
         let bags = DequeBag::make(alloc, WORKERS)?;
-        let found = planned(&rt, alloc, TEN, &gate, bags)?;
+        let found = planned(&rt, alloc, TEN, &supervisor, bags)?;
         expect(&rt, &found, LEAST);
-        assert!(rt; gate.by_stopped() <= most, "{stop:?}");
+        assert!(rt; supervisor.by_stopped() <= most, "{stop:?}");
     }
     Ok(())
 }
@@ -40,7 +40,7 @@ fn over<B: SpoiledBag + Send, R: AllocGlobal + Threads + Wait + Sync>(
 ) -> Result<Outcome, Fail> {
     let alloc = rt.alloc();
     let bags = spoiled_bags::<B>(alloc, WORKERS)?;
-    planned(rt, alloc, TEN, &OpenGate, bags)
+    planned(rt, alloc, TEN, &NoSupervisor, bags)
 }
 
 #[test]

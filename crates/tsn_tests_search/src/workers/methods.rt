@@ -1,4 +1,4 @@
-//! The planner by each method, and what its gate hears of phases and of what no schedule undercuts.
+//! The planner by each method, and what its supervisor hears of phases and of what no schedule undercuts.
 use crate::workers::networks::TWO;
 use crate::workers::planner::{Outcome, judge, network};
 use std::process::Abort;
@@ -6,17 +6,17 @@ use std::sync::Wait;
 use std::sync::atomic::{AtomicU64, Ordering};
 use std::test::*;
 use std::thread::Threads;
-use tsn_worker::{Effort, Gate, Method, Phase, plan_by};
+use tsn_worker::{Effort, Method, Phase, Supervisor, plan_by};
 
-/// A gate that keeps the bound and the phases that it hears of: a digit each, 1 for the order of the file, 2 for the search that
+/// A supervisor that keeps the bound and the phases that it hears of: a digit each, 1 for the order of the file, 2 for the search that
 /// learns, 3 for the order of the file along a known schedule.
 #[derive(Drop)]
-struct ListeningGate {
+struct ListeningSupervisor {
     bound: AtomicU64,
     phases: AtomicU64,
 }
 
-impl Gate for ListeningGate {
+impl Supervisor for ListeningSupervisor {
     fn pass(&self, _teller: usize) {}
 
     fn hear_bound(&self, bound: u64) {
@@ -41,7 +41,7 @@ fn planned<R: AllocGlobal + Abort + Threads + Wait + Sync>(
     rt: &R,
     method: Method,
     workers: usize,
-    gate: &ListeningGate,
+    supervisor: &ListeningSupervisor,
 ) -> Result<Outcome, Fail> {
     assert!(rt; 1 <= workers && workers <= 16);
     let problem = network(rt.alloc(), TWO)?;
@@ -50,7 +50,7 @@ fn planned<R: AllocGlobal + Abort + Threads + Wait + Sync>(
         workers,
         limit: 10,
     };
-    let answer = plan_by(rt, rt.alloc(), &problem, effort, gate).expect(rt, "memory");
+    let answer = plan_by(rt, rt.alloc(), &problem, effort, supervisor).expect(rt, "memory");
     judge(rt.alloc(), &problem, answer)
 }
 
@@ -63,16 +63,16 @@ fn expect_plan<R: AllocGlobal + Abort + Threads + Wait + Sync>(
     phases: u64,
     settled: usize,
 ) -> Result<(), Fail> {
-    let gate = ListeningGate {
+    let supervisor = ListeningSupervisor {
         bound: AtomicU64::new(0),
         phases: AtomicU64::new(0),
     };
-    let outcome = planned(rt, method, workers, &gate)?;
+    let outcome = planned(rt, method, workers, &supervisor)?;
     assert!(rt; outcome.accepted);
     assert_eq!(rt; outcome.flowspan, 2_924);
     assert_eq!(rt; outcome.settled, settled);
-    assert_eq!(rt; gate.bound.load(Ordering::SeqCst), 2_924);
-    assert_eq!(rt; gate.phases.load(Ordering::SeqCst), phases);
+    assert_eq!(rt; supervisor.bound.load(Ordering::SeqCst), 2_924);
+    assert_eq!(rt; supervisor.phases.load(Ordering::SeqCst), phases);
     Ok(())
 }
 

@@ -10,7 +10,7 @@ use tsn_argument::Certificate;
 use tsn_cert::Plan;
 use tsn_check::Verdict;
 use tsn_net::{Problem, read_problem};
-use tsn_worker::{Answer, Bag, Gate, MAX_WORKERS, plan, plan_over};
+use tsn_worker::{Answer, Bag, MAX_WORKERS, Supervisor, plan, plan_over};
 
 /// More nodes than any of these networks has.
 const LIMIT: usize = 1_000_000;
@@ -31,17 +31,17 @@ pub fn network(alloc: Global, text: &str) -> Result<Problem, Fail> {
     }
 }
 
-fn plan_by<R: Threads + Wait + Sync, G: Gate + Sync, B: Bag + Send>(
+fn plan_by<R: Threads + Wait + Sync, G: Supervisor + Sync, B: Bag + Send>(
     rt: &R,
     alloc: Global,
     problem: &Problem,
-    gate: &G,
+    supervisor: &G,
     bags: Vec<B>,
 ) -> Result<Answer, Fail> {
     if bags.len() < 2 || bags.len() > MAX_WORKERS {
         return Err(Fail::from("no such number of workers"));
     }
-    match plan_over(rt, alloc, problem, LIMIT, gate, bags) {
+    match plan_over(rt, alloc, problem, LIMIT, supervisor, bags) {
         Ok(answer) => Ok(answer),
         Err(_) => Err(Fail::from("no memory")),
     }
@@ -74,59 +74,59 @@ pub fn judge(alloc: Global, problem: &Problem, answer: Answer) -> Result<Outcome
 }
 
 /// Plans by as many workers as there are bags.
-pub fn planned<R: Threads + Wait + Sync, G: Gate + Sync, B: Bag + Send>(
+pub fn planned<R: Threads + Wait + Sync, G: Supervisor + Sync, B: Bag + Send>(
     rt: &R,
     alloc: Global,
     text: &str,
-    gate: &G,
+    supervisor: &G,
     bags: Vec<B>,
 ) -> Result<Outcome, Fail> {
     let problem = network(alloc, text)?;
-    let answer = plan_by(rt, alloc, &problem, gate, bags)?;
+    let answer = plan_by(rt, alloc, &problem, supervisor, bags)?;
     judge(alloc, &problem, answer)
 }
 
 /// Plans by so many workers, over bags of their own.
-pub fn planned_by<R: Threads + Wait + Sync, G: Gate + Sync>(
+pub fn planned_by<R: Threads + Wait + Sync, G: Supervisor + Sync>(
     rt: &R,
     alloc: Global,
     text: &str,
-    gate: &G,
+    supervisor: &G,
     workers: usize,
 ) -> Result<Outcome, Fail> {
     let problem = network(alloc, text)?;
-    let answer = answer_by(rt, alloc, &problem, gate, workers, LIMIT)?;
+    let answer = answer_by(rt, alloc, &problem, supervisor, workers, LIMIT)?;
     judge(alloc, &problem, answer)
 }
 
-fn answer_by<R: Threads + Wait + Sync, G: Gate + Sync>(
+fn answer_by<R: Threads + Wait + Sync, G: Supervisor + Sync>(
     rt: &R,
     alloc: Global,
     problem: &Problem,
-    gate: &G,
+    supervisor: &G,
     workers: usize,
     limit: usize,
 ) -> Result<Answer, Fail> {
     if workers < 1 || workers > MAX_WORKERS || limit < 1 || limit > LIMIT {
         return Err(Fail::from("no such effort"));
     }
-    match plan(rt, alloc, problem, workers, limit, gate) {
+    match plan(rt, alloc, problem, workers, limit, supervisor) {
         Ok(answer) => Ok(answer),
         Err(_) => Err(Fail::from("no memory")),
     }
 }
 
 /// How many nodes are settled by so many workers where so many may be, while one is open.
-pub fn settled_by<R: Threads + Wait + Sync, G: Gate + Sync>(
+pub fn settled_by<R: Threads + Wait + Sync, G: Supervisor + Sync>(
     rt: &R,
     alloc: Global,
     text: &str,
-    gate: &G,
+    supervisor: &G,
     workers: usize,
     limit: usize,
 ) -> Result<usize, Fail> {
     let problem = network(alloc, text)?;
-    count_of(answer_by(rt, alloc, &problem, gate, workers, limit)?)
+    count_of(answer_by(rt, alloc, &problem, supervisor, workers, limit)?)
 }
 
 fn count_of(answer: Answer) -> Result<usize, Fail> {

@@ -1,23 +1,23 @@
 //! Workers that meet, begin, share and settle by batches.
 
 use crate::workers::bags::{noting_bags, stacks};
-use crate::workers::gates::{CountingGate, MeetingGate};
 use crate::workers::networks::{TEN, TWO};
 use crate::workers::planner::{expect, planned};
+use crate::workers::supervisors::{CountingSupervisor, MeetingSupervisor};
 use std::alloc::Global;
 use std::sync::atomic::{AtomicU64, Ordering};
 use std::test::*;
 use tsn_branch::{NoMemory, Node, Side, Triple};
-use tsn_worker::{Bag, DequeBag, OpenGate};
+use tsn_worker::{Bag, DequeBag, NoSupervisor};
 
 /// A worker that waits for the other one meets it only where each has a thread of its own.
 #[test]
 fn two_tellers_meet(rt: HostRuntime) -> Result<(), Fail> {
     let alloc = rt.alloc();
-    let gate = MeetingGate::new(rt);
+    let supervisor = MeetingSupervisor::new(rt);
     let bags = DequeBag::make(alloc, 2)?;
-    let found = planned(&rt, alloc, TWO, &gate, bags)?;
-    assert!(rt; gate.has_brought_together());
+    let found = planned(&rt, alloc, TWO, &supervisor, bags)?;
+    assert!(rt; supervisor.has_brought_together());
     expect(&rt, &found, 2_924);
     Ok(())
 }
@@ -27,10 +27,10 @@ fn two_tellers_meet(rt: HostRuntime) -> Result<(), Fail> {
 fn caller_only_starts(rt: HostRuntime) -> Result<(), Fail> {
     let alloc = rt.alloc();
     for (workers, before) in [(2, 1), (4, 3)] {
-        let gate = CountingGate::new(workers);
-        let found = planned(&rt, alloc, TEN, &gate, stacks(alloc, workers)?)?;
-        assert_eq!(rt; gate.before(), before, "of {workers} workers");
-        assert_eq!(rt; gate.behind(), 0, "of {workers} workers");
+        let supervisor = CountingSupervisor::new(workers);
+        let found = planned(&rt, alloc, TEN, &supervisor, stacks(alloc, workers)?)?;
+        assert_eq!(rt; supervisor.before(), before, "of {workers} workers");
+        assert_eq!(rt; supervisor.behind(), 0, "of {workers} workers");
         expect(&rt, &found, 8_300);
     }
     Ok(())
@@ -47,25 +47,25 @@ fn each_bag_is_given_its_node(rt: HostRuntime) -> Result<(), Fail> {
         AtomicU64::new(0),
     ];
     let bags = noting_bags(alloc, &notes)?;
-    expect(&rt, &planned(&rt, alloc, TEN, &OpenGate, bags)?, 8_300);
+    expect(&rt, &planned(&rt, alloc, TEN, &NoSupervisor, bags)?, 8_300);
     for (note, first) in notes.iter().zip([111, 112, 12, 2]) {
         assert_eq!(rt; note.load(Ordering::SeqCst), first);
     }
     Ok(())
 }
 
-/// A worker that passes the gate for each node would pass it as often as nodes are settled.
+/// A worker that passes the supervisor for each node would pass it as often as nodes are settled.
 #[test]
-fn a_batch_passes_the_gate_once(rt: HostRuntime) -> Result<(), Fail> {
+fn a_batch_passes_the_supervisor_once(rt: HostRuntime) -> Result<(), Fail> {
     let alloc = rt.alloc();
-    let gate = CountingGate::new(2);
+    let supervisor = CountingSupervisor::new(2);
     let bags = DequeBag::make(alloc, 2)?;
-    let found = planned(&rt, alloc, TEN, &gate, bags)?;
+    let found = planned(&rt, alloc, TEN, &supervisor, bags)?;
     expect(&rt, &found, 8_300);
-    let passes = gate
+    let passes = supervisor
         .before()
-        .saturating_add(gate.by_workers())
-        .saturating_add(gate.behind());
+        .saturating_add(supervisor.by_workers())
+        .saturating_add(supervisor.behind());
     assert!(rt; 0 < passes);
     assert!(rt;
         passes < found.settled as u64,

@@ -1,7 +1,7 @@
 //! Where a planner can be held and watched.
-/// A gate that is passed before each settling, told what was settled, and asked whether a worker starts and goes on.
-pub trait Gate {
-    /// Passes the gate, on behalf of the teller of this number.
+/// A supervisor that is passed before each settling, told what was settled, and asked whether a worker starts and goes on.
+pub trait Supervisor {
+    /// Passes the supervisor, on behalf of the teller of this number.
     fn pass(&self, teller: usize);
 
     /// Hears what the teller of this number has settled since it was told last.
@@ -39,11 +39,11 @@ pub enum Phase {
     Along,
 }
 
-/// A gate that holds nobody.
+/// A supervisor that holds nobody.
 #[derive(Clone, Copy, Debug)]
-pub struct OpenGate;
+pub struct NoSupervisor;
 
-impl Gate for OpenGate {
+impl Supervisor for NoSupervisor {
     fn pass(&self, _teller: usize) {}
 }
 

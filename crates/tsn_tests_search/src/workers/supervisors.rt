@@ -1,8 +1,8 @@
-//! Gates that watch, hold or stop the workers, and add up what they hear.
+//! Supervisors that watch, hold or stop the workers, and add up what they hear.
 
 use std::sync::atomic::{AtomicU64, Ordering};
 use std::sync::{Mutex, Wait};
-use tsn_worker::{Gate, News};
+use tsn_worker::{News, Supervisor};
 
 /// How often a worker looks for the other one before it goes on alone.
 const TURNS: u64 = 50_000_000;
@@ -33,16 +33,16 @@ impl Meeting {
     }
 }
 
-/// A gate at which workers 0 and 1 meet: each holds its first settling until both have arrived.
+/// A supervisor at which workers 0 and 1 meet: each holds its first settling until both have arrived.
 #[derive(Drop)]
-pub struct MeetingGate<R: Wait + Drop> {
+pub struct MeetingSupervisor<R: Wait + Drop> {
     rt: R,
     meeting: Mutex<Meeting>,
 }
 
-impl<R: Wait + Drop> MeetingGate<R> {
-    pub fn new(rt: R) -> MeetingGate<R> {
-        MeetingGate {
+impl<R: Wait + Drop> MeetingSupervisor<R> {
+    pub fn new(rt: R) -> MeetingSupervisor<R> {
+        MeetingSupervisor {
             rt,
             meeting: Mutex::new(Meeting {
                 zero: false,
@@ -78,7 +78,7 @@ impl<R: Wait + Drop> MeetingGate<R> {
     }
 }
 
-impl<R: Wait + Drop> Gate for MeetingGate<R> {
+impl<R: Wait + Drop> Supervisor for MeetingSupervisor<R> {
     fn pass(&self, teller: usize) {
         if self.arrive(teller) {
             self.hold();
@@ -86,19 +86,19 @@ impl<R: Wait + Drop> Gate for MeetingGate<R> {
     }
 }
 
-/// A gate that counts how often it is passed.
+/// A supervisor that counts how often it is passed.
 #[derive(Drop)]
-pub struct CountingGate {
+pub struct CountingSupervisor {
     workers: usize,
     by_workers: AtomicU64,
     before: AtomicU64,
     behind: AtomicU64,
 }
 
-impl CountingGate {
+impl CountingSupervisor {
     /// For so many workers and the caller, who has the number behind them.
-    pub fn new(workers: usize) -> CountingGate {
-        CountingGate {
+    pub fn new(workers: usize) -> CountingSupervisor {
+        CountingSupervisor {
             workers,
             by_workers: AtomicU64::new(0),
             before: AtomicU64::new(0),
@@ -122,7 +122,7 @@ impl CountingGate {
     }
 }
 
-impl Gate for CountingGate {
+impl Supervisor for CountingSupervisor {
     fn pass(&self, teller: usize) {
         if teller < self.workers {
             self.by_workers.fetch_add(1, Ordering::SeqCst);
@@ -145,18 +145,18 @@ pub enum Stop {
     EachBatch,
 }
 
-/// A gate that stops workers, and counts how often these pass it.
+/// A supervisor that stops workers, and counts how often these pass it.
 #[derive(Drop)]
-pub struct StoppingGate {
+pub struct StoppingSupervisor {
     workers: usize,
     stop: Stop,
     by_stopped: AtomicU64,
 }
 
-impl StoppingGate {
+impl StoppingSupervisor {
     /// For so many workers and the caller, who has the number behind them.
-    pub fn new(workers: usize, stop: Stop) -> StoppingGate {
-        StoppingGate {
+    pub fn new(workers: usize, stop: Stop) -> StoppingSupervisor {
+        StoppingSupervisor {
             workers,
             stop,
             by_stopped: AtomicU64::new(0),
@@ -169,7 +169,7 @@ impl StoppingGate {
     }
 }
 
-impl Gate for StoppingGate {
+impl Supervisor for StoppingSupervisor {
     fn pass(&self, teller: usize) {
         let stopped = match self.stop {
             Stop::Start(number) => teller == number,
@@ -196,9 +196,9 @@ impl Gate for StoppingGate {
     }
 }
 
-/// A gate that adds up what it hears, and may let no worker go on behind its first batch.
+/// A supervisor that adds up what it hears, and may let no worker go on behind its first batch.
 #[derive(Drop)]
-pub struct AccountingGate {
+pub struct AccountingSupervisor {
     goes_on: bool,
     passes: AtomicU64,
     hears: AtomicU64,
@@ -210,9 +210,9 @@ pub struct AccountingGate {
     late: AtomicU64,
 }
 
-impl AccountingGate {
-    pub fn new(goes_on: bool) -> AccountingGate {
-        AccountingGate {
+impl AccountingSupervisor {
+    pub fn new(goes_on: bool) -> AccountingSupervisor {
+        AccountingSupervisor {
             goes_on,
             passes: AtomicU64::new(0),
             hears: AtomicU64::new(0),
@@ -254,7 +254,7 @@ impl AccountingGate {
     }
 }
 
-impl Gate for AccountingGate {
+impl Supervisor for AccountingSupervisor {
     fn pass(&self, teller: usize) {
         self.last.fetch_max(teller as u64, Ordering::SeqCst);
         self.passes.fetch_add(1, Ordering::SeqCst);
@@ -279,17 +279,17 @@ impl Gate for AccountingGate {
     }
 }
 
-/// A gate at which worker 0 waits until the others have settled as many nodes as may be settled.
+/// A supervisor at which worker 0 waits until the others have settled as many nodes as may be settled.
 #[derive(Drop)]
-pub struct WaitingGate {
+pub struct WaitingSupervisor {
     limit: u64,
     by_zero: AtomicU64,
     by_others: AtomicU64,
 }
 
-impl WaitingGate {
-    pub fn new(limit: u64) -> WaitingGate {
-        WaitingGate {
+impl WaitingSupervisor {
+    pub fn new(limit: u64) -> WaitingSupervisor {
+        WaitingSupervisor {
             limit,
             by_zero: AtomicU64::new(0),
             by_others: AtomicU64::new(0),
@@ -305,7 +305,7 @@ impl WaitingGate {
     }
 }
 
-impl Gate for WaitingGate {
+impl Supervisor for WaitingSupervisor {
     fn pass(&self, teller: usize) {
         if teller != 0 {
             return;
