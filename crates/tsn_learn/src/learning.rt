@@ -28,7 +28,11 @@ pub enum Answer {
     /// The first of the optimal schedules, with the argument that it is.
     First(Plan),
     /// There is no valid schedule, with the argument that there is none; no argument where it has too many steps.
-    None(Option<Argument>),
+    None {
+        argument: Option<Argument>,
+        /// How many conflicts there were.
+        conflicts: u64,
+    },
     /// The budget is used up.
     GaveUp(BestSoFar),
 }
@@ -200,7 +204,10 @@ impl Course {
             flowspan: sum(self.search.table.cycle, 1),
         };
         let argument = write_argument(alloc, &mut self.search, aim)?;
-        Ok(Answer::None(within(argument, budget)))
+        Ok(Answer::None {
+            argument: within(argument, budget),
+            conflicts: self.search.pace.conflicts,
+        })
     }
 
     fn answer_open(

@@ -16,8 +16,8 @@ const ROUND: u64 = 2000;
 /// What is known of a schedule's flowspan.
 #[derive(Drop)]
 pub enum LeastAnswer {
-    /// No valid schedule has a lesser one, with the argument for that.
-    Least(Argument),
+    /// No valid schedule has a lesser one, with the argument for that, found after so many conflicts.
+    Least { argument: Argument, conflicts: u64 },
     /// A valid schedule of lesser flowspan: its offsets in nanoseconds, and after how many conflicts it was found.
     Better { offsets: Vec<u64>, conflicts: u64 },
     /// The budget is used up, or the argument has too many steps, or what was given is no valid schedule; after so many conflicts.
@@ -105,7 +105,10 @@ impl Search {
         };
         let argument = write_argument(self.alloc, self, aim)?;
         Ok(match within(argument, budget) {
-            Some(argument) => LeastAnswer::Least(argument),
+            Some(argument) => LeastAnswer::Least {
+                argument,
+                conflicts: self.pace.conflicts,
+            },
             None => self.answer_nothing(),
         })
     }

@@ -1,14 +1,14 @@
-//! A gate that keeps what a planner knows.
+//! A supervisor that keeps what a planner knows.
 use std::alloc::{AllocError, Global};
 use std::fmt::Write;
 use std::sync::atomic::{AtomicU64, Ordering};
-use tsn_worker::{Gate, LearnedNews, News, Phase};
+use tsn_worker::{LearnedNews, News, Supervisor};
 
 /// What stands for no number of nanoseconds.
 const NONE: u64 = u64::MAX;
 
-/// A gate that holds nobody, and keeps the least flowspan of a schedule that is known, and what no schedule's flowspan is below,
-/// as it hears of them. Once the search in the order of the file begins, or begins anew, only its own schedules are known.
+/// A supervisor that holds nobody, and keeps the least flowspan of a schedule that is known, and what no schedule's flowspan is below,
+/// as it hears of them.
 #[derive(Drop)]
 pub struct Heard {
     flowspan: AtomicU64,
@@ -47,7 +47,7 @@ impl Heard {
     }
 }
 
-impl Gate for Heard {
+impl Supervisor for Heard {
     fn pass(&self, _teller: usize) {}
 
     fn hear(&self, _teller: usize, news: News) {
@@ -57,13 +57,6 @@ impl Gate for Heard {
     fn hear_bound(&self, bound: u64) {
         let known = self.bound().unwrap_or(0);
         self.bound.store(bound.max(known), Ordering::SeqCst);
-    }
-
-    fn begin(&self, phase: Phase) {
-        match phase {
-            Phase::File | Phase::Along => self.flowspan.store(NONE, Ordering::SeqCst),
-            Phase::Learning => {}
-        }
     }
 
     fn hear_learned(&self, news: LearnedNews) {

@@ -1,10 +1,10 @@
-//! A gate that tells how far a plan has got.
+//! A supervisor that tells how far a plan has got.
 use crate::heard::Heard;
 use std::fmt;
 use std::io::Eprint;
 use std::sync::atomic::{AtomicBool, AtomicU64, Ordering};
 use std::time::{Clock, Instant};
-use tsn_worker::{Gate, LearnedNews, News, Phase};
+use tsn_worker::{LearnedNews, News, Phase, Supervisor};
 
 /// How many nodes are settled between two looks at the clock.
 const STRIDE: u64 = 256;
@@ -12,7 +12,7 @@ const STRIDE: u64 = 256;
 /// How many milliseconds pass between two lines.
 const PERIOD: u64 = 1000;
 
-/// A gate that holds nobody. About once a second it writes a line to standard error. As long as nodes are settled it has how many
+/// A supervisor that holds nobody. About once a second it writes a line to standard error. As long as nodes are settled it has how many
 /// were settled since the search began, or began anew, and how many are open, the least flowspan solved, what no schedule's
 /// flowspan is below and the gap between the two in nanoseconds, and how many nodes are settled a second. As long as the search
 /// learns it has how many conflicts there were, what is being shown, the least flowspan found, what none is below by that
@@ -128,7 +128,7 @@ impl<'a, R: Clock + Eprint> Progress<'a, R> {
     }
 }
 
-impl<'a, R: Clock + Eprint> Gate for Progress<'a, R> {
+impl<'a, R: Clock + Eprint> Supervisor for Progress<'a, R> {
     fn pass(&self, _teller: usize) {}
 
     fn hear(&self, teller: usize, news: News) {
@@ -148,7 +148,6 @@ impl<'a, R: Clock + Eprint> Gate for Progress<'a, R> {
     }
 
     fn begin(&self, phase: Phase) {
-        self.known.begin(phase);
         if is_anew(phase, self.is_alone) {
             self.settled.store(0, Ordering::SeqCst);
             self.splits.store(0, Ordering::SeqCst);

@@ -5,7 +5,7 @@ use Rattle.tsn_model.specs.Schedule.{flowspan}
 use Rattle.tsn_model.proofs.Firsts.{first_once}
 use Rattle.tsn_cert.specs.declared.plan.Plan.{Plan}
 use Rattle.tsn_cert.specs.declared.plan.Plan.TheVariants as plan
-use Rattle.tsn_check.specs.Faults.{IsFirstPlan}
+use Rattle.tsn_check.specs.Plans.{IsFirstPlan}
 
 -- two plans that are the first one of a network are the same
 pub first_plan_once : (network : Network) (whole other : Plan) → IsFirstPlan network whole → IsFirstPlan network other → whole ≡ other

@@ -13,8 +13,9 @@ use Rattle.tsn_cert.specs.declared.plan.Plan.TheVariants as plan
 use Rattle.tsn_cert.specs.declared.cert.Cert.{Cert}
 use Rattle.tsn_cert.specs.declared.cert.Format.{Format}
 use Rattle.tsn_cert.specs.declared.cert.Format.TheVariants.{Two}
-use Rattle.tsn_check.specs.Faults.{IsPlanRight, leaf_target, tie_plan, offsets_in}
-use Rattle.tsn_check.specs.Faults.{IsFirstPlan}
+use Rattle.tsn_check.specs.Plans.{IsPlanRight, offsets_in}
+use Rattle.tsn_check.specs.Certified.{leaf_target, tie_plan}
+use Rattle.tsn_check.specs.Plans.{IsFirstPlan}
 use Rattle.tsn_check.specs.declared.verdict.Verdict.{Verdict}
 use Rattle.tsn_check.specs.declared.verdict.Verdict.TheVariants.{First, NoSchedule}
 use Rattle.tsn_argument.specs.declared.argument.Argument.{Argument}
@@ -22,8 +23,8 @@ use Rattle.tsn_argument.specs.declared.argument.Goal.{Goal}
 use Rattle.tsn_argument.specs.declared.argument.Goal.TheVariants as aim
 use Rattle.tsn_argument.specs.declared.certificate.Certificate.{Certificate}
 use Rattle.tsn_argument.specs.declared.certificate.Certificate.TheVariants.{Tree, Argument as Argued}
-use Rattle.tsn_argue.specs.Faults as argue
-use Rattle.tsn_argue.specs.Faults.{argument_verdict, goal_for}
+use Rattle.tsn_argue.specs.Certified as argue
+use Rattle.tsn_argue.specs.Certified.{argument_verdict, goal_for}
 use Rattle.tsn_worker.specs.Answer.{Shows, IsStopped, IsFinished, IsFoundPlan, IsArgued, IsCertOf, IsAnswer, IsFound, HasNoneOpen, plan_kept, answer_for, whole_verdict}
 use Rattle.tsn_worker.specs.declared.found.Found.{Found}
 use Rattle.tsn_worker.specs.declared.found.Found.TheVariants as found
@@ -191,4 +192,4 @@ stopped network limit book lawful search (inr more) some =
 pub none_open : (network : Network) (limit : ℕ) (found : Found) → IsFound network limit found → HasNoneOpen found
 none_open network limit (found.Finished book) done = done.none_open
 none_open network limit (found.Argued plan argument) argued = tt
-none_open network limit (found.Stopped book) stopped = tt
+none_open network limit (found.Stopped book known) stopped = tt

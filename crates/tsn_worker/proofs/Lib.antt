@@ -1,3 +1,4 @@
 mod Deciding
+mod KnownLemmas
 mod ShownPlans
 pub mod Agreeing

@@ -4,13 +4,14 @@ use Rattle.tsn_model.specs.Network.{Network}
 use Rattle.tsn_model.specs.Schedule.{HasNoSchedule, IsOptimal, flowspan, target_of}
 use Rattle.tsn_cert.specs.declared.plan.Plan.{Plan}
 use Rattle.tsn_cert.specs.declared.plan.Plan.TheVariants as plan
-use Rattle.tsn_check.specs.Faults.{IsOptimalPlan, IsPlanRight, offsets_in}
+use Rattle.tsn_model.proofs.Schedules.{flowspan-le-cycle}
+use Rattle.tsn_check.specs.Plans.{IsOptimalPlan, IsPlanRight, offsets_in, span_in}
 use Rattle.tsn_check.specs.declared.verdict.Verdict.TheVariants.{Optimal, First, NoSchedule}
 use Rattle.tsn_argument.specs.declared.argument.Argument.{Argument}
 use Rattle.tsn_argument.specs.declared.argument.Goal.{Goal}
 use Rattle.tsn_argument.specs.declared.argument.Goal.TheVariants as aim
-use Rattle.tsn_argue.specs.Faults as argue
-use Rattle.tsn_argue.specs.Faults.{argument_verdict, goal_for}
+use Rattle.tsn_argue.specs.Certified as argue
+use Rattle.tsn_argue.specs.Certified.{argument_verdict, goal_for}
 use Rattle.tsn_worker.specs.Laws.{ProvedIsNotUndercut}
 use Rattle.tsn_worker.specs.Proof.{IsShown, IsShownBy}
 
@@ -62,3 +63,8 @@ pub target_none : (network : Network) (stated : Plan) (target : ℕ) → stated 
     → target ≡ target_of network (offsets_in stated)
 unfolding target_of
 target_none network stated target is past = subst (λ (p : Plan). target ≡ target_of network (offsets_in p)) (sym is) past
+
+-- an optimal plan is done within the cycle
+pub optimal_within : (network : Network) (stated : Plan) → IsOptimalPlan network stated → span_in stated ≤ network.cycle
+optimal_within network (plan.Schedule span offsets) optimal = subst (λ n. n ≤ network.cycle) (sym optimal.1) (flowspan-le-cycle network offsets optimal.0.valid)
+optimal_within network plan.None optimal = absurd optimal

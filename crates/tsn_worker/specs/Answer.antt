@@ -4,8 +4,11 @@
 --     IsStopped     a search that was stopped at its limit
 --     IsFinished    a search that has left nothing open, and what its book shows
 --     IsArgued      a plan with an argument for it
+--     IsStoppedWith what is known where a search is stopped
 --     IsFound       what a search leaves
 --     IsAnswer      the answer to a network
+--     MayArgue, IsCertificateBy, IsFoundBy, IsAnswerBy     of what kind a certificate may be, by what was asked for
+--     HasNoArgument, HasAnswer, KeepsKnown, KeepsKept, KeepsFound     what the phases of a search leave to one another
 use Rattle.std.specs.Prelude.{◌≡◌, ◌≤◌, ◌<◌, ◌+◌, ◌-◌, ◌^◌, ℕ, List, [], length, Option, Some, None, MatchOption}
 use Rattle.tsn_model.specs.Network.{Network}
 use Rattle.tsn_model.specs.Schedule.{IsValid, HasNoSchedule, flowspan}
@@ -17,12 +20,18 @@ use Rattle.tsn_cert.specs.declared.cert.Cert.{Cert}
 use Rattle.tsn_cert.specs.declared.cert.Format.TheVariants.{Two}
 use Rattle.tsn_check.specs.declared.verdict.Verdict.{Verdict}
 use Rattle.tsn_check.specs.declared.verdict.Verdict.TheVariants as verdict
-use Rattle.tsn_check.specs.Faults.{IsOptimalPlan, IsFirstPlan}
+use Rattle.tsn_check.specs.Plans.{IsOptimalPlan, IsFirstPlan}
 use Rattle.tsn_argument.specs.declared.argument.Argument.{Argument}
 use Rattle.tsn_argument.specs.declared.certificate.Certificate.{Certificate}
 use Rattle.tsn_argument.specs.declared.certificate.Certificate.TheVariants.{Tree, Argument as Argued}
-use Rattle.tsn_argue.specs.Faults.{Certifies, argument_verdict}
+use Rattle.tsn_argue.specs.Certified.{Certifies, argument_verdict}
 use Rattle.tsn_book.specs.Book.{Progress, IsLawful, SpellsAccepted}
+use Rattle.tsn_worker.specs.declared.known.Known.{Known}
+use Rattle.tsn_worker.specs.declared.planning.Effort.{Effort}
+use Rattle.tsn_worker.specs.declared.planning.Method.{Method}
+use Rattle.tsn_worker.specs.declared.planning.Method.TheVariants as method
+use Rattle.tsn_worker.specs.declared.planning.TheConstants.{FILE_ORDER_LIMIT}
+use Rattle.tsn_worker.specs.Known.{IsKnown, HoldsKept, LosesNothing}
 use Rattle.tsn_worker.specs.declared.answer.Answer.{Answer}
 use Rattle.tsn_worker.specs.declared.answer.Answer.TheVariants.{Optimal, NoSchedule, Stopped}
 use Rattle.tsn_worker.specs.declared.found.Found.{Found}
@@ -104,14 +113,77 @@ pub record IsFinished (network : Network) (limit : ℕ) (book : Progress) : Type
 abbrev pub IsArgued : Network → ℕ → Plan → Argument → Type 0
 IsArgued network limit plan argument = IsFoundPlan network plan × Shows network limit plan (Argued argument) (length argument.steps)
 
+-- a search that was stopped at its limit, and what is known then: a valid schedule, if any, and no longer than the one that the book has kept; and a bound
+pub record IsStoppedWith (network : Network) (limit : ℕ) (book : Progress) (known : Known) : Type 0 where
+  pub stopped : IsStopped network limit book
+  pub so : IsKnown network known
+  pub kept : HoldsKept network book known
+
 -- what a search leaves: nothing open; an argument; or as many nodes settled as it may
 abbrev pub IsFound : Network → ℕ → Found → Type 0
 IsFound network limit (found.Finished book) = IsFinished network limit book
 IsFound network limit (found.Argued plan argument) = IsArgued network limit plan argument
-IsFound network limit (found.Stopped book) = IsStopped network limit book
+IsFound network limit (found.Stopped book known) = IsStoppedWith network limit book known
 
 -- nothing is open in a book that is finished
 abbrev pub HasNoneOpen : Found → Type 0
 HasNoneOpen (found.Finished book) = open_paths book.history ≡ []
 HasNoneOpen (found.Argued plan argument) = Unit {0}
-HasNoneOpen (found.Stopped book) = Unit {0}
+HasNoneOpen (found.Stopped book known) = Unit {0}
+
+-- ---- what was asked for
+
+-- by such a method, with so many nodes at most, the search that learns may answer: never in the order of the file alone
+abbrev pub MayArgue : Method → ℕ → Type 0
+MayArgue method.Auto limit = FILE_ORDER_LIMIT < limit
+MayArgue method.FileOrder limit = ⊥
+MayArgue method.Learn limit = Unit {0}
+
+-- the certificate is a tree, whose count is of settled nodes; or an argument, where the search that learns may answer
+abbrev pub IsCertificateBy : Effort → Certificate → Type 0
+IsCertificateBy effort (Tree cert) = Unit {0}
+IsCertificateBy effort (Argued argument) = MayArgue effort.method effort.limit
+
+-- what a search leaves that was asked for this
+abbrev pub IsFoundBy : Effort → Found → Type 0
+IsFoundBy effort (found.Finished book) = Unit {0}
+IsFoundBy effort (found.Argued plan argument) = MayArgue effort.method effort.limit
+IsFoundBy effort (found.Stopped book known) = Unit {0}
+
+-- and what is answered
+abbrev pub IsAnswerBy : Effort → Answer → Type 0
+IsAnswerBy effort (Optimal plan certificate count) = IsCertificateBy effort certificate
+IsAnswerBy effort (NoSchedule certificate count) = IsCertificateBy effort certificate
+IsAnswerBy effort (Stopped book) = Unit {0}
+
+-- ---- the phases of a search
+
+-- what is left is a book, and no argument
+abbrev pub HasNoArgument : Found → Type 0
+HasNoArgument (found.Finished book) = Unit {0}
+HasNoArgument (found.Argued plan argument) = ⊥
+HasNoArgument (found.Stopped book known) = Unit {0}
+
+-- where it is stopped, nothing is lost of what was known before
+abbrev pub KeepsKnown : Known → Found → Type 0
+KeepsKnown before (found.Finished book) = Unit {0}
+KeepsKnown before (found.Argued plan argument) = Unit {0}
+KeepsKnown before (found.Stopped book known) = LosesNothing before known
+
+-- nor the schedule that an earlier book has kept
+abbrev pub KeepsKept : Network → Progress → Found → Type 0
+KeepsKept network earlier (found.Finished book) = Unit {0}
+KeepsKept network earlier (found.Argued plan argument) = Unit {0}
+KeepsKept network earlier (found.Stopped book known) = HoldsKept network earlier known
+
+-- it wasn't stopped
+abbrev pub HasAnswer : Found → Type 0
+HasAnswer (found.Finished book) = Unit {0}
+HasAnswer (found.Argued plan argument) = Unit {0}
+HasAnswer (found.Stopped book known) = ⊥
+
+-- nor what was known where an earlier search was stopped; and one that has answered stays so
+abbrev pub KeepsFound : Found → Found → Type 0
+KeepsFound (found.Finished book) later = HasAnswer later
+KeepsFound (found.Argued plan argument) later = HasAnswer later
+KeepsFound (found.Stopped book known) later = KeepsKnown known later

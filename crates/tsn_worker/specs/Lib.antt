@@ -1,3 +1,4 @@
+pub mod Known
 pub mod Answer
 pub mod Learned
 pub mod Proof

@@ -2,6 +2,7 @@
 --     IsShown        what a plan says is so
 --     IsShownBy      an argument that shows it
 --     Undercuts      a schedule of lesser flowspan than a target
+--     IsBound        what no schedule undercuts, within the cycle
 --     IsProof        what is found of a plan
 use Rattle.std.specs.Prelude.{◌≡◌, ◌≢◌, ◌≤◌, ◌<◌, ℕ, length}
 use Rattle.tsn_model.specs.Network.{Network}
@@ -9,10 +10,10 @@ use Rattle.tsn_model.specs.Schedule.{IsValid, flowspan, target_of, HasNoSchedule
 use Rattle.tsn_cert.specs.declared.plan.Plan.{Plan}
 use Rattle.tsn_cert.specs.declared.plan.Plan.TheVariants as plan
 use Rattle.tsn_check.specs.declared.verdict.Verdict.TheVariants as verdict
-use Rattle.tsn_check.specs.Faults.{IsOptimalPlan, offsets_in}
+use Rattle.tsn_check.specs.Plans.{IsOptimalPlan, offsets_in}
 use Rattle.tsn_argument.specs.declared.argument.Argument.{Argument}
-use Rattle.tsn_argue.specs.Faults.{argument_verdict}
-use Rattle.tsn_argue.specs.Faults as argue
+use Rattle.tsn_argue.specs.Certified.{argument_verdict}
+use Rattle.tsn_argue.specs.Certified as argue
 use Rattle.tsn_search.specs.Bound.{IsLowerBound}
 use Rattle.tsn_worker.specs.declared.proof.Proof.{Proof}
 use Rattle.tsn_worker.specs.declared.proof.Proof.TheVariants.{Proved, Undercut, Stopped}
@@ -34,8 +35,12 @@ abbrev pub Undercuts : Network → ℕ → Plan → Type 0
 Undercuts network target (plan.Schedule span offsets) = IsValid network offsets × (span ≡ flowspan network offsets) × (span < target)
 Undercuts network target plan.None = ⊥
 
+-- no valid schedule's flowspan is below the bound, which is at most the cycle
+abbrev pub IsBound : Network → ℕ → Type 0
+IsBound network bound = IsLowerBound network bound × (bound ≤ network.cycle)
+
 -- what is found of the plan: an argument, of as many steps as is told; a schedule that undercuts it; or a bound. What is told besides is at most the limit
 abbrev pub IsProof : Network → ℕ → Plan → Proof → Type 0
 IsProof network limit plan (Proved argument count) = IsShownBy network limit plan argument × (count ≡ length argument.steps)
 IsProof network limit plan (Undercut better count) = Undercuts network (target_of network (offsets_in plan)) better × (count ≤ limit)
-IsProof network limit plan (Stopped bound count) = IsLowerBound network bound × (count ≤ limit)
+IsProof network limit plan (Stopped bound count) = IsBound network bound × (count ≤ limit)

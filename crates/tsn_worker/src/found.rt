@@ -3,9 +3,11 @@ ghost use Rattle.std.specs.Prelude.{◌≡◌, ℕ, [], IfOk};
 ghost use Rattle.tsn_model.specs.Network.{Network};
 ghost use Rattle.tsn_model.specs.Search.{open_paths, kept_of};
 ghost use Rattle.tsn_cert.specs.declared.plan.Plan.TheVariants.{Schedule};
-ghost use Rattle.tsn_worker.specs.Answer.{IsAnswer, IsArgued, IsFinished, IsFound, HasNoneOpen, plan_kept, answer_for};
+ghost use Rattle.tsn_worker.specs.declared.planning.Effort.{Effort};
+ghost use Rattle.tsn_worker.specs.Answer.{IsAnswer, IsAnswerBy, IsArgued, IsCertificateBy, IsFinished, IsFound, IsFoundBy, MayArgue, HasNoneOpen, plan_kept, answer_for};
 
 use crate::answer::Answer;
+use crate::known::Known;
 use std::alloc::Global;
 use tsn_argument::{Argument, Certificate};
 use tsn_book::Book;
@@ -20,20 +22,24 @@ pub enum Found {
     Finished(Book),
     /// The plan, and an argument that shows it.
     Argued(Plan, Argument),
-    /// The limit was met while a node was open.
-    Stopped(Book),
+    /// The limit was met while a node was open; and what is known then.
+    Stopped(Book, Known),
 }
 
 impl Found {
     /// The answer, with its certificate. The error says that there was no memory.
     pub fn into_answer(self, alloc: Global) -> Result<Answer, NoMemory>
         requires { HasNoneOpen self }
-        ensures { IfOk result (λ answer. (network : Network) (limit : ℕ) → IsFound network limit self → IsAnswer network limit answer) }
+        ensures answer { IfOk result (λ answer. (network : Network) (limit : ℕ) → IsFound network limit self → IsAnswer network limit answer) }
+        ensures method { IfOk result (λ answer. (effort : Effort) → IsFoundBy effort self → IsAnswerBy effort answer) }
     {
         match self {
             Found::Finished(book) => certify(alloc, book),
             Found::Argued(plan, argument) => Ok(argued(plan, argument)),
-            Found::Stopped(book) => Ok(Answer::Stopped(book)),
+            Found::Stopped(book, known) => {
+                drop(known);
+                Ok(Answer::Stopped(book))
+            }
         }
     }
 }
@@ -51,7 +57,8 @@ pub fn plan_of(alloc: Global, book: &Book) -> Result<Plan, NoMemory>
 // The answer of a search that left nothing open.
 fn certify(alloc: Global, book: Book) -> Result<Answer, NoMemory>
     requires { open_paths book.history ≡ [] }
-    ensures { IfOk result (λ answer. (network : Network) (limit : ℕ) → IsFinished network limit book → IsAnswer network limit answer) }
+    ensures answer { IfOk result (λ answer. (network : Network) (limit : ℕ) → IsFinished network limit book → IsAnswer network limit answer) }
+    ensures method { IfOk result (λ answer. (effort : Effort) → IsAnswerBy effort answer) }
 {
     let count = book.count();
     let plan = match plan_of(alloc, &book) {
@@ -72,7 +79,8 @@ fn certify(alloc: Global, book: Book) -> Result<Answer, NoMemory>
 
 // The answer that has a plan with an argument for it.
 fn argued(plan: Plan, argument: Argument) -> Answer
-    ensures { (network : Network) (limit : ℕ) → IsArgued network limit plan argument → IsAnswer network limit result }
+    ensures answer { (network : Network) (limit : ℕ) → IsArgued network limit plan argument → IsAnswer network limit result }
+    ensures method { (effort : Effort) → MayArgue effort.method effort.limit → IsAnswerBy effort result }
 {
     let count = argument.steps.list().len();
     answer_for(plan, Certificate::Argument(argument), count)
@@ -80,7 +88,8 @@ fn argued(plan: Plan, argument: Argument) -> Answer
 
 // The answer that has a plan with its certificate.
 fn answer_for(plan: Plan, certificate: Certificate, count: usize) -> Answer
-    ensures { result ≡ answer_for plan certificate count }
+    ensures answer { result ≡ answer_for plan certificate count }
+    ensures method { (effort : Effort) → IsCertificateBy effort certificate → IsAnswerBy effort result }
 {
     match plan {
         Plan::Schedule { flowspan, offsets } => {

@@ -1,8 +1,12 @@
 //! What the search that learns shows, once its argument is checked.
-ghost use Rattle.std.specs.Prelude.{◌≡◌, true};
+ghost use Rattle.std.specs.Prelude.{◌≡◌, ◌≤◌, true};
+ghost use Rattle.tsn_check.specs.Plans.{IsOptimalPlan, span_in};
+ghost use Rattle.tsn_search.specs.Bound.{IsLowerBound};
 ghost use Rattle.tsn_worker.specs.Answer.{IsArgued};
+ghost use Rattle.tsn_worker.specs.Known.{IsKnown};
 ghost use Rattle.tsn_worker.specs.Learned.{IsLearned};
 
+use crate::known::Known;
 use std::alloc::Global;
 use tsn_argue::check_argument;
 use tsn_argument::Argument;
@@ -10,7 +14,7 @@ use tsn_cert::{Offsets, Plan};
 use tsn_check::Verdict;
 use tsn_learn::{Answer, BestSoFar, Budget, Hear, News, learn};
 use tsn_net::Problem;
-use tsn_search::{Gate, LearnedNews, Phase};
+use tsn_search::{LearnedNews, Phase, Supervisor};
 use tsn_timing::Timing;
 
 /// How often the search that learns may look at arcs, clauses and streams of links for each node that a run may settle: with a
@@ -25,18 +29,18 @@ const LEAST_WORK: u64 = 100_000_000;
 pub enum Learned {
     /// A plan, and an argument that shows it.
     Shown(Plan, Argument),
-    /// Nothing that is shown; the best schedule that it knows, if any, in nanoseconds, of which nothing is claimed.
-    Open(Option<Vec<u64>>),
+    /// Nothing that is shown; and what is known.
+    Open(Known),
 }
 
-/// Hands what a search that learns tells to a gate.
+/// Hands what a search that learns tells to a supervisor.
 #[derive(Clone, Copy)]
-pub struct Hearer<'a, G> {
-    pub gate: &'a G,
+pub struct Hearer<'a, S> {
+    pub supervisor: &'a S,
     pub streams: usize,
 }
 
-impl<'a, G: Gate> Hear for Hearer<'a, G> {
+impl<'a, S: Supervisor> Hear for Hearer<'a, S> {
     fn hear(&self, news: News) {
         let News {
             flowspan,
@@ -45,7 +49,7 @@ impl<'a, G: Gate> Hear for Hearer<'a, G> {
             conflicts,
             work: _,
         } = news;
-        self.gate.hear_learned(LearnedNews {
+        self.supervisor.hear_learned(LearnedNews {
             flowspan,
             bound,
             stream,
@@ -65,27 +69,34 @@ pub fn budget_of(limit: usize) -> Budget {
     }
 }
 
-/// What a search that learns finds, from a schedule on that is known, where there is one: an argument of at most so many steps, which
-/// is checked. Where memory is wanting nothing is shown.
-pub fn find_by_learning<G: Gate>(
+/// What is asked: of what network, and with how many steps at most.
+#[derive(Clone, Copy)]
+pub struct Question<'a> {
+    pub problem: &'a Problem,
+    pub timing: &'a Timing,
+    pub limit: usize,
+}
+
+/// What a search that learns finds, from the schedule on that is known, where there is one: an argument of at most so many steps, which
+/// is checked. Where memory is wanting nothing is shown. What it has as its best schedule counts where it is valid, and what it has
+/// as a bound where its argument is accepted.
+pub fn find_by_learning<S: Supervisor>(
     alloc: Global,
-    problem: &Problem,
-    timing: &Timing,
-    known: Option<Vec<u64>>,
-    limit: usize,
-    gate: &G,
+    question: Question<'_>,
+    known: Known,
+    supervisor: &S,
 ) -> Learned
-    ensures { IsLearned problem.now.network limit result }
+    requires timing { question.timing.now ≡ question.problem.now.network }
+    requires known { IsKnown question.problem.now.network known }
+    ensures { IsLearned question.entry.problem.now.network question.entry.limit known result }
 {
-    gate.begin(Phase::Learning);
+    supervisor.begin(Phase::Learning);
     let hearer = Hearer {
-        gate,
-        streams: timing.streams(),
+        supervisor,
+        streams: question.timing.streams(),
     };
-    let start = known
-        .as_ref()
-        .map_or(None, |offsets| Some(offsets.as_slice()));
-    match learn(alloc, timing, start, budget_of(limit), &hearer) {
+    let budget = budget_of(question.limit);
+    match learn(alloc, question.timing, known.offsets(), budget, &hearer) {
         Ok(Answer::First(found)) => {
             let tsn_learn::Plan {
                 offsets,
@@ -97,63 +108,66 @@ pub fn find_by_learning<G: Gate>(
                 flowspan,
                 offsets: Offsets::of(offsets),
             };
-            judged(alloc, problem, plan, argument, limit)
+            judged(alloc, question, plan, argument, known)
         }
-        Ok(Answer::None(Some(argument))) => judged(alloc, problem, Plan::None, argument, limit),
-        Ok(Answer::None(None)) | Err(_) => Learned::Open(known),
-        Ok(Answer::GaveUp(best)) => given_up(alloc, problem, best, known, gate),
+        Ok(
+            Answer::None {
+                argument,
+                conflicts: _,
+            },
+        ) => match argument {
+            Some(argument) => judged(alloc, question, Plan::None, argument, known),
+            None => Learned::Open(known),
+        },
+        Ok(Answer::GaveUp(best)) => given_up(alloc, question, best, known, supervisor),
+        Err(_) => Learned::Open(known),
     }
 }
 
 // The plan with its argument, where that shows it by at most so many steps.
-fn judged(alloc: Global, problem: &Problem, plan: Plan, argument: Argument, limit: usize) -> Learned
-    ensures { IsLearned problem.now.network limit result }
+fn judged(
+    alloc: Global,
+    question: Question<'_>,
+    plan: Plan,
+    argument: Argument,
+    known: Known,
+) -> Learned
+    requires timing { question.timing.now ≡ question.problem.now.network }
+    requires known { IsKnown question.problem.now.network known }
+    ensures { IsLearned question.entry.problem.now.network question.entry.limit known result }
 {
-    if is_shown(alloc, problem, &plan, &argument, limit) {
+    if is_shown(alloc, question, &plan, &argument) {
+        drop(known);
         return Learned::Shown(plan, argument);
     }
     drop(argument);
-    Learned::Open(offsets_of(plan))
+    Learned::Open(known.with_plan(question.timing, plan))
 }
 
 // Whether the argument shows by at most so many steps that the plan is the first one, or that there is none where it says so.
-fn is_shown(
-    alloc: Global,
-    problem: &Problem,
-    plan: &Plan,
-    argument: &Argument,
-    limit: usize,
-) -> bool
-    ensures { result ≡ true → IsArgued problem.now.network limit plan.now argument.now }
+fn is_shown(alloc: Global, question: Question<'_>, plan: &Plan, argument: &Argument) -> bool
+    ensures { result ≡ true → IsArgued question.entry.problem.now.network question.entry.limit plan.now argument.now }
 {
     let steps = argument.steps.list().len();
-    match check_argument(alloc, problem, plan, argument) {
-        Ok(Verdict::First) => steps <= limit,
-        Ok(Verdict::NoSchedule) => steps <= limit,
+    match check_argument(alloc, question.problem, plan, argument) {
+        Ok(Verdict::First) => steps <= question.limit,
+        Ok(Verdict::NoSchedule) => steps <= question.limit,
         Ok(Verdict::Optimal) => false,
         Err(_) => false,
     }
 }
 
-fn offsets_of(plan: Plan) -> Option<Vec<u64>> {
-    match plan {
-        Plan::Schedule {
-            flowspan: _,
-            offsets,
-        } => Some(offsets.into_list()),
-        Plan::None => None,
-    }
-}
-
-// What a search that gave up knows. The gate hears of the bound that its argument shows, where it has one.
-fn given_up<G: Gate>(
+// What is known where the search gave up. The supervisor hears of the bound.
+fn given_up<S: Supervisor>(
     alloc: Global,
-    problem: &Problem,
+    question: Question<'_>,
     best: BestSoFar,
-    known: Option<Vec<u64>>,
-    gate: &G,
+    known: Known,
+    supervisor: &S,
 ) -> Learned
-    ensures { (limit : _) → IsLearned problem.now.network limit result }
+    requires timing { question.timing.now ≡ question.problem.now.network }
+    requires known { IsKnown question.problem.now.network known }
+    ensures { IsLearned question.entry.problem.now.network question.entry.limit known result }
 {
     let BestSoFar {
         schedule,
@@ -165,16 +179,45 @@ fn given_up<G: Gate>(
         drop(argument);
         return Learned::Open(known);
     };
-    let Some(argument) = argument else {
-        return Learned::Open(Some(offsets));
-    };
     let plan = Plan::Schedule {
         flowspan: bound,
         offsets: Offsets::of(offsets),
     };
-    if let Ok(Verdict::Optimal) = check_argument(alloc, problem, &plan, &argument) {
-        gate.hear_bound(bound);
-    }
+    let shown = bound_shown(alloc, question.problem, &plan, &argument);
     drop(argument);
-    Learned::Open(offsets_of(plan))
+    let known = known.raised(shown);
+    supervisor.hear_bound(known.bound);
+    Learned::Open(known.with_plan(question.timing, plan))
+}
+
+// What the argument shows that no valid schedule's flowspan is below, in nanoseconds: that of the plan, where it shows that this is
+// optimal; else 0.
+fn bound_shown(alloc: Global, problem: &Problem, plan: &Plan, argument: &Option<Argument>) -> u64
+    ensures lower { IsLowerBound problem.now.network result }
+    ensures within_cycle { result ≤ problem.now.network.cycle }
+{
+    match argument {
+        Some(argument) if is_optimal(alloc, problem, plan, argument) => span_of(plan),
+        _ => 0,
+    }
+}
+
+// Whether the argument shows that the plan is optimal.
+fn is_optimal(alloc: Global, problem: &Problem, plan: &Plan, argument: &Argument) -> bool
+    ensures { result ≡ true → IsOptimalPlan problem.now.network plan.now }
+{
+    matches!(
+        check_argument(alloc, problem, plan, argument),
+        Ok(Verdict::Optimal)
+    )
+}
+
+// The flowspan of a plan in nanoseconds, 0 where it is that there is none.
+fn span_of(plan: &Plan) -> u64
+    ensures { result ≡ span_in plan.now }
+{
+    match plan {
+        Plan::Schedule { flowspan, .. } => *flowspan,
+        Plan::None => 0,
+    }
 }

@@ -4,6 +4,7 @@
 
 pub mod answer;
 pub mod found;
+pub mod known;
 pub mod laws;
 mod learned;
 pub mod planning;
@@ -12,9 +13,10 @@ pub mod proving;
 
 pub use answer::Answer;
 pub use found::{Found, plan_of};
+pub use known::Known;
 pub use planning::{
     Effort, FILE_ORDER_LIMIT, MAX_LIMIT, MAX_WORKERS, Method, plan, plan_by, plan_over, search_by,
 };
 pub use proof::Proof;
 pub use proving::prove;
-pub use tsn_search::{Bag, DequeBag, Gate, LearnedNews, News, OpenGate, Phase};
+pub use tsn_search::{Bag, DequeBag, LearnedNews, News, NoSupervisor, Phase, Supervisor};

@@ -2,12 +2,14 @@
 ghost use Rattle.std.specs.Prelude.{◌≡◌, ◌≤◌, ◌<◌, ◌⊎◌, [], length, IfOk};
 ghost use Rattle.tsn_model.specs.Network.{IsWellFormed};
 ghost use Rattle.tsn_model.specs.Search.{open_paths};
-ghost use Rattle.tsn_worker.specs.Answer.{IsAnswer, IsFound};
+ghost use Rattle.tsn_worker.specs.Answer.{IsAnswer, IsAnswerBy, IsFound, IsFoundBy, HasNoArgument, KeepsFound, KeepsKept, KeepsKnown};
+ghost use Rattle.tsn_worker.specs.Known.{IsKnown};
 ghost use Rattle.tsn_search.specs.Search.{IsSearchBy, IsSearchOf};
 
 use crate::answer::Answer;
 use crate::found::Found;
-use crate::learned::{Learned, find_by_learning};
+use crate::known::Known;
+use crate::learned::{Learned, Question, find_by_learning};
 use std::alloc::Global;
 use std::marker::Brand;
 use std::sync::Wait;
@@ -18,7 +20,7 @@ use tsn_net::Problem;
 use tsn_search::bound::lower_bound;
 use tsn_search::search::settle_open;
 use tsn_search::threads::search;
-use tsn_search::{Bag, DequeBag, Gate, Phase, Prepared, Setting};
+use tsn_search::{Bag, DequeBag, Phase, Prepared, Setting, Supervisor};
 use tsn_share::Parts;
 use tsn_timing::Timing;
 
@@ -62,16 +64,16 @@ pub struct Effort {
 /// certificate that shows it; or, where `limit` nodes (1 to 1,000,000,000) were settled and one is still open, the book with the best schedule so far, if any.
 /// The search goes in the order of the file.
 ///
-/// There are 1 to 16 workers. One is the caller, who then starts no thread and waits for nobody but the gate. Two or more run in
+/// There are 1 to 16 workers. One is the caller, who then starts no thread and waits for nobody but the supervisor. Two or more run in
 /// threads of their own, or one after another where no thread can be made; the caller settles the first nodes before they
 /// start, and what they leave open after they have ended. The error says that there was no memory for the caller.
-pub fn plan<R: Threads + Wait + Sync, G: Gate + Sync>(
+pub fn plan<R: Threads + Wait + Sync, S: Supervisor + Sync>(
     rt: &R,
     alloc: Global,
     problem: &Problem,
     workers: usize,
     limit: usize,
-    gate: &G,
+    supervisor: &S,
 ) -> Result<Answer, NoMemory>
     requires workers { (1 ≤ workers) × (workers ≤ MAX_WORKERS) }
     requires some { 1 ≤ limit }
@@ -83,42 +85,44 @@ pub fn plan<R: Threads + Wait + Sync, G: Gate + Sync>(
         workers,
         limit,
     };
-    plan_by(rt, alloc, problem, effort, gate)
+    plan_by(rt, alloc, problem, effort, supervisor)
 }
 
 /// What `plan` answers, by any method.
-pub fn plan_by<R: Threads + Wait + Sync, G: Gate + Sync>(
+pub fn plan_by<R: Threads + Wait + Sync, S: Supervisor + Sync>(
     rt: &R,
     alloc: Global,
     problem: &Problem,
     effort: Effort,
-    gate: &G,
+    supervisor: &S,
 ) -> Result<Answer, NoMemory>
     requires workers { (1 ≤ effort.workers) × (effort.workers ≤ MAX_WORKERS) }
     requires some { 1 ≤ effort.limit }
     requires few { effort.limit ≤ MAX_LIMIT }
-    ensures { IfOk result (IsAnswer problem.now.network effort.limit) }
+    ensures answer { IfOk result (IsAnswer problem.now.network effort.limit) }
+    ensures method { IfOk result (IsAnswerBy effort) }
 {
-    search_by(rt, alloc, problem, effort, gate)?.into_answer(alloc)
+    search_by(rt, alloc, problem, effort, supervisor)?.into_answer(alloc)
 }
 
 /// What is searched for `plan_by`, and no certificate: the book that is left says which schedule is the first, or that there is
-/// none, where no node is open in it.
-pub fn search_by<R: Threads + Wait + Sync, G: Gate + Sync>(
+/// none, where no node is open in it. Where the limit is met the best schedule that any phase of the search has found is known
+/// besides, and what no schedule undercuts.
+pub fn search_by<R: Threads + Wait + Sync, S: Supervisor + Sync>(
     rt: &R,
     alloc: Global,
     problem: &Problem,
     effort: Effort,
-    gate: &G,
+    supervisor: &S,
 ) -> Result<Found, NoMemory>
     requires workers { (1 ≤ effort.workers) × (effort.workers ≤ MAX_WORKERS) }
     requires some { 1 ≤ effort.limit }
     requires few { effort.limit ≤ MAX_LIMIT }
-    ensures { IfOk result (IsFound problem.now.network effort.limit) }
+    ensures found { IfOk result (IsFound problem.now.network effort.limit) }
+    ensures method { IfOk result (IsFoundBy effort) }
 {
     let prepared = Prepared::of(alloc, problem)?;
-    let setting = prepared.setting(alloc, gate);
-    tell_bound(&setting);
+    let setting = prepared.setting(alloc, supervisor);
     let found = found_by(rt, problem, &setting, effort);
     drop(setting);
     drop(prepared);
@@ -126,12 +130,12 @@ pub fn search_by<R: Threads + Wait + Sync, G: Gate + Sync>(
 }
 
 /// What `plan` answers, by 2 to 16 workers, one a bag. The bags are handed in empty.
-pub fn plan_over<R: Threads + Wait + Sync, G: Gate + Sync, B: Bag + Send>(
+pub fn plan_over<R: Threads + Wait + Sync, S: Supervisor + Sync, B: Bag + Send>(
     rt: &R,
     alloc: Global,
     problem: &Problem,
     limit: usize,
-    gate: &G,
+    supervisor: &S,
     bags: Vec<B>,
 ) -> Result<Answer, NoMemory>
     requires workers { (2 ≤ length bags.items) × (length bags.items ≤ MAX_WORKERS) }
@@ -140,43 +144,92 @@ pub fn plan_over<R: Threads + Wait + Sync, G: Gate + Sync, B: Bag + Send>(
     ensures { IfOk result (IsAnswer problem.now.network limit) }
 {
     let prepared = Prepared::of(alloc, problem)?;
-    let setting = prepared.setting(alloc, gate);
-    tell_bound(&setting);
-    gate.begin(Phase::File);
-    let found = found_over(rt, &setting, None, limit, bags);
+    let setting = prepared.setting(alloc, supervisor);
+    let found = found_in_bags(rt, &setting, limit, bags);
     drop(setting);
     drop(prepared);
     found?.into_answer(alloc)
 }
 
+// What 2 to 16 workers find from the root on, one a bag.
+fn found_in_bags<R: Threads + Wait + Sync, S: Supervisor + Sync, B: Bag + Send>(
+    rt: &R,
+    setting: &Setting<'_, S>,
+    limit: usize,
+    bags: Vec<B>,
+) -> Result<Found, NoMemory>
+    requires workers { (2 ≤ length bags.items) × (length bags.items ≤ MAX_WORKERS) }
+    requires some { 1 ≤ limit }
+    requires few { limit ≤ MAX_LIMIT }
+    ensures { IfOk result (IsFound setting.now.tables.timing.now limit) }
+{
+    let known = known_at_root(setting)?;
+    setting.supervisor.begin(Phase::File);
+    found_over(rt, setting, known, limit, bags)
+}
+
+// What is known before the search, of which the supervisor hears. A bound past the cycle is told as the cycle: the search then finds
+// that there is no schedule.
+fn known_at_root<S: Supervisor>(setting: &Setting<'_, S>) -> Result<Known, NoMemory>
+    ensures { IfOk result (IsKnown setting.now.tables.timing.now) }
+{
+    let bound = lower_bound(setting.alloc, setting.tables)?;
+    let known = Known {
+        best: None,
+        bound: bound.min(setting.tables.timing.cycle()),
+    };
+    setting.supervisor.hear_bound(known.bound);
+    Ok(known)
+}
+
 // What is found by a method.
-fn found_by<R: Threads + Wait + Sync, G: Gate + Sync>(
+fn found_by<R: Threads + Wait + Sync, S: Supervisor + Sync>(
     rt: &R,
     problem: &Problem,
-    setting: &Setting<'_, G>,
+    setting: &Setting<'_, S>,
     effort: Effort,
 ) -> Result<Found, NoMemory>
     requires workers { (1 ≤ effort.workers) × (effort.workers ≤ MAX_WORKERS) }
     requires some { 1 ≤ effort.limit }
     requires few { effort.limit ≤ MAX_LIMIT }
     requires timing { setting.now.tables.timing.now ≡ problem.now.network }
-    ensures { IfOk result (IsFound setting.now.tables.timing.now effort.limit) }
+    ensures found { IfOk result (IsFound setting.now.tables.timing.now effort.limit) }
+    ensures method { IfOk result (IsFoundBy effort) }
 {
+    let known = known_at_root(setting)?;
     match effort.method {
-        Method::FileOrder => {
-            setting.gate.begin(Phase::File);
-            found_with(rt, setting, None, effort.workers, effort.limit)
-        }
-        Method::Learn => found_learned(rt, problem, setting, None, effort.workers, effort.limit),
-        Method::Auto => found_auto(rt, problem, setting, effort.workers, effort.limit),
+        Method::FileOrder => found_in_file_order(rt, setting, known, effort.workers, effort.limit),
+        Method::Learn => found_learned(rt, problem, setting, known, effort.workers, effort.limit),
+        Method::Auto => found_auto(rt, problem, setting, known, effort.workers, effort.limit),
     }
 }
 
-// What is found in the order of the file, or else by the search that learns.
-fn found_auto<R: Threads + Wait + Sync, G: Gate + Sync>(
+// What is found in the order of the file alone.
+fn found_in_file_order<R: Threads + Wait + Sync, S: Supervisor + Sync>(
+    rt: &R,
+    setting: &Setting<'_, S>,
+    known: Known,
+    workers: usize,
+    limit: usize,
+) -> Result<Found, NoMemory>
+    requires workers { (1 ≤ workers) × (workers ≤ MAX_WORKERS) }
+    requires some { 1 ≤ limit }
+    requires few { limit ≤ MAX_LIMIT }
+    requires known { IsKnown setting.now.tables.timing.now known }
+    ensures found { IfOk result (IsFound setting.now.tables.timing.now limit) }
+    ensures kept { IfOk result (KeepsKnown known) }
+    ensures book { IfOk result HasNoArgument }
+{
+    setting.supervisor.begin(Phase::File);
+    found_with(rt, setting, known, workers, limit)
+}
+
+// What is found in the order of the file, or, where more may be settled than that search may, by the search that learns.
+fn found_auto<R: Threads + Wait + Sync, S: Supervisor + Sync>(
     rt: &R,
     problem: &Problem,
-    setting: &Setting<'_, G>,
+    setting: &Setting<'_, S>,
+    known: Known,
     workers: usize,
     limit: usize,
 ) -> Result<Found, NoMemory>
@@ -184,18 +237,40 @@ fn found_auto<R: Threads + Wait + Sync, G: Gate + Sync>(
     requires some { 1 ≤ limit }
     requires few { limit ≤ MAX_LIMIT }
     requires timing { setting.now.tables.timing.now ≡ problem.now.network }
-    ensures { IfOk result (IsFound setting.now.tables.timing.now limit) }
+    requires known { IsKnown setting.now.tables.timing.now known }
+    ensures found { IfOk result (IsFound setting.now.tables.timing.now limit) }
+    ensures kept { IfOk result (KeepsKnown known) }
+    ensures method { IfOk result (λ found. limit ≤ FILE_ORDER_LIMIT → HasNoArgument found) }
 {
-    setting.gate.begin(Phase::File);
     if limit <= FILE_ORDER_LIMIT {
-        return found_with(rt, setting, None, workers, limit);
+        return found_in_file_order(rt, setting, known, workers, limit);
     }
     if workers == 1 {
-        return found_auto_alone(problem, setting, limit);
+        return found_auto_alone(problem, setting, known, limit);
     }
-    match found_with(rt, setting, None, workers, FILE_ORDER_LIMIT)? {
-        Found::Stopped(book) => {
-            let known = known_to(setting.alloc, &book);
+    let first = found_in_file_order(rt, setting, known, workers, FILE_ORDER_LIMIT)?;
+    found_beyond(rt, problem, setting, first, workers, limit)
+}
+
+// What several workers find, where their first search left this.
+fn found_beyond<R: Threads + Wait + Sync, S: Supervisor + Sync>(
+    rt: &R,
+    problem: &Problem,
+    setting: &Setting<'_, S>,
+    first: Found,
+    workers: usize,
+    limit: usize,
+) -> Result<Found, NoMemory>
+    requires workers { (1 ≤ workers) × (workers ≤ MAX_WORKERS) }
+    requires some { FILE_ORDER_LIMIT < limit }
+    requires few { limit ≤ MAX_LIMIT }
+    requires timing { setting.now.tables.timing.now ≡ problem.now.network }
+    requires first { IsFound setting.now.tables.timing.now FILE_ORDER_LIMIT first }
+    ensures found { IfOk result (IsFound setting.now.tables.timing.now limit) }
+    ensures kept { IfOk result (KeepsFound first) }
+{
+    match first {
+        Found::Stopped(book, known) => {
             drop(book);
             found_learned(rt, problem, setting, known, workers, limit)
         }
@@ -204,90 +279,125 @@ fn found_auto<R: Threads + Wait + Sync, G: Gate + Sync>(
     }
 }
 
-// What one worker finds in the order of the file, or else by the search that learns; where that gives up it goes on in the same book.
-fn found_auto_alone<G: Gate>(
+// What one worker finds in the order of the file, or else by the search that learns.
+fn found_auto_alone<S: Supervisor>(
     problem: &Problem,
-    setting: &Setting<'_, G>,
+    setting: &Setting<'_, S>,
+    known: Known,
     limit: usize,
 ) -> Result<Found, NoMemory>
     requires some { FILE_ORDER_LIMIT < limit }
     requires few { limit ≤ MAX_LIMIT }
     requires timing { setting.now.tables.timing.now ≡ problem.now.network }
-    ensures { IfOk result (IsFound setting.now.tables.timing.now limit) }
+    requires known { IsKnown setting.now.tables.timing.now known }
+    ensures found { IfOk result (IsFound setting.now.tables.timing.now limit) }
+    ensures kept { IfOk result (KeepsKnown known) }
 {
-    let alloc = setting.alloc;
+    setting.supervisor.begin(Phase::File);
     let timing = setting.tables.timing;
-    let book = Book::new(alloc, timing, 1, limit)?;
+    let book = Book::new(setting.alloc, timing, 1, limit)?;
     let book = settle_open(setting, 0, FILE_ORDER_LIMIT, None, book)?;
     if book.open_count() == 0 {
-        return Ok(found_in(timing, limit, book));
+        return found_in(timing, known, limit, book);
     }
-    let known = known_to(alloc, &book);
-    match find_by_learning(alloc, problem, timing, known, limit, setting.gate) {
+    found_after(problem, setting, known, limit, book)
+}
+
+// What one worker finds by the search that learns, once a book keeps some schedule; where that gives up it goes on in the same book,
+// or begins anew.
+fn found_after<S: Supervisor>(
+    problem: &Problem,
+    setting: &Setting<'_, S>,
+    known: Known,
+    limit: usize,
+    book: Book,
+) -> Result<Found, NoMemory>
+    requires some { 1 ≤ limit }
+    requires few { limit ≤ MAX_LIMIT }
+    requires timing { setting.now.tables.timing.now ≡ problem.now.network }
+    requires known { IsKnown setting.now.tables.timing.now known }
+    requires search { IsSearchBy setting.now.tables 0 limit book }
+    requires limit { book.limit ≡ limit }
+    ensures found { IfOk result (IsFound setting.now.tables.timing.now limit) }
+    ensures kept { IfOk result (KeepsKnown known) }
+    ensures kept_book { IfOk result (KeepsKept setting.now.tables.timing.now book) }
+{
+    let known = known.with_kept(&book)?;
+    let question = Question {
+        problem,
+        timing: setting.tables.timing,
+        limit,
+    };
+    match find_by_learning(setting.alloc, question, known, setting.supervisor) {
         Learned::Shown(plan, argument) => {
             drop(book);
             Ok(Found::Argued(plan, argument))
         }
-        Learned::Open(known) if limit < GOES_ON_FROM => {
-            drop(book);
-            found_anew(setting, known, limit)
-        }
-        Learned::Open(known) => found_along(setting, known, limit, book),
+        Learned::Open(known) => found_on(setting, known, limit, book),
     }
 }
 
+// What the caller finds alone in a book in which something is settled, or, where too few nodes are left for that, from the root on.
+fn found_on<S: Supervisor>(
+    setting: &Setting<'_, S>,
+    known: Known,
+    limit: usize,
+    book: Book,
+) -> Result<Found, NoMemory>
+    requires some { 1 ≤ limit }
+    requires few { limit ≤ MAX_LIMIT }
+    requires search { IsSearchBy setting.now.tables 0 limit book }
+    requires limit { book.limit ≡ limit }
+    requires known { IsKnown setting.now.tables.timing.now known }
+    ensures found { IfOk result (IsFound setting.now.tables.timing.now limit) }
+    ensures kept { IfOk result (KeepsKnown known) }
+{
+    if limit < GOES_ON_FROM {
+        drop(book);
+        return found_anew(setting, known, limit);
+    }
+    found_along(setting, known, limit, book)
+}
+
 // What the caller finds alone from the root on, along the best schedule that is known.
-fn found_anew<G: Gate>(
-    setting: &Setting<'_, G>,
-    known: Option<Vec<u64>>,
+fn found_anew<S: Supervisor>(
+    setting: &Setting<'_, S>,
+    known: Known,
     limit: usize,
 ) -> Result<Found, NoMemory>
     requires some { 1 ≤ limit }
     requires few { limit ≤ MAX_LIMIT }
-    ensures { IfOk result (IsFound setting.now.tables.timing.now limit) }
+    requires known { IsKnown setting.now.tables.timing.now known }
+    ensures found { IfOk result (IsFound setting.now.tables.timing.now limit) }
+    ensures kept { IfOk result (KeepsKnown known) }
 {
-    setting.gate.begin(Phase::File);
-    let found = found_alone(setting, as_list(&known), limit);
-    drop(known);
-    found
+    setting.supervisor.begin(Phase::File);
+    found_alone(setting, known, limit)
 }
 
 // What the caller finds alone, in a book in which something is settled, along the best schedule that is known.
-fn found_along<G: Gate>(
-    setting: &Setting<'_, G>,
-    known: Option<Vec<u64>>,
+fn found_along<S: Supervisor>(
+    setting: &Setting<'_, S>,
+    known: Known,
     limit: usize,
     book: Book,
 ) -> Result<Found, NoMemory>
     requires search { IsSearchBy setting.now.tables 0 limit book }
     requires limit { book.limit ≡ limit }
-    ensures { IfOk result (IsFound setting.now.tables.timing.now limit) }
+    requires known { IsKnown setting.now.tables.timing.now known }
+    ensures found { IfOk result (IsFound setting.now.tables.timing.now limit) }
+    ensures kept { IfOk result (KeepsKnown known) }
 {
-    setting.gate.begin(Phase::Along);
-    let book = settle_open(setting, 0, limit, as_list(&known), book)?;
-    drop(known);
-    Ok(found_in(setting.tables.timing, limit, book))
-}
-
-// The best schedule of a book, where it has one and there is memory for it.
-fn known_to(alloc: Global, book: &Book) -> Option<Vec<u64>> {
-    let kept = book.kept()?;
-    Vec::from_slice(alloc, kept.valid().offsets()).ok()
-}
-
-fn as_list(known: &Option<Vec<u64>>) -> Option<&[u64]> {
-    match known {
-        Some(offsets) => Some(offsets.as_slice()),
-        None => None,
-    }
+    setting.supervisor.begin(Phase::Along);
+    found_from(setting, known, limit, book)
 }
 
 // What is found by the search that learns, or else in the order of the file, along the best schedule that is known.
-fn found_learned<R: Threads + Wait + Sync, G: Gate + Sync>(
+fn found_learned<R: Threads + Wait + Sync, S: Supervisor + Sync>(
     rt: &R,
     problem: &Problem,
-    setting: &Setting<'_, G>,
-    known: Option<Vec<u64>>,
+    setting: &Setting<'_, S>,
+    known: Known,
     workers: usize,
     limit: usize,
 ) -> Result<Found, NoMemory>
@@ -295,39 +405,39 @@ fn found_learned<R: Threads + Wait + Sync, G: Gate + Sync>(
     requires some { 1 ≤ limit }
     requires few { limit ≤ MAX_LIMIT }
     requires timing { setting.now.tables.timing.now ≡ problem.now.network }
-    ensures { IfOk result (IsFound setting.now.tables.timing.now limit) }
+    requires known { IsKnown setting.now.tables.timing.now known }
+    ensures found { IfOk result (IsFound setting.now.tables.timing.now limit) }
+    ensures kept { IfOk result (KeepsKnown known) }
 {
-    let timing = setting.tables.timing;
-    match find_by_learning(setting.alloc, problem, timing, known, limit, setting.gate) {
+    let question = Question {
+        problem,
+        timing: setting.tables.timing,
+        limit,
+    };
+    match find_by_learning(setting.alloc, question, known, setting.supervisor) {
         Learned::Shown(plan, argument) => Ok(Found::Argued(plan, argument)),
         Learned::Open(known) => {
-            setting.gate.begin(Phase::Along);
-            let found = found_with(rt, setting, as_list(&known), workers, limit);
-            drop(known);
-            found
+            setting.supervisor.begin(Phase::Along);
+            found_with(rt, setting, known, workers, limit)
         }
     }
 }
 
-// Tells the gate what no schedule undercuts, where there is memory to find it.
-fn tell_bound<G: Gate>(setting: &Setting<'_, G>) {
-    if let Ok(bound) = lower_bound(setting.alloc, setting.tables) {
-        setting.gate.hear_bound(bound);
-    }
-}
-
 // What 1 to 16 workers find.
-fn found_with<R: Threads + Wait + Sync, G: Gate + Sync>(
+fn found_with<R: Threads + Wait + Sync, S: Supervisor + Sync>(
     rt: &R,
-    setting: &Setting<'_, G>,
-    known: Option<&[u64]>,
+    setting: &Setting<'_, S>,
+    known: Known,
     workers: usize,
     limit: usize,
 ) -> Result<Found, NoMemory>
     requires workers { (1 ≤ workers) × (workers ≤ MAX_WORKERS) }
     requires some { 1 ≤ limit }
     requires few { limit ≤ MAX_LIMIT }
-    ensures { IfOk result (IsFound setting.now.tables.timing.now limit) }
+    requires known { IsKnown setting.now.tables.timing.now known }
+    ensures found { IfOk result (IsFound setting.now.tables.timing.now limit) }
+    ensures kept { IfOk result (KeepsKnown known) }
+    ensures book { IfOk result HasNoArgument }
 {
     if workers == 1 {
         return found_alone(setting, known, limit);
@@ -337,52 +447,83 @@ fn found_with<R: Threads + Wait + Sync, G: Gate + Sync>(
 }
 
 // What 2 to 16 workers find, one a bag.
-fn found_over<R: Threads + Wait + Sync, G: Gate + Sync, B: Bag + Send>(
+fn found_over<R: Threads + Wait + Sync, S: Supervisor + Sync, B: Bag + Send>(
     rt: &R,
-    setting: &Setting<'_, G>,
-    known: Option<&[u64]>,
+    setting: &Setting<'_, S>,
+    known: Known,
     limit: usize,
     bags: Vec<B>,
 ) -> Result<Found, NoMemory>
     requires workers { (2 ≤ length bags.items) × (length bags.items ≤ MAX_WORKERS) }
     requires some { 1 ≤ limit }
     requires few { limit ≤ MAX_LIMIT }
-    ensures { IfOk result (IsFound setting.now.tables.timing.now limit) }
+    requires known { IsKnown setting.now.tables.timing.now known }
+    ensures found { IfOk result (IsFound setting.now.tables.timing.now limit) }
+    ensures kept { IfOk result (KeepsKnown known) }
+    ensures book { IfOk result HasNoArgument }
 {
     let workers = bags.len();
     let timing = setting.tables.timing;
     let parts = Parts::new(setting.alloc, timing, workers + 1, limit)?;
-    let book = search::<Brand, R, G, B>(rt, setting, bags, parts, known)?;
+    let book = search::<Brand, R, S, B>(rt, setting, bags, parts, known.offsets())?;
     let book = settle_open(setting, workers, limit, None, book)?;
-    Ok(found_in(timing, limit, book))
+    found_in(timing, known, limit, book)
 }
 
 // What the caller finds alone.
-fn found_alone<G: Gate>(
-    setting: &Setting<'_, G>,
-    known: Option<&[u64]>,
+fn found_alone<S: Supervisor>(
+    setting: &Setting<'_, S>,
+    known: Known,
     limit: usize,
 ) -> Result<Found, NoMemory>
     requires some { 1 ≤ limit }
     requires few { limit ≤ MAX_LIMIT }
-    ensures { IfOk result (IsFound setting.now.tables.timing.now limit) }
+    requires known { IsKnown setting.now.tables.timing.now known }
+    ensures found { IfOk result (IsFound setting.now.tables.timing.now limit) }
+    ensures kept { IfOk result (KeepsKnown known) }
+    ensures book { IfOk result HasNoArgument }
 {
-    let timing = setting.tables.timing;
-    let book = Book::new(setting.alloc, timing, 1, limit)?;
-    let book = settle_open(setting, 0, limit, known, book)?;
-    Ok(found_in(timing, limit, book))
+    let book = Book::new(setting.alloc, setting.tables.timing, 1, limit)?;
+    found_from(setting, known, limit, book)
 }
 
-// What is found in the book of a search that left nothing open, or met its limit.
-fn found_in(timing: &Timing, limit: usize, book: Book) -> Found
+// What the caller finds alone in a book, along the best schedule that is known.
+fn found_from<S: Supervisor>(
+    setting: &Setting<'_, S>,
+    known: Known,
+    limit: usize,
+    book: Book,
+) -> Result<Found, NoMemory>
+    requires search { IsSearchBy setting.now.tables 0 limit book }
+    requires limit { book.limit ≡ limit }
+    requires known { IsKnown setting.now.tables.timing.now known }
+    ensures found { IfOk result (IsFound setting.now.tables.timing.now limit) }
+    ensures kept { IfOk result (KeepsKnown known) }
+    ensures book { IfOk result HasNoArgument }
+{
+    let book = settle_open(setting, 0, limit, known.offsets(), book)?;
+    found_in(setting.tables.timing, known, limit, book)
+}
+
+// What is found in the book of a search that left nothing open, or met its limit, where this was known before.
+fn found_in(timing: &Timing, known: Known, limit: usize, book: Book) -> Result<Found, NoMemory>
     requires formed { IsWellFormed timing.now }
     requires search { IsSearchOf timing.now limit book }
     requires done { (open_paths book.history ≡ []) ⊎ (limit ≤ length book.history) }
-    ensures { IsFound timing.now limit result }
+    requires known { IsKnown timing.now known }
+    ensures found { IfOk result (IsFound timing.now limit) }
+    ensures kept { IfOk result (KeepsKnown known) }
+    ensures book { IfOk result HasNoArgument }
 {
-    if book.open_count() > 0 {
-        Found::Stopped(book)
-    } else {
-        Found::Finished(book)
+    if book.open_count() == 0 {
+        drop(known);
+        return Ok(Found::Finished(book));
+    }
+    match known.with_kept(&book) {
+        Ok(known) => Ok(Found::Stopped(book, known)),
+        Err(fault) => {
+            drop(book);
+            Err(fault)
+        }
     }
 }

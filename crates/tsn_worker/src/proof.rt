@@ -10,6 +10,7 @@ pub enum Proof {
     Proved(Argument, usize),
     /// A valid schedule that undercuts it, and how many conflicts there were before it was found.
     Undercut(Plan, usize),
-    /// The budget is used up: the flowspan in nanoseconds that no valid schedule undercuts, and how many conflicts there were.
+    /// The budget is used up: the flowspan in nanoseconds that no valid schedule undercuts, at most the cycle, and how many
+    /// conflicts there were.
     Stopped(u64, usize),
 }

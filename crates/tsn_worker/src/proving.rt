@@ -1,9 +1,9 @@
 //! Proves that no valid schedule undercuts a plan, or finds one that does.
 ghost use Rattle.std.specs.Prelude.{◌≡◌, ◌≤◌, true, Ok, IfOk};
 ghost use Rattle.tsn_model.specs.Schedule.{target_of};
-ghost use Rattle.tsn_check.specs.Faults.{IsPlanRight, offsets_in};
+ghost use Rattle.tsn_check.specs.Plans.{IsPlanRight, offsets_in};
 ghost use Rattle.tsn_search.specs.Bound.{IsLowerBound};
-ghost use Rattle.tsn_worker.specs.Proof.{IsProof, IsShownBy};
+ghost use Rattle.tsn_worker.specs.Proof.{IsBound, IsProof, IsShownBy};
 
 use crate::learned::{Hearer, budget_of};
 use crate::proof::Proof;
@@ -16,27 +16,28 @@ use tsn_learn::{Answer, BestSoFar, LeastAnswer, learn, show_least};
 use tsn_model::NoMemory;
 use tsn_net::Problem;
 use tsn_search::bound::lower_bound;
-use tsn_search::{Gate, Phase, Prepared};
+use tsn_search::{News, Phase, Prepared, Supervisor};
 use tsn_timing::Timing;
 
 /// Whether no valid schedule undercuts the plan, or there is none where the plan says so, with an argument of at most `limit`
 /// steps; else a valid schedule that undercuts it; or, where neither was found by `limit` conflicts and the work that goes with
 /// them, what no valid schedule undercuts. A valid schedule's own flowspan is to stand in the plan.
 ///
-/// The gate hears how far the search has got. The error says that there was no memory.
-pub fn prove<G: Gate>(
+/// The supervisor hears how far the search has got. The error says that there was no memory.
+pub fn prove<S: Supervisor>(
     alloc: Global,
     problem: &Problem,
     plan: &Plan,
     limit: usize,
-    gate: &G,
+    supervisor: &S,
 ) -> Result<Proof, NoMemory>
     requires { IsPlanRight problem.now.network plan.now }
     ensures { IfOk result (IsProof problem.now.network limit plan.now) }
 {
     let bound = bound_for(alloc, problem)?;
-    gate.hear_bound(bound);
-    gate.begin(Phase::Learning);
+    supervisor.hear_bound(bound);
+    supervisor.begin(Phase::Learning);
+    tell_plan(plan, supervisor);
     let timing = Timing::of(alloc, problem)?;
     let task = Task {
         problem,
@@ -50,15 +51,27 @@ pub fn prove<G: Gate>(
             task,
             &timing,
             offsets.list(),
-            gate,
+            supervisor,
         ),
-        Plan::None => about_none(alloc, task, &timing, gate),
+        Plan::None => about_none(alloc, task, &timing, supervisor),
     };
     drop(timing);
     found
 }
 
-/// What is to be shown of a plan, by how many steps at most, and what no valid schedule undercuts, in nanoseconds.
+// Tells the supervisor of the plan's flowspan, which is the best one known.
+fn tell_plan<S: Supervisor>(plan: &Plan, supervisor: &S) {
+    if let Plan::Schedule { flowspan, .. } = plan {
+        let news = News {
+            nodes: 0,
+            splits: 0,
+            flowspan: Some(*flowspan),
+        };
+        supervisor.hear(0, news);
+    }
+}
+
+/// What is to be shown of a plan, by how many steps at most, and what no valid schedule undercuts, in nanoseconds, at most the cycle.
 #[derive(Clone, Copy)]
 struct Task<'a> {
     problem: &'a Problem,
@@ -67,39 +80,44 @@ struct Task<'a> {
     bound: u64,
 }
 
-// What no valid schedule's flowspan is below, in nanoseconds.
+// What no valid schedule's flowspan is below, in nanoseconds, at most the cycle.
 fn bound_for(alloc: Global, problem: &Problem) -> Result<u64, NoMemory>
-    ensures { IfOk result (IsLowerBound problem.now.network) }
+    ensures lower { IfOk result (IsLowerBound problem.now.network) }
+    ensures within_cycle { IfOk result (λ bound. bound ≤ problem.now.network.cycle) }
 {
     let prepared = Prepared::of(alloc, problem)?;
-    let nobody = tsn_search::OpenGate;
+    let nobody = tsn_search::NoSupervisor;
     let setting = prepared.setting(alloc, &nobody);
+    let cycle = setting.tables.timing.cycle();
     let bound = lower_bound(alloc, setting.tables);
     drop(setting);
     drop(prepared);
-    bound
+    Ok(bound?.min(cycle))
 }
 
 // What is found of a schedule.
-fn about_schedule<G: Gate>(
+fn about_schedule<S: Supervisor>(
     alloc: Global,
     task: Task<'_>,
     timing: &Timing,
     offsets: &[u64],
-    gate: &G,
+    supervisor: &S,
 ) -> Result<Proof, NoMemory>
     requires timing { timing.now ≡ task.problem.now.network }
     requires right { IsPlanRight task.problem.now.network task.plan.now }
-    requires bound { IsLowerBound task.problem.now.network task.bound }
+    requires bound { IsBound task.problem.now.network task.bound }
     ensures { IfOk result (IsProof task.entry.problem.now.network task.entry.limit task.entry.plan.now) }
 {
     let hearer = Hearer {
-        gate,
+        supervisor,
         streams: timing.streams(),
     };
     let budget = budget_of(task.limit);
     match show_least(alloc, timing, offsets, budget, &hearer)? {
-        LeastAnswer::Least(argument) => proved(alloc, task, argument),
+        LeastAnswer::Least {
+            argument,
+            conflicts,
+        } => proved(alloc, task, argument, conflicts),
         LeastAnswer::Better { offsets, conflicts } => Ok(undercut(
             task, timing, offsets, conflicts,
         )),
@@ -108,19 +126,19 @@ fn about_schedule<G: Gate>(
 }
 
 // What is found of a plan that there is no schedule.
-fn about_none<G: Gate>(
+fn about_none<S: Supervisor>(
     alloc: Global,
     task: Task<'_>,
     timing: &Timing,
-    gate: &G,
+    supervisor: &S,
 ) -> Result<Proof, NoMemory>
     requires timing { timing.now ≡ task.problem.now.network }
     requires right { IsPlanRight task.problem.now.network task.plan.now }
-    requires bound { IsLowerBound task.problem.now.network task.bound }
+    requires bound { IsBound task.problem.now.network task.bound }
     ensures { IfOk result (IsProof task.entry.problem.now.network task.entry.limit task.entry.plan.now) }
 {
     let hearer = Hearer {
-        gate,
+        supervisor,
         streams: timing.streams(),
     };
     match learn(alloc, timing, None, budget_of(task.limit), &hearer)? {
@@ -134,8 +152,13 @@ fn about_none<G: Gate>(
             drop(argument);
             Ok(undercut(task, timing, offsets, conflicts))
         }
-        Answer::None(Some(argument)) => proved(alloc, task, argument),
-        Answer::None(None) => Ok(stopped(task, task.limit as u64)),
+        Answer::None {
+            argument,
+            conflicts,
+        } => match argument {
+            Some(argument) => proved(alloc, task, argument, conflicts),
+            None => Ok(stopped(task, conflicts)),
+        },
         Answer::GaveUp(best) => Ok(after_giving_up(task, timing, best)),
     }
 }
@@ -144,7 +167,7 @@ fn about_none<G: Gate>(
 fn after_giving_up(task: Task<'_>, timing: &Timing, best: BestSoFar) -> Proof
     requires timing { timing.now ≡ task.problem.now.network }
     requires right { IsPlanRight task.problem.now.network task.plan.now }
-    requires bound { IsLowerBound task.problem.now.network task.bound }
+    requires bound { IsBound task.problem.now.network task.bound }
     ensures { IsProof task.entry.problem.now.network task.entry.limit task.entry.plan.now result }
 {
     let BestSoFar {
@@ -160,9 +183,14 @@ fn after_giving_up(task: Task<'_>, timing: &Timing, best: BestSoFar) -> Proof
     }
 }
 
-// The argument, where it shows what is to be shown.
-fn proved(alloc: Global, task: Task<'_>, argument: Argument) -> Result<Proof, NoMemory>
-    requires bound { IsLowerBound task.problem.now.network task.bound }
+// The argument, where it shows what is to be shown; it was found after so many conflicts.
+fn proved(
+    alloc: Global,
+    task: Task<'_>,
+    argument: Argument,
+    conflicts: u64,
+) -> Result<Proof, NoMemory>
+    requires bound { IsBound task.problem.now.network task.bound }
     ensures { IfOk result (IsProof task.entry.problem.now.network task.entry.limit task.entry.plan.now) }
 {
     let steps = argument.steps.list().len();
@@ -170,7 +198,7 @@ fn proved(alloc: Global, task: Task<'_>, argument: Argument) -> Result<Proof, No
         Ok(true) => Ok(Proof::Proved(argument, steps)),
         Ok(false) => {
             drop(argument);
-            Ok(stopped(task, task.limit as u64))
+            Ok(stopped(task, conflicts))
         }
         Err(fault) => {
             drop(argument);
@@ -197,7 +225,7 @@ fn is_shown(alloc: Global, task: Task<'_>, argument: &Argument) -> Result<bool, 
 fn undercut(task: Task<'_>, timing: &Timing, offsets: Vec<u64>, conflicts: u64) -> Proof
     requires timing { timing.now ≡ task.problem.now.network }
     requires right { IsPlanRight task.problem.now.network task.plan.now }
-    requires bound { IsLowerBound task.problem.now.network task.bound }
+    requires bound { IsBound task.problem.now.network task.bound }
     ensures { IsProof task.entry.problem.now.network task.entry.limit task.entry.plan.now result }
 {
     if !timing.is_valid(&offsets) {
@@ -227,7 +255,7 @@ fn target_of(timing: &Timing, plan: &Plan) -> u64
 
 // The answer where the budget is used up.
 fn stopped(task: Task<'_>, conflicts: u64) -> Proof
-    requires bound { IsLowerBound task.problem.now.network task.bound }
+    requires bound { IsBound task.problem.now.network task.bound }
     ensures { IsProof task.entry.problem.now.network task.entry.limit task.entry.plan.now result }
 {
     Proof::Stopped(task.bound, count_of(conflicts, task.limit))

@@ -12,4 +12,4 @@ returns g c =
     let network = c.setting-setting.result.tables.timing.now in
     let same = c.setting-setting.ensures.timing ∙ c.in_ok-prepared.ensures.timing in
     let found = c.in_ok-found.ensures in
-    IfOk-weaker c.into_answer.result _ _ (λ answer answers. subst (λ n. IsAnswer n c.args.limit answer) same (answers network c.args.limit found)) c.into_answer.ensures
+    IfOk-weaker c.into_answer.result _ _ (λ answer answers. subst (λ n. IsAnswer n c.args.limit answer) same (answers network c.args.limit found)) c.into_answer.ensures.answer
