@@ -63,14 +63,25 @@ fn are_texts(value: &Value) -> bool {
     }
 }
 
-/// Writes which key is missing.
+/// Writes which key is missing, and beside it the one that isn't known, if there is one: that may have been meant.
 pub fn push_missing_key(text: &mut String, table: &Value, place: Place) -> Result<(), AllocError> {
     for &key in keys_at(place) {
         if is_required(table, key) && table.get(key).is_none() {
-            return write!(text, "the key {key} is missing");
+            write!(text, "the key {key} is missing")?;
+            return push_unknown_beside(text, table, place);
         }
     }
     Ok(())
+}
+
+fn push_unknown_beside(text: &mut String, table: &Value, place: Place) -> Result<(), AllocError> {
+    match unknown_key(table, place) {
+        Some(key) => {
+            text.push_str(", and ")?;
+            push_unknown(text, key)
+        }
+        None => Ok(()),
+    }
 }
 
 /// Writes which key has a value of another kind, and which kind it asks for.
@@ -97,16 +108,21 @@ fn is_wrong(table: &Value, key: &str) -> bool {
 
 /// Writes which key isn't known.
 pub fn push_unknown_key(text: &mut String, table: &Value, place: Place) -> Result<(), AllocError> {
-    let Some(members) = table.as_table() else {
-        return Ok(());
-    };
-    for key in members.keys() {
+    match unknown_key(table, place) {
+        Some(key) => push_unknown(text, key),
+        None => Ok(()),
+    }
+}
+
+/// The first key that a table at a place may not have.
+fn unknown_key(table: &Value, place: Place) -> Option<&str> {
+    for key in table.as_table()?.keys() {
         let key = key.as_str();
         if !is_known(table, place, key) {
-            return push_unknown(text, key);
+            return Some(key);
         }
     }
-    Ok(())
+    None
 }
 
 fn push_unknown(text: &mut String, key: &str) -> Result<(), AllocError> {

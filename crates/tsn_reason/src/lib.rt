@@ -19,6 +19,7 @@ mod plan;
 mod routes;
 mod text;
 mod times;
+mod unused;
 mod view;
 mod wrong;
 
@@ -39,6 +40,7 @@ use tsn_check::{CheckFault, check_plan};
 use tsn_model::NoMemory;
 use tsn_net::{Problem, read_problem};
 use tsn_timing::{Timing, Validity};
+pub use unused::unused_reason;
 
 /// The most bytes of a network file of which the reason is looked for; reading one takes a second or two then.
 pub const MOST_LOOKED_AT: usize = 1_048_576;

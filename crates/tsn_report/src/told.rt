@@ -1,101 +1,79 @@
 //! An answer as an object of JSON.
-ghost use Rattle.std.specs.Prelude.{◌≡◌, IfOk, false, option_map, string_bytes};
+ghost use Rattle.std.specs.Prelude.{◌≡◌, IfOk, false, codes, option_map, string_bytes};
 ghost use Rattle.serde_json.specs.View.{view};
 ghost use Rattle.serde_json.specs.Written.{has_float};
-ghost use Rattle.tsn_report.specs.Told.{line_text, number_or_null, text_or_null, told_text, told_value};
+ghost use Rattle.tsn_report.specs.Line.{code_in, place_in, IsFirstNumber, IsNumberBehind, flowspan_keys};
+ghost use Rattle.tsn_report.specs.Told.{IsTold, line_or_null, line_text, number_or_null, text_or_null, told_text, told_value};
 
+use crate::line::{code_in, first_number, number_after, place_in};
 use serde_json::{Value, json};
 use std::alloc::{AllocError, Global};
 use tsn_model::NoMemory;
 
-/// What `plan`, `valid` or `check` answers: its line, what this says by parts, and the reason in words.
+/// The words behind which a flowspan stands; of an undercut plan and the better one, that of the better one.
+const FLOWSPAN_KEYS: [&str; 6] = ["flowspan", "optimal", "first", "stopped", "proved", "by"];
+
+/// What `plan`, `prove`, `valid` or `check` answers: its line, what this says by parts, and the reason in words.
 #[derive(Clone, Copy)]
 pub struct Told<'a> {
     /// The status with which the program ends.
     pub status: u8,
-    /// The line, without its line feed.
+    /// The line, without its line feed; empty where there is none.
     pub line: &'a str,
     /// The code of what is refused, as `N8`.
     pub code: Option<&'a str>,
-    /// What follows the code: the place of the fault.
+    /// The place of the fault: what follows the code, or the file of which nothing follows it.
     pub place: Option<&'a str>,
     /// The flowspan of the schedule, in nanoseconds.
     pub flowspan: Option<u64>,
-    /// How many nodes the search has settled.
+    /// How many nodes the search has settled, how many steps an argument has, or how many conflicts were met.
     pub settled: Option<u64>,
     /// Why it is refused, in words.
     pub reason: Option<&'a str>,
 }
 
 impl<'a> Told<'a> {
-    /// The parts of a line with which a command ended.
+    /// The parts of what a command ended with: its status and its line, which is empty where it wrote none.
     pub fn of(status: u8, line: &'a str, reason: Option<&'a str>) -> Told<'a>
-        ensures status { result.status ≡ status }
-        ensures line { result.line.now ≡ line.now }
+        ensures parts { IsTold status line.now result }
         ensures reason { option_map (λ text. text.now) result.reason ≡ option_map (λ text. text.now) reason.entry }
     {
-        let code = code_in(line);
+        let (code, place) = coded_in(line);
         Told {
             status,
             line,
             code,
-            place: place_after(line, code),
+            place,
             flowspan: flowspan_in(line),
-            settled: number_after(line, "settled"),
+            settled: settled_in(line),
             reason,
         }
     }
 }
 
-/// The code in a line: a word of a capital letter and digits.
-fn code_in<'a>(line: &'a str) -> Option<&'a str> {
-    for word in line.split(' ') {
-        if is_code(word) {
-            return Some(word);
-        }
-    }
-    None
+/// The flowspan in a line.
+fn flowspan_in(line: &str) -> Option<u64>
+    ensures { IsFirstNumber line.now flowspan_keys result }
+{
+    first_number(line, &FLOWSPAN_KEYS)
 }
 
-/// Whether a word is a capital letter and digits.
-fn is_code(word: &str) -> bool {
-    match word.as_bytes() {
-        [letter, digits @ ..] => {
-            letter.is_ascii_uppercase()
-                && !digits.is_empty()
-                && digits.iter().all(|digit| digit.is_ascii_digit())
-        }
-        [] => false,
-    }
+/// The count in a line.
+fn settled_in(line: &str) -> Option<u64>
+    ensures { IsNumberBehind line.now (codes "settled") result }
+{
+    number_after(line, "settled")
 }
 
-/// What follows a code in a line, if anything does.
-fn place_after<'a>(line: &'a str, code: Option<&'a str>) -> Option<&'a str> {
-    let (_, behind) = line.split_once(code?)?;
-    behind.strip_prefix(' ')
-}
-
-/// The flowspan in a line: the number behind the word that comes before one.
-fn flowspan_in(line: &str) -> Option<u64> {
-    for key in ["flowspan", "optimal", "first", "stopped"] {
-        let number = number_after(line, key);
-        if number.is_some() {
-            return number;
-        }
+/// The code in a line, and its place.
+fn coded_in(line: &str) -> (Option<&str>, Option<&str>)
+    ensures code { option_map (λ text. text.now) result.0 ≡ code_in line.now }
+    ensures place { option_map (λ text. text.now) result.1 ≡ place_in line.now }
+{
+    match code_in(line) {
+        Some((code, behind)) => (Some(code), place_in(line, behind)),
+        None => (None, place_in(line, None)),
     }
-    None
-}
-
-/// The number behind a word of a line.
-pub fn number_after(line: &str, key: &str) -> Option<u64> {
-    let mut is_next = false;
-    for word in line.split(' ') {
-        if is_next {
-            return word.parse::<u64>().ok();
-        }
-        is_next = word == key;
-    }
-    None
 }
 
 /// An answer as a line of JSON: an object with the keys `code`, `flowspan`, `line`, `place`, `reason`, `settled` and `status`;
@@ -126,12 +104,23 @@ fn value_of(alloc: Global, told: &Told<'_>) -> Result<Value, AllocError>
 {
     let code = text_or_null(alloc, told.code)?;
     let flowspan = number_or_null(alloc, told.flowspan)?;
-    let line = Value::String(String::from_str(alloc, told.line)?);
+    let line = line_or_null(alloc, told.line)?;
     let place = text_or_null(alloc, told.place)?;
     let reason = text_or_null(alloc, told.reason)?;
     let settled = number_or_null(alloc, told.settled)?;
     let status = told.status;
     json!(in alloc; {"code": code, "flowspan": flowspan, "line": line, "place": place, "reason": reason, "settled": settled, "status": status})
+}
+
+/// A line, or null where it is empty.
+#[tactic(auto, using(crate::proofs::Words::line_not_empty))]
+fn line_or_null(alloc: Global, line: &str) -> Result<Value, AllocError>
+    ensures { IfOk result (λ value. view value ≡ line_or_null line.now) }
+{
+    if line.is_empty() {
+        return Ok(Value::Null);
+    }
+    Ok(Value::String(String::from_str(alloc, line)?))
 }
 
 /// A text, or null where there is none.
