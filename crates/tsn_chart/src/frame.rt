@@ -3,6 +3,7 @@ ghost use Rattle.std.specs.Prelude.{◌≤◌};
 
 use crate::picture::Sheet;
 use crate::scale::{LEFT, PAGE, Scale, TOP, WIDTH};
+use crate::shown::Shown;
 use crate::words::write_microseconds;
 use std::alloc::AllocError;
 use std::fmt::Write;
@@ -53,7 +54,19 @@ fn write_title(text: &mut String, sheet: Sheet<'_>) -> Result<(), AllocError> {
     write_microseconds(text, sheet.timing.cycle())?;
     let rows = sheet.rows;
     let links = sheet.lists.len();
-    write!(text, " &#181;s, {rows} of {links} links in use</text>\n")
+    write!(text, " &#181;s, {rows} of {links} links in use")?;
+    if rows == 0 {
+        write_why_empty(text, sheet.shown)?;
+    }
+    text.push_str("</text>\n")
+}
+
+/// Writes why no link has a row.
+fn write_why_empty(text: &mut String, shown: Shown) -> Result<(), AllocError> {
+    match shown {
+        Shown::Link(link) => write!(text, ": no stream uses link {link}"),
+        Shown::Auto | Shown::All => text.push_str(": none is shared"),
+    }
 }
 
 /// When the stream that finishes last has arrived.
@@ -67,7 +80,7 @@ fn flowspan(sheet: Sheet<'_>) -> u64 {
 }
 
 /// Writes what says how the gates are shaded.
-pub fn write_background(text: &mut String, scale: Scale) -> Result<(), AllocError> {
+pub fn write_background(text: &mut String, sheet: Sheet<'_>) -> Result<(), AllocError> {
     write_sample(text, 2000, 380, "url(#guard)", "guard: all gates closed")?;
     write_sample(text, 5000, 380, "#d9ecd9", "open for background")?;
     write_sample(text, 8000, 380, "#fff3c4", "open for scheduled frames")?;
@@ -79,11 +92,22 @@ pub fn write_background(text: &mut String, scale: Scale) -> Result<(), AllocErro
         "#555555",
         "a bar: a frame, and the gap that has to follow it",
     )?;
-    let bottom = scale.bottom();
+    if !sheet.marked.is_empty() {
+        write_marked_sample(text)?;
+    }
+    let bottom = sheet.scale.bottom();
     let high = bottom.saturating_sub(TOP);
     write!(
         text,
         "<rect x=\"{LEFT}\" y=\"{TOP}\" width=\"{WIDTH}\" height=\"{high}\" fill=\"none\" stroke=\"#888888\" stroke-width=\"8\"/>\n"
+    )
+}
+
+/// Writes a sample of a bar that is marked, and what that means.
+fn write_marked_sample(text: &mut String) -> Result<(), AllocError> {
+    write!(
+        text,
+        "<rect x=\"8000\" y=\"580\" width=\"260\" height=\"140\" fill=\"#999999\" stroke=\"#000000\" stroke-width=\"20\"/><text x=\"8320\" y=\"695\" font-size=\"110\">dark outline: a frame that the certificate is about</text>\n"
     )
 }
 

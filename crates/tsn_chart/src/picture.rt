@@ -22,6 +22,8 @@ pub(crate) struct Sheet<'a> {
     pub(crate) offsets: &'a [u64],
     pub(crate) lists: &'a [GateList],
     pub(crate) shown: Shown,
+    /// The stream and the link of each frame that is marked.
+    pub(crate) marked: &'a [(usize, usize)],
     /// How many lists are shown.
     pub(crate) rows: usize,
     pub(crate) scale: Scale,
@@ -95,6 +97,26 @@ pub fn chart_of(
     requires valid { IsValid problem.now.network valid.now }
     requires exist { All (λ list. list.link < length problem.now.network.links) lists.now }
 {
+    marked_chart(alloc, problem, valid, lists, view, &[])
+}
+
+/// The picture as `chart_of` draws it, where some frames are marked, each by the number of its stream and of a link of its route:
+/// they have a dark outline, and all others are pale. Of a frame that isn't there nothing is drawn.
+///
+/// # Errors
+///
+/// There was no memory.
+pub fn marked_chart(
+    alloc: Global,
+    problem: &Problem,
+    valid: &Valid,
+    lists: &[GateList],
+    view: View,
+    marked: &[(usize, usize)],
+) -> Result<String, NoMemory>
+    requires valid { IsValid problem.now.network valid.now }
+    requires exist { All (λ list. list.link < length problem.now.network.links) lists.now }
+{
     let timing = Timing::of(alloc, problem)?;
     let rows = rows_shown(&timing, lists, view.shown);
     let scale = Scale::new(view.until.min(timing.cycle()), rows);
@@ -104,6 +126,7 @@ pub fn chart_of(
         offsets: valid.offsets(),
         lists,
         shown: view.shown,
+        marked,
         rows,
         scale,
     };
@@ -115,7 +138,7 @@ fn draw(alloc: Global, sheet: Sheet<'_>) -> Result<String, AllocError> {
     let height = sheet.scale.bottom() + key_height(sheet.timing.streams());
     let mut text = String::new(alloc);
     write_head(&mut text, sheet, height)?;
-    write_background(&mut text, sheet.scale)?;
+    write_background(&mut text, sheet)?;
     write_rows(&mut text, sheet)?;
     write_axis(&mut text, sheet.scale)?;
     write_flowspan(&mut text, sheet)?;

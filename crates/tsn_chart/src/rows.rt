@@ -2,6 +2,7 @@
 ghost use Rattle.std.specs.Prelude.{◌≤◌, ◌<◌, length};
 ghost use Rattle.tsn_model.specs.Network.{stream_count, hop_count};
 
+use crate::mark::{Look, look_of};
 use crate::picture::Sheet;
 use crate::scale::{LEFT, PAGE};
 use crate::words::{
@@ -11,8 +12,11 @@ use std::alloc::AllocError;
 use std::fmt::Write;
 use tsn_gate::{GateEntry, GateList};
 
-/// The narrowest bar, in tenths of a pixel.
-const NARROWEST: u64 = 6;
+/// A bar that is narrower has an outline, in tenths of a pixel.
+const NARROW: u64 = 6;
+
+/// The narrowest bar: an element of no width isn't drawn.
+const NARROWEST: u64 = 1;
 
 /// The gate of the scheduled class alone open.
 const SCHEDULED: u8 = 0x80;
@@ -25,11 +29,18 @@ pub struct Line {
     ghost low: { y ≤ 400000 },
 }
 
-/// The bar of a stream's frame in a row: where it begins, and how wide it is, in tenths of a pixel.
+/// A stream's frames in a row, and how they are drawn.
 #[derive(Clone, Copy)]
-struct Bar {
+struct Framed {
     line: Line,
     stream: usize,
+    look: Look,
+}
+
+/// The bar of a frame: where it begins, and how wide it is, in tenths of a pixel.
+#[derive(Clone, Copy)]
+struct Bar {
+    framed: Framed,
     x: u64,
     wide: u64,
 }
@@ -40,14 +51,34 @@ pub fn write_row(text: &mut String, sheet: Sheet<'_>, line: Line) -> Result<(), 
 {
     write_label(text, sheet, line)?;
     write_gates(text, sheet, line)?;
-    for stream in 0..sheet.timing.streams() {
-        write_frames(text, sheet, line, stream)?;
+    for is_marked in [false, true] {
+        write_bars(text, sheet, line, is_marked)?;
     }
     let y = line.y;
     write!(
         text,
         "<line x1=\"0\" y1=\"{y}\" x2=\"{PAGE}\" y2=\"{y}\" stroke=\"#cccccc\" stroke-width=\"5\"/>\n"
     )
+}
+
+/// Writes the bars of the frames that are marked, or of the others.
+fn write_bars(
+    text: &mut String,
+    sheet: Sheet<'_>,
+    line: Line,
+    is_marked: bool,
+) -> Result<(), AllocError>
+    requires { line.number < length sheet.lists.now }
+{
+    let link = sheet.lists[line.number].link();
+    for stream in 0..sheet.timing.streams() {
+        let look = look_of(sheet, stream, link);
+        if is_marked == (look == Look::Outlined) {
+            let framed = Framed { line, stream, look };
+            write_frames(text, sheet, framed)?;
+        }
+    }
+    Ok(())
 }
 
 /// Writes the names of the nodes that the row's link joins.
@@ -120,19 +151,14 @@ fn shade_of(octet: u8) -> &'static str {
 }
 
 /// Writes the bars of a stream's frame on a row's link.
-fn write_frames(
-    text: &mut String,
-    sheet: Sheet<'_>,
-    line: Line,
-    stream: usize,
-) -> Result<(), AllocError>
-    requires line { line.number < length sheet.lists.now }
-    requires stream { stream < stream_count sheet.timing.now }
+fn write_frames(text: &mut String, sheet: Sheet<'_>, framed: Framed) -> Result<(), AllocError>
+    requires line { framed.line.number < length sheet.lists.now }
+    requires stream { framed.stream < stream_count sheet.timing.now }
 {
-    let link = sheet.lists[line.number].link();
-    for hop in 0..sheet.timing.hops(stream) {
-        if sheet.timing.route_link(stream, hop) == link {
-            write_bar(text, sheet, line, stream, hop)?;
+    let link = sheet.lists[framed.line.number].link();
+    for hop in 0..sheet.timing.hops(framed.stream) {
+        if sheet.timing.route_link(framed.stream, hop) == link {
+            write_bar(text, sheet, framed, hop)?;
         }
     }
     Ok(())
@@ -142,13 +168,13 @@ fn write_frames(
 fn write_bar(
     text: &mut String,
     sheet: Sheet<'_>,
-    line: Line,
-    stream: usize,
+    framed: Framed,
     hop: usize,
 ) -> Result<(), AllocError>
-    requires stream { stream < stream_count sheet.timing.now }
-    requires hop { hop < hop_count sheet.timing.now stream }
+    requires stream { framed.stream < stream_count sheet.timing.now }
+    requires hop { hop < hop_count sheet.timing.now framed.stream }
 {
+    let stream = framed.stream;
     let start = sheet.offsets[stream].saturating_add(sheet.timing.start(stream, hop));
     let end = start.saturating_add(sheet.timing.occupancy(stream, hop));
     if start >= sheet.scale.until() {
@@ -156,29 +182,41 @@ fn write_bar(
     }
     let x = sheet.scale.x(start);
     let wide = sheet.scale.x(end).saturating_sub(x).max(NARROWEST);
-    let y = line.y + 20;
-    let high = sheet.scale.row_height().saturating_sub(40);
     write!(text, "<g><title>")?;
     write_whole(text, sheet.name(stream))?;
-    write!(
-        text,
-        ": {start} to {end} ns with the gap</title><rect x=\"{x}\" y=\"{y}\" width=\"{wide}\" height=\"{high}\" fill=\""
-    )?;
-    write_colour(text, stream)?;
-    text.push_str("\"/>")?;
-    let bar = Bar {
-        line,
-        stream,
-        x,
-        wide,
-    };
+    write!(text, ": {start} to {end} ns with the gap")?;
+    let bar = Bar { framed, x, wide };
+    write_bar_shape(text, sheet, bar)?;
     write_bar_name(text, sheet, bar)?;
     text.push_str("</g>\n")
 }
 
+/// Writes the rest of a bar's title, and its shape.
+fn write_bar_shape(text: &mut String, sheet: Sheet<'_>, bar: Bar) -> Result<(), AllocError> {
+    let Bar { framed, x, wide } = bar;
+    let y = framed.line.y + 20;
+    let high = sheet.scale.row_height().saturating_sub(40);
+    text.push_str(framed.look.title())?;
+    write!(
+        text,
+        "</title><rect x=\"{x}\" y=\"{y}\" width=\"{wide}\" height=\"{high}\" fill=\""
+    )?;
+    write_colour(text, framed.stream)?;
+    if wide < NARROW && framed.look != Look::Outlined {
+        write_outline(text, framed.stream)?;
+    }
+    text.push_str(framed.look.shade())
+}
+
+/// Writes an outline in a stream's colour, by which a narrow bar is seen.
+fn write_outline(text: &mut String, stream: usize) -> Result<(), AllocError> {
+    text.push_str("\" stroke-width=\"6\" stroke=\"")?;
+    write_colour(text, stream)
+}
+
 /// Writes a stream's name into its bar, where there is room for some of it.
 fn write_bar_name(text: &mut String, sheet: Sheet<'_>, bar: Bar) -> Result<(), AllocError>
-    requires stream { bar.stream < stream_count sheet.timing.now }
+    requires stream { bar.framed.stream < stream_count sheet.timing.now }
     requires x { bar.x ≤ 14_000 }
     requires wide { bar.wide ≤ 14_000 }
 {
@@ -187,12 +225,16 @@ fn write_bar_name(text: &mut String, sheet: Sheet<'_>, bar: Bar) -> Result<(), A
         return Ok(());
     }
     let middle = bar.x + bar.wide / 2;
-    let letters = letters_on(bar.stream);
-    let y = bar.line.y + sheet.scale.row_height() / 2 + sheet.scale.font() / 3;
+    let stream = bar.framed.stream;
+    let letters = match bar.framed.look {
+        Look::Pale => "#000000",
+        Look::Plain | Look::Outlined => letters_on(stream),
+    };
+    let y = bar.framed.line.y + sheet.scale.row_height() / 2 + sheet.scale.font() / 3;
     write!(
         text,
         "<text x=\"{middle}\" y=\"{y}\" fill=\"{letters}\" text-anchor=\"middle\">"
     )?;
-    write_name(text, sheet.name(bar.stream), room)?;
+    write_name(text, sheet.name(stream), room)?;
     text.push_str("</text>")
 }

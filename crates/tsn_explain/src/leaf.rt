@@ -1,0 +1,155 @@
+//! The leaves of a tree of decisions, in words.
+use crate::argument::push_no_room;
+use crate::load::{Load, push_load};
+use crate::network::{Network, push_joint};
+use crate::number::{push_time, sum};
+use crate::path::{Path, streams_of};
+use crate::round::push_round;
+use crate::view::least_tail;
+use std::alloc::{AllocError, Global};
+use tsn_cert::{Chain, Entries, Leaf, LowerBound, Node};
+
+/// Writes what a leaf shows, where the decisions of the path to it hold.
+pub fn push_leaf(
+    alloc: Global,
+    text: &mut String,
+    network: Network<'_>,
+    path: &Path,
+    node: &Node,
+) -> Result<(), AllocError> {
+    match node {
+        Node::Branch(_) => Ok(()),
+        Node::Leaf(leaf) => {
+            push_path(text, network, path)?;
+            push_shown(alloc, text, network, path, leaf)?;
+            text.push_str(".\n")
+        }
+        Node::Tie(bound, _) => {
+            push_path(text, network, path)?;
+            push_bound(alloc, text, network, path, bound)?;
+            text.push_str(
+                "; of the schedules done then, none comes before the plan in list order.\n",
+            )
+        }
+    }
+}
+
+/// Writes the decisions of a path.
+fn push_path(text: &mut String, network: Network<'_>, path: &Path) -> Result<(), AllocError> {
+    let count = path.list.len();
+    if count == 0 {
+        return text.push_str("In any order: ");
+    }
+    text.push_str("If ")?;
+    for (place, decided) in path.list.iter().enumerate() {
+        if place > 0 {
+            push_joint(text, place, count, "and")?;
+        }
+        network.push_order(text, decided.order)?;
+    }
+    text.push_str(": ")
+}
+
+fn push_shown(
+    alloc: Global,
+    text: &mut String,
+    network: Network<'_>,
+    path: &Path,
+    leaf: &Leaf,
+) -> Result<(), AllocError> {
+    match leaf {
+        Leaf::Bound(bound) => push_bound(alloc, text, network, path, bound),
+        Leaf::Overrun(stream, chain) => {
+            let offset = path.offset(network, *stream, chain);
+            push_no_room(text, network, *stream, offset)
+        }
+        Leaf::Cycle(chain) => push_closed(alloc, text, network, path, chain),
+        Leaf::Overload(link, entries) => {
+            let streams = streams_of(alloc, entries)?;
+            let load = load_of(network, path, *link, entries, &streams);
+            text.push_str("on ")?;
+            load.push_begin(text, network)?;
+            load.push_past(text, network.cycle())?;
+            drop(streams);
+            Ok(())
+        }
+    }
+}
+
+fn push_bound(
+    alloc: Global,
+    text: &mut String,
+    network: Network<'_>,
+    path: &Path,
+    bound: &LowerBound,
+) -> Result<(), AllocError> {
+    match bound {
+        LowerBound::Late(stream, chain) => {
+            let offset = path.offset(network, *stream, chain);
+            push_late(text, network, *stream, offset)
+        }
+        LowerBound::Load(link, entries) => {
+            let streams = streams_of(alloc, entries)?;
+            text.push_str("on ")?;
+            push_load(
+                text,
+                network,
+                load_of(network, path, *link, entries, &streams),
+            )?;
+            drop(streams);
+            Ok(())
+        }
+    }
+}
+
+/// Writes when a stream arrives that can't start before an offset.
+fn push_late(
+    text: &mut String,
+    network: Network<'_>,
+    stream: usize,
+    offset: i64,
+) -> Result<(), AllocError> {
+    network.push_stream(text, stream)?;
+    text.push_str(" can't start before ")?;
+    push_time(text, offset)?;
+    text.push_str(" and arrives at ")?;
+    push_time(text, sum(offset, network.arrival(stream)))?;
+    text.push_str(" or later")
+}
+
+/// What the entries of a leaf come to on a link; the streams are theirs.
+pub fn load_of<'a>(
+    network: Network<'_>,
+    path: &Path,
+    link: usize,
+    entries: &Entries,
+    streams: &'a [usize],
+) -> Load<'a> {
+    Load {
+        link,
+        streams,
+        head: path.head(network, link, entries),
+        work: network.work(link, streams),
+        tail: least_tail(network, link, streams),
+    }
+}
+
+/// Writes that the orders of a closed chain can't all hold.
+fn push_closed(
+    alloc: Global,
+    text: &mut String,
+    network: Network<'_>,
+    path: &Path,
+    chain: &Chain,
+) -> Result<(), AllocError> {
+    let mut orders = Vec::new(alloc);
+    for place in 0..chain.len() {
+        if let Some(order) = path.order(chain.at(place)) {
+            orders.push(order)?;
+        }
+    }
+    let is_said = orders.len() == path.list.len();
+    push_round(text, network, &orders, is_said)?;
+    drop(orders);
+    Ok(())
+}

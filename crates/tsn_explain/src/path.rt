@@ -1,0 +1,116 @@
+//! The way through a tree of decisions, and what its chains come to.
+use crate::network::Network;
+use crate::number::sum;
+use crate::view::turned;
+use std::alloc::{AllocError, Global};
+use tsn_argument::Order;
+use tsn_cert::{Chain, Entries, Node};
+use tsn_model::Triple;
+
+/// A decision of a path.
+#[derive(Clone, Copy)]
+pub struct Decided {
+    pub order: Order,
+    /// Whether the other side comes behind it.
+    is_left: bool,
+}
+
+/// The way from the root of a tree to one of its nodes.
+#[derive(Drop)]
+pub struct Path {
+    pub list: Vec<Decided>,
+}
+
+impl Path {
+    /// The way to the root.
+    pub fn first(alloc: Global) -> Path {
+        Path {
+            list: Vec::new(alloc),
+        }
+    }
+
+    /// Goes on from a node to the one behind it.
+    pub fn go_on(&mut self, node: &Node) -> Result<(), AllocError> {
+        match node {
+            Node::Branch(triple) => self.branch(*triple),
+            _ => self.leaf(),
+        }
+    }
+
+    // Goes on to the left child of a branch.
+    fn branch(&mut self, triple: Triple) -> Result<(), AllocError> {
+        let order = Order {
+            first: triple.left,
+            second: triple.right,
+            link: triple.link,
+        };
+        let is_left = true;
+        self.list.push(Decided { order, is_left })?;
+        Ok(())
+    }
+
+    // Goes on from a leaf to the right child of the last branch whose left one it was in.
+    fn leaf(&mut self) -> Result<(), AllocError> {
+        for _ in 0..self.list.len() {
+            let Some(decided) = self.list.pop() else {
+                break;
+            };
+            if decided.is_left {
+                let order = turned(decided.order);
+                let is_left = false;
+                self.list.push(Decided { order, is_left })?;
+                break;
+            }
+        }
+        Ok(())
+    }
+
+    /// The order at a depth.
+    pub fn order(&self, depth: usize) -> Option<Order> {
+        match self.list.get(depth) {
+            Some(decided) => Some(decided.order),
+            None => None,
+        }
+    }
+
+    /// What the weights of a chain add up to.
+    pub fn weight(&self, network: Network<'_>, chain: &Chain) -> i64 {
+        let mut weight = 0;
+        for number in 0..chain.len() {
+            if let Some(order) = self.order(chain.at(number)) {
+                weight = sum(weight, network.weight(order));
+            }
+        }
+        weight
+    }
+
+    /// The least offset of a stream, by a chain to it.
+    pub fn offset(&self, network: Network<'_>, stream: usize, chain: &Chain) -> i64 {
+        let mut first = stream;
+        if chain.len() > 0 {
+            if let Some(order) = self.order(chain.at(0)) {
+                first = order.first;
+            }
+        }
+        sum(network.release(first), self.weight(network, chain))
+    }
+
+    /// The earliest start of one of the entries' frames on a link.
+    pub fn head(&self, network: Network<'_>, link: usize, entries: &Entries) -> i64 {
+        let mut least = i64::MAX;
+        for (stream, chain) in entries.list() {
+            let offset = self.offset(network, *stream, chain);
+            least = least.min(sum(offset, network.start(*stream, link)));
+        }
+        least
+    }
+}
+
+/// The streams of entries.
+pub fn streams_of(alloc: Global, entries: &Entries) -> Result<Vec<usize>, AllocError> {
+    let mut streams = Vec::new(alloc);
+    for (stream, _) in entries.list() {
+        streams.push(*stream)?;
+    }
+    Ok(streams)
+}

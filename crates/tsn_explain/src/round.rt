@@ -1,0 +1,48 @@
+//! Orders that lead from a stream back to it, in words.
+use crate::network::{Network, push_joint};
+use crate::number::{push_time, sum};
+use std::alloc::AllocError;
+use tsn_argument::Order;
+
+/// Writes that these orders can't all hold; the orders too, unless they stand there already.
+pub fn push_round(
+    text: &mut String,
+    network: Network<'_>,
+    orders: &[Order],
+    is_said: bool,
+) -> Result<(), AllocError> {
+    let Some(first) = orders.first() else {
+        return Ok(());
+    };
+    if !is_said {
+        push_orders(text, network, orders)?;
+        text.push_str(": ")?;
+    }
+    text.push_str("by these orders ")?;
+    network.push_stream(text, first.first)?;
+    text.push_str(" would start ")?;
+    push_time(text, weight_of(network, orders))?;
+    text.push_str(" ns later than it does, so they can't all hold")
+}
+
+fn weight_of(network: Network<'_>, orders: &[Order]) -> i64 {
+    let mut weight = 0;
+    for order in orders {
+        weight = sum(weight, network.weight(*order));
+    }
+    weight
+}
+
+fn push_orders(
+    text: &mut String,
+    network: Network<'_>,
+    orders: &[Order],
+) -> Result<(), AllocError> {
+    for (place, order) in orders.iter().enumerate() {
+        if place > 0 {
+            push_joint(text, place, orders.len(), "and")?;
+        }
+        network.push_order(text, *order)?;
+    }
+    Ok(())
+}

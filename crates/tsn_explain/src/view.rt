@@ -1,0 +1,358 @@
+//! What is known of the schedules in question, as the moves of an argument narrow it, and from which move each part of it is. The
+//! moves of all steps are numbered, and what a step supposes has a number before its moves.
+use crate::network::Network;
+use crate::number::{NONE, at, counts, less, next, put, put_count, signed, step_at, sum, zeros};
+use std::alloc::{AllocError, Global};
+use tsn_argument::{Fact, Order};
+
+/// How many places of orders each stream has: one for each of its hops and each other stream.
+const PLACES: usize = 2048;
+
+/// A fact, as a view learns it. A number of a subject is its offset, or the flowspan.
+#[derive(Clone, Copy)]
+pub enum Learned {
+    From(usize, i64),
+    Until(usize, i64),
+    Order(Order),
+}
+
+/// Whose numbers don't go together any more: a subject, and whether its least number came last.
+#[derive(Clone, Copy)]
+pub struct Crossing {
+    pub subject: usize,
+    pub is_least: bool,
+}
+
+// A number of the ground.
+#[derive(Clone, Copy)]
+struct Change {
+    place: usize,
+    number: i64,
+    source: usize,
+}
+
+/// The view. The subjects are the streams by their numbers, and behind them the flowspan.
+#[derive(Drop)]
+pub struct View<'a> {
+    network: Network<'a>,
+    // The least and the greatest number of each subject, and the moves that they are from.
+    numbers: Vec<i64>,
+    sources: Vec<usize>,
+    // For each order the move that it is from.
+    orders: Vec<usize>,
+    // What differs from the ground.
+    changes: Vec<Change>,
+    new_orders: Vec<usize>,
+    // The move under way.
+    motion: usize,
+    // The moves that it needs, and for each move which needed it last.
+    needs: Vec<usize>,
+    reads: Vec<usize>,
+    crossing: Option<Crossing>,
+}
+
+impl<'a> View<'a> {
+    /// What is known at first, of the schedules that are done by an instant; before so many moves.
+    pub fn first(
+        alloc: Global,
+        network: Network<'a>,
+        greatest: i64,
+        moves: usize,
+    ) -> Result<View<'a>, AllocError> {
+        let streams = network.timing.streams();
+        let places = streams.wrapping_mul(2).wrapping_add(2);
+        let mut view = View {
+            network,
+            numbers: zeros(alloc, places)?,
+            sources: counts(alloc, NONE, places)?,
+            orders: counts(alloc, NONE, streams.wrapping_mul(PLACES))?,
+            changes: Vec::new(alloc),
+            new_orders: Vec::new(alloc),
+            motion: NONE,
+            needs: Vec::new(alloc),
+            reads: counts(alloc, NONE, moves)?,
+            crossing: None,
+        };
+        view.put_first(greatest);
+        Ok(view)
+    }
+
+    // The numbers that are known at first.
+    fn put_first(&mut self, greatest: i64) {
+        let done = self.done();
+        put(&mut self.numbers, greatest_place(done), greatest);
+        for stream in 0..done {
+            let least = self.network.release(stream);
+            let most = self.network.latest_offset(stream);
+            put(&mut self.numbers, least_place(stream), least);
+            put(&mut self.numbers, greatest_place(stream), most);
+            if least > most {
+                self.cross(stream, false);
+            }
+        }
+        if greatest < 0 {
+            self.cross(done, false);
+        }
+    }
+
+    pub fn network(&self) -> Network<'a> {
+        self.network
+    }
+
+    /// The subject that is the flowspan.
+    pub fn done(&self) -> usize {
+        self.network.timing.streams()
+    }
+
+    /// The least number of a subject.
+    pub fn low(&self, subject: usize) -> i64 {
+        at(&self.numbers, least_place(subject))
+    }
+
+    /// The greatest number of a subject.
+    pub fn high(&self, subject: usize) -> i64 {
+        at(&self.numbers, greatest_place(subject))
+    }
+
+    /// Whose numbers don't go together, if any.
+    pub fn crossing(&self) -> Option<Crossing> {
+        self.crossing
+    }
+
+    /// Whether the view has this order.
+    pub fn has(&self, order: Order) -> bool {
+        match self.order_place(order) {
+            Some(place) => step_at(&self.orders, place) != NONE,
+            None => false,
+        }
+    }
+
+    fn order_place(&self, order: Order) -> Option<usize> {
+        let hop = self.network.hop(order.first, order.link)?;
+        if order.second >= 128 {
+            return None;
+        }
+        let of_hop = hop.wrapping_mul(128).wrapping_add(order.second);
+        Some(order.first.wrapping_mul(PLACES).wrapping_add(of_hop))
+    }
+
+    /// A move begins.
+    pub fn begin(&mut self, motion: usize) {
+        self.motion = motion;
+        self.needs.clear();
+    }
+
+    /// The moves that the one under way needs so far.
+    pub fn needs(&self) -> &[usize] {
+        self.needs.as_slice()
+    }
+
+    /// The move under way needs this one.
+    pub fn need(&mut self, motion: usize) -> Result<(), AllocError> {
+        if motion == NONE || motion == self.motion || step_at(&self.reads, motion) == self.motion {
+            return Ok(());
+        }
+        put_count(&mut self.reads, motion, self.motion);
+        self.needs.push(motion)?;
+        Ok(())
+    }
+
+    /// The move that the least number of a subject is from.
+    pub fn source_of_low(&self, subject: usize) -> usize {
+        step_at(&self.sources, least_place(subject))
+    }
+
+    /// The move under way needs that the subject's number is no lower.
+    pub fn need_low(&mut self, subject: usize) -> Result<(), AllocError> {
+        self.need(self.source_of_low(subject))
+    }
+
+    /// The move under way needs that the subject's number is no greater.
+    pub fn need_high(&mut self, subject: usize) -> Result<(), AllocError> {
+        let source = step_at(&self.sources, greatest_place(subject));
+        self.need(source)
+    }
+
+    /// The move under way needs the order.
+    pub fn need_order(&mut self, order: Order) -> Result<(), AllocError> {
+        match self.order_place(order) {
+            Some(place) => {
+                let source = step_at(&self.orders, place);
+                self.need(source)
+            }
+            None => Ok(()),
+        }
+    }
+
+    /// Whether the view leaves the fact no room.
+    pub fn contradicts(&self, fact: Learned) -> bool {
+        match fact {
+            Learned::From(subject, number) => self.high(subject) < number,
+            Learned::Until(subject, number) => self.low(subject) > number,
+            Learned::Order(order) => self.has(turned(order)),
+        }
+    }
+
+    /// The move under way needs that the view leaves the fact no room.
+    pub fn need_against(&mut self, fact: Learned) -> Result<(), AllocError> {
+        match fact {
+            Learned::From(subject, _) => self.need_high(subject),
+            Learned::Until(subject, _) => self.need_low(subject),
+            Learned::Order(order) => self.need_order(turned(order)),
+        }
+    }
+
+    /// The view learns a fact.
+    pub fn learn(&mut self, fact: Learned) -> Result<(), AllocError> {
+        match fact {
+            Learned::From(subject, number) => self.raise(subject, number),
+            Learned::Until(subject, number) => self.lower(subject, number),
+            Learned::Order(order) => self.decide(order),
+        }
+    }
+
+    fn raise(&mut self, subject: usize, number: i64) -> Result<(), AllocError> {
+        if number <= self.low(subject) {
+            return Ok(());
+        }
+        self.change(least_place(subject), number)?;
+        if number > self.high(subject) {
+            self.cross(subject, true);
+            return self.need_high(subject);
+        }
+        Ok(())
+    }
+
+    fn lower(&mut self, subject: usize, number: i64) -> Result<(), AllocError> {
+        if number >= self.high(subject) {
+            return Ok(());
+        }
+        self.change(greatest_place(subject), number)?;
+        if number < self.low(subject) {
+            self.cross(subject, false);
+            return self.need_low(subject);
+        }
+        Ok(())
+    }
+
+    fn decide(&mut self, order: Order) -> Result<(), AllocError> {
+        let Some(place) = self.order_place(order) else {
+            return Ok(());
+        };
+        if step_at(&self.orders, place) == NONE {
+            self.new_orders.push(place)?;
+            put_count(&mut self.orders, place, self.motion);
+        }
+        Ok(())
+    }
+
+    fn change(&mut self, place: usize, number: i64) -> Result<(), AllocError> {
+        let change = Change {
+            place,
+            number: at(&self.numbers, place),
+            source: step_at(&self.sources, place),
+        };
+        self.changes.push(change)?;
+        put(&mut self.numbers, place, number);
+        put_count(&mut self.sources, place, self.motion);
+        Ok(())
+    }
+
+    fn cross(&mut self, subject: usize, is_least: bool) {
+        if self.crossing.is_none() {
+            self.crossing = Some(Crossing { subject, is_least });
+        }
+    }
+
+    /// Makes the view the ground once more.
+    pub fn go_back(&mut self) {
+        for _ in 0..self.changes.len() {
+            self.undo();
+        }
+        for place in &self.new_orders {
+            put_count(&mut self.orders, *place, NONE);
+        }
+        self.new_orders.clear();
+        self.crossing = None;
+    }
+
+    // Undoes the last change of a number.
+    fn undo(&mut self) {
+        if let Some(change) = self.changes.pop() {
+            put(&mut self.numbers, change.place, change.number);
+            put_count(&mut self.sources, change.place, change.source);
+        }
+    }
+
+    /// Makes the view the ground.
+    pub fn keep(&mut self) {
+        self.changes.clear();
+        self.new_orders.clear();
+    }
+
+    /// What the view learns where the fact of a clause holds.
+    pub fn learned_of(&self, fact: Fact) -> Learned {
+        match fact {
+            Fact::From(stream, time) => Learned::From(stream, signed(time)),
+            Fact::Until(stream, time) => Learned::Until(stream, signed(time)),
+            Fact::Order(order) => Learned::Order(order),
+            Fact::DoneFrom(time) => Learned::From(self.done(), signed(time)),
+            Fact::DoneUntil(time) => Learned::Until(self.done(), signed(time)),
+        }
+    }
+
+    /// The earliest start of one of the streams on a link.
+    pub fn first_head(&self, link: usize, streams: &[usize]) -> i64 {
+        let mut least = i64::MAX;
+        for stream in streams {
+            let head = sum(self.low(*stream), self.network.start(*stream, link));
+            least = least.min(head);
+        }
+        least
+    }
+
+    /// The latest end of one of the streams' occupancy of a link.
+    pub fn last_end(&self, link: usize, streams: &[usize]) -> i64 {
+        let mut greatest = i64::MIN;
+        for stream in streams {
+            let end = sum(self.high(*stream), self.network.end(*stream, link));
+            greatest = greatest.max(end);
+        }
+        greatest
+    }
+}
+
+fn least_place(subject: usize) -> usize {
+    subject.wrapping_mul(2)
+}
+
+fn greatest_place(subject: usize) -> usize {
+    next(subject.wrapping_mul(2))
+}
+
+/// The other order.
+pub fn turned(order: Order) -> Order {
+    Order {
+        first: order.second,
+        second: order.first,
+        link: order.link,
+    }
+}
+
+/// What holds where the fact doesn't.
+pub fn opposite(fact: Learned) -> Learned {
+    match fact {
+        Learned::From(subject, number) => Learned::Until(subject, less(number, 1)),
+        Learned::Until(subject, number) => Learned::From(subject, sum(number, 1)),
+        Learned::Order(order) => Learned::Order(turned(order)),
+    }
+}
+
+/// The least time between the streams' occupancy of a link and their arrival.
+pub fn least_tail(network: Network<'_>, link: usize, streams: &[usize]) -> i64 {
+    let mut least = i64::MAX;
+    for stream in streams {
+        least = least.min(network.tail(*stream, link));
+    }
+    least
+}
