@@ -6,7 +6,7 @@ use Rattle.tsn_net.proofs.Stating.{stated_once}
 use Rattle.tsn_cert.specs.declared.plan.Plan.{Plan}
 use Rattle.tsn_cert.specs.declared.plan.Plan.TheVariants as plan
 use Rattle.tsn_cert.specs.Plan.{plan_text}
-use Rattle.tsn_check.specs.Faults.{IsFirstPlan}
+use Rattle.tsn_check.specs.Plans.{IsFirstPlan}
 use Rattle.tsn_worker.proofs.Agreeing.{first_plan_once}
 use Rattle.tsn_cli.specs.Run.{Output}
 use Rattle.tsn_cli.specs.Plan.{PlanAnswers, TellsPlan, TellsStop}
@@ -29,7 +29,7 @@ told_plan network limit wanted output (told, (Some cert, (count, same, found, sh
 told : (network : Network) (limit : ℕ) (wanted : Bool) (output : Output) → TellsPlan network limit wanted output ⊎ TellsStop network limit output → output.status ≡ 0
     → Tells network output
 told network limit wanted output (inl tells) done = told_plan network limit wanted output tells done
-told network limit wanted output (inr (book, stopped, is)) done =
+told network limit wanted output (inr (book, (known, stopped, is))) done =
     let status : 5 ≡ 0 = ap (λ (o : Output). o.status) (sym is) ∙ done in
     absurd (omega (arith, status))
 

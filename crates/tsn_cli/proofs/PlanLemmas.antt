@@ -13,6 +13,7 @@ use Rattle.tsn_argument.specs.declared.argument.Argument.{Argument}
 use Rattle.tsn_argument.specs.declared.certificate.Certificate.{Certificate}
 use Rattle.tsn_argument.specs.declared.certificate.Certificate.TheVariants as certificate
 use Rattle.tsn_book.specs.Book.{Progress}
+use Rattle.tsn_worker.specs.declared.known.Known.{Known}
 use Rattle.tsn_worker.specs.declared.found.Found.{Found}
 use Rattle.tsn_worker.specs.declared.found.Found.TheVariants as found
 use Rattle.tsn_worker.specs.Answer.{IsArgued, IsFinished, IsFound, IsFoundPlan, plan_kept}
@@ -21,7 +22,7 @@ use Rattle.tsn_cli.specs.declared.answer.Written.{Written}
 use Rattle.tsn_cli.specs.declared.answer.Written.TheVariants.{Argued}
 use Rattle.tsn_cli.specs.Run.{Output, Command, Reading, GivesFile, IsOutput}
 use Rattle.tsn_cli.specs.PlanOutput.{IsCut, IsPrinted, cert_bytes, printed, written_in}
-use Rattle.tsn_cli.specs.Plan.{IsTreeOf, IsWanted, PlanAnswers, ShowsIfAny, TellsPlan, TellsStop, finished_output, found_status, optimal_line}
+use Rattle.tsn_cli.specs.Plan.{IsTreeOf, IsWanted, PlanAnswers, ShowsIfAny, TellsPlan, TellsStop, finished_output, found_status, optimal_line, stopped_output}
 use Rattle.tsn_cli.proofs.TreeLemmas.{cert_is_there}
 
 abbrev three : ℕ → List ℕ → List ℕ → List ℕ → Output
@@ -139,6 +140,17 @@ pub told_argued : (result : Result PlanOutput NoMemory) (left : Found) (plan : P
 told_argued (Ok output) left plan argument wanted same tells = λ network limit is shown prints.
     inl (tells network limit (subst (λ (l : Found). IsFound network limit l) same is) shown prints)
 told_argued (Err fault) left plan argument wanted same tells = tt
+
+-- what is printed of a search that was stopped tells of it
+pub told_stopped : (result : Result PlanOutput NoMemory) (left : Found) (book : Progress) (known : Known) (count : ℕ) (wanted : Bool)
+    → left ≡ found.Stopped book known → count ≡ length book.history
+    → IfOk result (λ output. printed (Ok output) ≡ stopped_output known.best count) → IfOk result (λ output. output.cert ≡ None)
+    → IfOk result (λ output. (network : Network) (limit : ℕ) → IsFound network limit left → (shown : Output) → IsPrinted (Ok output) shown
+    → TellsPlan network limit wanted shown ⊎ TellsStop network limit shown)
+told_stopped (Ok output) left book known count wanted same counted is none = λ network limit found shown prints.
+    let alone : shown ≡ printed (Ok output) = printed_alone output shown none prints in
+    inr (book, (known, subst (λ (l : Found). IsFound network limit l) same found, alone ∙ is ∙ ap (λ n. stopped_output known.best n) counted))
+told_stopped (Err fault) left book known count wanted same counted is none = tt
 
 -- what is printed of a search of the file's network answers to the file
 pub told_found : (result : Result PlanOutput NoMemory) (left : Found) (problem : NamedNetwork) (limit : ℕ) (wanted : Bool) (file : List ℕ) → States file problem

@@ -9,7 +9,7 @@ use Rattle.tsn_argument.specs.declared.argument.Argument.{Argument}
 use Rattle.tsn_argument.specs.declared.certificate.Certificate.{Certificate}
 use Rattle.tsn_argument.specs.declared.certificate.Certificate.TheVariants as certificate
 use Rattle.tsn_argument.specs.Certificate.{certificate_in}
-use Rattle.tsn_argue.specs.Faults.{Certifies, argument_verdict, certificate_verdict}
+use Rattle.tsn_argue.specs.Certified.{Certifies, argument_verdict, certificate_verdict}
 use Rattle.tsn_argue.specs.Laws.{FirstFaultsRefute}
 use Rattle.tsn_worker.specs.declared.proof.Proof.TheVariants.{Proved}
 use Rattle.tsn_worker.specs.Proof.{IsProof}

@@ -15,9 +15,10 @@ use Rattle.tsn_argument.specs.Certificate.{certificate_in}
 use Rattle.tsn_check.specs.declared.fault.CheckFault.{CheckFault}
 use Rattle.tsn_check.specs.declared.verdict.Verdict.{Verdict}
 use Rattle.tsn_check.specs.declared.verdict.Verdict.TheVariants.{Optimal, First, NoSchedule}
-use Rattle.tsn_check.specs.Faults.{span_in}
+use Rattle.tsn_check.specs.Plans.{span_in}
 use Rattle.tsn_check.specs.Numbers.{number_of, node_of}
-use Rattle.tsn_argue.specs.Faults.{Certifies, IsFirstFault, certificate_verdict}
+use Rattle.tsn_argue.specs.Certified.{Certifies, certificate_verdict}
+use Rattle.tsn_argue.specs.Faults.{IsFirstFault}
 use Rattle.tsn_cli.specs.Run.{Output, Command, IsLine}
 use Rattle.tsn_cli.specs.Valid.{RefusesNetwork}
 

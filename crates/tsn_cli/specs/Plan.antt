@@ -6,7 +6,7 @@
 --     PlanAnswers                                  the answer to the file read
 use Rattle.std.specs.Prelude.{◌≡◌, ◌⊎◌, ℕ, Bool, List, [], ◌∷◌, ◌++◌, codes, decimal, length, MatchOption, Option, Some, None, is_some}
 use Rattle.tsn_model.specs.Network.{Network}
-use Rattle.tsn_model.specs.Search.{kept_of, best_bound}
+use Rattle.tsn_timing.specs.Solution.{Solution}
 use Rattle.tsn_net.specs.File.{States}
 use Rattle.tsn_net.specs.Problem.{NamedNetwork}
 use Rattle.tsn_cert.specs.declared.plan.Plan.{Plan}
@@ -15,7 +15,8 @@ use Rattle.tsn_cert.specs.Plan.{plan_text}
 use Rattle.tsn_argument.specs.declared.certificate.Certificate.{Certificate}
 use Rattle.tsn_argument.specs.declared.certificate.Certificate.TheVariants.{Tree, Argument}
 use Rattle.tsn_book.specs.Book.{Progress}
-use Rattle.tsn_worker.specs.Answer.{IsCertOf, IsFoundPlan, IsStopped, Shows}
+use Rattle.tsn_worker.specs.declared.known.Known.{Known}
+use Rattle.tsn_worker.specs.Answer.{IsCertOf, IsFoundPlan, IsStoppedWith, Shows}
 use Rattle.tsn_cli.specs.Run.{Output, Command}
 use Rattle.tsn_cli.specs.PlanOutput.{cert_bytes, IsCut}
 use Rattle.tsn_cli.specs.Valid.{RefusesNetwork}
@@ -35,25 +36,26 @@ found_status (plan.Schedule span offsets) = 0
 found_status plan.None = 4
 
 -- the best plan of a search that was stopped, if it has one
-abbrev pub best_plan_text : ℕ → Option (List ℕ) → List ℕ
-best_plan_text span None = []
-best_plan_text span (Some offsets) = plan_text (plan.Schedule span offsets)
+abbrev pub best_plan_text : Option Solution → List ℕ
+best_plan_text None = []
+best_plan_text (Some best) = plan_text (plan.Schedule best.flowspan best.offsets)
 
-abbrev pub best_text : ℕ → Option (List ℕ) → List ℕ
-best_text span None = codes "none"
-best_text span (Some offsets) = decimal span
+abbrev pub best_text : Option Solution → List ℕ
+best_text None = codes "none"
+best_text (Some best) = decimal best.flowspan
 
 -- what a finished search is told by: the plan file, the certificate file, if one is written, and the line
 abbrev pub finished_output : Plan → Option Certificate → ℕ → Output
 finished_output plan certificate count =
     record { status = found_status plan; texts = plan_text plan ∷ cert_bytes certificate ∷ optimal_line plan count ∷ [] }
 
--- what a search that was stopped is told by
-abbrev pub stopped_output : Progress → Output
-stopped_output book =
-    let span = best_bound book.network book.history in
-    let kept = kept_of book.network book.history in
-    record { status = 5; texts = best_plan_text span kept ∷ [] ∷ (codes "stopped " ++ best_text span kept ++ settled_text (length book.history)) ∷ [] }
+-- what is said of a search that was stopped
+abbrev pub stopped_line : Option Solution → ℕ → List ℕ
+stopped_line best count = codes "stopped " ++ best_text best ++ settled_text count
+
+-- what it is told by: its best schedule, and how many nodes were settled
+abbrev pub stopped_output : Option Solution → ℕ → Output
+stopped_output best count = record { status = 5; texts = best_plan_text best ∷ [] ∷ stopped_line best count ∷ [] }
 
 -- the certificate shows what the plan says, by so many nodes or steps, at most the limit; where none is written there is one that does
 abbrev pub ShowsIfAny : Network → ℕ → Plan → Option Certificate → ℕ → Type 0
@@ -77,9 +79,10 @@ TellsPlan network limit wanted output =
     × ShowsIfAny network limit plan certificate count
     × ((output ≡ finished_output plan certificate count) ⊎ IsCut (plan_text plan) certificate output)))
 
--- it tells of a search that was stopped at its limit
+-- it tells of a search that was stopped at its limit, with the best schedule that was known then; the count is of the nodes that were settled
 abbrev pub TellsStop : Network → ℕ → Output → Type 0
-TellsStop network limit output = (book : Progress) × IsStopped network limit book × (output ≡ stopped_output book)
+TellsStop network limit output =
+    (book : Progress) × ((known : Known) × IsStoppedWith network limit book known × (output ≡ stopped_output known.best (length book.history)))
 
 -- the answer to a network file, where at most so many nodes are settled and a certificate is wanted or not
 abbrev pub PlanAnswers : ℕ → Bool → Command

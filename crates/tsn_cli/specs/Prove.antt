@@ -10,7 +10,8 @@ use Rattle.tsn_cert.specs.declared.plan.Plan.{Plan}
 use Rattle.tsn_cert.specs.declared.plan.Plan.TheVariants as plan
 use Rattle.tsn_cert.specs.Plan.{plan_in, plan_text}
 use Rattle.tsn_check.specs.declared.fault.CheckFault.{CheckFault}
-use Rattle.tsn_check.specs.Faults.{IsPlanRight, IsClaimFault, span_in}
+use Rattle.tsn_check.specs.Plans.{IsPlanRight, span_in}
+use Rattle.tsn_check.specs.Faults.{IsClaimFault}
 use Rattle.tsn_argument.specs.Argument.{argument_text}
 use Rattle.tsn_worker.specs.declared.proof.Proof.{Proof}
 use Rattle.tsn_worker.specs.declared.proof.Proof.TheVariants.{Proved, Undercut, Stopped}

@@ -7,7 +7,7 @@ use Rattle.tsn_cert.specs.Plan.{plan_in}
 use Rattle.tsn_argument.specs.declared.argument.Argument.{Argument}
 use Rattle.tsn_argument.specs.declared.certificate.Certificate.TheVariants as certificate
 use Rattle.tsn_argument.specs.Certificate.{certificate_in}
-use Rattle.tsn_argue.specs.Faults.{argument_verdict}
+use Rattle.tsn_argue.specs.Certified.{argument_verdict}
 use Rattle.tsn_worker.specs.declared.proof.Proof.TheVariants.{Proved}
 use Rattle.tsn_worker.specs.Proof.{IsProof}
 use Rattle.tsn_cli.specs.Run.{Output, IsLine}

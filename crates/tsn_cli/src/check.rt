@@ -1,24 +1,20 @@
 //! `check`: judges a plan and its certificate.
-ghost use Rattle.std.specs.Prelude.{◌≡◌, ◌≢◌, ◌<◌, ◌+◌, ◌-◌, ◌^◌, ◌⊎◌, ℕ, List, [], ◌∷◌, codes, IfOk, IsErr, Some};
+ghost use Rattle.std.specs.Prelude.{◌≡◌, ◌≢◌, ◌<◌, ◌+◌, ◌-◌, ◌^◌, [], ◌∷◌, codes, IfOk, IsErr, Some};
 ghost use Rattle.std.specs.Io.KnownBytes.{Keeps};
-ghost use Rattle.tsn_net.specs.File.{States};
-ghost use Rattle.tsn_cert.specs.Plan.{plan_in};
 ghost use Rattle.tsn_cli.specs.Run.{BreaksOff, Ends, EndsEarly, IsLine, reading_of, writing_of};
-ghost use Rattle.tsn_cli.specs.Outcome.{ComesTo, output_of};
-ghost use Rattle.tsn_cli.specs.Check.{CheckAnswers, JudgesCert, ShowsClaim, ShowsNothing, accepted_line, refusal_line, rejected_line};
+ghost use Rattle.tsn_cli.specs.Outcome.{output_of};
+ghost use Rattle.tsn_cli.specs.Check.{CheckAnswers, accepted_line, refusal_line, rejected_line};
 
 use crate::answer::Answer;
-use crate::run::{DEVICE, DONE, MAX_FILE, REFUSED, REJECTED, respond};
-use crate::valid::refusal;
+use crate::certified::answer_of;
+use crate::run::{DEVICE, DONE, REFUSED, REJECTED, respond};
+use crate::showing::Showing;
 use std::alloc::Global;
 use std::fmt;
-use tsn_argue::check_certificate;
-use tsn_argument::{Certificate, certificate_from_json};
-use tsn_cert::{FileFault, Plan, plan_from_json};
+use tsn_cert::{FileFault, Plan};
 use tsn_check::{CheckFault, Verdict};
-use tsn_device::device::{ReadFault, Sink, Source, read_all};
+use tsn_device::device::{Sink, Source};
 use tsn_model::NoMemory;
-use tsn_net::{Problem, read_problem};
 
 /// Reads a network file, a plan file and a certificate file of format 1, 2 or 3, each judged before the next is read, and writes a
 /// line on the first that is refused, or on what the certificate shows. The answer is the status.
@@ -58,160 +54,14 @@ pub fn check_run<N: Source, P: Source, C: Source, W: Sink>(
         ∷ reading_of (C.given cert.old) (C.given cert.new) (C.is_at_end cert.new) ∷ [])
         (writing_of (W.taken sink.old) (W.taken sink.new) ∷ []) }
 {
-    respond(sink, answer_of(alloc, network, plan, cert))
-}
-
-/// What the run answers.
-fn answer_of<N: Source, P: Source, C: Source>(
-    alloc: Global,
-    network: &mut N,
-    plan: &mut P,
-    cert: &mut C,
-) -> Result<Answer, ReadFault>
-    requires network_reads { N.failed network.old < 2 ^ 64 - 1 }
-    requires plan_reads { P.failed plan.old < 2 ^ 64 - 1 }
-    requires cert_reads { C.failed cert.old < 2 ^ 64 - 1 }
-    ensures comes { ComesTo CheckAnswers []
-        (reading_of (N.given network.old) (N.given network.new) (N.is_at_end network.new)
-        ∷ reading_of (P.given plan.old) (P.given plan.new) (P.is_at_end plan.new)
-        ∷ reading_of (C.given cert.old) (C.given cert.new) (C.is_at_end cert.new) ∷ []) result }
-    ensures broken { result ≡ Err ReadFault.Broken
-        → N.failed network.new + P.failed plan.new + C.failed cert.new
-        ≡ N.failed network.old + P.failed plan.old + C.failed cert.old + 1 }
-    ensures kept { (result ≡ Err ReadFault.Broken → ⊥) → (N.failed network.new ≡ N.failed network.old)
-        × (P.failed plan.new ≡ P.failed plan.old) × (C.failed cert.new ≡ C.failed cert.old) }
-{
-    let file = read_all(alloc, network, MAX_FILE)?;
-    answer_to_network(alloc, &file, plan, cert)
-}
-
-/// What the run answers to a network file, and to what it reads after that.
-fn answer_to_network<P: Source, C: Source>(
-    alloc: Global,
-    file: &[u8],
-    plan: &mut P,
-    cert: &mut C,
-) -> Result<Answer, ReadFault>
-    requires plan_reads { P.failed plan.old < 2 ^ 64 - 1 }
-    requires cert_reads { C.failed cert.old < 2 ^ 64 - 1 }
-    ensures comes { ComesTo CheckAnswers (file.now ∷ [])
-        (reading_of (P.given plan.old) (P.given plan.new) (P.is_at_end plan.new)
-        ∷ reading_of (C.given cert.old) (C.given cert.new) (C.is_at_end cert.new) ∷ []) result }
-    ensures broken { result ≡ Err ReadFault.Broken → P.failed plan.new + C.failed cert.new
-        ≡ P.failed plan.old + C.failed cert.old + 1 }
-    ensures kept { (result ≡ Err ReadFault.Broken → ⊥) → (P.failed plan.new ≡ P.failed plan.old)
-        × (C.failed cert.new ≡ C.failed cert.old) }
-{
-    match read_problem(alloc, file) {
-        Ok(problem) => {
-            let answer = answer_on(alloc, &problem, plan, cert);
-            drop(problem);
-            answer
-        }
-        Err(fault) => Ok(refusal(alloc, fault)?),
-    }
-}
-
-/// What the run answers on a network, once its file is read.
-fn answer_on<P: Source, C: Source>(
-    alloc: Global,
-    problem: &Problem,
-    plan: &mut P,
-    cert: &mut C,
-) -> Result<Answer, ReadFault>
-    requires plan_reads { P.failed plan.old < 2 ^ 64 - 1 }
-    requires cert_reads { C.failed cert.old < 2 ^ 64 - 1 }
-    ensures comes { (network : List ℕ) → States network problem.now → ComesTo CheckAnswers (network ∷ [])
-        (reading_of (P.given plan.old) (P.given plan.new) (P.is_at_end plan.new)
-        ∷ reading_of (C.given cert.old) (C.given cert.new) (C.is_at_end cert.new) ∷ []) result }
-    ensures broken { result ≡ Err ReadFault.Broken → P.failed plan.new + C.failed cert.new
-        ≡ P.failed plan.old + C.failed cert.old + 1 }
-    ensures kept { (result ≡ Err ReadFault.Broken → ⊥) → (P.failed plan.new ≡ P.failed plan.old)
-        × (C.failed cert.new ≡ C.failed cert.old) }
-{
-    let file = read_all(alloc, plan, MAX_FILE)?;
-    answer_to_plan(alloc, problem, &file, cert)
-}
-
-/// What the run answers to a plan file, and to what it reads after that.
-fn answer_to_plan<C: Source>(
-    alloc: Global,
-    problem: &Problem,
-    file: &[u8],
-    cert: &mut C,
-) -> Result<Answer, ReadFault>
-    requires cert_reads { C.failed cert.old < 2 ^ 64 - 1 }
-    ensures comes { (network : List ℕ) → States network problem.now
-        → ComesTo CheckAnswers (network ∷ file.now ∷ [])
-        (reading_of (C.given cert.old) (C.given cert.new) (C.is_at_end cert.new) ∷ []) result }
-    ensures broken { result ≡ Err ReadFault.Broken → C.failed cert.new ≡ C.failed cert.old + 1 }
-    ensures kept { (result ≡ Err ReadFault.Broken → ⊥) → C.failed cert.new ≡ C.failed cert.old }
-{
-    match plan_from_json(alloc, file) {
-        Ok(plan) => {
-            let answer = answer_on_plan(alloc, problem, &plan, cert);
-            drop(plan);
-            answer
-        }
-        Err(fault) => Ok(file_refusal(alloc, "plan", fault)?),
-    }
-}
-
-/// What the run answers on a network and a plan, once their files are read.
-fn answer_on_plan<C: Source>(
-    alloc: Global,
-    problem: &Problem,
-    plan: &Plan,
-    cert: &mut C,
-) -> Result<Answer, ReadFault>
-    requires cert_reads { C.failed cert.old < 2 ^ 64 - 1 }
-    ensures comes { (network plan_file : List ℕ) → States network problem.now
-        → plan_in plan_file ≡ Ok plan.now → ComesTo CheckAnswers (network ∷ plan_file ∷ [])
-        (reading_of (C.given cert.old) (C.given cert.new) (C.is_at_end cert.new) ∷ []) result }
-    ensures broken { result ≡ Err ReadFault.Broken → C.failed cert.new ≡ C.failed cert.old + 1 }
-    ensures kept { (result ≡ Err ReadFault.Broken → ⊥) → C.failed cert.new ≡ C.failed cert.old }
-{
-    let file = read_all(alloc, cert, MAX_FILE)?;
-    Ok(answer_to_cert(alloc, problem, plan, &file)?)
-}
-
-/// What the run answers to a certificate file.
-fn answer_to_cert(
-    alloc: Global,
-    problem: &Problem,
-    plan: &Plan,
-    file: &[u8],
-) -> Result<Answer, NoMemory>
-    ensures { IfOk result (λ a. JudgesCert problem.now.network plan.now file.now (output_of (Ok a))) }
-{
-    match certificate_from_json(alloc, file) {
-        Ok(certificate) => {
-            let answer = judgement(alloc, problem, plan, &certificate);
-            drop(certificate);
-            answer
-        }
-        Err(fault) => file_refusal(alloc, "cert", fault),
-    }
-}
-
-/// What is said of a plan and its certificate.
-fn judgement(
-    alloc: Global,
-    problem: &Problem,
-    plan: &Plan,
-    certificate: &Certificate,
-) -> Result<Answer, NoMemory>
-    ensures { IfOk result (λ a. ShowsClaim problem.now.network plan.now certificate.now (output_of (Ok a))
-        ⊎ ShowsNothing problem.now.network plan.now certificate.now (output_of (Ok a))) }
-{
-    match check_certificate(alloc, problem, plan, certificate) {
-        Ok(verdict) => acceptance(alloc, verdict, plan),
-        Err(fault) => rejection(alloc, fault),
-    }
+    respond(
+        sink,
+        answer_of(alloc, network, plan, cert, Showing::Verdict),
+    )
 }
 
 /// What is said of a plan whose certificate is accepted with this verdict.
-fn acceptance(alloc: Global, verdict: Verdict, plan: &Plan) -> Result<Answer, NoMemory>
+pub(crate) fn acceptance(alloc: Global, verdict: Verdict, plan: &Plan) -> Result<Answer, NoMemory>
     ensures { IfOk result (λ a. IsLine DONE (accepted_line verdict plan.now) (output_of (Ok a))) }
 {
     let span = match plan {
@@ -227,7 +77,7 @@ fn acceptance(alloc: Global, verdict: Verdict, plan: &Plan) -> Result<Answer, No
 }
 
 /// What is said of a plan and a certificate with this fault.
-fn rejection(alloc: Global, fault: CheckFault) -> Result<Answer, NoMemory>
+pub(crate) fn rejection(alloc: Global, fault: CheckFault) -> Result<Answer, NoMemory>
     ensures line { IfOk result (λ a. IsLine REJECTED (rejected_line fault) (output_of (Ok a))) }
     ensures memory { fault ≡ CheckFault.Memory → IsErr result }
 {

@@ -3,7 +3,9 @@
 
 mod answer;
 mod certificate;
+mod certified;
 mod check;
+mod explain;
 pub mod format;
 mod judge;
 pub mod laws;
@@ -14,11 +16,13 @@ mod proof_output;
 mod prove;
 pub mod prove_laws;
 pub mod run;
+mod showing;
 mod table;
 mod tables;
 mod valid;
 
 pub use check::check_run;
+pub use explain::{explain_run, marked_chart_run};
 pub use format::{GatesFormat, ReplayFormat, StreamsFormat};
 pub use judge::judge_run;
 pub use plan::{NO_SCHEDULE, STOPPED, plan_run};

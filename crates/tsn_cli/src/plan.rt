@@ -4,10 +4,10 @@ ghost use Rattle.std.specs.Io.KnownBytes.{Keeps};
 ghost use Rattle.tsn_model.specs.Network.{Network};
 ghost use Rattle.tsn_model.specs.Search.{kept_of, open_paths};
 ghost use Rattle.tsn_cli.specs.Run.{Output, Ends, EndsEarly, IsOutput, reading_of, writing_of, taken_in, failed_in};
-ghost use Rattle.tsn_cli.specs.Plan.{IsWanted, PlanAnswers, TellsPlan, TellsStop, optimal_line, found_status, stopped_output};
+ghost use Rattle.tsn_cli.specs.Plan.{IsWanted, PlanAnswers, TellsPlan, TellsStop, best_plan_text, optimal_line, found_status, stopped_line, stopped_output};
 ghost use Rattle.tsn_cli.specs.PlanOutput.{IsPrinted, line_alone, printed, written_in};
 ghost use Rattle.tsn_cert.specs.Plan.{plan_text};
-ghost use Rattle.tsn_worker.specs.Answer.{IsArgued, IsFinished, IsFound, IsStopped, plan_kept};
+ghost use Rattle.tsn_worker.specs.Answer.{IsArgued, IsFinished, IsFound, plan_kept};
 
 use crate::answer::{Answer as Line, PlanOutput, Written};
 use crate::print::print;
@@ -23,7 +23,8 @@ use tsn_cert::{Offsets, Plan, plan_to_json};
 use tsn_device::device::{ReadFault, Sink, Source, read_all};
 use tsn_model::NoMemory;
 use tsn_net::read_problem;
-use tsn_worker::{Effort, Found, Gate, plan_of, search_by};
+use tsn_timing::Solved;
+use tsn_worker::{Effort, Found, Supervisor, plan_of, search_by};
 
 /// There is no schedule.
 pub const NO_SCHEDULE: u8 = 4;
@@ -33,16 +34,23 @@ pub const STOPPED: u8 = 5;
 
 /// Reads a network file and plans it by a method, with 1 to 16 workers and at most so many settlements, 1 to 1,000,000,000. It
 /// writes the plan, then its certificate, where there is a sink for it, then a line on what was found; or a line on why the file is
-/// refused. Where the limit is met it writes the best plan so far, if there is one, and no certificate. The certificate is a tree
+/// refused. Where the limit is met it writes the best plan that is known, if there is one, and no certificate. The certificate is a tree
 /// (format 2), written a node at a time, or an argument (format 3), and the line tells its nodes or steps; where memory is refused
-/// for a node or for the argument, the line says that. The gate hears of each settlement. The answer is the status. The memory of
+/// for a node or for the argument, the line says that. The supervisor hears of each settlement. The answer is the status. The memory of
 /// the search stays taken until the process ends.
-pub fn plan_run<R: Threads + Wait + Sync, N: Source, G: Gate + Sync, P: Sink, C: Sink, W: Sink>(
+pub fn plan_run<
+    R: Threads + Wait + Sync,
+    N: Source,
+    S: Supervisor + Sync,
+    P: Sink,
+    C: Sink,
+    W: Sink,
+>(
     rt: &R,
     alloc: Global,
     network: &mut N,
     effort: Effort,
-    gate: &G,
+    supervisor: &S,
     plan: &mut P,
     cert: &mut Option<C>,
     sink: &mut W,
@@ -84,7 +92,7 @@ pub fn plan_run<R: Threads + Wait + Sync, N: Source, G: Gate + Sync, P: Sink, C:
         plan,
         cert,
         sink,
-        found(rt, alloc, network, task, gate),
+        found(rt, alloc, network, task, supervisor),
     )
 }
 
@@ -96,12 +104,12 @@ struct Task {
 }
 
 /// What the run found.
-fn found<R: Threads + Wait + Sync, N: Source, G: Gate + Sync>(
+fn found<R: Threads + Wait + Sync, N: Source, S: Supervisor + Sync>(
     rt: &R,
     alloc: Global,
     network: &mut N,
     task: Task,
-    gate: &G,
+    supervisor: &S,
 ) -> Result<PlanOutput, ReadFault>
     requires workers { (1 ≤ task.effort.workers) × (task.effort.workers ≤ 16) }
     requires some { 1 ≤ task.effort.limit }
@@ -117,19 +125,19 @@ fn found<R: Threads + Wait + Sync, N: Source, G: Gate + Sync>(
     ensures kept { (result ≡ Err ReadFault.Broken → ⊥) → N.failed network.new ≡ N.failed network.old }
 {
     let file = read_all(alloc, network, MAX_FILE)?;
-    match found_in(rt, alloc, &file, task, gate) {
+    match found_in(rt, alloc, &file, task, supervisor) {
         Ok(output) => Ok(output),
         Err(NoMemory) => Err(ReadFault::Memory),
     }
 }
 
 /// What is found in a network file.
-fn found_in<R: Threads + Wait + Sync, G: Gate + Sync>(
+fn found_in<R: Threads + Wait + Sync, S: Supervisor + Sync>(
     rt: &R,
     alloc: Global,
     file: &[u8],
     task: Task,
-    gate: &G,
+    supervisor: &S,
 ) -> Result<PlanOutput, NoMemory>
     requires workers { (1 ≤ task.effort.workers) × (task.effort.workers ≤ 16) }
     requires some { 1 ≤ task.effort.limit }
@@ -140,7 +148,7 @@ fn found_in<R: Threads + Wait + Sync, G: Gate + Sync>(
 {
     match read_problem(alloc, file) {
         Ok(problem) => {
-            let found = search_by(rt, alloc, &problem, task.effort, gate);
+            let found = search_by(rt, alloc, &problem, task.effort, supervisor);
             drop(problem);
             output_for(alloc, found?, task.wanted)
         }
@@ -166,9 +174,10 @@ fn output_for(alloc: Global, found: Found, wanted: bool) -> Result<PlanOutput, N
             drop(plan);
             output
         }
-        Found::Stopped(book) => {
-            let output = stopped(alloc, &book);
+        Found::Stopped(book, known) => {
+            let output = stopped(alloc, book.count(), &known.best);
             mem::forget(book);
+            drop(known);
             output
         }
     }
@@ -301,31 +310,44 @@ fn line_of(alloc: Global, plan: &Plan, count: usize) -> Result<String, NoMemory>
     Ok(line)
 }
 
-/// What is said of a search that was stopped.
-fn stopped(alloc: Global, book: &Book) -> Result<PlanOutput, NoMemory>
-    ensures { IfOk result (λ output. (printed (Ok output) ≡ stopped_output book.now) × (output.cert ≡ None)) }
+/// What is said of a search that was stopped after so many settlements.
+fn stopped(alloc: Global, count: usize, best: &Option<Solved>) -> Result<PlanOutput, NoMemory>
+    ensures output { IfOk result (λ output. printed (Ok output) ≡ stopped_output best.now count) }
+    ensures none { IfOk result (λ output. output.cert ≡ None) }
 {
-    let count = book.count();
-    let (plan, line) = match book.kept() {
-        Some(kept) => {
-            let span = kept.flowspan();
-            let offsets = Offsets::of(Vec::from_slice(alloc, kept.valid().offsets())?);
-            let plan = Plan::Schedule {
-                flowspan: span,
-                offsets,
-            };
-            let line = format!(in alloc; "stopped {span} settled {count}\n")?;
-            (plan_to_json(alloc, &plan)?, line)
-        }
-        None => (
-            String::new(alloc),
-            format!(in alloc; "stopped none settled {count}\n")?,
-        ),
-    };
     Ok(PlanOutput {
         status: STOPPED,
-        plan,
+        plan: best_text(alloc, best)?,
         cert: None,
-        line,
+        line: stopped_line(alloc, best, count)?,
     })
+}
+
+/// The text of the best plan, if there is one.
+fn best_text(alloc: Global, best: &Option<Solved>) -> Result<String, NoMemory>
+    ensures { IfOk result (λ text. string_bytes text ≡ best_plan_text best.now) }
+{
+    let Some(best) = best else {
+        return Ok(String::new(alloc));
+    };
+    let plan = Plan::Schedule {
+        flowspan: best.flowspan(),
+        offsets: Offsets::of(Vec::from_slice(alloc, best.valid().offsets())?),
+    };
+    let text = plan_to_json(alloc, &plan);
+    drop(plan);
+    text
+}
+
+fn stopped_line(alloc: Global, best: &Option<Solved>, count: usize) -> Result<String, NoMemory>
+    ensures { IfOk result (λ line. string_bytes line ≡ stopped_line best.now count) }
+{
+    let line = match best {
+        Some(best) => {
+            let span = best.flowspan();
+            format!(in alloc; "stopped {span} settled {count}\n")?
+        }
+        None => format!(in alloc; "stopped none settled {count}\n")?,
+    };
+    Ok(line)
 }

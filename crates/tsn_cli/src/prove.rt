@@ -3,7 +3,8 @@ ghost use Rattle.std.specs.Prelude.{◌≡◌, ◌≢◌, ◌<◌, ◌+◌, ◌-
 ghost use Rattle.std.specs.Io.KnownBytes.{Keeps};
 ghost use Rattle.tsn_net.specs.File.{States};
 ghost use Rattle.tsn_cert.specs.declared.plan.Plan.{Plan};
-ghost use Rattle.tsn_check.specs.Faults.{IsPlanRight, IsClaimFault, span_in};
+ghost use Rattle.tsn_check.specs.Plans.{IsPlanRight, span_in};
+ghost use Rattle.tsn_check.specs.Faults.{IsClaimFault};
 ghost use Rattle.tsn_worker.specs.declared.proof.Proof.TheVariants.{Proved, Undercut};
 ghost use Rattle.tsn_cli.specs.Run.{BreaksOff, Ends, EndsEarly, reading_of, writing_of};
 ghost use Rattle.tsn_cli.specs.ProofOutput.{Reaches, line_after, shown};
@@ -25,19 +26,19 @@ use tsn_device::device::{ReadFault, Sink, Source, read_all};
 use tsn_model::NoMemory;
 use tsn_net::{Problem, read_problem};
 use tsn_timing::Timing;
-use tsn_worker::{Gate, Proof, prove};
+use tsn_worker::{Proof, Supervisor, prove};
 
 /// Reads a network file and a plan file, the first judged before the second is read, and seeks a valid schedule that undercuts the
 /// plan, by at most so many conflicts. Where there is none it writes a certificate of format 3, an argument of at most so many
 /// steps, that `check` accepts; where one is found it writes that; and then a line on what was found, or on what is refused. The
-/// line tells the steps of the argument, or else the conflicts. Where the limit is met it writes a line alone. The gate hears of the
+/// line tells the steps of the argument, or else the conflicts. Where the limit is met it writes a line alone. The supervisor hears of the
 /// conflicts. The answer is the status.
-pub fn prove_run<N: Source, P: Source, G: Gate, C: Sink, B: Sink, W: Sink>(
+pub fn prove_run<N: Source, P: Source, S: Supervisor, C: Sink, B: Sink, W: Sink>(
     alloc: Global,
     network: &mut N,
     plan: &mut P,
     limit: usize,
-    gate: &G,
+    supervisor: &S,
     cert: &mut C,
     better: &mut B,
     sink: &mut W,
@@ -78,17 +79,17 @@ pub fn prove_run<N: Source, P: Source, G: Gate, C: Sink, B: Sink, W: Sink>(
         cert,
         better,
         sink,
-        answer_of(alloc, network, plan, limit, gate),
+        answer_of(alloc, network, plan, limit, supervisor),
     )
 }
 
 /// What the run prints.
-fn answer_of<N: Source, P: Source, G: Gate>(
+fn answer_of<N: Source, P: Source, S: Supervisor>(
     alloc: Global,
     network: &mut N,
     plan: &mut P,
     limit: usize,
-    gate: &G,
+    supervisor: &S,
 ) -> Result<ProofOutput, ReadFault>
     requires network_reads { N.failed network.old < 2 ^ 64 - 1 }
     requires plan_reads { P.failed plan.old < 2 ^ 64 - 1 }
@@ -101,16 +102,16 @@ fn answer_of<N: Source, P: Source, G: Gate>(
         × (P.failed plan.new ≡ P.failed plan.old) }
 {
     let file = read_all(alloc, network, MAX_FILE)?;
-    answer_to_network(alloc, &file, plan, limit, gate)
+    answer_to_network(alloc, &file, plan, limit, supervisor)
 }
 
 /// What the run prints to a network file, and to what it reads after that.
-fn answer_to_network<P: Source, G: Gate>(
+fn answer_to_network<P: Source, S: Supervisor>(
     alloc: Global,
     file: &[u8],
     plan: &mut P,
     limit: usize,
-    gate: &G,
+    supervisor: &S,
 ) -> Result<ProofOutput, ReadFault>
     requires plan_reads { P.failed plan.old < 2 ^ 64 - 1 }
     ensures comes { Reaches (ProveAnswers limit) (file.now ∷ [])
@@ -120,7 +121,7 @@ fn answer_to_network<P: Source, G: Gate>(
 {
     match read_problem(alloc, file) {
         Ok(problem) => {
-            let answer = answer_on(alloc, &problem, plan, limit, gate);
+            let answer = answer_on(alloc, &problem, plan, limit, supervisor);
             drop(problem);
             answer
         }
@@ -129,12 +130,12 @@ fn answer_to_network<P: Source, G: Gate>(
 }
 
 /// What the run prints on a network, once its file is read.
-fn answer_on<P: Source, G: Gate>(
+fn answer_on<P: Source, S: Supervisor>(
     alloc: Global,
     problem: &Problem,
     plan: &mut P,
     limit: usize,
-    gate: &G,
+    supervisor: &S,
 ) -> Result<ProofOutput, ReadFault>
     requires plan_reads { P.failed plan.old < 2 ^ 64 - 1 }
     ensures comes { (network : List ℕ) → States network problem.now → Reaches (ProveAnswers limit) (network ∷ [])
@@ -143,22 +144,22 @@ fn answer_on<P: Source, G: Gate>(
     ensures kept { (result ≡ Err ReadFault.Broken → ⊥) → P.failed plan.new ≡ P.failed plan.old }
 {
     let file = read_all(alloc, plan, MAX_FILE)?;
-    Ok(answer_to_plan(alloc, problem, &file, limit, gate)?)
+    Ok(answer_to_plan(alloc, problem, &file, limit, supervisor)?)
 }
 
 /// What the run prints to a plan file.
-fn answer_to_plan<G: Gate>(
+fn answer_to_plan<S: Supervisor>(
     alloc: Global,
     problem: &Problem,
     file: &[u8],
     limit: usize,
-    gate: &G,
+    supervisor: &S,
 ) -> Result<ProofOutput, NoMemory>
     ensures { IfOk result (λ output. ProvesPlan limit problem.now.network file.now (shown (Ok output))) }
 {
     match plan_from_json(alloc, file) {
         Ok(plan) => {
-            let output = judgement(alloc, problem, &plan, limit, gate);
+            let output = judgement(alloc, problem, &plan, limit, supervisor);
             drop(plan);
             output
         }
@@ -167,12 +168,12 @@ fn answer_to_plan<G: Gate>(
 }
 
 /// What is printed of a plan.
-fn judgement<G: Gate>(
+fn judgement<S: Supervisor>(
     alloc: Global,
     problem: &Problem,
     plan: &Plan,
     limit: usize,
-    gate: &G,
+    supervisor: &S,
 ) -> Result<ProofOutput, NoMemory>
     ensures { IfOk result (λ output. FindsOf limit problem.now.network plan.now (shown (Ok output))
         ⊎ RejectsClaim problem.now.network plan.now (shown (Ok output))) }
@@ -181,7 +182,7 @@ fn judgement<G: Gate>(
     let judged = judge_claim(alloc, &timing, plan);
     drop(timing);
     match judged {
-        Ok(()) => output_for(alloc, plan, prove(alloc, problem, plan, limit, gate)?),
+        Ok(()) => output_for(alloc, plan, prove(alloc, problem, plan, limit, supervisor)?),
         Err(fault) => Ok(alone(alloc, rejection(alloc, fault)?)),
     }
 }

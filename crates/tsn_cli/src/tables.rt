@@ -22,7 +22,7 @@ use crate::table::{GatesOptions, ReplayOptions, Table};
 use crate::valid::refusal;
 use std::alloc::Global;
 use tsn_cert::{Plan, plan_from_json};
-use tsn_chart::{View, chart_of};
+use tsn_chart::{View, marked_chart};
 use tsn_check::{CheckFault, check_plan};
 use tsn_device::device::{ReadFault, Sink, Source, read_all};
 use tsn_gate::{GateList, gate_lists, lists_by, to_taprio_within};
@@ -304,7 +304,7 @@ fn table_of(
     match table {
         Table::Gates(options) => lists(alloc, problem, valid, options),
         Table::Replay(options) => replay_table(alloc, problem, valid, options),
-        Table::Chart(view) => picture(alloc, problem, valid, view),
+        Table::Chart(view) => picture(alloc, problem, valid, view, &[]),
         Table::Streams(format) => shares_table(alloc, problem, valid, format),
     }
 }
@@ -412,13 +412,44 @@ fn gate_lines(alloc: Global, problem: &Problem, lists: &[GateList]) -> Result<St
     Ok(text)
 }
 
-/// The picture of a valid schedule.
-fn picture(alloc: Global, problem: &Problem, valid: &Valid, view: View) -> Result<Answer, NoMemory>
+/// The picture of a plan in which some frames are marked, each by its stream and its link; a plan that isn't a valid schedule is
+/// rejected.
+pub(crate) fn picture_of(
+    alloc: Global,
+    problem: &Problem,
+    plan: &Plan,
+    view: View,
+    marked: &[(usize, usize)],
+) -> Result<Answer, NoMemory>
+    ensures { IfOk result (λ a. ShowsPlan (Table.Chart view) problem.now plan.now (output_of (Ok a))
+        ⊎ RejectsPlan problem.now.network plan.now (output_of (Ok a))) }
+{
+    let timing = Timing::of(alloc, problem)?;
+    let checked = check_plan(alloc, &timing, plan);
+    drop(timing);
+    match checked {
+        Ok(valid) => {
+            let answer = picture(alloc, problem, &valid, view, marked);
+            drop(valid);
+            answer
+        }
+        Err(fault) => rejection(alloc, fault),
+    }
+}
+
+/// The picture of a valid schedule, in which some frames may be marked.
+fn picture(
+    alloc: Global,
+    problem: &Problem,
+    valid: &Valid,
+    view: View,
+    marked: &[(usize, usize)],
+) -> Result<Answer, NoMemory>
     requires valid { IsValid problem.now.network valid.now }
     ensures { IfOk result (λ a. ShowsPicture (output_of (Ok a))) }
 {
     let lists = gate_lists(alloc, problem, valid)?;
-    let text = chart_of(alloc, problem, valid, &lists, view)?;
+    let text = marked_chart(alloc, problem, valid, &lists, view, marked)?;
     Ok(Answer { status: DONE, text })
 }
 

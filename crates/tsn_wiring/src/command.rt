@@ -1,6 +1,7 @@
 //! The commands, over what they are given.
 
 use crate::devices::Given;
+use crate::explained::explain;
 use crate::judged::{check, valid};
 use crate::planning::{plan, prove};
 use crate::tables::{chart, gates, replay, streams};
@@ -25,6 +26,7 @@ pub fn run<'a, T: Threads + Wait + Sync, C: Clock + Eprint + Sync, G: Given<'a>>
         Words::Plan(words) => plan(rt, console, alloc, given, words),
         Words::Check(words) => check(alloc, given, words),
         Words::Prove(words) => prove(console, alloc, given, words),
+        Words::Explain(words) => explain(alloc, given, words),
         Words::Gates(words) => gates(alloc, given, words),
         Words::Replay(words) => replay(alloc, given, words),
         Words::Chart(words) => chart(alloc, given, words),

@@ -3,6 +3,7 @@
 
 mod command;
 pub mod devices;
+pub mod explained;
 mod files;
 mod json;
 pub mod judged;

@@ -23,7 +23,7 @@ use tsn_cli::{STOPPED, judge_run, plan_run, prove_run};
 use tsn_device::Failure;
 use tsn_progress::{Heard, Progress};
 use tsn_words::{PlanWords, ProveWords};
-use tsn_worker::Gate;
+use tsn_worker::Supervisor;
 
 /// What a plan and its certificate are written to.
 #[derive(Drop)]
@@ -199,14 +199,14 @@ fn plan_told<'a, T: Threads + Wait + Sync, C: Clock + Eprint + Sync, G: Given<'a
     ended
 }
 
-/// Plans the network of the words to their files at a gate, as the words ask for it, and writes the line to a sink.
-pub fn plan_over<'a, T: Threads + Wait + Sync, A: Gate + Sync, G: Given<'a>, W: Sink>(
+/// Plans the network of the words to their files at a supervisor, as the words ask for it, and writes the line to a sink.
+pub fn plan_over<'a, T: Threads + Wait + Sync, A: Supervisor + Sync, G: Given<'a>, W: Sink>(
     rt: &T,
     alloc: Global,
     given: &G,
     words: PlanWords<'a>,
     files: PlanFiles<G::File>,
-    gate: &A,
+    supervisor: &A,
     sink: &mut W,
 ) -> PlanRun<G::Source, G::File>
     requires plan { G.makes_plan given.now (option_map (λ path. path.now) words.plan) files.plan }
@@ -231,7 +231,7 @@ pub fn plan_over<'a, T: Threads + Wait + Sync, A: Gate + Sync, G: Given<'a>, W: 
         alloc,
         &mut network,
         effort,
-        gate,
+        supervisor,
         &mut plan,
         &mut cert,
         sink,
@@ -349,13 +349,13 @@ fn prove_to<'a, C: Clock + Eprint, G: Given<'a>>(
     status
 }
 
-/// Proves the plan of the words for their network at a gate, to their files, and writes the line to a sink.
-pub fn prove_over<'a, A: Gate, G: Given<'a>, W: Sink>(
+/// Proves the plan of the words for their network at a supervisor, to their files, and writes the line to a sink.
+pub fn prove_over<'a, A: Supervisor, G: Given<'a>, W: Sink>(
     alloc: Global,
     given: &G,
     words: ProveWords<'a>,
     files: ProofFiles<G::File>,
-    gate: &A,
+    supervisor: &A,
     sink: &mut W,
 ) -> ProofRun<G::Source, G::File>
     requires better { G.makes_plan given.now (option_map (λ path. path.now) words.plan) files.better }
@@ -383,7 +383,7 @@ pub fn prove_over<'a, A: Gate, G: Given<'a>, W: Sink>(
         &mut network,
         &mut plan,
         words.steps,
-        gate,
+        supervisor,
         &mut cert,
         &mut better,
         sink,

@@ -6,6 +6,7 @@ ghost use Rattle.tsn_wiring.specs.Options.{gates_options, replay_options, shares
 ghost use Rattle.tsn_wiring.specs.Runs.{WithSome, Runs};
 
 use crate::devices::Given;
+use crate::explained::marked_chart;
 use crate::options::{gates_options, replay_options, shares_format, view_of};
 use crate::reason::{plan_line, source_line, untaken};
 use crate::told::{Ended, end_at, tell_all};
@@ -41,8 +42,11 @@ pub fn replay<'a, G: Given<'a>>(alloc: Global, given: &mut G, words: ReplayWords
     end_shown(alloc, given, shown, output)
 }
 
-/// Draws a plan; the network `-` is standard input.
+/// Draws a plan, with marks where the words name a certificate; the network `-` is standard input.
 pub fn chart<'a, G: Given<'a>>(alloc: Global, given: &mut G, words: ChartWords<'a>) -> u8 {
+    if let Some(cert) = words.cert {
+        return marked_chart(alloc, given, words, cert);
+    }
     let mut output = given.output();
     let shown = chart_over(alloc, given, words, &mut output);
     end_shown(alloc, given, shown, output)
@@ -130,7 +134,7 @@ pub fn replay_over<'a, G: Given<'a>, W: Sink>(
     }
 }
 
-/// Draws the plan of the words on their network to a sink.
+/// Draws the plan of the words on their network to a sink, without marks.
 pub fn chart_over<'a, G: Given<'a>, W: Sink>(
     alloc: Global,
     given: &G,

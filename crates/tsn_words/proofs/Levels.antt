@@ -156,6 +156,7 @@ valid_found rows network offsets = record {
   plan = λ e. differ (codes "valid") (codes "plan") refl e;
   check = λ e. differ (codes "valid") (codes "check") refl e;
   prove = λ e. differ (codes "valid") (codes "prove") refl e;
+  explain = λ e. differ (codes "valid") (codes "explain") refl e;
   gates = λ e. differ (codes "valid") (codes "gates") refl e;
   replay = λ e. differ (codes "valid") (codes "replay") refl e;
   chart = λ e. differ (codes "valid") (codes "chart") refl e;
@@ -169,6 +170,7 @@ plan_found rows network workers steps = record {
   plan = λ _. (network, workers, steps);
   check = λ e. differ (codes "plan") (codes "check") refl e;
   prove = λ e. differ (codes "plan") (codes "prove") refl e;
+  explain = λ e. differ (codes "plan") (codes "explain") refl e;
   gates = λ e. differ (codes "plan") (codes "gates") refl e;
   replay = λ e. differ (codes "plan") (codes "replay") refl e;
   chart = λ e. differ (codes "plan") (codes "chart") refl e;
@@ -182,6 +184,7 @@ check_found rows network plan cert = record {
   plan = λ e. differ (codes "check") (codes "plan") refl e;
   check = λ _. (network, plan, cert);
   prove = λ e. differ (codes "check") (codes "prove") refl e;
+  explain = λ e. differ (codes "check") (codes "explain") refl e;
   gates = λ e. differ (codes "check") (codes "gates") refl e;
   replay = λ e. differ (codes "check") (codes "replay") refl e;
   chart = λ e. differ (codes "check") (codes "chart") refl e;
@@ -195,11 +198,27 @@ prove_found rows network plan steps = record {
   plan = λ e. differ (codes "prove") (codes "plan") refl e;
   check = λ e. differ (codes "prove") (codes "check") refl e;
   prove = λ _. (network, plan, steps);
+  explain = λ e. differ (codes "prove") (codes "explain") refl e;
   gates = λ e. differ (codes "prove") (codes "gates") refl e;
   replay = λ e. differ (codes "prove") (codes "replay") refl e;
   chart = λ e. differ (codes "prove") (codes "chart") refl e;
   streams = λ e. differ (codes "prove") (codes "streams") refl e;
   known = inr (inr (inr (inl refl)));
+}
+
+explain_found : (rows : List Row) → IsGiven (codes "NET") rows → IsGiven (codes "PLAN") rows → IsGiven (codes "CERT") rows
+    → HasCommand (codes "explain") rows
+explain_found rows network plan cert = record {
+  valid = λ e. differ (codes "explain") (codes "valid") refl e;
+  plan = λ e. differ (codes "explain") (codes "plan") refl e;
+  check = λ e. differ (codes "explain") (codes "check") refl e;
+  prove = λ e. differ (codes "explain") (codes "prove") refl e;
+  explain = λ _. (network, plan, cert);
+  gates = λ e. differ (codes "explain") (codes "gates") refl e;
+  replay = λ e. differ (codes "explain") (codes "replay") refl e;
+  chart = λ e. differ (codes "explain") (codes "chart") refl e;
+  streams = λ e. differ (codes "explain") (codes "streams") refl e;
+  known = inr (inr (inr (inr (inl refl))));
 }
 
 gates_found : (rows : List Row) → IsGiven (codes "NET") rows → IsGiven (codes "PLAN") rows → IsTime (codes "merge") rows → IsWithin (codes "most") 1000000 rows → IsTime (codes "least") rows
@@ -209,11 +228,12 @@ gates_found rows network plan merge most least = record {
   plan = λ e. differ (codes "gates") (codes "plan") refl e;
   check = λ e. differ (codes "gates") (codes "check") refl e;
   prove = λ e. differ (codes "gates") (codes "prove") refl e;
+  explain = λ e. differ (codes "gates") (codes "explain") refl e;
   gates = λ _. (network, plan, merge, most, least);
   replay = λ e. differ (codes "gates") (codes "replay") refl e;
   chart = λ e. differ (codes "gates") (codes "chart") refl e;
   streams = λ e. differ (codes "gates") (codes "streams") refl e;
-  known = inr (inr (inr (inr (inl refl))));
+  known = inr (inr (inr (inr (inr (inl refl)))));
 }
 
 replay_found : (rows : List Row) → IsGiven (codes "NET") rows → IsGiven (codes "PLAN") rows → IsWithin (codes "cycles") 16 rows → IsTime (codes "merge") rows → HasCommand (codes "replay") rows
@@ -222,11 +242,12 @@ replay_found rows network plan cycles merge = record {
   plan = λ e. differ (codes "replay") (codes "plan") refl e;
   check = λ e. differ (codes "replay") (codes "check") refl e;
   prove = λ e. differ (codes "replay") (codes "prove") refl e;
+  explain = λ e. differ (codes "replay") (codes "explain") refl e;
   gates = λ e. differ (codes "replay") (codes "gates") refl e;
   replay = λ _. (network, plan, cycles, merge);
   chart = λ e. differ (codes "replay") (codes "chart") refl e;
   streams = λ e. differ (codes "replay") (codes "streams") refl e;
-  known = inr (inr (inr (inr (inr (inl refl)))));
+  known = inr (inr (inr (inr (inr (inr (inl refl))))));
 }
 
 chart_found : (rows : List Row) → IsGiven (codes "NET") rows → IsGiven (codes "PLAN") rows → IsWithin (codes "until") 1000000000 rows → IsLink rows → HasCommand (codes "chart") rows
@@ -235,11 +256,12 @@ chart_found rows network plan until link = record {
   plan = λ e. differ (codes "chart") (codes "plan") refl e;
   check = λ e. differ (codes "chart") (codes "check") refl e;
   prove = λ e. differ (codes "chart") (codes "prove") refl e;
+  explain = λ e. differ (codes "chart") (codes "explain") refl e;
   gates = λ e. differ (codes "chart") (codes "gates") refl e;
   replay = λ e. differ (codes "chart") (codes "replay") refl e;
   chart = λ _. (network, plan, until, link);
   streams = λ e. differ (codes "chart") (codes "streams") refl e;
-  known = inr (inr (inr (inr (inr (inr (inl refl))))));
+  known = inr (inr (inr (inr (inr (inr (inr (inl refl)))))));
 }
 
 streams_found : (rows : List Row) → IsGiven (codes "NET") rows → IsGiven (codes "PLAN") rows → HasCommand (codes "streams") rows
@@ -248,11 +270,12 @@ streams_found rows network plan = record {
   plan = λ e. differ (codes "streams") (codes "plan") refl e;
   check = λ e. differ (codes "streams") (codes "check") refl e;
   prove = λ e. differ (codes "streams") (codes "prove") refl e;
+  explain = λ e. differ (codes "streams") (codes "explain") refl e;
   gates = λ e. differ (codes "streams") (codes "gates") refl e;
   replay = λ e. differ (codes "streams") (codes "replay") refl e;
   chart = λ e. differ (codes "streams") (codes "chart") refl e;
   streams = λ _. (network, plan);
-  known = inr (inr (inr (inr (inr (inr (inr refl))))));
+  known = inr (inr (inr (inr (inr (inr (inr (inr refl)))))));
 }
 
 -- the command as it is built below the program
@@ -318,6 +341,19 @@ prove_known p answers no_help e =
     (apart, (apart, (λ _. fit_numbers _ _ _ refl (inl refl) refl refl, (apart, (apart, (apart, (apart, tt)))))))) in
     prove_found rows network plan steps
 
+explain_known : Known (leaf grammar.explain.top)
+explain_known p answers no_help e =
+    let s = leaf grammar.explain.top in
+    let rows = rows_after s.rules [] p.1 in
+    let wanted = required s p.1 refl e in
+    let network : IsGiven (codes "NET") rows = first_given (codes "NET") Any rows
+    (rows_good s [] p.1 false [] e (codes "NET") Any (λ _. fit_file _ refl refl refl, (apart, (apart, (apart, tt))))) wanted.0 in
+    let plan : IsGiven (codes "PLAN") rows = first_given (codes "PLAN") Any rows
+    (rows_good s [] p.1 false [] e (codes "PLAN") Any (apart, (λ _. fit_file _ refl refl refl, (apart, (apart, tt))))) wanted.1.0 in
+    let cert : IsGiven (codes "CERT") rows = first_given (codes "CERT") Any rows
+    (rows_good s [] p.1 false [] e (codes "CERT") Any (apart, (apart, (λ _. fit_file _ refl refl refl, (apart, tt))))) wanted.1.1.0 in
+    explain_found rows network plan cert
+
 gates_known : Known (leaf grammar.gates.top)
 gates_known p answers no_help e =
     let s = leaf grammar.gates.top in
@@ -361,15 +397,15 @@ chart_known p answers no_help e =
     let rows = rows_after s.rules [] p.1 in
     let wanted = required s p.1 refl e in
     let network : IsGiven (codes "NET") rows = first_given (codes "NET") Any rows
-    (rows_good s [] p.1 false [] e (codes "NET") Any (λ _. fit_file _ refl refl refl, (apart, (apart, (apart, (apart, (apart, tt))))))) wanted.0 in
+    (rows_good s [] p.1 false [] e (codes "NET") Any (λ _. fit_file _ refl refl refl, (apart, (apart, (apart, (apart, (apart, (apart, tt)))))))) wanted.0 in
     let plan : IsGiven (codes "PLAN") rows = first_given (codes "PLAN") Any rows
-    (rows_good s [] p.1 false [] e (codes "PLAN") Any (apart, (λ _. fit_file _ refl refl refl, (apart, (apart, (apart, (apart, tt))))))) wanted.1.0 in
+    (rows_good s [] p.1 false [] e (codes "PLAN") Any (apart, (λ _. fit_file _ refl refl refl, (apart, (apart, (apart, (apart, (apart, tt)))))))) wanted.1.0 in
     let until : IsWithin (codes "until") 1000000000 rows = first_fits (codes "until") _ rows
     (rows_good s [] p.1 false [] e (codes "until") (IsUnsignedIn 1 1000000000)
-    (apart, (apart, (λ _. fit_numbers _ _ _ refl (inl refl) refl refl, (apart, (apart, (apart, tt))))))) in
+    (apart, (apart, (λ _. fit_numbers _ _ _ refl (inl refl) refl refl, (apart, (apart, (apart, (apart, tt)))))))) in
     let link : IsLink rows = first_fits (codes "link") _ rows
     (rows_good s [] p.1 false [] e (codes "link") (IsUnsignedIn 0 1023)
-    (apart, (apart, (apart, (apart, (λ _. fit_numbers _ _ _ refl (inl refl) refl refl, (apart, tt))))))) in
+    (apart, (apart, (apart, (apart, (λ _. fit_numbers _ _ _ refl (inl refl) refl refl, (apart, (apart, tt)))))))) in
     chart_found rows network plan until link
 
 streams_known : Known (leaf grammar.streams.top)
@@ -393,7 +429,25 @@ help_known p answers no_help e =
     absurd (true≢false (subst (λ t. bytes_eq t (codes "help") ≡ false) named no_help))
 
 each_known : Each Known (built grammar.tsn).subs
-each_known = (valid_known, (plan_known, (check_known, (prove_known, (gates_known, (replay_known, (chart_known, (streams_known, (help_known, tt)))))))))
+each_known = (
+  valid_known,
+  (
+    plan_known,
+    (
+      check_known,
+      (
+        prove_known,
+        (
+          explain_known,
+          (
+            gates_known,
+            (replay_known, (chart_known, (streams_known, (help_known, tt)))),
+          ),
+        ),
+      ),
+    ),
+  ),
+)
 
 -- ---- the program
 

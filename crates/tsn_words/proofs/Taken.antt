@@ -277,7 +277,28 @@ entered_taken a (Some p) free e = go (find (λ s. answers_to p.0 (label_of s)) a
     go (Some s) found e = level_taken s [] p.1 false [] (found_one IsFree (λ s. answers_to p.0 (label_of s)) a.subs s free found).0 e
 
 each_free : Each IsFree (built grammar.tsn).subs
-each_free = ((refl, refl), ((refl, refl), ((refl, refl), ((refl, refl), ((refl, refl), ((refl, refl), ((refl, refl), ((refl, refl), ((refl, refl), tt)))))))))
+each_free = (
+  (refl, refl),
+  (
+    (refl, refl),
+    (
+      (refl, refl),
+      (
+        (refl, refl),
+        (
+          (refl, refl),
+          (
+            (refl, refl),
+            (
+              (refl, refl),
+              ((refl, refl), ((refl, refl), ((refl, refl), tt))),
+            ),
+          ),
+        ),
+      ),
+    ),
+  ),
+)
 
 -- words without a fault are taken
 pub taken : (words : List Text) → fault_of grammar.tsn words ≡ [] → takes grammar.tsn words ≡ true

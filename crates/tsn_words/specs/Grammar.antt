@@ -1,5 +1,5 @@
 -- What the words of the command line ask for, by the grammar that `clap` reads them with.
---     tsn, valid, plan, check, prove, gates, replay, chart, streams    the commands
+--     tsn, valid, plan, check, prove, explain, gates, replay, chart, streams    the commands
 --     IsNumber, number_of, offsets_in      numbers
 --     gates_format, replay_format, streams_format, plan_search, has_format      formats and searches
 --     AsksFor, takes_words, IsRefused      what the words ask for, and whether they are refused
@@ -12,11 +12,12 @@ use Rattle.clap.specs.declared.builder.ArgAction.TheVariants.{Set, Append, SetTr
 use Rattle.clap.specs.declared.builder.value_parser.ValueParser.TheVariants.{Unsigned}
 use Rattle.tsn_words.specs.declared.words.TheConstants.{MAX_WORKERS}
 use Rattle.tsn_words.specs.declared.words.Words.{Words}
-use Rattle.tsn_words.specs.declared.words.Words.TheVariants.{Valid, Plan, Check, Prove, Gates, Replay, Chart, Streams}
+use Rattle.tsn_words.specs.declared.words.Words.TheVariants.{Valid, Plan, Check, Prove, Explain, Gates, Replay, Chart, Streams}
 use Rattle.tsn_words.specs.declared.words.ValidWords.{ValidWords}
 use Rattle.tsn_words.specs.declared.words.PlanWords.{PlanWords}
 use Rattle.tsn_words.specs.declared.words.CheckWords.{CheckWords}
 use Rattle.tsn_words.specs.declared.words.ProveWords.{ProveWords}
+use Rattle.tsn_words.specs.declared.words.ExplainWords.{ExplainWords}
 use Rattle.tsn_words.specs.declared.words.GatesWords.{GatesWords}
 use Rattle.tsn_words.specs.declared.words.ReplayWords.{ReplayWords}
 use Rattle.tsn_words.specs.declared.words.ChartWords.{ChartWords}
@@ -88,6 +89,10 @@ prove =
     (word_option (codes "cert")))
     (flag (codes "progress"))
 
+-- explain NET PLAN CERT
+abbrev pub explain : App
+explain = with_rule (with_rule (with_rule (new_app (codes "explain")) (file (codes "NET"))) (file (codes "PLAN"))) (file (codes "CERT"))
+
 -- gates NET PLAN [--format FORMAT] [--merge NS] [--most N] [--least NS]
 abbrev pub gates : App
 gates =
@@ -105,11 +110,11 @@ replay =
 abbrev pub link_option : Rule
 link_option = record (new_rule (codes "link")) { long = Some (codes "link"); value_names = 1; action = Some Set; parser = Some (Unsigned 0 1023) }
 
--- chart NET PLAN [--until NS] [--all] [--link N]
+-- chart NET PLAN [--until NS] [--all] [--link N] [--cert FILE]
 abbrev pub chart : App
 chart =
-    with_rule (with_rule (with_rule (with_rule (with_rule (new_app (codes "chart")) (file (codes "NET"))) (file (codes "PLAN"))) (number_option (codes "until") 1000000000)) (flag (codes "all")))
-    link_option
+    with_rule (with_rule (with_rule (with_rule (with_rule (with_rule (new_app (codes "chart")) (file (codes "NET"))) (file (codes "PLAN"))) (number_option (codes "until") 1000000000)) (flag (codes "all")))
+    link_option) (word_option (codes "cert"))
 
 -- streams NET PLAN [--format FORMAT]
 abbrev pub streams : App
@@ -121,8 +126,8 @@ alone = record { top = record (new_app (codes "tsn")).top { has_version = true; 
 
 abbrev pub tsn : App
 tsn =
-    with_subcommand (with_subcommand (with_subcommand (with_subcommand (with_subcommand (with_subcommand (with_subcommand (with_subcommand alone valid.top) plan.top) check.top) prove.top) gates.top) replay.top)
-    chart.top) streams.top
+    with_subcommand (with_subcommand (with_subcommand (with_subcommand (with_subcommand (with_subcommand (with_subcommand (with_subcommand (with_subcommand alone valid.top) plan.top) check.top) prove.top)
+    explain.top) gates.top) replay.top) chart.top) streams.top
 
 -- a word that is a number: digits, where a plus may stand first
 abbrev pub IsNumber : Text → Type 0
@@ -201,6 +206,11 @@ IsProveOf rows asked =
     × (first_of (codes "plan") rows ≡ option_map (λ word. word.now) asked.plan) × (first_of (codes "cert") rows ≡ option_map (λ word. word.now) asked.cert)
     × IsFlag (one_of (codes "progress") rows) asked.progress
 
+-- the files of `explain`
+abbrev pub IsExplainOf : List Row → ExplainWords → Type 0
+IsExplainOf rows asked =
+    (first_of (codes "NET") rows ≡ Some asked.network.now) × (first_of (codes "PLAN") rows ≡ Some asked.plan.now) × (first_of (codes "CERT") rows ≡ Some asked.cert.now)
+
 -- the files, the format, the times and the number of `gates`
 abbrev pub IsGatesOf : List Row → GatesWords → Type 0
 IsGatesOf rows asked =
@@ -214,12 +224,13 @@ IsReplayOf rows asked =
     × IsNumberOr (first_of (codes "cycles") rows) 1 asked.cycles × IsFlag (one_of (codes "greedy") rows) asked.greedy
     × (replay_format (first_of (codes "format") rows) ≡ Some asked.format) × IsNumberIf (first_of (codes "merge") rows) asked.merge
 
--- the files, the numbers and the flag of `chart`
+-- the files, the numbers, the flag and the certificate of `chart`
 abbrev pub IsChartOf : List Row → ChartWords → Type 0
 IsChartOf rows asked =
     (first_of (codes "NET") rows ≡ Some asked.network.now) × (first_of (codes "PLAN") rows ≡ Some asked.plan.now)
     × IsNumberOr (first_of (codes "until") rows) 1000000000 asked.until × IsFlag (one_of (codes "all") rows) asked.all
     × IsNumberIf (first_of (codes "link") rows) asked.link
+    × (first_of (codes "cert") rows ≡ option_map (λ word. word.now) asked.cert)
 
 -- the files and the format of `streams`
 abbrev pub IsStreamsOf : List Row → StreamsWords → Type 0
@@ -232,6 +243,7 @@ IsAsked found (Valid asked) = (rows : List Row) × (found ≡ Some (codes "valid
 IsAsked found (Plan asked) = (rows : List Row) × (found ≡ Some (codes "plan", rows)) × IsPlanOf rows asked
 IsAsked found (Check asked) = (rows : List Row) × (found ≡ Some (codes "check", rows)) × IsCheckOf rows asked
 IsAsked found (Prove asked) = (rows : List Row) × (found ≡ Some (codes "prove", rows)) × IsProveOf rows asked
+IsAsked found (Explain asked) = (rows : List Row) × (found ≡ Some (codes "explain", rows)) × IsExplainOf rows asked
 IsAsked found (Gates asked) = (rows : List Row) × (found ≡ Some (codes "gates", rows)) × IsGatesOf rows asked
 IsAsked found (Replay asked) = (rows : List Row) × (found ≡ Some (codes "replay", rows)) × IsReplayOf rows asked
 IsAsked found (Chart asked) = (rows : List Row) × (found ≡ Some (codes "chart", rows)) × IsChartOf rows asked
@@ -274,17 +286,18 @@ IsLink rows = IfSome (first_of (codes "link") rows) (IsUnsignedIn 0 1023)
 abbrev pub HasOffsets : List Row → Type 0
 HasOffsets rows = MatchOption (all_of (codes "OFFSET") rows) ⊥ (λ words. (1 ≤ length words) × All (IsUnsignedIn 0 2000000000) words)
 
--- a command that was met is one of the eight, and has what it requires, each value within its range
+-- a command that was met is one of the nine, and has what it requires, each value within its range
 pub record HasCommand (name : Text) (rows : List Row) : Type 0 where
   pub valid : name ≡ codes "valid" → IsGiven (codes "NET") rows × HasOffsets rows
   pub plan : name ≡ codes "plan" → IsGiven (codes "NET") rows × IsWithin (codes "workers") MAX_WORKERS rows × IsWithin (codes "steps") 1000000000 rows
   pub check : name ≡ codes "check" → IsGiven (codes "NET") rows × IsGiven (codes "PLAN") rows × IsGiven (codes "CERT") rows
   pub prove : name ≡ codes "prove" → IsGiven (codes "NET") rows × IsGiven (codes "PLAN") rows × IsWithin (codes "steps") 1000000000 rows
+  pub explain : name ≡ codes "explain" → IsGiven (codes "NET") rows × IsGiven (codes "PLAN") rows × IsGiven (codes "CERT") rows
   pub gates : name ≡ codes "gates" → IsGiven (codes "NET") rows × IsGiven (codes "PLAN") rows × IsTime (codes "merge") rows × IsWithin (codes "most") 1000000 rows × IsTime (codes "least") rows
   pub replay : name ≡ codes "replay" → IsGiven (codes "NET") rows × IsGiven (codes "PLAN") rows × IsWithin (codes "cycles") 16 rows × IsTime (codes "merge") rows
   pub chart : name ≡ codes "chart" → IsGiven (codes "NET") rows × IsGiven (codes "PLAN") rows × IsWithin (codes "until") 1000000000 rows × IsLink rows
   pub streams : name ≡ codes "streams" → IsGiven (codes "NET") rows × IsGiven (codes "PLAN") rows
-  pub known : (name ≡ codes "valid") ⊎ ((name ≡ codes "plan") ⊎ ((name ≡ codes "check") ⊎ ((name ≡ codes "prove") ⊎ ((name ≡ codes "gates") ⊎ ((name ≡ codes "replay") ⊎ ((name ≡ codes "chart") ⊎ (name ≡ codes "streams")))))))
+  pub known : (name ≡ codes "valid") ⊎ ((name ≡ codes "plan") ⊎ ((name ≡ codes "check") ⊎ ((name ≡ codes "prove") ⊎ ((name ≡ codes "explain") ⊎ ((name ≡ codes "gates") ⊎ ((name ≡ codes "replay") ⊎ ((name ≡ codes "chart") ⊎ (name ≡ codes "streams"))))))))
 
 -- what a parse without a fault finds
 abbrev pub IsWhole : Option (Text × List Row) → Type 0

@@ -8,10 +8,10 @@ ghost use Rattle.tsn_words.specs.Grammar.{AsksFor, HasOffsets, IsAsked, IsGiven,
 ghost use Rattle.tsn_words.specs.Grammar as grammar;
 
 use crate::words::{
-    ChartWords, CheckWords, DEFAULT_ENTRIES, DEFAULT_ENTRY, DEFAULT_STEPS, GatesFormat, GatesWords,
-    MAX_CYCLES, MAX_ENTRIES, MAX_LINK, MAX_OFFSET, MAX_STEPS, MAX_TIME, MAX_UNTIL, MAX_WORKERS,
-    PlanWords, ProveWords, ReplayFormat, ReplayWords, Search, StreamsFormat, StreamsWords, VERSION,
-    ValidWords, Words, WordsFault,
+    ChartWords, CheckWords, DEFAULT_ENTRIES, DEFAULT_ENTRY, DEFAULT_STEPS, ExplainWords,
+    GatesFormat, GatesWords, MAX_CYCLES, MAX_ENTRIES, MAX_LINK, MAX_OFFSET, MAX_STEPS, MAX_TIME,
+    MAX_UNTIL, MAX_WORKERS, PlanWords, ProveWords, ReplayFormat, ReplayWords, Search,
+    StreamsFormat, StreamsWords, VERSION, ValidWords, Words, WordsFault,
 };
 use clap::builder::ValueParser;
 use clap::error::ErrorKind;
@@ -58,6 +58,7 @@ fn program<'a>(alloc: Global) -> Result<Command<'a>, AllocError>
     ensures { IfOk result (λ c. app_of c ≡ grammar.tsn) }
 {
     let command = with_command(planner(alloc), prove_command(alloc));
+    let command = with_command(command, explain_command(alloc));
     let command = with_command(command, gates_command(alloc));
     let command = with_command(command, replay_command(alloc));
     let command = with_command(command, chart_command(alloc));
@@ -161,6 +162,23 @@ fn prove_command<'a>(alloc: Global) -> Result<Command<'a>, AllocError>
     )
 }
 
+fn explain_command<'a>(alloc: Global) -> Result<Command<'a>, AllocError>
+    ensures app { IfOk result (λ c. app_of c ≡ grammar.explain) }
+    ensures local { IfOk result (λ c. (fields_of c).has_globals ≡ false) }
+{
+    let arguments = vec![in alloc;
+        network_argument(alloc),
+        plan_argument(alloc),
+        cert_argument(alloc),
+    ]?;
+    new_command(
+        alloc,
+        "explain",
+        "Says in words why no schedule is faster, by a certificate",
+        arguments,
+    )
+}
+
 fn gates_command<'a>(alloc: Global) -> Result<Command<'a>, AllocError>
     ensures app { IfOk result (λ c. app_of c ≡ grammar.gates) }
     ensures local { IfOk result (λ c. (fields_of c).has_globals ≡ false) }
@@ -211,6 +229,7 @@ fn chart_command<'a>(alloc: Global) -> Result<Command<'a>, AllocError>
         until_option(alloc),
         all_flag(alloc),
         link_option(alloc),
+        marks_option(alloc),
     ]?;
     new_command(alloc, "chart", "Draws a plan as an SVG picture", arguments)
 }
@@ -433,6 +452,18 @@ fn cert_option<'a>(alloc: Global) -> Arg<'a>
     )
 }
 
+fn marks_option<'a>(alloc: Global) -> Arg<'a>
+    ensures rule { rule_of result ≡ grammar.word_option (codes "cert") }
+    ensures local { result.global ≡ false }
+{
+    word_option(
+        alloc,
+        "cert",
+        "FILE",
+        "Mark the frames that the certificate in this file is about",
+    )
+}
+
 fn search_option<'a>(alloc: Global) -> Arg<'a>
     ensures rule { rule_of result ≡ grammar.word_option (codes "search") }
     ensures local { result.global ≡ false }
@@ -569,6 +600,7 @@ fn command_of<'a>(alloc: Global, matches: &ArgMatches<'a>) -> Result<Words<'a>, 
         Some(("plan", words)) => plan_words(alloc, words),
         Some(("check", words)) => Ok(check_words(words)),
         Some(("prove", words)) => Ok(prove_words(words)),
+        Some(("explain", words)) => Ok(explain_words(words)),
         Some(("gates", words)) => gates_words(alloc, words),
         Some(("replay", words)) => replay_words(alloc, words),
         Some(("chart", words)) => Ok(chart_words(words)),
@@ -697,6 +729,19 @@ fn prove_words<'a>(words: &ArgMatches<'a>) -> Words<'a>
     })
 }
 
+fn explain_words<'a>(words: &ArgMatches<'a>) -> Words<'a>
+    requires network { IsGiven (codes "NET") (rows_of (found_of words.now)) }
+    requires plan { IsGiven (codes "PLAN") (rows_of (found_of words.now)) }
+    requires cert { IsGiven (codes "CERT") (rows_of (found_of words.now)) }
+    ensures { IsAsked (Some (codes "explain", rows_of (found_of words.now))) result }
+{
+    Words::Explain(ExplainWords {
+        network: text_of(words, "NET"),
+        plan: text_of(words, "PLAN"),
+        cert: text_of(words, "CERT"),
+    })
+}
+
 fn gates_words<'a>(alloc: Global, words: &ArgMatches<'a>) -> Result<Words<'a>, WordsFault>
     requires network { IsGiven (codes "NET") (rows_of (found_of words.now)) }
     requires plan { IsGiven (codes "PLAN") (rows_of (found_of words.now)) }
@@ -803,6 +848,7 @@ fn chart_words<'a>(words: &ArgMatches<'a>) -> Words<'a>
         until: number_or(words.get_str("until"), MAX_UNTIL, MAX_UNTIL),
         all: words.get_flag("all"),
         link: link_of(words.get_str("link")),
+        cert: words.get_str("cert"),
     })
 }
 

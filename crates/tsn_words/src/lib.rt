@@ -6,6 +6,6 @@ pub mod words;
 
 pub use command::words_from;
 pub use words::{
-    ChartWords, CheckWords, GatesFormat, GatesWords, PlanWords, ProveWords, ReplayFormat,
-    ReplayWords, Search, StreamsFormat, StreamsWords, ValidWords, Words, WordsFault,
+    ChartWords, CheckWords, ExplainWords, GatesFormat, GatesWords, PlanWords, ProveWords,
+    ReplayFormat, ReplayWords, Search, StreamsFormat, StreamsWords, ValidWords, Words, WordsFault,
 };

@@ -40,7 +40,7 @@ pub const MAX_LINK: u64 = 1023;
 pub const DEFAULT_STEPS: usize = 1_000_000;
 
 /// The version, and on its second line the toolchain that proved the program, as `rt version` says it.
-pub const VERSION: &str = "1.0.0\nproved with rattle-kit-13f logic dac8208d650f15bf";
+pub const VERSION: &str = "1.0.0\nproved with rattle-kit-13b logic dac8208d650f15bf";
 
 /// `valid NET OFFSET..`: judge some offsets.
 #[derive(Drop)]
@@ -66,6 +66,17 @@ pub struct CheckWords<'a> {
     pub cert: &'a str,
     /// Whether the answer is printed as a line of JSON.
     pub json: bool,
+}
+
+/// `explain NET PLAN CERT`: say why no schedule is faster.
+#[derive(Clone, Copy)]
+pub struct ExplainWords<'a> {
+    /// The network file, or `-` for standard input.
+    pub network: &'a str,
+    /// The plan file.
+    pub plan: &'a str,
+    /// The certificate file.
+    pub cert: &'a str,
 }
 
 /// How gate control lists are printed.
@@ -113,6 +124,8 @@ pub struct ChartWords<'a> {
     pub all: bool,
     /// The number of the link that is shown alone, 0 to `MAX_LINK`, if it is given; it goes before `all`.
     pub link: Option<usize>,
+    /// The certificate file whose frames are marked, if any.
+    pub cert: Option<&'a str>,
     pub ghost some: { 1 ≤ until },
     pub ghost few: { until ≤ 1000000000 },
     pub ghost link_small: { ForSome link (λ number. number ≤ 1023) },
@@ -233,6 +246,7 @@ pub enum Words<'a> {
     Plan(PlanWords<'a>),
     Check(CheckWords<'a>),
     Prove(ProveWords<'a>),
+    Explain(ExplainWords<'a>),
     Gates(GatesWords<'a>),
     Replay(ReplayWords<'a>),
     Chart(ChartWords<'a>),

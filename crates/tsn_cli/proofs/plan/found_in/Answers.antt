@@ -2,7 +2,7 @@ use Rattle.tsn_cli.proofs.PlanLemmas.{told_found}
 use Rattle.tsn_cli.proofs.plan.found_in.Goals as goal
 
 pub output_for-requires : goal.output_for-requires
-output_for-requires g c = (c.in-Ok.problem.network, (c.args.task.effort.limit, c.in_ok-found-in-Ok.ensures))
+output_for-requires g c = (c.in-Ok.problem.network, (c.args.task.effort.limit, c.in_ok-found-in-Ok.ensures.found))
 
 pub returns-in_ok-found-in-Ok-clause-answers : goal.returns-in_ok-found-in-Ok-clause-answers
-returns-in_ok-found-in-Ok-clause-answers g c = told_found _ _ _ _ _ _ c.in-Ok.ensures.problem c.in_ok-found-in-Ok.ensures c.output_for.ensures.tells
+returns-in_ok-found-in-Ok-clause-answers g c = told_found _ _ _ _ _ _ c.in-Ok.ensures.problem c.in_ok-found-in-Ok.ensures.found c.output_for.ensures.tells

@@ -1,5 +1,5 @@
 use Rattle.std.proofs.Common.{rules}
-use Rattle.tsn_cli.proofs.PlanLemmas.{told_argued, told_finished}
+use Rattle.tsn_cli.proofs.PlanLemmas.{told_argued, told_finished, told_stopped}
 use Rattle.tsn_cli.proofs.plan.output_for.Goals as goal
 
 pub returns-in-Finished-clause-tells : goal.returns-in-Finished-clause-tells
@@ -7,3 +7,7 @@ returns-in-Finished-clause-tells c = told_finished _ _ c.in-Finished.book _ (sea
 
 pub returns-in-Argued-clause-tells : goal.returns-in-Argued-clause-tells
 returns-in-Argued-clause-tells c = told_argued _ _ c.in-Argued.plan c.in-Argued.argument _ (search rules) c.argued-output.ensures.tells
+
+pub returns-in-Stopped-clause-tells : goal.returns-in-Stopped-clause-tells
+returns-in-Stopped-clause-tells c =
+    told_stopped _ _ c.in-Stopped.book c.in-Stopped.known c.count.result _ (search rules) c.count.ensures.count c.stopped-output.ensures.output c.stopped-output.ensures.none

@@ -1,6 +1,6 @@
-use Rattle.std.proofs.Common.{ℕ, ◌∙◌, IfSome, codes, Option, refl}
+use Rattle.std.proofs.Common.{ℕ, ◌∙◌, IfSome, sym, codes, Option, refl}
 use Rattle.clap.specs.Words.{IsUnsignedIn, Text, found_of, rows_of}
-use Rattle.clap.proofs.WalkLemmas.{one_text-rows}
+use Rattle.clap.proofs.WalkLemmas.{first_value-rows, one_text-rows}
 use Rattle.tsn_words.specs.Grammar.{IsNumberIf, IsNumberOr}
 use Rattle.tsn_words.specs.declared.words.TheConstants.{MAX_LINK, MAX_UNTIL}
 use Rattle.tsn_words.proofs.Getters.{of_got, of_rows}
@@ -30,5 +30,6 @@ returns c =
         of_rows found (codes "until") _ (P c.number_or.result) c.get_str.ensures c.number_or.ensures.value,
         (λ is. c.get_flag.ensures.value (all ∙ is), λ is. c.get_flag.ensures.other (all ∙ is), λ is. c.get_flag.ensures.none (all ∙ is)),
         of_rows found (codes "link") _ (L c.link_of.result) c.get_str-2.ensures c.link_of.ensures.value,
+        sym (first_value-rows found (codes "cert")) ∙ sym c.get_str-3.ensures,
       ),
     )

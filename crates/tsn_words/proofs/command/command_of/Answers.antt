@@ -103,6 +103,27 @@ returns-in-Some-prove-default-clause-asked c = subst (λ o. IsAsked o c.prove_wo
 pub returns-in-Some-prove-default-clause-known : goal.returns-in-Some-prove-default-clause-known
 returns-in-Some-prove-default-clause-known c = ap has_format (prove c.before)
 
+explain : (c : goal.In-Some-explain-default)
+    → subcommand_rows_of c.args.matches.now ≡ Some (codes "explain", rows_of (found_of c.in-Some-explain-default.words.now))
+explain c =
+    met c.args.matches.now c.in-Some-explain-default.words.now c.in-Some-explain-default.field-0-0.now (codes "explain") (search rules)
+    c.in-Some-explain-default.ensures.name c.in-Some-explain-default.ensures.rows
+
+pub explain_words-requires-clause-network : goal.explain_words-requires-clause-network
+explain_words-requires-clause-network c = ((has c.args.matches.now c.in-Some-explain-default.words.now (codes "explain") c.requires (explain c)).explain refl).0
+
+pub explain_words-requires-clause-plan : goal.explain_words-requires-clause-plan
+explain_words-requires-clause-plan c = ((has c.args.matches.now c.in-Some-explain-default.words.now (codes "explain") c.requires (explain c)).explain refl).1
+
+pub explain_words-requires-clause-cert : goal.explain_words-requires-clause-cert
+explain_words-requires-clause-cert c = ((has c.args.matches.now c.in-Some-explain-default.words.now (codes "explain") c.requires (explain c)).explain refl).2
+
+pub returns-in-Some-explain-default-clause-asked : goal.returns-in-Some-explain-default-clause-asked
+returns-in-Some-explain-default-clause-asked c = subst (λ o. IsAsked o c.explain_words.result) (sym (explain c.before)) c.explain_words.ensures
+
+pub returns-in-Some-explain-default-clause-known : goal.returns-in-Some-explain-default-clause-known
+returns-in-Some-explain-default-clause-known c = ap has_format (explain c.before)
+
 gates : (c : goal.In-Some-gates-default) → subcommand_rows_of c.args.matches.now ≡ Some (codes "gates", rows_of (found_of c.in-Some-gates-default.words.now))
 gates c = met c.args.matches.now c.in-Some-gates-default.words.now c.in-Some-gates-default.field-0-0.now (codes "gates") (search rules) c.in-Some-gates-default.ensures.name c.in-Some-gates-default.ensures.rows
 

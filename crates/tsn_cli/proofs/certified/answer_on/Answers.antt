@@ -1,10 +1,10 @@
 use Rattle.std.proofs.Common.{[], ◌∷◌, Err, ap}
 use Rattle.std.proofs.lemmas.Result.{err_from_is_err_and}
 use Rattle.tsn_cli.specs.Run.{reading_of}
-use Rattle.tsn_cli.specs.Check.{CheckAnswers}
+use Rattle.tsn_cli.specs.Explain.{CertAnswers}
 use Rattle.tsn_cli.proofs.RunLemmas.{ComesTo-next, ComesTo-unread, one_unread, given_too_much}
 use Rattle.tsn_cli.proofs.CheckLemmas.{goes_on_after_network}
-use Rattle.tsn_cli.proofs.check.answer_on.Goals as goal
+use Rattle.tsn_cli.proofs.certified.answer_on.Goals as goal
 
 pub returns-in_err-file-clause-comes : goal.returns-in_err-file-clause-comes
 returns-in_err-file-clause-comes g c network stated =
@@ -12,7 +12,7 @@ returns-in_err-file-clause-comes g c network stated =
     let plan = reading_of (g.P.Source.given c.args.plan.now) (g.P.Source.given c.read_all.new.source) (g.P.Source.is_at_end c.read_all.new.source) in
     let cert = reading_of (g.C.Source.given c.args.cert.now) (g.C.Source.given c.args.cert.now) (g.C.Source.is_at_end c.args.cert.now) in
     rw (p.1, p.2)
-    (ComesTo-unread CheckAnswers (network ∷ []) plan (cert ∷ []) c.in_err-file.field-0.0 (goes_on_after_network network _ stated) (one_unread _ _)
+    (ComesTo-unread (CertAnswers c.args.showing) (network ∷ []) plan (cert ∷ []) c.in_err-file.field-0.0 (goes_on_after_network network _ stated) (one_unread _ _)
     (λ is. given_too_much plan (c.in_err-file.ensures.too_long (ap Err is))))
 
 pub returns-clause-comes : goal.returns-clause-comes
@@ -20,5 +20,5 @@ returns-clause-comes g c network stated =
     let whole = c.in_ok-file.ensures.whole in
     let plan = reading_of (g.P.Source.given c.args.plan.now) (g.P.Source.given c.read_all.new.source) (g.P.Source.is_at_end c.read_all.new.source) in
     let cert = reading_of (g.C.Source.given c.args.cert.now) (g.C.Source.given c.answer_to_plan.new.cert) (g.C.Source.is_at_end c.answer_to_plan.new.cert) in
-    ComesTo-next CheckAnswers (network ∷ []) plan (cert ∷ []) c.answer_to_plan.result c.in_ok-file.file.items
+    ComesTo-next (CertAnswers c.args.showing) (network ∷ []) plan (cert ∷ []) c.answer_to_plan.result c.in_ok-file.file.items
     (record { given = whole.0; ended = whole.1; short = whole.2 }) (rw c.deref.ensures.value at (c.answer_to_plan.ensures.comes network stated))

@@ -3,7 +3,7 @@ use Rattle.std.proofs.lemmas.List.Elements.{All-nil}
 use Rattle.tsn_cli.specs.Run.{IsUnread}
 use Rattle.tsn_cli.proofs.RunLemmas.{Keeps-same}
 use Rattle.tsn_cli.proofs.CheckLemmas.{fault_is}
-use Rattle.tsn_cli.proofs.check.answer_to_plan.Goals as goal
+use Rattle.tsn_cli.proofs.certified.answer_to_plan.Goals as goal
 
 pub returns-in_ok-file_refusal-in-Err-clause-comes :
     goal.returns-in_ok-file_refusal-in-Err-clause-comes

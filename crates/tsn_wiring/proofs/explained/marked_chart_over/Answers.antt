@@ -1,0 +1,35 @@
+use Rattle.std.proofs.Common.{rules, ◌∙◌}
+use Rattle.tsn_wiring.proofs.explained.marked_chart_over.Goals as goal
+
+pub returns : goal.returns
+returns g c = (
+  c.view_of-options.result,
+  (
+    c.view_of-options.ensures,
+    (
+      c.network-network.result,
+      (
+        c.network-network.ensures.opened,
+        (
+          c.plan-plan.result,
+          (
+            c.plan-plan.ensures.opened,
+            (
+              c.cert-file.result,
+              (
+                c.cert-file.ensures.opened,
+                record {
+                  ended = c.marked_chart_run-status.ensures.ended;
+                  unfailing = λ done. search rules;
+                  failed = λ broken. search rules;
+                  read_failed = λ broken. search rules;
+                  write_failed = λ broken. c.marked_chart_run-status.ensures.write_failed (λ same. broken (same ∙ c.requires));
+                },
+              ),
+            ),
+          ),
+        ),
+      ),
+    ),
+  ),
+)
