@@ -13,11 +13,9 @@ program=$root/crates/tsn_calls/out/tsn_calls
 echo ' events  settle/s  ns each  first_open/s  ns each  memory MB'
 for events in 1000 100000 1000000; do
     : >"$work/times"
+    memory=$(python3 "$root/bench/measure.py" "$program" book "$events" "$net" | cut -d ' ' -f 1)
     for _ in 1 2 3 4 5; do
-        python3 -c 'import resource, subprocess, sys
-found = subprocess.run(sys.argv[1:], stdout=subprocess.DEVNULL, stderr=subprocess.PIPE, text=True, check=True)
-print(found.stderr.strip(), resource.getrusage(resource.RUSAGE_CHILDREN).ru_maxrss / 1024)' \
-            "$program" book "$events" "$net" >>"$work/times"
+        printf '%s %s\n' "$("$program" book "$events" "$net" 2>&1 >/dev/null)" "$memory" >>"$work/times"
     done
     awk -v n="$events" '
         NR == 1 || $1 < settle { settle = $1 } NR == 1 || $2 < ask { ask = $2 } NR == 1 || $3 > memory { memory = $3 }

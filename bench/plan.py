@@ -1,5 +1,5 @@
 #!/usr/bin/env python3
-"""Planning on the networks of bench/networks: settled nodes a second, and memory, of `tsn plan` with one worker.
+"""Planning in the order of the file on the networks of bench/networks: settled nodes a second, and memory, with one worker.
 
 plan.py [STEPS]: the limit of settlements is 1,000,000 unless given. Each network is planned three times; the least time
 counts, and the greatest memory. Where valgrind is installed, the instructions of 50,000 settlements on random-40 are told by
@@ -20,14 +20,14 @@ NETWORKS = os.path.join(ROOT, "bench", "networks")
 
 def plan(name, steps):
     """The line of one run, its seconds and its peak bytes."""
-    line, _, taken, memory = run(["plan", os.path.join(NETWORKS, name + ".toml"), "--steps", str(steps)])
+    line, _, taken, memory = run(["plan", os.path.join(NETWORKS, name + ".toml"), "--search", "file", "--steps", str(steps)])
     return line, taken, memory
 
 
 def profile(name, steps):
     with tempfile.TemporaryDirectory() as folder:
         trace = os.path.join(folder, "callgrind.out")
-        words = [PROGRAM, "plan", os.path.join(NETWORKS, name + ".toml"), "--steps", str(steps)]
+        words = [PROGRAM, "plan", os.path.join(NETWORKS, name + ".toml"), "--search", "file", "--steps", str(steps)]
         subprocess.run(["valgrind", "--tool=callgrind", f"--callgrind-out-file={trace}", *words], capture_output=True)
         table = subprocess.run(["callgrind_annotate", trace], check=True, capture_output=True, text=True).stdout
     for line in table.splitlines():

@@ -4,7 +4,7 @@
 real_files.py [PROGRAM..]   the program as each of the two compilers builds it, unless programs are given
 
 Each program runs in a folder of its own: a copy of bench/real-files, with an empty folder `made`, copies of `examples` and of
-bench/networks/suite (as `suite`), and `long.toml`, a network that takes long. Standard input is the two streams' network.
+bench/suite (as `suite`), and `long.toml`, a network that takes long. Standard input is the two streams' network.
 docs/rows.md says how a table is written.
 """
 
@@ -25,7 +25,7 @@ DATA = os.path.join(ROOT, "bench", "real-files")
 TABLE = "real-files.rows"
 INPUT = "two-streams.toml"
 LONG = os.path.join(ROOT, "bench", "networks", "random-40.toml")
-COPIED = {"examples": os.path.join(ROOT, "examples"), "suite": os.path.join(ROOT, "bench", "networks", "suite")}
+COPIED = {"examples": os.path.join(ROOT, "examples"), "suite": os.path.join(ROOT, "bench", "suite")}
 NOBODY = 65534
 
 
@@ -135,10 +135,11 @@ class Session:
         ended, output, _ = self.ended
         if ended != int(status):
             raise Wrong(f"it ends with {ended}")
-        if content.startswith("<..>"):
-            holds = content[4:].removesuffix("<..>") in output
-        elif content.endswith("<..>"):
-            holds = output.startswith(content[: -len("<..>")])
+        part = content.replace("<0a>", "\n")
+        if part.startswith("<..>"):
+            holds = part[4:].removesuffix("<..>") in output
+        elif part.endswith("<..>"):
+            holds = output.startswith(part.removesuffix("<..>"))
         else:
             holds = output == (self.text_of(content) if content else "")
         if not holds:
@@ -232,7 +233,7 @@ def follow_all(program):
 
 def wrong_version(program):
     """Whether `--version` names another toolchain than the README. That another one is here is told alone: then both lines have
-    to be changed once the gate has passed with it."""
+    to be changed once `.ci/run` has passed with it."""
     version = subprocess.run([program, "--version"], capture_output=True, text=True).stdout
     toolchain = version.split("proved with ")[-1].strip()
     if shutil.which("rt") is not None:

@@ -74,6 +74,22 @@ for SHELL_OF in sh dash bash; do
     run DEV_0=eth0 LEAST=672 MOST=3
     is "$status $(wc -l <"$STORED" | tr -d ' ')" "0 1"
 
+    for word in 3x x 5e3 -1 +3 0x10 ' 3' 1234567890123456789; do
+        case_name="$SHELL_OF, MOST=$word"
+        run DEV_0=eth0 MOST="$word" FORCE=1
+        is "$status $(cat "$STORED")" "1 "
+        is "$(cat "$made/told")" "MOST is no number of at most 18 digits: $word"
+
+        case_name="$SHELL_OF, LEAST=$word"
+        run DEV_0=eth0 LEAST="$word"
+        is "$status $(cat "$STORED")" "1 "
+        is "$(cat "$made/told")" "LEAST is no number of at most 18 digits: $word"
+    done
+
+    case_name="$SHELL_OF, numbers of 18 digits"
+    run DEV_0=eth0 MOST=000000000000000003 LEAST=000000000000000672
+    is "$status $(wc -l <"$STORED" | tr -d ' ')" "0 1"
+
     case_name="$SHELL_OF, forced"
     run DEV_0=eth0 DEV_4=eth4 MOST=3 LEAST=673 FORCE=1
     is "$status $(wc -l <"$STORED" | tr -d ' ')" "0 2"

@@ -1,11 +1,11 @@
 #!/usr/bin/env python3
 """`tsn plan` with several workers: that it always ends with one plan, and how much faster it is.
 
-workers.py runs [COUNT]   plans each network of bench/networks/suite COUNT times (200 unless given), with 2, 4, 8 and 16 workers
+workers.py runs [COUNT]   plans each of twelve networks of bench/suite COUNT times (200 unless given), with 2, 4, 8 and 16 workers
                           in turn. Each run has to end within two minutes; where the answer is optimal, the plan file has to
                           have the bytes of every other run's, and each certificate has to be accepted.
 workers.py speed [FILE..] settlements a second in the order of the file with 1, 2 and 4 workers, as ratios to one worker, up to 1,000,000 of them: of
-                          the files given, else of random-40, random-128, bench/networks/large and bench/networks/suite. Runs with
+                          the files given, else of random-40, random-128, and those of bench/suite that the list LARGE and the twelve name. Runs with
                           one worker and with several take turns, five of each, and the least time counts.
 """
 
@@ -17,14 +17,20 @@ import time
 
 from measure import PROGRAM, ROOT, build
 
-SUITE = os.path.join(ROOT, "bench", "networks", "suite")
+SUITE = os.path.join(ROOT, "bench", "suite")
+# Those that a search in the order of the file decides, some after a while; and some that it doesn't decide.
+ENDING = [
+    "er-020-gig-two-any-tight-1", "grid-020-mix-mix-any-loose-1", "indline-020-fe-wild-any-f990-24", "indline-020-gig-eq-hot-loose-1",
+    "line-020-gig-wild-any-loose-1", "ring-010-fe-eq-hot-loose-3", "ring-020-mix-mix-any-fit-7", "rrg-080-gig-eq-any-tight-1",
+    "star-005-gig-mix-hot-loose-1", "star-010-gig-eq-hot-loose-1", "star-020-gig-mix-hot-f990-5", "tree-020-mix-mix-hot-f980-26",
+]
+LARGE = ["grid-040-gig-wild-any-tight-1", "ring-128-gig-mix-any-tight-1", "tree-040-mix-wild-any-loose-1"]
 LARGER = [os.path.join(ROOT, "bench", "networks", name + ".toml") for name in ("random-40", "random-128")]
-LARGE = os.path.join(ROOT, "bench", "networks", "large")
 STEPS = 1_000_000
 
 
-def networks(folder):
-    return [os.path.join(folder, name) for name in sorted(os.listdir(folder)) if name.endswith(".toml")]
+def networks(names):
+    return [os.path.join(SUITE, name + ".toml") for name in names]
 
 
 def tsn(words, limit=120):
@@ -53,7 +59,7 @@ def checked(network, workers, folder):
 def runs(count):
     wrong = 0
     print("network                              runs  settled, least and most        plans  refused")
-    for network in networks(SUITE):
+    for network in networks(ENDING):
         plans, settled, refused = set(), [], 0
         for number in range(count):
             with tempfile.TemporaryDirectory() as folder:
@@ -96,7 +102,7 @@ def main():
     if what == "runs":
         return runs(int(sys.argv[2]) if len(sys.argv) > 2 else 200)
     if what == "speed":
-        return speed(sys.argv[2:] or LARGER + networks(LARGE) + networks(SUITE))
+        return speed(sys.argv[2:] or LARGER + networks(LARGE) + networks(ENDING))
     print(__doc__)
     return 2
 

@@ -1,0 +1,184 @@
+#!/usr/bin/env python3
+"""Checks docs/proved.md against the sources: that each call, clause, definition and file that it names is there, that each public
+function with a contract is named, and that what it quotes stands where its links lead.
+
+Usage: bench/claims.py [--list | --mend]. With --list it prints each public function with its file and clauses; with --mend it writes
+the lines of links anew where their words have moved. It looks at the crates below the program, which is what a user's call goes through. It reads texts and proves nothing: `rt ci` does.
+"""
+
+import glob
+import os
+import re
+import sys
+
+ROOT = os.path.dirname(os.path.dirname(os.path.abspath(__file__)))
+sys.path.insert(0, os.path.join(ROOT, "tools"))
+
+from lanes import below, minutes, uses
+
+PAGE = os.path.join(ROOT, "docs", "proved.md")
+PAGES = [PAGE, os.path.join(ROOT, "README.md")]
+
+
+def read(path):
+    with open(path, encoding="utf-8") as file:
+        return file.read()
+
+
+def is_open(crate, path, name):
+    """Whether a caller of the crate can name it: its module is public, or the item is handed out by the root file."""
+    root = read(os.path.join(ROOT, "crates", crate, "src", "lib.rt"))
+    module = path.removeprefix("src/").removesuffix(".rt").replace("/", "::")
+    if module == "lib" or re.search(rf"^pub mod {module.partition('::')[0]};", root, re.M):
+        return True
+    handed = re.findall(rf"^pub use {module}::(?:\{{([^}}]*)\}}|(\w+));", root, re.M)
+    return name.partition("::")[0] in re.split(r",\s*", ", ".join(a or b for a, b in handed))
+
+
+def functions(crate):
+    """Each public function of a crate that has an `ensures`: its name with its type, its file, and the names of its clauses."""
+    found = []
+    for path in sorted(glob.glob(os.path.join(ROOT, "crates", crate, "src", "**", "*.rt"), recursive=True)):
+        kind, opened, is_trait, name, clauses = "", False, False, None, []
+        for line in read(path).splitlines() + ["fn"]:
+            begun = re.match(r"(?:unsafe )?impl\b(?:<.*?>)?\s+(.*?)\s*(?:\bwhere\b.*)?\{?$", line) or re.match(r"pub trait (\w+)", line)
+            if begun:
+                is_trait = line.startswith("pub trait") or " for " in line
+                kind = re.sub(r"<.*", "", begun[1].split(" for ")[-1]).split("::")[-1].split(":")[0].strip()
+            elif line.startswith("}"):
+                kind = ""
+            if re.match(r"\s*(pub(\(\w+\))? )?(const )?fn\b", line) or begun:
+                inside = os.path.relpath(path, os.path.join(ROOT, "crates", crate))
+                if name and clauses and is_open(crate, inside, name):
+                    found.append((name, inside, clauses))
+                name, clauses = None, []
+                head = re.match(r"\s*(pub )?(?:const )?fn (\w+)", line)
+                if head and (head[1] or is_trait and line.startswith("    ")):
+                    name = f"{kind}::{head[2]}" if kind else head[2]
+            clause = re.match(r"\s+ensures(?:\s+(\w+))?\s*[({*]", line)
+            if clause:
+                clauses.append(clause[1] or "")
+    return found
+
+
+def definitions(crate):
+    """The names that the definitions of a crate give, and the fields of their records."""
+    texts = (read(it) for it in glob.glob(os.path.join(ROOT, "crates", crate, "specs", "**", "*.antt"), recursive=True))
+    return {it for text in texts for it in re.findall(r"^(?:abbrev pub|unfoldable pub|pub record|pub data|pub|  pub) (\w+)", text, re.M)}
+
+
+def sections(text):
+    """The rows of each crate's tables, by the crate's name, each row with its line."""
+    crate, found = None, {}
+    for number, line in enumerate(text.splitlines(), 1):
+        head = re.match(r"#+ (?:`(\w+)`)?", line)
+        if head:
+            crate = head[1]
+        elif crate and line.startswith("| ") and not line.startswith(("| Call |", "| Law |")):
+            found.setdefault(crate, []).append((number, [it.strip() for it in re.split(r"(?<!\\)\|", line.strip("|"))]))
+    return found
+
+
+def calls_in(cell):
+    """The calls of a row: the first of each group has its type, and those behind it have the same."""
+    for group in cell.split(";"):
+        kind = ""
+        for name in re.findall(r"`([^`]+)`", group):
+            kind = name.rpartition("::")[0] or kind
+            yield name if "::" in name or not kind else f"{kind}::{name}"
+
+
+def wrong_in_row(crate, cells, found, words):
+    """What a row names that isn't there; and the calls that it names."""
+    wrong, calls, clauses, known = [], set(), set(), {name: rest for name, *rest in found}
+    for call in calls_in(cells[0]):
+        call = call if call in known else call.rpartition("::")[2] if call.rpartition("::")[2] in known else call
+        calls.add(call)
+        if call not in known:
+            wrong.append(f"no public call {call} with a contract")
+        clauses |= {clause for name, _, names in found if name == call for clause in names}
+    if not calls:
+        clauses = {clause for _, _, names in found for clause in names}
+    for word in re.findall(r"`([^`]+)`", cells[2] if len(cells) > 2 else ""):
+        if word.endswith((".rt", ".antt")):
+            places = [os.path.join("crates", crate, word), os.path.join("crates", word)]
+            if not any(os.path.isfile(os.path.join(ROOT, it)) for it in places):
+                wrong.append(f"no file {word}")
+        elif word not in clauses and word not in words:
+            wrong.append(f"no clause or definition {word}")
+    for path in {it for name, it, _ in found if name in calls}:
+        if len(cells) > 2 and ".rt`" in cells[2] and f"`{path}`" not in cells[2] and len(calls) < 3:
+            wrong.append(f"{path} isn't named")
+    return wrong, calls
+
+
+def wrong_links(path, mend):
+    """Links of a page to a line that hasn't the word, or that lead nowhere; with `mend` the line is looked for and written."""
+    text, wrong = read(path), []
+
+    def looked_at(found):
+        word, target, line = found[1], found[2], found[3]
+        file = os.path.normpath(os.path.join(os.path.dirname(path), target))
+        lines = read(file).splitlines() if os.path.isfile(file) else []
+        begins = re.compile(rf"(?:pub |abbrev |unfoldable |record |data |fn |trait |struct |enum )+{re.escape(word)}\b")
+        at = next((number for number, it in enumerate(lines, 1) if begins.match(it.strip())), 0)
+        if mend and at:
+            return f"[`{word}`]({target}#L{at})"
+        if str(at) != line:
+            wrong.append(f"{os.path.relpath(path, ROOT)}: `{word}` is in line {at} of {target}, and not in {line}")
+        return found[0]
+
+    changed = re.sub(r"\[`([\w:]+)`\]\(([^)#]+)#L(\d+)\)", looked_at, text)
+    if mend and changed != text:
+        with open(path, "w", encoding="utf-8") as file:
+            file.write(changed)
+    for target in re.findall(r"\]\(([^)#:]+)(?:#[^)]*)?\)", text):
+        if not os.path.exists(os.path.join(os.path.dirname(path), target)):
+            wrong.append(f"{os.path.relpath(path, ROOT)}: no file {target}")
+    return wrong
+
+
+def wrong_quotes(path):
+    """Lines of code blocks of the page on proofs that aren't in the file of the link before."""
+    wrong, file, quoting = [], "", False
+    for line in read(path).splitlines():
+        links = re.findall(r"\]\((\.\./crates/[^)#]+)", line)
+        file = links[-1] if links and not quoting else file
+        if line.startswith("```"):
+            quoting = not quoting
+        elif quoting and line.strip() and line.strip() not in {it.strip() for it in read(os.path.join(os.path.dirname(path), file)).splitlines()}:
+            wrong.append(f"not in {file}: {line.strip()}")
+    return wrong
+
+
+def main():
+    used = uses()
+    crates = [it for it in used if it in below("tsn", used)]
+    listed = {crate: functions(crate) for crate in crates}
+    if sys.argv[1:] == ["--list"]:
+        for crate, found in listed.items():
+            for name, path, clauses in found:
+                print(crate, name, path, " ".join(it or "-" for it in clauses))
+        return 0
+    wrong = [it for page in PAGES for it in wrong_links(page, sys.argv[1:] == ["--mend"])] + wrong_quotes(PAGE)
+    words = set().union(*(definitions(it) for it in used))
+    rows = sections(read(PAGE))
+    for crate in crates:
+        named = set()
+        for number, cells in rows.get(crate, []):
+            faults, calls = wrong_in_row(crate, cells, listed[crate], words)
+            named |= calls
+            wrong += [f"docs/proved.md:{number}: {it}" for it in faults]
+        wrong += [f"docs/proved.md: {crate}: {name} in {path} isn't named" for name, path, _ in listed[crate] if name not in named]
+        if f"`{crate}`" not in read(PAGE):
+            wrong.append(f"docs/proved.md: {crate} isn't named")
+    proved_with = re.search(r'VERSION: &str = "[^"]*proved with ([^"]*)"', read(os.path.join(ROOT, "crates", "tsn_words", "src", "words.rt")))
+    if not proved_with or f"\n{proved_with[1]} (the line" not in read(PAGES[1]):
+        wrong.append("README.md and tsn_words/src/words.rt name different toolchains")
+    wrong += [f"minutes.txt and crates.txt differ in {it}" for it in set(minutes()) ^ set(used)]
+    wrong += [f"crates.txt: {it} stands before {low}" for it in used for low in used[it] if list(used).index(low) > list(used).index(it)]
+    print("\n".join(wrong) or f"all of {sum(map(len, listed.values()))} public calls with a contract are named, and what is named is there")
+    return 1 if wrong else 0
+
+
+sys.exit(main())
