@@ -1,24 +1,16 @@
 -- The shares as comma-separated values (RFC 4180).
---     quoted_field                     a name
 --     stream_record, link_record       a record of a stream and one of a link, which have the same fields
 --     csv_text                         all records
-use Rattle.std.specs.Prelude.{ℕ, ◌==◌, if◌then◌else◌, List, [], ◌∷◌, ◌++◌, codes, encode_utf8}
+use Rattle.std.specs.Prelude.{ℕ, List, [], ◌∷◌, ◌++◌, codes}
 use Rattle.std.specs.List.{flat_map}
-use Rattle.std.specs.Str.{chars}
 use Rattle.std.specs.Fmt.{decimal}
 use Rattle.tsn_model.specs.Network.{link_at}
 use Rattle.tsn_net.specs.Problem.{NamedNetwork}
+use Rattle.tsn_csv.specs.Field.{quoted_field}
 use Rattle.tsn_streams.specs.declared.stream.StreamShare.{StreamShare}
 use Rattle.tsn_streams.specs.declared.link.LinkShare.{LinkShare}
 use Rattle.tsn_gate.specs.Table.{name_at}
 use Rattle.tsn_streams.specs.Table.{stream_name}
-
--- within quotes a quote stands twice
-abbrev pub quoted_character : ℕ → List ℕ
-quoted_character character = if character == 34 then 34 ∷ 34 ∷ [] else encode_utf8 character
-
-unfoldable pub quoted_field : List ℕ → List ℕ
-quoted_field text = 34 ∷ [] ++ (flat_map quoted_character (chars text) ++ 34 ∷ [])
 
 -- a stream's numbers, each after a comma, the empty fields of a link, and the end of the line
 unfoldable pub stream_numbers : StreamShare → List ℕ

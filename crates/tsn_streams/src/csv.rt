@@ -1,13 +1,12 @@
 //! The records of comma-separated values (RFC 4180).
 ghost use Rattle.std.specs.Prelude.{◌≡◌, ◌++◌, ◌<◌, OnOk, length, string_bytes};
-ghost use Rattle.std.specs.List.{flat_map};
-ghost use Rattle.std.specs.Str.{chars};
-ghost use Rattle.tsn_streams.specs.Csv.{link_head, link_numbers, link_record, quoted_character, quoted_field, stream_numbers, stream_record};
+ghost use Rattle.tsn_streams.specs.Csv.{link_head, link_numbers, link_record, stream_numbers, stream_record};
 
 use crate::link::LinkShare;
 use crate::stream::StreamShare;
 use std::alloc::AllocError;
 use std::fmt::Write;
+use tsn_csv::write_quoted;
 use tsn_gate::list::names;
 use tsn_net::Problem;
 
@@ -39,37 +38,6 @@ pub fn write_link(text: &mut String, problem: &Problem, share: &LinkShare) -> Re
     text.push_str(",")?;
     write_quoted(text, to)?;
     write_link_numbers(text, *share)
-}
-
-/// Writes a field in quotes.
-#[tactic(auto, unfolding(crate::specs::Csv::quoted_field))]
-fn write_quoted(text: &mut String, field: &str) -> Result<(), AllocError>
-    ensures { OnOk result (string_bytes text.new ≡ string_bytes text.old ++ quoted_field field.now) }
-{
-    text.push('"')?;
-    write_characters(text, field)?;
-    text.push('"')
-}
-
-/// Writes the characters within quotes.
-fn write_characters(text: &mut String, field: &str) -> Result<(), AllocError>
-    ensures { OnOk result (string_bytes text.new ≡ string_bytes text.old ++ flat_map quoted_character (chars field.now)) }
-{
-    for character in field.chars() {
-        write_character(text, character)?;
-    }
-    Ok(())
-}
-
-/// Writes a character within quotes.
-fn write_character(text: &mut String, character: char) -> Result<(), AllocError>
-    ensures { OnOk result (string_bytes text.new ≡ string_bytes text.old ++ quoted_character character) }
-{
-    if character == '"' {
-        text.push_str("\"\"")
-    } else {
-        text.push(character)
-    }
 }
 
 /// Writes the numbers of a stream, and the empty fields of a link.
