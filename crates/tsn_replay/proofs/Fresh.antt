@@ -10,13 +10,13 @@ use Rattle.tsn_model.specs.Schedule.{offset_of}
 use Rattle.tsn_model.proofs.Lists.{Contains-nil}
 use Rattle.tsn_model.proofs.OnTime.{same_cycle, cycle_below}
 use Rattle.tsn_replay.specs.declared.queue.Frame.{Frame}
-use Rattle.tsn_replay.specs.Queue.{frame_in, passage_of}
+use Rattle.tsn_replay.specs.Queue.{AreInLine, frame_in, passage_of}
 use Rattle.tsn_replay.specs.Feeding.{no_start}
 use Rattle.tsn_replay.specs.Progress.{IsTracked}
 
 -- the frame of a number is that number's stream and cycle, on its first hop
 pub record IsFresh (network : Network) (offsets : List ℕ) (cycles : ℕ) (number : ℕ) (frame : Frame) : Type 0 where
-  pub index : number ≡ frame.cycle * stream_count network + frame.stream
+  pub index : number ≡ frame.stream * cycles + frame.cycle
   pub stream : frame.stream < stream_count network
   pub cycle : frame.cycle < cycles
   pub hop : frame.hop ≡ 0
@@ -26,7 +26,7 @@ pub record IsFresh (network : Network) (offsets : List ℕ) (cycles : ℕ) (numb
 mul_less : (a b i n : ℕ) → a < b → i < n → a * n + i < b * n
 mul_less a b i n less below = let gap = cycle_below a b n less in omega arith
 
-module _ (network : Network) (offsets : List ℕ) (cycles : ℕ) (frames : List Frame) (count : length frames ≡ cycles * stream_count network)
+module _ (network : Network) (offsets : List ℕ) (cycles : ℕ) (frames : List Frame) (count : length frames ≡ stream_count network * cycles)
     (fresh : (number : ℕ) → number < length frames → IsFresh network offsets cycles number (frame_in frames number)) where
   pub fresh_tracked : IsTracked network offsets cycles no_start frames
   unfolding passage_of
@@ -43,19 +43,40 @@ module _ (network : Network) (offsets : List ℕ) (cycles : ℕ) (frames : List 
           ready = λ waits. inl (is.hop, is.ready);
         };
     complete = λ stream cycle stream_below cycle_below.
-        let within = mul_less cycle cycles stream (stream_count network) cycle_below stream_below in
-        let below : cycle * stream_count network + stream < length frames = omega arith in
-        let is = fresh (cycle * stream_count network + stream) below in
-        let same = same_cycle (frame_in frames (cycle * stream_count network + stream)).cycle cycle (stream_count network) (frame_in frames (cycle * stream_count network + stream)).stream stream is.stream stream_below (sym is.index) in
-        let product : (frame_in frames (cycle * stream_count network + stream)).cycle * stream_count network ≡ cycle * stream_count network = ap (λ n. n * stream_count network) same in
+        let within = mul_less stream (stream_count network) cycle cycles stream_below cycle_below in
+        let below : stream * cycles + cycle < length frames = omega arith in
+        let is = fresh (stream * cycles + cycle) below in
+        let same = same_cycle (frame_in frames (stream * cycles + cycle)).stream stream cycles (frame_in frames (stream * cycles + cycle)).cycle cycle is.cycle cycle_below (sym is.index) in
+        let product : (frame_in frames (stream * cycles + cycle)).stream * cycles ≡ stream * cycles = ap (λ n. n * cycles) same in
         let index = is.index in
-        (cycle * stream_count network + stream, below, omega arith, same);
+        (stream * cycles + cycle, below, same, omega arith);
     distinct = λ a b a_below b_below stream cycle.
         let a_is = fresh a a_below in
         let b_is = fresh b b_below in
-        let product : (frame_in frames a).cycle * stream_count network ≡ (frame_in frames b).cycle * stream_count network = ap (λ n. n * stream_count network) cycle in
+        let product : (frame_in frames a).stream * cycles ≡ (frame_in frames b).stream * cycles = ap (λ n. n * cycles) stream in
         let a_index = a_is.index in
         let b_index = b_is.index in
+        omega arith;
+  }
+
+  pub fresh_line : 1 ≤ network.cycle → AreInLine network cycles frames
+  fresh_line some = record {
+    count = count;
+    place = λ number below. let is = fresh number below in (is.index, is.cycle);
+    hops = λ a b less below same.
+        let a_hop = (fresh a (omega arith)).hop in
+        let b_hop = (fresh b below).hop in
+        omega arith;
+    readies = λ a b less below same hop waits.
+        let a_is = fresh a (omega arith) in
+        let b_is = fresh b below in
+        let product : (frame_in frames a).stream * cycles ≡ (frame_in frames b).stream * cycles = ap (λ n. n * cycles) same in
+        let offset : offset_of offsets (frame_in frames a).stream ≡ offset_of offsets (frame_in frames b).stream = ap (offset_of offsets) same in
+        let a_index = a_is.index in
+        let b_index = b_is.index in
+        let gap = cycle_below (frame_in frames a).cycle (frame_in frames b).cycle network.cycle (omega arith) in
+        let a_ready = a_is.ready in
+        let b_ready = b_is.ready in
         omega arith;
   }
 

@@ -1,12 +1,14 @@
 -- The first frame of a queue, as the frames are gone through.
-use Rattle.std.proofs.Common.{◌≡◌, ℕ, ◌+◌, ◌<◌, List, length, get_or, Option, Some, None, refl, sym, subst, arith, inl, inr}
+use Rattle.std.proofs.Common.{◌≡◌, ℕ, ◌+◌, ◌<◌, ◌⊎◌, List, length, get_or, All, Option, Some, None, sym, ap, ◌∙◌, subst, arith, inl, inr}
 use Rattle.std.proofs.lemmas.List.{get_or_default}
 use Rattle.std.proofs.lemmas.Bool.{cases_lt}
-use Rattle.tsn_model.specs.Network.{Network}
+use Rattle.tsn_model.specs.Network.{Network, stream_count}
 use Rattle.tsn_replay.specs.declared.queue.Frame.{Frame}
-use Rattle.tsn_replay.specs.Queue.{Waits, Precedes, IsFirstOf, frame_in}
+use Rattle.tsn_replay.specs.declared.visits.Visit.{Visit}
+use Rattle.tsn_replay.specs.Queue.{Waits, Precedes, IsHead, IsFirstAmong, AreVisits, frame_in}
 
-pub from_frame : (P : Frame → Type 0) (frames : List Frame) (number : ℕ) (d : Frame) → number < length frames → P (frame_in frames number) → P (get_or frames number d)
+pub from_frame : (P : Frame → Type 0) (frames : List Frame) (number : ℕ) (d : Frame) → number < length frames → P (frame_in frames number)
+    → P (get_or frames number d)
 unfolding frame_in
 from_frame P frames number d below has = subst P (sym (get_or_default frames number d (record { stream = 0; cycle = 0; hop = 0; ready = 0 }) below)) has
 
@@ -16,43 +18,86 @@ precedes_further a b c (inl less) (inr (same, order)) = inl (omega arith)
 precedes_further a b c (inr (same, order)) (inl more) = inl (omega arith)
 precedes_further a b c (inr (same, order)) (inr (same_too, order_too)) = inr (omega arith, omega arith)
 
-module _ (network : Network) (frames : List Frame) (link count : ℕ) where
-  -- the numbers below the next one are those below, and it
-  each_more : (P : ℕ → Type 0) → ((number : ℕ) → number < count → P number) → P count → (number : ℕ) → number < count + 1 → P number
-  each_more P before here number below = elim (cases_lt number count) [
-    | inl earlier ↦ before number earlier
-    | inr last ↦ let same : count ≡ number = omega arith in subst P same here
-  ]
+-- more frames have been looked at: those of P before, and those of Q now
+module _ (network : Network) (frames : List Frame) (link : ℕ) (P Q R : Frame → Type 0) (split : (frame : Frame) → R frame → P frame ⊎ Q frame) where
+  -- what holds of both holds of all
+  both : (S : ℕ → Type 0) → ((number : ℕ) → number < length frames → P (frame_in frames number) → S number)
+      → ((number : ℕ) → number < length frames → Q (frame_in frames number) → S number)
+      → (number : ℕ) → number < length frames → R (frame_in frames number) → S number
+  both S before here number below is = elim (split (frame_in frames number) is) [ inl old ↦ before number below old | inr new ↦ here number below new ]
 
-  pub head_skip : (first : Option ℕ) → IsFirstOf network frames link count first → (Waits network link (frame_in frames count) → ⊥) → IsFirstOf network frames link (count + 1) first
-  head_skip None none not_here = each_more (λ number. Waits network link (frame_in frames number) → ⊥) none not_here
-  head_skip (Some best) (below, waits, first) not_here =
-      (omega arith, waits, each_more (λ number. Waits network link (frame_in frames number) → Precedes (frame_in frames best) (frame_in frames number)) first (λ here. absurd (not_here here)))
+  pub head_skip : (first : Option ℕ) → IsFirstAmong network frames link P first → IsFirstAmong network frames link Q None
+      → IsFirstAmong network frames link R first
+  head_skip None none not_here = both (λ number. Waits network link (frame_in frames number) → ⊥) none not_here
+  head_skip (Some best) (below, waits, first) not_here = (
+    below,
+    waits,
+    both (λ number. Waits network link (frame_in frames number) → Precedes (frame_in frames best) (frame_in frames number)) first
+        (λ number within is here. absurd (not_here number within is here)),
+  )
 
-  pub head_only : (first : Option ℕ) → first ≡ None → IsFirstOf network frames link count first → Waits network link (frame_in frames count) → IsFirstOf network frames link (count + 1) (Some count)
-  head_only first is before here =
-      let none = subst (IsFirstOf network frames link count) is before in (
-        omega arith,
-        here,
-        each_more (λ number. Waits network link (frame_in frames number) → Precedes (frame_in frames count) (frame_in frames number))
-            (λ number below waits. absurd (none number below waits)) (λ waits. inr (refl, omega arith)),
+  pub head_only : (first : Option ℕ) (next : ℕ) → first ≡ None → IsFirstAmong network frames link P first → IsFirstAmong network frames link Q (Some next)
+      → IsFirstAmong network frames link R (Some next)
+  head_only first next is before (below, waits, here) =
+      let none = subst (IsFirstAmong network frames link P) is before in (
+        below,
+        waits,
+        both (λ number. Waits network link (frame_in frames number) → Precedes (frame_in frames next) (frame_in frames number))
+            (λ number within old waits. absurd (none number within old waits)) here,
       )
 
-  pub head_kept : (first : Option ℕ) (best : ℕ) → first ≡ Some best → IsFirstOf network frames link count first → (best < length frames → Precedes (frame_in frames best) (frame_in frames count)) → count < length frames
-      → IsFirstOf network frames link (count + 1) (Some best)
-  head_kept first best is before order counted =
-      let some = subst (IsFirstOf network frames link count) is before in
-      let below = some.0 in
-      (omega arith, some.1, each_more (λ number. Waits network link (frame_in frames number) → Precedes (frame_in frames best) (frame_in frames number)) some.2 (λ waits. order (omega arith)))
-
-  pub head_new : (first : Option ℕ) (best : ℕ) → first ≡ Some best → IsFirstOf network frames link count first → Waits network link (frame_in frames count)
-      → (best < length frames → Precedes (frame_in frames count) (frame_in frames best)) → count < length frames → IsFirstOf network frames link (count + 1) (Some count)
-  head_new first best is before here order counted =
-      let some = subst (IsFirstOf network frames link count) is before in
-      let below = some.0 in
-      let less = order (omega arith) in (
-        omega arith,
-        here,
-        each_more (λ number. Waits network link (frame_in frames number) → Precedes (frame_in frames count) (frame_in frames number))
-            (λ number earlier waits. precedes_further (frame_in frames count) (frame_in frames best) (frame_in frames number) less (some.2 number earlier waits)) (λ waits. inr (refl, omega arith)),
+  pub head_kept : (first : Option ℕ) (best next : ℕ) → first ≡ Some best → IsFirstAmong network frames link P first
+      → IsFirstAmong network frames link Q (Some next) → Precedes (frame_in frames best) (frame_in frames next)
+      → IsFirstAmong network frames link R (Some best)
+  head_kept first best next is before (below, waits, here) sooner =
+      let some = subst (IsFirstAmong network frames link P) is before in (
+        some.0,
+        some.1,
+        both (λ number. Waits network link (frame_in frames number) → Precedes (frame_in frames best) (frame_in frames number)) some.2
+            (λ number within new waits. precedes_further (frame_in frames best) (frame_in frames next) (frame_in frames number) sooner
+            (here number within new waits)),
       )
+
+  pub head_new : (first : Option ℕ) (best next : ℕ) → first ≡ Some best → IsFirstAmong network frames link P first
+      → IsFirstAmong network frames link Q (Some next) → Precedes (frame_in frames next) (frame_in frames best)
+      → IsFirstAmong network frames link R (Some next)
+  head_new first best next is before (below, waits, here) sooner =
+      let some = subst (IsFirstAmong network frames link P) is before in (
+        below,
+        waits,
+        both (λ number. Waits network link (frame_in frames number) → Precedes (frame_in frames next) (frame_in frames number))
+            (λ number within old waits. precedes_further (frame_in frames next) (frame_in frames best) (frame_in frames number) sooner
+            (some.2 number within old waits)) here,
+      )
+
+-- ---- the hops on the link
+
+-- the frame is of a stream among the first so many
+abbrev pub IsVisited : List Visit → ℕ → Frame → Type 0
+IsVisited visits count frame = (k : ℕ) × (k < count) × ((get_or visits k (record { stream = 0; hop = 0 })).stream ≡ frame.stream)
+
+pub visited_more : (visits : List Visit) (count : ℕ) (frame : Frame) → IsVisited visits (count + 1) frame
+    → IsVisited visits count frame ⊎ (frame.stream ≡ (get_or visits count (record { stream = 0; hop = 0 })).stream)
+visited_more visits count frame (k, below, same) = elim (cases_lt k count) [
+  | inl earlier ↦ inl (k, earlier, same)
+  | inr last ↦ let is : k ≡ count = omega arith in inr (sym same ∙ ap (λ n. (get_or visits n (record { stream = 0; hop = 0 })).stream) is)
+]
+
+-- a frame that waits on the link is of a stream that has a hop there
+module _ (network : Network) (frames : List Frame) (link : ℕ) (streams : All (λ (frame : Frame). frame.stream < stream_count network) frames)
+    (visits : List Visit) (are : AreVisits network link visits) where
+  visited : (number : ℕ) → number < length frames → Waits network link (frame_in frames number) → IsVisited visits (length visits) (frame_in frames number)
+  unfolding frame_in
+  visited number below waits =
+      let counted = streams number (record { stream = 0; cycle = 0; hop = 0; ready = 0 }) below in
+      let has = are.complete (frame_in frames number).stream (frame_in frames number).hop counted waits.waits waits.on in (
+        has.0,
+        has.1,
+        ap (λ (v : Visit). v.stream)
+            (get_or_default visits has.0 (record { stream = 0; hop = 0 })
+            (record { stream = (frame_in frames number).stream; hop = (frame_in frames number).hop }) has.1 ∙ has.2),
+      )
+
+  pub head_all : (first : Option ℕ) → IsFirstAmong network frames link (IsVisited visits (length visits)) first → IsHead network frames link first
+  head_all None none = λ number below waits. none number below (visited number below waits) waits
+  head_all (Some best) (below, waits, first) = (below, waits, λ number within here. first number within (visited number within here) here)

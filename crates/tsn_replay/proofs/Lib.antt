@@ -6,6 +6,8 @@ pub mod Nexts
 pub mod Tracking
 pub mod Advances
 pub mod Fresh
+pub mod InLine
+pub mod Visited
 pub mod Steps
 pub mod Ports
 pub mod Tournaments
@@ -22,3 +24,4 @@ pub mod Settings
 pub mod Progress
 pub mod PassageStarts
 pub mod BackgroundStarts
+pub mod SmallRuns

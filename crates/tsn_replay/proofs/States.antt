@@ -38,9 +38,11 @@ under_way_ports setting state ports is = record {
   run = is.run;
   fed = is.fed;
   tracked = is.tracked;
+  line = is.line;
   feed = is.feed;
   wires = is.wires;
   numbers = is.numbers;
+  visits = is.visits;
   frees = is.frees;
   readies = is.readies;
 }

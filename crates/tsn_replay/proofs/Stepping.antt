@@ -12,13 +12,14 @@ use Rattle.tsn_replay.specs.declared.feed.Waiting.{Waiting}
 use Rattle.tsn_replay.specs.declared.feed.Feed.{Feed}
 use Rattle.tsn_replay.specs.declared.port.Port.{Port}
 use Rattle.tsn_replay.specs.declared.engine.State.{State}
-use Rattle.tsn_replay.specs.Queue.{Waits, IsHead, Next, CanStart, IsNextOf, frame_in, passage_of, free_on}
+use Rattle.tsn_replay.specs.Queue.{Waits, IsHead, AreInLine, Next, CanStart, IsNextOf, frame_in, passage_of, free_on}
 use Rattle.tsn_replay.specs.Feeding.{waiting_on, IsFeedOf, IsSent}
 use Rattle.tsn_replay.specs.Ports.{IsPort, IsScheduledNext, IsFirstPort, port_time, port_in}
 use Rattle.tsn_replay.specs.Records.{IsRecord, noted}
 use Rattle.tsn_replay.specs.Progress.{IsRunSoFar, IsFedSoFar, IsTracked, Setting, IsSetting, IsUnderWay, IsPortAt, IsState, AreStarts, advanced, time_left}
 use Rattle.tsn_replay.proofs.PassageStarts.{with_passage}
 use Rattle.tsn_replay.proofs.BackgroundStarts.{with_background}
+use Rattle.tsn_replay.proofs.InLine.{line_kept}
 use Rattle.tsn_replay.proofs.Nexts.{time_facts, none_next, next_scheduled, next_background}
 use Rattle.tsn_replay.proofs.Ports.{scheduled_later, port_later, port_kept}
 use Rattle.tsn_replay.proofs.Records.{record_started, record_sent}
@@ -189,9 +190,12 @@ module _ (setting : Setting) (state : State) (can : IsSetting setting) (is : IsS
               run = subst (λ fs. IsRunSoFar network setting.offsets setting.gates setting.cycles (free_on fs) time run) (sym free_is) step.0;
               fed = subst (λ fs. IsFedSoFar network setting.gates setting.cycles (free_on fs) time setting.background line run) (sym free_is) step.1;
               tracked = subst (IsTracked network setting.offsets setting.cycles run) (sym frames_are) step.2;
+              line = subst (AreInLine network setting.cycles) (sym (frames_are ∙ ap (slice_set state.frames.items waiting) (moved_is ∙ ap (λ (f : Frame). advanced network f time) frame_is)))
+                  (line_kept network can.formed setting.offsets setting.gates setting.cycles (free_on state.free.items) state.time made is.under_way.run state.frames.items is.under_way.tracked is.under_way.line link waiting time can_start_here.0 (is_next.wire in_time));
               feed = is.under_way.feed;
               wires = ap length free_is ∙ (length-set state.free.items link (time + duration) ∙ is.under_way.wires);
               numbers = is.under_way.numbers;
+              visits = is.under_way.visits;
               frees = subst (All (λ t. t ≤ 2 ^ 40)) (sym free_is) (All-set (λ t. t ≤ 2 ^ 40) state.free.items link (time + duration) (omega arith) is.under_way.frees);
               readies = subst (All (λ (f : Frame). f.ready ≤ 2 ^ 50)) (sym frames_are) (All-set (λ (f : Frame). f.ready ≤ 2 ^ 50) state.frames.items waiting moved early is.under_way.readies);
             }
@@ -326,9 +330,11 @@ module _ (setting : Setting) (state : State) (can : IsSetting setting) (is : IsS
                   run = subst (λ fs. IsRunSoFar network setting.offsets setting.gates setting.cycles (free_on fs) port.background run_with) (sym free_is) run;
                   fed = subst (λ fs. IsFedSoFar network setting.gates setting.cycles (free_on fs) port.background setting.background (waiting_on feed) run_with) (sym free_is) fed;
                   tracked = still_tracked network setting.offsets setting.cycles made state.frames.items (record { link = link; time = port.background; octets = waiting.octets; number = waiting.number }) is.under_way.tracked;
+                  line = is.under_way.line;
                   feed = feed_is;
                   wires = ap length free_is ∙ (length-set state.free.items link until ∙ is.under_way.wires);
                   numbers = is.under_way.numbers;
+                  visits = is.under_way.visits;
                   frees = subst (All (λ t. t ≤ 2 ^ 40)) (sym free_is) (All-set (λ t. t ≤ 2 ^ 40) state.free.items link until (omega arith) is.under_way.frees);
                   readies = is.under_way.readies;
                 }

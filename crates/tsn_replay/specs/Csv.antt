@@ -1,20 +1,13 @@
 -- The rows of a replay's table as comma-separated values (RFC 4180).
---     quoted_field, start_field     fields
+--     start_field                   a field
 --     record_text, csv_text         a record, and all of them
-use Rattle.std.specs.Prelude.{ℕ, ◌==◌, if◌then◌else◌, List, [], ◌∷◌, ◌++◌, codes, encode_utf8, Option, Some, None}
+use Rattle.std.specs.Prelude.{ℕ, List, [], ◌∷◌, ◌++◌, codes, Option, Some, None}
 use Rattle.std.specs.List.{flat_map}
-use Rattle.std.specs.Str.{chars}
 use Rattle.std.specs.Fmt.{decimal}
 use Rattle.tsn_net.specs.Problem.{NamedNetwork}
+use Rattle.tsn_csv.specs.Field.{quoted_field}
 use Rattle.tsn_replay.specs.declared.trace.Row.{Row}
 use Rattle.tsn_replay.specs.Rows.{stream_name}
-
--- within quotes a quote stands twice
-abbrev pub quoted_character : ℕ → List ℕ
-quoted_character character = if character == 34 then 34 ∷ 34 ∷ [] else encode_utf8 character
-
-unfoldable pub quoted_field : List ℕ → List ℕ
-quoted_field text = 34 ∷ [] ++ (flat_map quoted_character (chars text) ++ 34 ∷ [])
 
 -- the actual start in decimal; empty where there is none
 abbrev pub start_field : Option ℕ → List ℕ

@@ -10,3 +10,4 @@ pub mod Rows
 pub mod Records
 pub mod Progress
 pub mod Csv
+pub mod Examples

@@ -8,7 +8,7 @@ use Rattle.std.specs.Prelude.{◌≡◌, ℕ, ◌+◌, ◌*◌, ◌≤◌, ◌<�
 use Rattle.tsn_model.specs.Network.{Network, IsWellFormed, stream_count, hop_count, route_link, link_at}
 use Rattle.tsn_model.specs.Bridge.{LinkGates, BackgroundOpen, Passage, ScheduledStart, BackgroundStart, BridgeRun, WireUse, IsBridgeRun, IsFed, link_of, wire_uses, AreDisjoint, IsPassage, StartedAt, NotStartedBefore, IsReady, FitsAt, IsBlocked, IsTaken, IsHeld, Background, BackgroundFrame, frame_at, IsBefore, FrameStartedBefore}
 use Rattle.tsn_replay.specs.declared.queue.Frame.{Frame}
-use Rattle.tsn_replay.specs.Queue.{passage_of, frame_in, free_on}
+use Rattle.tsn_replay.specs.Queue.{AreInLine, AreAllVisits, passage_of, frame_in, free_on}
 use Rattle.tsn_model.specs.Timing.{hop_delay}
 use Rattle.tsn_model.specs.Bridge.Background.{nothing, greedy, frames}
 use Rattle.tsn_replay.specs.declared.feed.Waiting.{Waiting}
@@ -132,9 +132,11 @@ pub record IsUnderWay (setting : Setting) (state : State) : Type 0 where
   pub run : IsRunSoFar setting.network setting.offsets setting.gates setting.cycles (free_on state.free.items) state.time made
   pub fed : IsFedSoFar setting.network setting.gates setting.cycles (free_on state.free.items) state.time setting.background (waiting_on state.feed) made
   pub tracked : IsTracked setting.network setting.offsets setting.cycles made state.frames.items
+  pub line : AreInLine setting.network setting.cycles state.frames.items
   pub feed : IsFeedOf setting.background (length setting.network.links) state.feed
   pub wires : length state.free.items ≡ length setting.network.links
   pub numbers : AreListNumbers setting.gates (length setting.network.links) state.numbers.items
+  pub visits : AreAllVisits setting.network (length setting.network.links) state.visits.items
   pub frees : All (λ time. time ≤ latest_free) state.free.items
   pub readies : All (λ (frame : Frame). frame.ready ≤ latest_instant) state.frames.items
 

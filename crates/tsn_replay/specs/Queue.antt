@@ -1,10 +1,14 @@
 -- The queue of a link, and what starts next.
 --     passage_of, Waits, Precedes, IsHead      the frames that wait on a link, in order
+--     AreInLine, IsFirstAmong, IsFirstOnHop    how the frames stand, and where the first one is looked for
+--     AreVisits, AreAllVisits                  the hops of all streams, by link
 --     Next, CanStart, IsIdle, IsNextOf         what starts next, and that nothing starts before it
-use Rattle.std.specs.Prelude.{◌≡◌, ℕ, ◌≤◌, ◌<◌, ◌⊎◌, List, length, slice_index, slice_index_or, Option, Some, None}
-use Rattle.tsn_model.specs.Network.{Network, hop_count, route_link}
+use Rattle.std.specs.Prelude.{◌≡◌, ◌≢◌, ℕ, ◌+◌, ◌*◌, ◌≤◌, ◌<◌, ◌⊎◌, List, length, slice_index, slice_index_or, All, Contains, Option, Some, None, Vec}
+use Rattle.std.specs.Global.{Global}
+use Rattle.tsn_model.specs.Network.{Network, stream_count, hop_count, route_link}
 use Rattle.tsn_model.specs.Bridge.{LinkGates, BackgroundOpen, Passage, FitsAt}
 use Rattle.tsn_replay.specs.declared.queue.Frame.{Frame}
+use Rattle.tsn_replay.specs.declared.visits.Visit.{Visit}
 use Rattle.tsn_replay.specs.declared.feed.Waiting.{Waiting}
 
 -- the passage for which a frame waits
@@ -33,6 +37,36 @@ IsFirstOf network frames link count (Some head) = (head < count) × Waits networ
 -- the first frame of the link's queue, if there is one
 abbrev pub IsHead : Network → List Frame → ℕ → Option ℕ → Type 0
 IsHead network frames link head = IsFirstOf network frames link (length frames) head
+
+-- The frames stand by stream, and those of a stream by cycle. Of two frames of a stream the later one isn't on a later hop, and where it waits on the same one it is ready later.
+pub record AreInLine (network : Network) (cycles : ℕ) (frames : List Frame) : Type 0 where
+  pub count : length frames ≡ stream_count network * cycles
+  pub place : (number : ℕ) → number < length frames → (number ≡ (frame_in frames number).stream * cycles + (frame_in frames number).cycle) × ((frame_in frames number).cycle < cycles)
+  pub hops : (a b : ℕ) → a < b → b < length frames → (frame_in frames a).stream ≡ (frame_in frames b).stream → (frame_in frames b).hop ≤ (frame_in frames a).hop
+  pub readies : (a b : ℕ) → a < b → b < length frames → (frame_in frames a).stream ≡ (frame_in frames b).stream → (frame_in frames a).hop ≡ (frame_in frames b).hop
+      → (frame_in frames b).hop < hop_count network (frame_in frames b).stream → (frame_in frames a).ready < (frame_in frames b).ready
+
+-- of the frames that are looked at, the one that is first in the link's queue, if one waits there
+abbrev pub IsFirstAmong : Network → List Frame → ℕ → (Frame → Type 0) → Option ℕ → Type 0
+IsFirstAmong network frames link P None = (number : ℕ) → number < length frames → P (frame_in frames number) → ¬ Waits network link (frame_in frames number)
+IsFirstAmong network frames link P (Some first) = (first < length frames) × Waits network link (frame_in frames first)
+    × ((number : ℕ) → number < length frames → P (frame_in frames number) → Waits network link (frame_in frames number) → Precedes (frame_in frames first) (frame_in frames number))
+
+-- these are the hops of all streams on the link
+pub record AreVisits (network : Network) (link : ℕ) (visits : List Visit) : Type 0 where
+  pub right : All (λ (visit : Visit). (visit.stream < stream_count network) × (visit.hop < hop_count network visit.stream) × (route_link network visit.stream visit.hop ≡ link)) visits
+  pub complete : (stream hop : ℕ) → stream < stream_count network → hop < hop_count network stream → route_link network stream hop ≡ link → Contains visits (record { stream = stream; hop = hop })
+
+-- by link, those on it, for so many links
+pub record AreAllVisits (network : Network) (links : ℕ) (visits : List (Vec Visit Global)) : Type 0 where
+  pub count : length visits ≡ links
+  pub each : (link : ℕ) (d : Vec Visit Global) → link < links → AreVisits network link (slice_index_or visits link d).items
+
+-- of the frames from a number on to another one, the first that is on the hop, if one is
+abbrev pub IsFirstOnHop : List Frame → ℕ → ℕ → ℕ → Option ℕ → Type 0
+IsFirstOnHop frames from to hop None = (number : ℕ) → from ≤ number → number < to → (frame_in frames number).hop ≢ hop
+IsFirstOnHop frames from to hop (Some first) = (from ≤ first) × (first < to) × ((frame_in frames first).hop ≡ hop)
+    × ((number : ℕ) → from ≤ number → number < first → (frame_in frames number).hop ≢ hop)
 
 -- at instant t no scheduled frame can start on the link
 pub record IsSilent (network : Network) (gates : List LinkGates) (frames : List Frame) (link t : ℕ) : Type 0 where

@@ -17,6 +17,7 @@ use crate::port::{LinkQueue, Port};
 use crate::queue::{Frame, advance, frames_of};
 use crate::starts::Starts;
 use crate::tournament::PortQueue;
+use crate::visits::{Visit, visits_of};
 use std::alloc::{AllocError, Global};
 use tsn_model::bounds::OVERHEAD_OCTETS;
 use tsn_model::plain::PlainNetwork;
@@ -34,7 +35,8 @@ pub struct Replay<'a> {
 }
 
 /// A replay that is under way: its end and the present instant, in nanoseconds; the frames that wait or are still to come;
-/// by link when its wire is free, and the number of its list; a port for each list; and what is kept of the starts.
+/// by link when its wire is free, the number of its list, and the hops on it; a port for each list; and what is kept of the
+/// starts.
 #[derive(Drop)]
 pub struct State {
     end: u64,
@@ -42,6 +44,7 @@ pub struct State {
     frames: Vec<Frame>,
     free: Vec<u64>,
     numbers: Vec<usize>,
+    visits: Vec<Vec<Visit>>,
     feed: Feed,
     ports: PortQueue,
     starts: Starts,
@@ -80,6 +83,7 @@ impl Replay<'_> {
             frames: frames_of(alloc, self.network, self.offsets, self.cycles)?,
             free: vec![in alloc; 0u64; links]?,
             numbers: numbers_by_link(alloc, self.gates, links)?,
+            visits: visits_of(alloc, self.network)?,
             feed: Feed::of(alloc, self.background, links)?,
             ports: PortQueue::new(alloc, self.gates.len())?,
             starts: Starts::new(alloc),
@@ -123,11 +127,13 @@ impl Replay<'_> {
         let link = list.link();
         let queue = LinkQueue {
             network: self.network,
+            cycles: self.cycles,
             frames: &state.frames,
             list,
         };
         Port::of(
             queue,
+            &state.visits[link],
             state.feed.waiting(link),
             state.free[link].max(state.time),
             state.end,
@@ -234,6 +240,7 @@ impl Replay<'_> {
         let next = state.feed.waiting(sending.link);
         let queue = LinkQueue {
             network: self.network,
+            cycles: self.cycles,
             frames: &state.frames,
             list: &self.gates[number],
         };

@@ -8,6 +8,7 @@ pub mod cycles;
 mod engine;
 pub mod fault;
 mod feed;
+pub mod laws;
 mod openings;
 mod port;
 mod queue;
@@ -16,6 +17,7 @@ pub mod starts;
 pub mod table;
 mod tournament;
 pub mod trace;
+mod visits;
 
 pub use background::{Background, BackgroundFrame};
 pub use cycles::{replay, replay_rows};

@@ -4,18 +4,20 @@ ghost use Rattle.tsn_model.specs.Network.{stream_count};
 ghost use Rattle.tsn_model.specs.Bridge.{length_of};
 ghost use Rattle.tsn_replay.specs.Bounds.{latest_instant};
 ghost use Rattle.tsn_replay.specs.Openings.{IsOpenFor};
-ghost use Rattle.tsn_replay.specs.Queue.{Waits, IsHead, passage_of};
+ghost use Rattle.tsn_replay.specs.Queue.{Waits, IsHead, AreInLine, AreVisits, passage_of};
 ghost use Rattle.tsn_replay.specs.Ports.{IsScheduledNext, IsBackgroundNext, IsPort, IsFirstPort, port_time, port_in};
 
 use crate::feed::Waiting;
 use crate::openings::Openings;
 use crate::queue::{Frame, head};
+use crate::visits::Visit;
 use tsn_model::plain::PlainNetwork;
 
-/// The frames of a network, among them the queue of the list's link.
+/// The frames of so many cycles of a network, among them the queue of the list's link.
 #[derive(Clone, Copy)]
 pub struct LinkQueue<'a> {
     pub network: &'a PlainNetwork,
+    pub cycles: usize,
     pub frames: &'a [Frame],
     pub list: &'a Openings,
 }
@@ -29,16 +31,30 @@ pub struct Port {
 }
 
 impl Port {
-    /// The port of a link, from an instant on.
-    pub fn of(queue: LinkQueue<'_>, waiting: Option<Waiting>, from: u64, end: u64) -> Port
+    /// The port of a link, from an instant on. The visits are all hops on the link.
+    pub fn of(
+        queue: LinkQueue<'_>,
+        visits: &[Visit],
+        waiting: Option<Waiting>,
+        from: u64,
+        end: u64,
+    ) -> Port
         requires streams { All (λ (frame : Frame). frame.stream < stream_count queue.network.now) queue.frames.now }
+        requires line { AreInLine queue.network.now queue.cycles queue.frames.now }
+        requires visits { AreVisits queue.network.now queue.list.now.link visits.now }
         requires ready { All (λ (frame : Frame). frame.ready ≤ latest_instant) queue.frames.now }
         requires wanted { (frame : Waiting) → waiting ≡ Some frame → frame.wanted ≤ latest_instant }
         requires from { from ≤ latest_instant }
         requires end { end ≤ latest_instant }
         ensures { IsPort queue.entry.network.now queue.entry.list.now.entries queue.entry.frames.now waiting queue.entry.list.now.link from end result }
     {
-        let head = head(queue.network, queue.frames, queue.list.link());
+        let head = head(
+            queue.network,
+            queue.frames,
+            queue.cycles,
+            queue.list.link(),
+            visits,
+        );
         Port {
             head,
             scheduled: scheduled_on(queue, head, from, end),

@@ -1,11 +1,12 @@
 //! The scheduled frames, and the queue of a link.
-ghost use Rattle.std.specs.Prelude.{◌≡◌, ◌+◌, ◌≤◌, ◌<◌, ◌↔◌, ◌⊎◌, IsTrue, length, All, IfOk};
-ghost use Rattle.tsn_model.specs.Network.{stream_count, hop_count};
+ghost use Rattle.std.specs.Prelude.{◌≡◌, ◌+◌, ◌≤◌, ◌<◌, ◌⊎◌, ℕ, IsTrue, length, All, IfOk};
+ghost use Rattle.tsn_model.specs.Network.{stream_count, hop_count, route_link};
 ghost use Rattle.tsn_replay.specs.Bounds.{latest_free, latest_instant};
-ghost use Rattle.tsn_replay.specs.Queue.{Waits, Precedes, IsHead};
+ghost use Rattle.tsn_replay.specs.Queue.{Precedes, IsHead, AreInLine, IsFirstAmong, IsFirstOnHop, AreVisits, frame_in};
 ghost use Rattle.tsn_replay.specs.Feeding.{no_start};
 ghost use Rattle.tsn_replay.specs.Progress.{IsTracked, advanced};
 
+use crate::visits::Visit;
 use std::alloc::{AllocError, Global};
 use tsn_model::plain::PlainNetwork;
 
@@ -18,7 +19,7 @@ pub struct Frame {
     pub ready: u64,
 }
 
-/// A frame for each stream and cycle, on its first hop.
+/// A frame for each stream and cycle, on its first hop: by stream, and those of a stream by cycle.
 pub fn frames_of(
     alloc: Global,
     network: &PlainNetwork,
@@ -29,16 +30,18 @@ pub fn frames_of(
     requires small { All (λ offset. offset ≤ network.now.cycle) offsets.now }
     requires few { cycles ≤ 16 }
     ensures tracked { IfOk result (λ frames. IsTracked network.now offsets.now cycles no_start frames.items) }
+    ensures line { IfOk result (λ frames. AreInLine network.now cycles frames.items) }
     ensures ready { IfOk result (λ frames. All (λ (frame : Frame). frame.ready ≤ latest_instant) frames.items) }
 {
+    let length = network.cycle();
     let mut frames = Vec::new(alloc);
-    for cycle in 0..cycles {
-        for stream in 0..network.streams() {
+    for stream in 0..network.streams() {
+        for cycle in 0..cycles {
             frames.push(Frame {
                 stream,
                 cycle,
                 hop: 0,
-                ready: cycle as u64 * network.cycle() + offsets[stream],
+                ready: cycle as u64 * length + offsets[stream],
             })?;
         }
     }
@@ -71,24 +74,59 @@ fn precedes(a: &Frame, b: &Frame) -> bool
     a.ready < b.ready || a.ready == b.ready && a.stream < b.stream
 }
 
-/// Whether the frame waits for its start on the link.
-pub fn waits(network: &PlainNetwork, frame: &Frame, link: usize) -> bool
-    requires { frame.now.stream < stream_count network.now }
-    ensures { IsTrue result ↔ Waits network.now link frame.now }
+/// Of the frames from a number on to another one the first that is on the hop. None is on a later hop than one before it.
+fn first_on(frames: &[Frame], from: usize, to: usize, hop: usize) -> Option<usize>
+    requires order { from ≤ to }
+    requires within { to ≤ length frames.now }
+    requires hops { (a b : ℕ) → from ≤ a → a < b → b < to → (frame_in frames.now b).hop ≤ (frame_in frames.now a).hop }
+    ensures { IsFirstOnHop frames.now from to hop result }
 {
-    frame.hop < network.hops(frame.stream) && network.route_link(frame.stream, frame.hop) == link
+    let number = from + frames[from..to].partition_point(|frame| hop < frame.hop);
+    if number < to && frames[number].hop == hop {
+        Some(number)
+    } else {
+        None
+    }
 }
 
-/// The first frame of the link's queue.
-pub fn head(network: &PlainNetwork, frames: &[Frame], link: usize) -> Option<usize>
-    requires { All (λ (frame : Frame). frame.stream < stream_count network.now) frames.now }
+/// Of a stream's frames the one that is first in the link's queue.
+fn first_of(
+    network: &PlainNetwork,
+    frames: &[Frame],
+    cycles: usize,
+    link: usize,
+    visit: Visit,
+) -> Option<usize>
+    requires stream { visit.stream < stream_count network.now }
+    requires hop { visit.hop < hop_count network.now visit.stream }
+    requires on { route_link network.now visit.stream visit.hop ≡ link }
+    requires line { AreInLine network.now cycles frames.now }
+    ensures { IsFirstAmong network.now frames.now link (λ (frame : Frame). frame.stream ≡ visit.stream) result }
+{
+    // The network is within its limits, so a route has a link once.
+    let _limits = network.cycle();
+    let from = visit.stream * cycles;
+    first_on(frames, from, from + cycles, visit.hop)
+}
+
+/// The first frame of the link's queue. The visits are all hops on the link.
+pub fn head(
+    network: &PlainNetwork,
+    frames: &[Frame],
+    cycles: usize,
+    link: usize,
+    visits: &[Visit],
+) -> Option<usize>
+    requires streams { All (λ (frame : Frame). frame.stream < stream_count network.now) frames.now }
+    requires line { AreInLine network.now cycles frames.now }
+    requires visits { AreVisits network.now link visits.now }
     ensures { IsHead network.now frames.now link result }
 {
     let mut first = None;
-    for (number, frame) in frames.iter().enumerate() {
-        if waits(network, frame, link) {
+    for visit in visits {
+        if let Some(number) = first_of(network, frames, cycles, link, *visit) {
             first = match first {
-                Some(best) if !precedes(frame, &frames[best]) => Some(best),
+                Some(best) if !precedes(&frames[number], &frames[best]) => Some(best),
                 _ => Some(number),
             };
         }
