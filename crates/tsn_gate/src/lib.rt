@@ -15,7 +15,7 @@ mod timeline;
 mod widened;
 mod windows;
 
-pub use device::device_lines;
+pub use device::{closed_lines, device_lines};
 pub use fault::GateFault;
 pub use list::GateList;
 pub use lists::gate_lists;

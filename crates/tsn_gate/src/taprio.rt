@@ -1,7 +1,7 @@
 //! Gate control lists as a script for Linux's taprio.
 ghost use Rattle.std.specs.Prelude.{◌≡◌, ◌++◌, ◌<◌, OnOk, IfOk, length, string_bytes, All};
 ghost use Rattle.std.specs.List.{flat_map};
-ghost use Rattle.tsn_gate.specs.Taprio.{escaped, escaped_byte, is_plain, comment_text, limits_text, link_comment, variable_text, device_text, step_text, opening_text, command_text, commands_text, first_lines, last_lines, middle_lines, part_text, setting_lines, variables_text, script_text, script_text_within};
+ghost use Rattle.tsn_gate.specs.Taprio.{escaped, escaped_byte, is_plain, comment_text, limits_text, link_comment, variable_text, device_text, step_text, opening_text, command_text, commands_text, first_lines, last_lines, middle_lines, part_text, setting_lines, variables_text, script_text, script_text_within, shortest_entry};
 
 use crate::list::{GateList, names};
 use std::alloc::{AllocError, Global};
@@ -11,15 +11,15 @@ use tsn_net::Problem;
 
 /// The first lines of a script, with its variables.
 const FIRST_LINES: &str =
-    "#!/bin/sh\n# Each list is set on the device that its variable names, and none where that is empty.\n# BASE_TIME: when the first cycle begins, in nanoseconds of the clock CLOCKID.\n# FLAGS: empty where the kernel runs the lists, 0x2 where the device does, 0x1 for launch times, with TXTIME_DELAY.\n# DRY=1: print the commands and run none. FORCE=1: set lists that are refused for MOST or LEAST, too.\nset -eu\nCLOCKID=${CLOCKID:-CLOCK_TAI}\nBASE_TIME=${BASE_TIME:-0}\nFLAGS=${FLAGS:-}\nTXTIME_DELAY=${TXTIME_DELAY:-0}\nDRY=${DRY:-}\nFORCE=${FORCE:-}\n";
+    "#!/bin/sh\n# Each list is set on the device that its variable names, and none where that is empty.\n# BASE_TIME: when the first cycle begins, in nanoseconds of the clock CLOCKID.\n# FLAGS: empty where the kernel runs the lists, 0x2 where the device does, 0x1 for launch times, with TXTIME_DELAY.\n# MOST, LEAST: the most entries and the least nanoseconds of one that a device takes; LEAST empty: as long as 60 octets on its link.\n# DRY=1: print the commands and run none. FORCE=1: set lists that are refused for MOST or LEAST, too.\nset -eu\nCLOCKID=${CLOCKID:-CLOCK_TAI}\nBASE_TIME=${BASE_TIME:-0}\nFLAGS=${FLAGS:-}\nTXTIME_DELAY=${TXTIME_DELAY:-0}\nDRY=${DRY:-}\nFORCE=${FORCE:-}\n";
 
 /// The lines behind the variables of the devices: what the variables make.
 const SETTING_LINES: &str =
-    "\ncase $FLAGS in\n'') CLOCK=\"clockid $CLOCKID\" ;;\n0x1 | 1) CLOCK=\"flags $FLAGS txtime-delay $TXTIME_DELAY clockid $CLOCKID\" ;;\n*) CLOCK=\"flags $FLAGS\" ;;\nesac\n\n# Ends the script where a variable is no number.\nnumber() {\n    case $2 in\n    '' | *[!0123456789]* | ???????????????????*)\n        echo \"$1 is no number of at most 18 digits: $2\" >&2\n        exit 1\n        ;;\n    esac\n}\nnumber MOST \"$MOST\"\nnumber LEAST \"$LEAST\"\n";
+    "\ncase $FLAGS in\n'') CLOCK=\"clockid $CLOCKID\" ;;\n0x1 | 1) CLOCK=\"flags $FLAGS txtime-delay $TXTIME_DELAY clockid $CLOCKID\" ;;\n*) CLOCK=\"flags $FLAGS\" ;;\nesac\n\n# Ends the script where a variable is no number.\nnumber() {\n    case $2 in\n    '' | *[!0123456789]* | ???????????????????*)\n        echo \"$1 is no number of at most 18 digits: $2\" >&2\n        exit 1\n        ;;\n    esac\n}\nnumber MOST \"$MOST\"\nnumber LEAST \"${LEAST:-0}\"\n";
 
 /// The lines before the lists: what is done with each list.
 const MIDDLE_LINES: &str =
-    "REFUSED=\n\n# Tells what a device doesn't take of its list: more than MOST entries, or one shorter than LEAST nanoseconds.\njudge() {\n    device=$1\n    entries=0\n    shortest=$LEAST\n    while [ $# -gt 0 ]; do\n        if [ \"$1\" = sched-entry ]; then\n            entries=$((entries + 1))\n            [ \"$4\" -ge \"$shortest\" ] || shortest=$4\n            shift 3\n        fi\n        shift\n    done\n    if [ \"$entries\" -gt \"$MOST\" ]; then\n        echo \"$device: $entries entries, more than $MOST\" >&2\n        REFUSED=1\n    fi\n    if [ \"$shortest\" -lt \"$LEAST\" ]; then\n        echo \"$device: an entry of $shortest ns, shorter than $LEAST\" >&2\n        REFUSED=1\n    fi\n}\n\n# Sets a list on its device.\nput() {\n    device=$1\n    shift\n    if [ -n \"$DRY\" ]; then\n        echo tc qdisc replace dev \"$device\" \"$@\"\n    else\n        tc qdisc replace dev \"$device\" \"$@\"\n    fi\n}\n\neach_list() {\n    :\n";
+    "REFUSED=\n\n# Tells what a device doesn't take of its list: more than MOST entries, or one shorter than LEAST nanoseconds.\njudge() {\n    least=${LEAST:-$1}\n    device=$2\n    shift 2\n    entries=0\n    shortest=$least\n    while [ $# -gt 0 ]; do\n        if [ \"$1\" = sched-entry ]; then\n            entries=$((entries + 1))\n            [ \"$4\" -ge \"$shortest\" ] || shortest=$4\n            shift 3\n        fi\n        shift\n    done\n    if [ \"$entries\" -gt \"$MOST\" ]; then\n        echo \"$device: $entries entries, more than $MOST\" >&2\n        REFUSED=1\n    fi\n    if [ \"$shortest\" -lt \"$least\" ]; then\n        echo \"$device: an entry of $shortest ns, shorter than $least\" >&2\n        REFUSED=1\n    fi\n}\n\n# Sets a list on its device.\nput() {\n    device=$2\n    shift 2\n    if [ -n \"$DRY\" ]; then\n        echo tc qdisc replace dev \"$device\" \"$@\"\n    else\n        tc qdisc replace dev \"$device\" \"$@\"\n    fi\n}\n\neach_list() {\n    :\n";
 
 /// The last lines: each list is judged before any is set.
 const LAST_LINES: &str =
@@ -33,16 +33,19 @@ const LAST_LINE: &str = "    $CLOCK\n";
 pub struct DeviceLimits {
     /// The most entries.
     pub most: usize,
-    /// The shortest entry, in nanoseconds.
-    pub least: u64,
+    /// The shortest entry, in nanoseconds; if it isn't given, as long as 60 octets take on the list's link.
+    pub least: Option<u64>,
 }
 
 /// What Linux takes: 30 entries fit into a message of `tc`, and the kernel refuses an entry within which 60 octets don't fit,
-/// 480 ns at 1000 Mb/s.
+/// 480 ns at 1000 Mb/s, 4,800 at 100 and 48,000 at 10.
 pub const LINUX: DeviceLimits = DeviceLimits {
     most: 30,
-    least: 480,
+    least: None,
 };
+
+/// How many octets have to fit into an entry, for Linux.
+const SHORTEST_OCTETS: u64 = 60;
 
 /// The script of `to_taprio_within` for what Linux takes.
 ///
@@ -148,8 +151,10 @@ fn write_limits(text: &mut String, limits: DeviceLimits) -> Result<(), AllocErro
     ensures { OnOk result (string_bytes text.new ≡ string_bytes text.old ++ limits_text limits.most limits.least) }
 {
     let most = limits.most;
-    let least = limits.least;
-    write!(text, "MOST=${{MOST:-{most}}}\nLEAST=${{LEAST:-{least}}}\n")
+    match limits.least {
+        None => write!(text, "MOST=${{MOST:-{most}}}\nLEAST=${{LEAST:-}}\n"),
+        Some(least) => write!(text, "MOST=${{MOST:-{most}}}\nLEAST=${{LEAST:-{least}}}\n"),
+    }
 }
 
 /// Writes the variables of the devices.
@@ -182,17 +187,30 @@ fn write_part(text: &mut String, problem: &Problem, list: &GateList) -> Result<(
 {
     text.push_str("\n")?;
     write_link(text, problem, list.link())?;
-    write_command(text, list)
+    write_command(text, problem, list)
 }
 
 /// Writes the command of a list.
 #[tactic(auto, unfolding(crate::specs::Taprio::command_text))]
-fn write_command(text: &mut String, list: &GateList) -> Result<(), AllocError>
-    ensures { OnOk result (string_bytes text.new ≡ string_bytes text.old ++ command_text list.now) }
+fn write_command(text: &mut String, problem: &Problem, list: &GateList) -> Result<(), AllocError>
+    ensures { OnOk result (string_bytes text.new ≡ string_bytes text.old ++ command_text problem.now.network list.now) }
 {
-    write_opening(text, list.link(), list.cycle())?;
+    let shortest = shortest_entry(problem, list.link());
+    write_opening(text, list.link(), shortest, list.cycle())?;
     write_steps(text, list.entries())?;
     text.push_str(LAST_LINE)
+}
+
+/// The shortest entry that Linux takes on a link, in nanoseconds: as long as 60 octets. 0 where the network has no such link.
+pub(crate) fn shortest_entry(problem: &Problem, link: usize) -> u64
+    ensures { result ≡ shortest_entry problem.now.network link }
+{
+    if link >= problem.links() {
+        return 0;
+    }
+    // The network is within its limits.
+    let _limits = problem.cycle();
+    SHORTEST_OCTETS * problem.link(link).octet_time
 }
 
 /// Writes the lines of the entries.
@@ -265,12 +283,17 @@ fn write_variable(text: &mut String, link: usize) -> Result<(), AllocError>
 
 /// Writes the head of a link's command.
 #[tactic(auto, unfolding(crate::specs::Taprio::opening_text))]
-fn write_opening(text: &mut String, link: usize, cycle: u64) -> Result<(), AllocError>
-    ensures { OnOk result (string_bytes text.new ≡ string_bytes text.old ++ opening_text link cycle) }
+fn write_opening(
+    text: &mut String,
+    link: usize,
+    shortest: u64,
+    cycle: u64,
+) -> Result<(), AllocError>
+    ensures { OnOk result (string_bytes text.new ≡ string_bytes text.old ++ opening_text link shortest cycle) }
 {
     write!(
         text,
-        "[ -z \"$DEV_{link}\" ] || \"$1\" \"$DEV_{link}\" parent root handle 100 taprio \\\n    num_tc 8 map 0 1 2 3 4 5 6 7 0 0 0 0 0 0 0 0 \\\n    queues 1@0 1@1 1@2 1@3 1@4 1@5 1@6 1@7 \\\n    base-time \"$BASE_TIME\" cycle-time {cycle} \\\n"
+        "[ -z \"$DEV_{link}\" ] || \"$1\" {shortest} \"$DEV_{link}\" parent root handle 100 taprio \\\n    num_tc 8 map 0 1 2 3 4 5 6 7 0 0 0 0 0 0 0 0 \\\n    queues 1@0 1@1 1@2 1@3 1@4 1@5 1@6 1@7 \\\n    base-time \"$BASE_TIME\" cycle-time {cycle} \\\n"
     )
 }
 

@@ -1,17 +1,18 @@
-//! What a device doesn't take of a plan's gate control lists.
+//! What a device doesn't take of a plan's gate control lists, and which leave others no time.
 ghost use Rattle.tsn_model.specs.Schedule.{IsValid};
 
 use crate::File;
 use std::alloc::Global;
 use tsn_cert::plan_from_json;
 use tsn_check::check_plan;
-use tsn_gate::{DeviceLimits, device_lines, lists_by};
+use tsn_gate::{DeviceLimits, GateList, closed_lines, device_lines, lists_by};
 use tsn_model::NoMemory;
 use tsn_net::{Problem, read_problem};
 use tsn_timing::{Timing, Valid};
 
-/// A line for each list that has more entries than a device takes, or a shorter one than it takes; the lists are those of a plan,
-/// merged where that is asked for. Nothing where a file or the plan is refused.
+/// A line for each merged list that leaves others no time, and for each list that has more entries than a device takes, or a
+/// shorter one than it takes; the lists are those of a plan, merged where that is asked for. Nothing where a file or the plan is
+/// refused.
 pub fn device_reason(
     alloc: Global,
     network: File<'_>,
@@ -56,5 +57,15 @@ fn lines_of(
     requires { IsValid problem.now.network valid.now }
 {
     let lists = lists_by(alloc, problem, valid, merge)?;
-    device_lines(alloc, &lists, limits)
+    let mut text = closed_by(alloc, &lists, merge)?;
+    text.push_str(device_lines(alloc, problem, &lists, limits)?.as_str())?;
+    Ok(text)
+}
+
+/// A line for each merged list that leaves others no time.
+fn closed_by(alloc: Global, lists: &[GateList], merge: Option<u64>) -> Result<String, NoMemory> {
+    match merge {
+        Some(_) => closed_lines(alloc, lists),
+        None => Ok(String::new(alloc)),
+    }
 }
