@@ -1,8 +1,7 @@
--- A command with more arguments, or with one more below it.
-use Rattle.std.proofs.Common.{◌≡◌, suc, false, ◌||◌, ◌∙◌, ap₂, All, List, [], ◌∷◌, map, arith, refl, subst, Result, Ok, Err, IfOk, IsOkAnd}
+-- A command with more arguments.
+use Rattle.std.proofs.Common.{◌≡◌, suc, false, ◌||◌, ◌∙◌, ap₂, All, List, [], ◌∷◌, map, arith, refl, subst}
 use Rattle.std.specs.List.{fold}
-use Rattle.std.specs.declared.alloc.AllocError.{AllocError}
-use Rattle.clap.specs.Words.{AddsArg, AddsInTurn, App, Rule, app_of, rule_of, with_rule, with_subcommand}
+use Rattle.clap.specs.Words.{AddsArg, AddsInTurn, App, Rule, app_of, rule_of, with_rule}
 use Rattle.clap.specs.declared.builder.arg.Arg.{Arg}
 use Rattle.clap.specs.declared.builder.command.Command.{Command}
 use Rattle.clap.specs.declared.builder.command.Command.TheViews.{out-Command as fields_of}
@@ -26,11 +25,3 @@ arguments_added old new [] a reads local adds = subst (λ c. Reads c a) adds rea
 arguments_added old new (x ∷ xs) a reads local adds =
     let one = argument_added old x adds.0 a (rule_of x) reads refl (local 0 x (omega arith)) adds.1 in
     arguments_added adds.0 new xs (with_rule a (rule_of x)) one (λ i d below. local (suc i) d (omega arith)) adds.2
-
--- a command with one more below it, where both could be made
-pub command_added : (old below new : Result Command AllocError) (a b : App) → IfOk old (λ c. app_of c ≡ a) → IfOk below (λ c. app_of c ≡ b)
-    → IfOk new (λ c. IsOkAnd old (λ x. IsOkAnd below (λ y. app_of c ≡ with_subcommand (app_of x) (app_of y).top))) → IfOk new (λ c. app_of c ≡ with_subcommand a b.top)
-command_added (Ok old) (Ok below) (Ok new) a b is_old is_below adds = adds ∙ ap₂ (λ x (y : App). with_subcommand x y.top) is_old is_below
-command_added old below (Err fault) a b is_old is_below adds = tt
-command_added (Err fault) below (Ok new) a b is_old is_below adds = absurd adds
-command_added (Ok old) (Err fault) (Ok new) a b is_old is_below adds = absurd adds

@@ -21,3 +21,7 @@ more_values f xs i d numbers number below before behind =
     ∙ ap (λ (n : ℕ). map number_of (take i (map f xs)) ++ n ∷ []) behind
     ∙ sym (map-append number_of (take i (map f xs)) (f (slice_index_or xs i d) ∷ []))
     ∙ ap (map number_of) (sym (front f xs i d below))
+
+pub more_mapped : {X Y : Type 0} (f : X → Y) (xs : List X) (i : ℕ) (d : X) → i < length xs
+    → map f (take (i + 1) xs) ≡ map f (take i xs) ++ f (slice_index_or xs i d) ∷ []
+more_mapped f xs i d below = rw add-one (ap (map f) (take-suc xs i d below) ∙ map-append f (take i xs) (slice_index_or xs i d ∷ []))

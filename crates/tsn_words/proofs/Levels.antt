@@ -333,12 +333,12 @@ prove_known p answers no_help e =
     let rows = rows_after s.rules [] p.1 in
     let wanted = required s p.1 refl e in
     let network : IsGiven (codes "NET") rows = first_given (codes "NET") Any rows
-    (rows_good s [] p.1 false [] e (codes "NET") Any (λ _. fit_file _ refl refl refl, (apart, (apart, (apart, (apart, (apart, (apart, tt)))))))) wanted.0 in
+    (rows_good s [] p.1 false [] e (codes "NET") Any (λ _. fit_file _ refl refl refl, (apart, (apart, (apart, (apart, (apart, (apart, (apart, tt))))))))) wanted.0 in
     let plan : IsGiven (codes "PLAN") rows = first_given (codes "PLAN") Any rows
-    (rows_good s [] p.1 false [] e (codes "PLAN") Any (apart, (λ _. fit_file _ refl refl refl, (apart, (apart, (apart, (apart, (apart, tt)))))))) wanted.1.0 in
+    (rows_good s [] p.1 false [] e (codes "PLAN") Any (apart, (λ _. fit_file _ refl refl refl, (apart, (apart, (apart, (apart, (apart, (apart, tt))))))))) wanted.1.0 in
     let steps : IsWithin (codes "steps") 1000000000 rows = first_fits (codes "steps") _ rows
     (rows_good s [] p.1 false [] e (codes "steps") (IsUnsignedIn 1 1000000000)
-    (apart, (apart, (λ _. fit_numbers _ _ _ refl (inl refl) refl refl, (apart, (apart, (apart, (apart, tt)))))))) in
+    (apart, (apart, (λ _. fit_numbers _ _ _ refl (inl refl) refl refl, (apart, (apart, (apart, (apart, (apart, tt))))))))) in
     prove_found rows network plan steps
 
 explain_known : Known (leaf grammar.explain.top)

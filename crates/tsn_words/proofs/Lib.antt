@@ -4,3 +4,4 @@ pub mod Given
 pub mod Levels
 pub mod Getters
 pub mod Taken
+pub mod Reading

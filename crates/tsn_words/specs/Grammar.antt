@@ -22,12 +22,12 @@ use Rattle.tsn_words.specs.declared.words.GatesWords.{GatesWords}
 use Rattle.tsn_words.specs.declared.words.ReplayWords.{ReplayWords}
 use Rattle.tsn_words.specs.declared.words.ChartWords.{ChartWords}
 use Rattle.tsn_words.specs.declared.words.StreamsWords.{StreamsWords}
-use Rattle.tsn_words.specs.declared.words.GatesFormat.{GatesFormat}
-use Rattle.tsn_words.specs.declared.words.GatesFormat.TheVariants as lists
-use Rattle.tsn_words.specs.declared.words.ReplayFormat.{ReplayFormat}
-use Rattle.tsn_words.specs.declared.words.ReplayFormat.TheVariants as replays
-use Rattle.tsn_words.specs.declared.words.StreamsFormat.{StreamsFormat}
-use Rattle.tsn_words.specs.declared.words.StreamsFormat.TheVariants as shares
+use Rattle.tsn_format.specs.declared.GatesFormat.{GatesFormat}
+use Rattle.tsn_format.specs.declared.GatesFormat.TheVariants as lists
+use Rattle.tsn_format.specs.declared.ReplayFormat.{ReplayFormat}
+use Rattle.tsn_format.specs.declared.ReplayFormat.TheVariants as replays
+use Rattle.tsn_format.specs.declared.StreamsFormat.{StreamsFormat}
+use Rattle.tsn_format.specs.declared.StreamsFormat.TheVariants as shares
 use Rattle.tsn_words.specs.declared.words.Search.{Search}
 use Rattle.tsn_words.specs.declared.words.Search.TheVariants as searches
 use Rattle.tsn_words.specs.declared.words.WordsFault.{WordsFault}
@@ -81,13 +81,14 @@ plan =
 abbrev pub check : App
 check = with_rule (with_rule (with_rule (with_rule (new_app (codes "check")) (file (codes "NET"))) (file (codes "PLAN"))) (file (codes "CERT"))) (flag (codes "json"))
 
--- prove NET PLAN [--steps N] [--plan FILE] [--cert FILE] [--progress]
+-- prove NET PLAN [--steps N] [--plan FILE] [--cert FILE] [--progress] [--json]
 abbrev pub prove : App
 prove =
-    with_rule (with_rule (with_rule (with_rule (with_rule (with_rule (new_app (codes "prove")) (file (codes "NET"))) (file (codes "PLAN"))) (number_option (codes "steps") 1000000000))
+    with_rule (with_rule (with_rule (with_rule (with_rule (with_rule (with_rule (new_app (codes "prove")) (file (codes "NET"))) (file (codes "PLAN"))) (number_option (codes "steps") 1000000000))
     (word_option (codes "plan")))
     (word_option (codes "cert")))
-    (flag (codes "progress"))
+    (flag (codes "progress")))
+    (flag (codes "json"))
 
 -- explain NET PLAN CERT
 abbrev pub explain : App
@@ -199,12 +200,13 @@ IsCheckOf rows asked =
     (first_of (codes "NET") rows ≡ Some asked.network.now) × (first_of (codes "PLAN") rows ≡ Some asked.plan.now) × (first_of (codes "CERT") rows ≡ Some asked.cert.now)
     × IsFlag (one_of (codes "json") rows) asked.json
 
--- the files, the number, the files to write and the flag of `prove`
+-- the files, the number, the files to write and the flags of `prove`
 abbrev pub IsProveOf : List Row → ProveWords → Type 0
 IsProveOf rows asked =
     (first_of (codes "NET") rows ≡ Some asked.network.now) × (first_of (codes "PLAN") rows ≡ Some asked.given.now) × IsNumberOr (first_of (codes "steps") rows) 1000000 asked.steps
     × (first_of (codes "plan") rows ≡ option_map (λ word. word.now) asked.plan) × (first_of (codes "cert") rows ≡ option_map (λ word. word.now) asked.cert)
     × IsFlag (one_of (codes "progress") rows) asked.progress
+    × IsFlag (one_of (codes "json") rows) asked.json
 
 -- the files of `explain`
 abbrev pub IsExplainOf : List Row → ExplainWords → Type 0
@@ -215,7 +217,7 @@ IsExplainOf rows asked =
 abbrev pub IsGatesOf : List Row → GatesWords → Type 0
 IsGatesOf rows asked =
     (first_of (codes "NET") rows ≡ Some asked.network.now) × (first_of (codes "PLAN") rows ≡ Some asked.plan.now) × (gates_format (first_of (codes "format") rows) ≡ Some asked.format)
-    × IsNumberIf (first_of (codes "merge") rows) asked.merge × IsNumberOr (first_of (codes "most") rows) 30 asked.most × IsNumberOr (first_of (codes "least") rows) 480 asked.least
+    × IsNumberIf (first_of (codes "merge") rows) asked.merge × IsNumberOr (first_of (codes "most") rows) 30 asked.most × IsNumberIf (first_of (codes "least") rows) asked.least
 
 -- the files, the number, the flag, the format and the time of `replay`
 abbrev pub IsReplayOf : List Row → ReplayWords → Type 0

@@ -2,6 +2,7 @@
 #![tactic(auto)]
 
 mod command;
+mod table;
 pub mod words;
 
 pub use command::words_from;

@@ -5,6 +5,7 @@ ghost use Rattle.tsn_words.specs.declared.words.TheConstants.{MAX_WORKERS};
 
 use std::alloc::AllocError;
 use thiserror::Error;
+pub use tsn_format::{GatesFormat, ReplayFormat, StreamsFormat};
 
 /// The greatest offset, in nanoseconds.
 pub const MAX_OFFSET: u64 = 2_000_000_000;
@@ -29,9 +30,6 @@ pub const MAX_ENTRIES: usize = 1_000_000;
 
 /// The most entries that a device takes where the words don't say: more don't fit into a message to Linux.
 pub const DEFAULT_ENTRIES: usize = 30;
-
-/// The shortest entry that a device takes where the words don't say, in nanoseconds: Linux refuses shorter ones.
-pub const DEFAULT_ENTRY: u64 = 480;
 
 /// The greatest number of a directed link.
 pub const MAX_LINK: u64 = 1023;
@@ -79,17 +77,6 @@ pub struct ExplainWords<'a> {
     pub cert: &'a str,
 }
 
-/// How gate control lists are printed.
-#[derive(Clone, Copy, Debug, PartialEq, Eq)]
-pub enum GatesFormat {
-    /// `table`, which goes where the words name none.
-    Table,
-    /// `taprio`: a shell script for Linux.
-    Taprio,
-    /// `json`: an object a line.
-    Json,
-}
-
 /// `gates NET PLAN`: print the gate control lists of a plan.
 #[derive(Clone, Copy)]
 pub struct GatesWords<'a> {
@@ -97,18 +84,18 @@ pub struct GatesWords<'a> {
     pub network: &'a str,
     /// The plan file.
     pub plan: &'a str,
-    /// How they are printed.
+    /// How they are printed: as a table where the words don't say.
     pub format: GatesFormat,
-    /// In nanoseconds, 0 to `MAX_TIME`: windows that are less than this apart are joined, if it is given.
+    /// In nanoseconds, 0 to `MAX_TIME`: entries are to last so long, or the whole cycle, if it is given.
     pub merge: Option<u64>,
     /// The most entries that a device takes, 1 to `MAX_ENTRIES`.
     pub most: usize,
-    /// The shortest entry that a device takes, in nanoseconds, 0 to `MAX_TIME`.
-    pub least: u64,
+    /// The shortest entry that a device takes, in nanoseconds, 0 to `MAX_TIME`, if it is given.
+    pub least: Option<u64>,
     pub ghost small: { ForSome merge (λ time. time ≤ 1000000000) },
     pub ghost some: { 1 ≤ most },
     pub ghost few: { most ≤ 1000000 },
-    pub ghost short: { least ≤ 1000000000 },
+    pub ghost short: { ForSome least (λ time. time ≤ 1000000000) },
 }
 
 /// `chart NET PLAN`: draw a plan.
@@ -184,17 +171,10 @@ pub struct ProveWords<'a> {
     pub cert: Option<&'a str>,
     /// Whether it is told on standard error how far the search has got.
     pub progress: bool,
+    /// Whether the answer is printed as a line of JSON.
+    pub json: bool,
     pub ghost some: { 1 ≤ steps },
     pub ghost few: { steps ≤ 1000000000 },
-}
-
-/// How a replay is printed.
-#[derive(Clone, Copy, Debug, PartialEq, Eq)]
-pub enum ReplayFormat {
-    /// `table`, which goes where the words name none.
-    Table,
-    /// `csv`: comma-separated values.
-    Csv,
 }
 
 /// `replay NET PLAN`: replay the gate control lists of a plan.
@@ -208,24 +188,13 @@ pub struct ReplayWords<'a> {
     pub cycles: usize,
     /// Whether a background frame always waits.
     pub greedy: bool,
-    /// How it is printed.
+    /// How it is printed: as a table where the words don't say.
     pub format: ReplayFormat,
-    /// In nanoseconds, 0 to `MAX_TIME`: windows that are less than this apart are joined, if it is given.
+    /// In nanoseconds, 0 to `MAX_TIME`: entries of the lists are to last so long, if it is given.
     pub merge: Option<u64>,
     pub ghost some: { 1 ≤ cycles },
     pub ghost few: { cycles ≤ 16 },
     pub ghost small: { ForSome merge (λ time. time ≤ 1000000000) },
-}
-
-/// How the shares of streams and links are printed.
-#[derive(Clone, Copy, Debug, PartialEq, Eq)]
-pub enum StreamsFormat {
-    /// `table`, which goes where the words name none.
-    Table,
-    /// `json`: an object a line.
-    Json,
-    /// `csv`: comma-separated values.
-    Csv,
 }
 
 /// `streams NET PLAN`: print what each stream and each link gets by a plan.
@@ -235,7 +204,7 @@ pub struct StreamsWords<'a> {
     pub network: &'a str,
     /// The plan file.
     pub plan: &'a str,
-    /// How it is printed.
+    /// How it is printed: as a table where the words don't say.
     pub format: StreamsFormat,
 }
 

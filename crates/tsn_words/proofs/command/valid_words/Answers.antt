@@ -2,7 +2,7 @@ use Rattle.std.proofs.Common.{◌≡◌, ◌≤◌, ◌∙◌, List, All, Option
 use Rattle.std.specs.Prelude.{MatchOption}
 use Rattle.std.proofs.Math.ListN.{length-map}
 use Rattle.clap.specs.Words.{IsUnsignedIn, Text, found_of, rows_of}
-use Rattle.clap.proofs.WalkLemmas.{one_text-rows, raw_values-rows}
+use Rattle.clap.proofs.WalkLemmas.{raw_values-rows}
 use Rattle.tsn_words.specs.declared.words.TheConstants.{MAX_OFFSET}
 use Rattle.tsn_words.proofs.Getters.{all_got, are_numbers}
 use Rattle.tsn_words.proofs.command.valid_words.Goals as goal
@@ -11,33 +11,34 @@ abbrev Has : Option (List Text) → Type 0
 Has o = MatchOption o ⊥ (λ words. (1 ≤ length words) × All (IsUnsignedIn 0 MAX_OFFSET) words)
 
 pub unreachable-requires : goal.unreachable-requires
-unreachable-requires c = all_got (found_of c.args.words.now) (codes "OFFSET") None Has c.in_default.ensures c.requires.offsets
+unreachable-requires c = all_got (found_of c.args.words.now) (codes "OFFSET") None Has c.in_default.ensures (c.requires.valid refl).1
 
 pub offsets_of-requires : goal.offsets_of-requires
 offsets_of-requires c =
-    let has : Has (Some (map (λ word. word.now) c.in-Some.texts.now)) = all_got (found_of c.args.words.now) (codes "OFFSET") _ Has c.in-Some.ensures c.requires.offsets in
+    let has : Has (Some (map (λ word. word.now) c.in-Some.texts.now)) = all_got (found_of c.args.words.now) (codes "OFFSET") _ Has c.in-Some.ensures (c.requires.valid refl).1 in
     has.1
 
 pub invariant_of-result-clause-some : goal.invariant_of-result-clause-some
 invariant_of-result-clause-some c =
-    let has : Has (Some (map (λ word. word.now) c.in-Some.texts.now)) = all_got (found_of c.args.words.now) (codes "OFFSET") _ Has c.in-Some.ensures c.requires.offsets in
+    let has : Has (Some (map (λ word. word.now) c.in-Some.texts.now)) = all_got (found_of c.args.words.now) (codes "OFFSET") _ Has c.in-Some.ensures (c.requires.valid refl).1 in
     let some : 1 ≤ length (map (λ word. word.now) c.in-Some.texts.now) = has.0 in
-    let same : length c.in_ok-offsets.offsets.items ≡ length (map (λ word. word.now) c.in-Some.texts.now) =
-    ap length c.in_ok-offsets.ensures.values ∙ simp length-map in
-    let enough : 1 ≤ length c.in_ok-offsets.offsets.items = omega arith in
+    let same : length c.in_ok-offsets_of.field-0.items ≡ length (map (λ word. word.now) c.in-Some.texts.now) = ap length c.in_ok-offsets_of.ensures.values ∙ simp length-map in
+    let enough : 1 ≤ length c.in_ok-offsets_of.field-0.items = omega arith in
     search rules
 
-pub returns-clause-asked : goal.returns-clause-asked
-returns-clause-asked c =
+pub returns : goal.returns
+returns c =
     let found = found_of c.args.words.now in
     let texts = map (λ word. word.now) c.in-Some.texts.now in
-    let has : Has (Some texts) = all_got found (codes "OFFSET") _ Has c.in-Some.ensures c.requires.offsets in
-    let json = one_text-rows found (codes "json") in (
-      rows_of found,
-      refl,
+    let has : Has (Some texts) = all_got found (codes "OFFSET") _ Has c.in-Some.ensures (c.requires.valid refl).1 in (
       (
-        c.text_of-network.ensures,
-        (texts, sym (raw_values-rows found (codes "OFFSET")) ∙ sym c.in-Some.ensures, are_numbers 0 MAX_OFFSET texts has.1, c.in_ok-offsets.ensures.values),
-        (λ is. c.get_flag-json.ensures.value (json ∙ is), λ is. c.get_flag-json.ensures.other (json ∙ is), λ is. c.get_flag-json.ensures.none (json ∙ is)),
+        rows_of found,
+        refl,
+        (
+          c.text_of.ensures,
+          (texts, sym (raw_values-rows found (codes "OFFSET")) ∙ sym c.in-Some.ensures, are_numbers 0 MAX_OFFSET texts has.1, c.in_ok-offsets_of.ensures.values),
+          c.flag_of.ensures,
+        ),
       ),
+      refl,
     )
