@@ -1,7 +1,7 @@
 //! What bounds give other bounds: the arcs of orders, and the arrivals. Bounds stand in this order: the least and the greatest offset
 //! of each stream, the least and the greatest flowspan, and for each order whether its left stream goes first, and whether its right
 //! one does. Times are in nanoseconds.
-use crate::number::{NONE, index, lengthen_indices, put_index};
+use crate::number::{NONE, index, index_at, lengthen_indices, put_index};
 use crate::table::{Order, Table};
 use std::alloc::{AllocError, Global};
 
@@ -15,10 +15,20 @@ pub struct Arc {
     pub weight: i64,
 }
 
+/// The same without the bound that it comes from.
+#[derive(Clone, Copy)]
+pub struct Reach {
+    pub to: u32,
+    pub order: u32,
+    pub weight: i64,
+}
+
 /// The arcs, by the bound that they come from.
 #[derive(Drop)]
 pub struct Arcs {
-    pub list: Vec<Arc>,
+    pub list: Vec<Reach>,
+    // The bounds that they come from.
+    sources: Vec<u32>,
     // For each bound of an offset or the flowspan, where its arcs begin.
     starts: Vec<usize>,
     // For each bound of an order its arc between least offsets, and that between greatest ones.
@@ -33,6 +43,7 @@ impl Arcs {
     pub fn none(alloc: Global) -> Arcs {
         Arcs {
             list: Vec::new(alloc),
+            sources: Vec::new(alloc),
             starts: Vec::new(alloc),
             least: Vec::new(alloc),
             greatest: Vec::new(alloc),
@@ -79,8 +90,14 @@ impl Arcs {
 
     /// The arc of this number.
     pub fn arc(&self, number: u32) -> Arc {
+        let from = index_at(&self.sources, number as usize);
         match self.list.get(number as usize) {
-            Some(arc) => *arc,
+            Some(reach) => Arc {
+                from,
+                to: reach.to,
+                order: reach.order,
+                weight: reach.weight,
+            },
             None => Arc {
                 from: 0,
                 to: 0,
@@ -114,13 +131,8 @@ impl Arcs {
     }
 
     fn add(&mut self, from: usize, to: u32, order: u32, weight: i64) -> Result<(), AllocError> {
-        let arc = Arc {
-            from: index(from),
-            to,
-            order,
-            weight,
-        };
-        self.list.push(arc)?;
+        self.sources.push(index(from))?;
+        self.list.push(Reach { to, order, weight })?;
         Ok(())
     }
 

@@ -2,7 +2,7 @@
 use crate::arcs::Arc;
 use crate::clauses::Found;
 use crate::literal::Literal;
-use crate::number::{NONE, at, index, less, next, sum};
+use crate::number::{at, index, less, next, sum};
 use crate::reason::Why;
 use crate::search::Search;
 use crate::table::Visit;
@@ -34,6 +34,9 @@ impl Search {
             };
             let bound = event.bound;
             self.trail.looked = next(self.trail.looked);
+            if !self.trail.follow(bound) {
+                continue;
+            }
             if !self.follow_clauses(bound)? {
                 return Ok(false);
             }
@@ -103,24 +106,40 @@ impl Search {
         let to = self.arcs.start(next(bound as usize));
         self.pace.spend(less_place(to, from));
         let value = self.trail.value(bound);
-        for number in from..to {
-            let arc = self.arcs.arc(index(number));
-            let least = sum(value, arc.weight);
-            if arc.order == NONE || self.trail.holds(arc.order) {
-                if !self.raise(Literal::of(arc.to, least), Why::Arc(index(number)))? {
-                    return Ok(false);
-                }
-            } else if least > self.trail.value(arc.to ^ 1).wrapping_neg()
-                && !self.trail.holds(arc.order ^ 1)
-            {
-                let needed = self.least_to_turn(arc);
-                let turned = Literal::of(arc.order ^ 1, holds(arc.order ^ 1));
-                if !self.raise(turned, Why::Turn(index(number), needed))? {
-                    return Ok(false);
-                }
+        let mut place = from;
+        for _ in from..to {
+            let Some(number) = self.next_arc(place, to, value) else {
+                break;
+            };
+            if !self.follow_from(number, value)? {
+                return Ok(false);
             }
+            place = next(number);
         }
         Ok(true)
+    }
+
+    // The first of these arcs by which something follows from its source's value.
+    fn next_arc(&self, from: usize, to: usize, value: i64) -> Option<usize> {
+        let arcs = self.arcs.list.get(from..to)?;
+        for (number, reach) in arcs.iter().enumerate() {
+            if self.trail.is_moved(reach, sum(value, reach.weight)) {
+                return Some(from.wrapping_add(number));
+            }
+        }
+        None
+    }
+
+    // What follows from the value of an arc's source: the value of its target, or that the order is turned.
+    fn follow_from(&mut self, number: usize, value: i64) -> Result<bool, AllocError> {
+        let arc = self.arcs.arc(index(number));
+        if self.trail.holds(arc.order) {
+            let least = sum(value, arc.weight);
+            return self.raise(Literal::of(arc.to, least), Why::Arc(index(number)));
+        }
+        let needed = self.least_to_turn(arc);
+        let turned = Literal::of(arc.order ^ 1, holds(arc.order ^ 1));
+        self.raise(turned, Why::Turn(index(number), needed))
     }
 
     // An arc can't be met: how great its source has to be for that. What is known before the first decision counts most, then what
@@ -158,14 +177,14 @@ impl Search {
 
     // Looks at a link from both sides, from the second one only where nothing changed by the first.
     fn look_at_link(&mut self, link: usize) -> Result<bool, AllocError> {
-        let Some(shared) = self.table.links.get(link) else {
+        let Some(count) = self.rooms.count_on(link) else {
             return Ok(true);
         };
-        self.pace.spend(shared.visits.len());
-        if !self.rooms.take(link, shared, &self.trail.values) {
+        self.pace.spend(count);
+        if !self.rooms.take(link, &self.trail.values) {
             return Ok(true);
         }
-        self.pace.spend(shared.visits.len().wrapping_mul(16));
+        self.pace.spend(count.wrapping_mul(16));
         for side in 0..2 {
             if !self.look_from(link, side)? {
                 return Ok(false);
@@ -184,10 +203,7 @@ impl Search {
     }
 
     fn look_from(&mut self, link: usize, side: u32) -> Result<bool, AllocError> {
-        let Some(shared) = self.table.links.get(link) else {
-            return Ok(true);
-        };
-        if let Some(overload) = self.rooms.look(link, side, shared)? {
+        if let Some(overload) = self.rooms.look(link, side)? {
             self.note_overload(overload)?;
             return Ok(false);
         }

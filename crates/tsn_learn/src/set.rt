@@ -35,6 +35,33 @@ impl Set {
         self.bits &= !Set::of(number).bits;
     }
 
+    /// The numbers below this one.
+    pub fn below(number: usize) -> Set {
+        if number >= 128 {
+            return Set { bits: u128::MAX };
+        }
+        Set {
+            bits: Set::of(number).bits.wrapping_sub(1),
+        }
+    }
+
+    /// The numbers that are in both.
+    pub fn both(self, other: Set) -> Set {
+        Set {
+            bits: self.bits & other.bits,
+        }
+    }
+
+    /// Takes the greatest number out.
+    pub fn take_greatest(&mut self) -> Option<usize> {
+        if self.bits == 0 {
+            return None;
+        }
+        let greatest = 127u32.wrapping_sub(self.bits.leading_zeros()) as usize;
+        self.drop_out(greatest);
+        Some(greatest)
+    }
+
     /// Takes the least number out.
     pub fn take(&mut self) -> Option<usize> {
         if self.bits == 0 {

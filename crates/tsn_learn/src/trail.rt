@@ -1,6 +1,10 @@
 //! The bounds of the variables, and the changes that led to them, one after another.
+use crate::arcs::Reach;
 use crate::literal::Literal;
-use crate::number::{NONE, at, index, index_at, lengthen_indices, put, put_index};
+use crate::number::{
+    NONE, at, index, index_at, is_marked, lengthen, lengthen_indices, lengthen_marks, mark, put,
+    put_index,
+};
 use crate::reason::{Placing, Why};
 use std::alloc::{AllocError, Global};
 
@@ -38,6 +42,10 @@ pub struct Trail {
     pub looked: usize,
     // The last change of each bound.
     tops: Vec<u32>,
+    // Where each bound stood when it was looked at last what follows from it.
+    followed: Vec<i64>,
+    // Of each bound of an order whether its side is known to hold.
+    held: Vec<bool>,
     marks: Vec<Mark>,
 }
 
@@ -51,12 +59,16 @@ impl Trail {
             placings: Vec::new(alloc),
             looked: 0,
             tops: Vec::new(alloc),
+            followed: Vec::new(alloc),
+            held: Vec::new(alloc),
             marks: Vec::new(alloc),
         }
     }
 
     /// Notes that no bound was changed. The error says that there was no memory.
     pub fn size(&mut self) -> Result<(), AllocError> {
+        lengthen(&mut self.followed, i64::MIN, self.values.len())?;
+        lengthen_marks(&mut self.held, self.values.len())?;
         lengthen_indices(&mut self.tops, NONE, self.values.len())
     }
 
@@ -90,13 +102,26 @@ impl Trail {
 
     /// Whether the order's side of this bound, or its other side, is known.
     pub fn is_known(&self, order: u32) -> bool {
-        at(&self.values, order as usize) >= holds(order)
-            || at(&self.values, (order ^ 1) as usize) >= holds(order ^ 1)
+        self.holds(order) || self.holds(order ^ 1)
     }
 
-    /// Whether the order's side of this bound holds.
+    /// Whether the order's side of this bound holds; that of no bound always does.
     pub fn holds(&self, order: u32) -> bool {
-        at(&self.values, order as usize) >= holds(order)
+        match self.held.get(order as usize) {
+            Some(is_held) => *is_held,
+            None => true,
+        }
+    }
+
+    /// Whether something follows from an arc by which its target is at least this, if the order holds: that the target is, or that the
+    /// order is turned. (Nearly always nothing does, so it's asked without a branch.)
+    pub fn is_moved(&self, reach: &Reach, least: i64) -> bool {
+        let is_held = self.holds(reach.order);
+        let is_turned = is_marked(&self.held, (reach.order ^ 1) as usize);
+        let side = reach.to ^ (!is_held as u32);
+        let value = at(&self.values, side as usize);
+        let most = if is_held { value } else { value.wrapping_neg() };
+        (least > most) & !is_turned
     }
 
     /// The change of this number.
@@ -146,6 +171,16 @@ impl Trail {
         Ok(())
     }
 
+    /// Notes that it's looked at what follows from a bound. False where that was done when it stood where it stands.
+    pub fn follow(&mut self, bound: u32) -> bool {
+        let value = self.value(bound);
+        if at(&self.followed, bound as usize) == value {
+            return false;
+        }
+        put(&mut self.followed, bound as usize, value);
+        true
+    }
+
     /// Narrows a bound.
     pub fn change(&mut self, literal: Literal, why: Why, shown: usize) -> Result<(), AllocError> {
         let number = index(self.events.len());
@@ -161,6 +196,7 @@ impl Trail {
         self.events.push(event)?;
         put_index(&mut self.tops, literal.place(), number);
         put(&mut self.values, literal.place(), literal.least);
+        mark(&mut self.held, literal.place(), true);
         if self.marks.is_empty() {
             put(&mut self.ground, literal.place(), literal.least);
         }
@@ -169,13 +205,15 @@ impl Trail {
 
     /// Takes the last change back, where it is behind the beginning of this level.
     pub fn take_back(&mut self, level: usize) -> Option<Event> {
-        let mark = self.marks.get(level)?;
-        if self.events.len() <= mark.events {
+        let begun = self.marks.get(level)?;
+        if self.events.len() <= begun.events {
             return None;
         }
         let event = self.events.pop()?;
         put(&mut self.values, event.bound as usize, event.old);
         put_index(&mut self.tops, event.bound as usize, event.before);
+        mark(&mut self.held, event.bound as usize, false);
+        put(&mut self.followed, event.bound as usize, i64::MIN);
         Some(event)
     }
 
