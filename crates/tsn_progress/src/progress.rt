@@ -57,11 +57,6 @@ impl<'a, R: Clock + Eprint> Progress<'a, R> {
         }
     }
 
-    /// What is known so far.
-    pub fn known(&self) -> &Heard {
-        &self.known
-    }
-
     /// Writes the last line, where a node was settled or something was learned.
     pub fn end(&self) {
         let settled = self.settled.load(Ordering::SeqCst);
@@ -131,10 +126,10 @@ impl<'a, R: Clock + Eprint> Progress<'a, R> {
 impl<'a, R: Clock + Eprint> Supervisor for Progress<'a, R> {
     fn pass(&self, _teller: usize) {}
 
-    fn hear(&self, teller: usize, news: News) {
+    fn hear(&self, _teller: usize, news: News) {
         let nodes = news.nodes as u64;
         self.splits.fetch_add(news.splits as u64, Ordering::SeqCst);
-        self.known.hear(teller, news);
+        self.known.hear_flowspan(news.flowspan);
         let before = self.settled.fetch_add(nodes, Ordering::SeqCst);
         if before / STRIDE != before.wrapping_add(nodes) / STRIDE {
             if let Some(elapsed) = self.due_now() {
@@ -161,7 +156,7 @@ impl<'a, R: Clock + Eprint> Supervisor for Progress<'a, R> {
     }
 
     fn hear_learned(&self, news: LearnedNews) {
-        self.known.hear_learned(news);
+        self.known.hear_flowspan(news.flowspan);
         self.conflicts.store(news.conflicts, Ordering::SeqCst);
         self.has_learned.store(true, Ordering::SeqCst);
         if let Some(elapsed) = self.due_now() {

@@ -23,6 +23,7 @@ use Rattle.tsn_argument.specs.declared.argument.Goal.{Goal}
 use Rattle.tsn_argument.specs.declared.argument.Goal.TheVariants as aim
 use Rattle.tsn_argument.specs.declared.certificate.Certificate.{Certificate}
 use Rattle.tsn_argument.specs.declared.certificate.Certificate.TheVariants.{Tree, Argument as Argued}
+use Rattle.tsn_argument.specs.Laws.{ArgumentIsReadAgain}
 use Rattle.tsn_argue.specs.Certified as argue
 use Rattle.tsn_argue.specs.Certified.{argument_verdict, goal_for}
 use Rattle.tsn_worker.specs.Answer.{Shows, IsStopped, IsFinished, IsFoundPlan, IsArgued, IsCertOf, IsAnswer, IsFound, HasNoneOpen, plan_kept, answer_for, whole_verdict}
@@ -65,6 +66,7 @@ shown limit book lawful within plan is right cert of =
       whole = of.of_format_two;
       counted = sym of.counted;
       within = within;
+      read_again = tt;
     }
 
 -- a lawful search that has left nothing open
@@ -102,7 +104,7 @@ finished_within network limit greater book more done = record {
   found = done.found;
   shown = λ cert of.
       let shows = done.shown cert of in
-      record { certifies = shows.certifies; whole = shows.whole; counted = shows.counted; within = omega (arith, shows.within) };
+      record { certifies = shows.certifies; whole = shows.whole; counted = shows.counted; within = omega (arith, shows.within); read_again = shows.read_again };
 }
 
 -- a plan that is found and shown is an answer
@@ -134,24 +136,24 @@ none_fits network aim.None plan.None is found fits none = (none, refl)
 -- an argument that was accepted as all that the plan says
 pub accepted_first : (network : Network) (limit : ℕ) (plan : Plan) (argument : Argument) → argue.Shows network plan argument
     → First ≡ argument_verdict argument.goal → IsFirstPlan network plan
-    → length argument.steps ≤ limit → IsArgued network limit plan argument
-accepted_first network limit plan argument shows is first within =
+    → length argument.steps ≤ limit → ArgumentIsReadAgain argument → IsArgued network limit plan argument
+accepted_first network limit plan argument shows is first within again =
     let found = first_found network plan first in
-    (found.0, record { certifies = shows; whole = sym is ∙ found.1; counted = refl; within = within })
+    (found.0, record { certifies = shows; whole = sym is ∙ found.1; counted = refl; within = within; read_again = again })
 
 pub accepted_none : (network : Network) (limit : ℕ) (plan : Plan) (argument : Argument) → argue.Shows network plan argument
     → NoSchedule ≡ argument_verdict argument.goal → HasNoSchedule network
-    → length argument.steps ≤ limit → IsArgued network limit plan argument
-accepted_none network limit plan argument shows is none within =
+    → length argument.steps ≤ limit → ArgumentIsReadAgain argument → IsArgued network limit plan argument
+accepted_none network limit plan argument shows is none within again =
     let found = none_fits network argument.goal plan is shows.goal shows.fitting.1 none in
-    (found.0, record { certifies = shows; whole = sym is ∙ found.1; counted = refl; within = within })
+    (found.0, record { certifies = shows; whole = sym is ∙ found.1; counted = refl; within = within; read_again = again })
 
 -- an argument with a greater limit
 pub argued_within : (network : Network) (limit greater : ℕ) (plan : Plan) (argument : Argument) → limit ≤ greater
     → IsArgued network limit plan argument → IsArgued network greater plan argument
 argued_within network limit greater plan argument more shown =
     let shows = shown.1 in
-    (shown.0, record { certifies = shows.certifies; whole = shows.whole; counted = shows.counted; within = omega (arith, shows.within) })
+    (shown.0, record { certifies = shows.certifies; whole = shows.whole; counted = shows.counted; within = omega (arith, shows.within); read_again = shows.read_again })
 
 -- the answer of a book, with its certificate
 pub certified : (network : Network) (limit : ℕ) (book : Progress) (plan : Plan) (cert : Cert) (count : ℕ)

@@ -10,6 +10,7 @@ use Rattle.tsn_check.specs.declared.verdict.Verdict.TheVariants.{Optimal, First,
 use Rattle.tsn_argument.specs.declared.argument.Argument.{Argument}
 use Rattle.tsn_argument.specs.declared.argument.Goal.{Goal}
 use Rattle.tsn_argument.specs.declared.argument.Goal.TheVariants as aim
+use Rattle.tsn_argument.specs.Laws.{ArgumentIsReadAgain}
 use Rattle.tsn_argue.specs.Certified as argue
 use Rattle.tsn_argue.specs.Certified.{argument_verdict, goal_for}
 use Rattle.tsn_worker.specs.Laws.{ProvedIsNotUndercut}
@@ -28,14 +29,21 @@ none_shown network aim.None plan.None is found fits none = none
 
 pub shown_optimal : (network : Network) (limit : ℕ) (plan : Plan) (argument : Argument) → argue.Shows network plan argument
     → Optimal ≡ argument_verdict argument.goal → IsOptimalPlan network plan
-    → length argument.steps ≤ limit → IsShownBy network limit plan argument
-shown_optimal network limit plan argument shows is optimal within = record { shown = optimal_shown network plan optimal; shows = shows; least = λ first. cc; within = within }
+    → length argument.steps ≤ limit → ArgumentIsReadAgain argument → IsShownBy network limit plan argument
+shown_optimal network limit plan argument shows is optimal within again =
+    record { shown = optimal_shown network plan optimal; shows = shows; least = λ first. cc; within = within; read_again = again }
 
 pub shown_none : (network : Network) (limit : ℕ) (plan : Plan) (argument : Argument) → argue.Shows network plan argument
     → NoSchedule ≡ argument_verdict argument.goal → HasNoSchedule network
-    → length argument.steps ≤ limit → IsShownBy network limit plan argument
-shown_none network limit plan argument shows is none within =
-    record { shown = none_shown network argument.goal plan is shows.goal shows.fitting.1 none; shows = shows; least = λ first. cc; within = within }
+    → length argument.steps ≤ limit → ArgumentIsReadAgain argument → IsShownBy network limit plan argument
+shown_none network limit plan argument shows is none within again =
+    record {
+      shown = none_shown network argument.goal plan is shows.goal shows.fitting.1 none;
+      shows = shows;
+      least = λ first. cc;
+      within = within;
+      read_again = again;
+    }
 
 -- a plan that is shown isn't undercut
 pub never_both : ProvedIsNotUndercut

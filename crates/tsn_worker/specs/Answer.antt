@@ -1,5 +1,6 @@
 -- What a planner's answers say.
 --     size_of, whole_verdict, IsWhole     a certificate's nodes or steps, and its kind
+--     IsReadAgain   an argument that its file says
 --     Shows         a certificate that shows what the plan says
 --     IsStopped     a search that was stopped at its limit
 --     IsFinished    a search that has left nothing open, and what its book shows
@@ -24,6 +25,7 @@ use Rattle.tsn_check.specs.Plans.{IsOptimalPlan, IsFirstPlan}
 use Rattle.tsn_argument.specs.declared.argument.Argument.{Argument}
 use Rattle.tsn_argument.specs.declared.certificate.Certificate.{Certificate}
 use Rattle.tsn_argument.specs.declared.certificate.Certificate.TheVariants.{Tree, Argument as Argued}
+use Rattle.tsn_argument.specs.Laws.{ArgumentIsReadAgain}
 use Rattle.tsn_argue.specs.Certified.{Certifies, argument_verdict}
 use Rattle.tsn_book.specs.Book.{Progress, IsLawful, SpellsAccepted}
 use Rattle.tsn_worker.specs.declared.known.Known.{Known}
@@ -52,12 +54,18 @@ abbrev pub IsWhole : Plan → Certificate → Type 0
 IsWhole plan (Tree cert) = cert.format ≡ Two
 IsWhole plan (Argued argument) = argument_verdict argument.goal ≡ whole_verdict plan
 
--- the certificate, of format 2 or 3, shows what the plan says, by so many nodes or steps, at most the limit
+-- the file of an argument says that argument
+abbrev pub IsReadAgain : Certificate → Type 0
+IsReadAgain (Tree cert) = Unit {0}
+IsReadAgain (Argued argument) = ArgumentIsReadAgain argument
+
+-- the certificate, of format 2 or 3, shows what the plan says, by so many nodes or steps, at most the limit; an argument is read again from its file
 pub record Shows (network : Network) (limit : ℕ) (plan : Plan) (certificate : Certificate) (count : ℕ) : Type 0 where
   pub certifies : Certifies network plan certificate
   pub whole : IsWhole plan certificate
   pub counted : count ≡ size_of certificate
   pub within : count ≤ limit
+  pub read_again : IsReadAgain certificate
 
 -- a lawful search for the network that has settled as many nodes as it may, while a node is open; what it has kept, if anything, is a valid schedule;
 -- and its limit is less than the nodes of a tree over all conflicts

@@ -12,6 +12,7 @@ use Rattle.tsn_cert.specs.declared.plan.Plan.TheVariants as plan
 use Rattle.tsn_check.specs.declared.verdict.Verdict.TheVariants as verdict
 use Rattle.tsn_check.specs.Plans.{IsOptimalPlan, offsets_in}
 use Rattle.tsn_argument.specs.declared.argument.Argument.{Argument}
+use Rattle.tsn_argument.specs.Laws.{ArgumentIsReadAgain}
 use Rattle.tsn_argue.specs.Certified.{argument_verdict}
 use Rattle.tsn_argue.specs.Certified as argue
 use Rattle.tsn_search.specs.Bound.{IsLowerBound}
@@ -23,12 +24,13 @@ abbrev pub IsShown : Network → Plan → Type 0
 IsShown network (plan.Schedule span offsets) = IsOptimalPlan network (plan.Schedule span offsets)
 IsShown network plan.None = HasNoSchedule network
 
--- the argument, whose goal isn't that the plan is the first one, shows what the plan says, by at most so many steps
+-- the argument, whose goal isn't that the plan is the first one, shows what the plan says, by at most so many steps, and is read again from its file
 pub record IsShownBy (network : Network) (limit : ℕ) (plan : Plan) (argument : Argument) : Type 0 where
   pub shown : IsShown network plan
   pub shows : argue.Shows network plan argument
   pub least : argument_verdict argument.goal ≢ verdict.First
   pub within : length argument.steps ≤ limit
+  pub read_again : ArgumentIsReadAgain argument
 
 -- the plan is a valid schedule with its own flowspan, which is below the target
 abbrev pub Undercuts : Network → ℕ → Plan → Type 0

@@ -144,11 +144,15 @@ fn judged(
     Learned::Open(known.with_plan(question.timing, plan))
 }
 
-// Whether the argument shows by at most so many steps that the plan is the first one, or that there is none where it says so.
+// Whether the argument shows by at most so many steps that the plan is the first one, or that there is none where it says so; and
+// whether its file would be read again.
 fn is_shown(alloc: Global, question: Question<'_>, plan: &Plan, argument: &Argument) -> bool
     ensures { result ≡ true → IsArgued question.entry.problem.now.network question.entry.limit plan.now argument.now }
 {
     let steps = argument.steps.list().len();
+    if !argument.is_within_limits() {
+        return false;
+    }
     match check_argument(alloc, question.problem, plan, argument) {
         Ok(Verdict::First) => steps <= question.limit,
         Ok(Verdict::NoSchedule) => steps <= question.limit,

@@ -123,7 +123,7 @@ pub fn search_by<R: Threads + Wait + Sync, S: Supervisor + Sync>(
 {
     let prepared = Prepared::of(alloc, problem)?;
     let setting = prepared.setting(alloc, supervisor);
-    let found = found_by(rt, problem, &setting, effort);
+    let found = search_by_method(rt, problem, &setting, effort);
     drop(setting);
     drop(prepared);
     found
@@ -145,14 +145,14 @@ pub fn plan_over<R: Threads + Wait + Sync, S: Supervisor + Sync, B: Bag + Send>(
 {
     let prepared = Prepared::of(alloc, problem)?;
     let setting = prepared.setting(alloc, supervisor);
-    let found = found_in_bags(rt, &setting, limit, bags);
+    let found = search_in_bags(rt, &setting, limit, bags);
     drop(setting);
     drop(prepared);
     found?.into_answer(alloc)
 }
 
 // What 2 to 16 workers find from the root on, one a bag.
-fn found_in_bags<R: Threads + Wait + Sync, S: Supervisor + Sync, B: Bag + Send>(
+fn search_in_bags<R: Threads + Wait + Sync, S: Supervisor + Sync, B: Bag + Send>(
     rt: &R,
     setting: &Setting<'_, S>,
     limit: usize,
@@ -165,7 +165,7 @@ fn found_in_bags<R: Threads + Wait + Sync, S: Supervisor + Sync, B: Bag + Send>(
 {
     let known = known_at_root(setting)?;
     setting.supervisor.begin(Phase::File);
-    found_over(rt, setting, known, limit, bags)
+    search_over(rt, setting, known, limit, bags)
 }
 
 // What is known before the search, of which the supervisor hears. A bound past the cycle is told as the cycle: the search then finds
@@ -183,7 +183,7 @@ fn known_at_root<S: Supervisor>(setting: &Setting<'_, S>) -> Result<Known, NoMem
 }
 
 // What is found by a method.
-fn found_by<R: Threads + Wait + Sync, S: Supervisor + Sync>(
+fn search_by_method<R: Threads + Wait + Sync, S: Supervisor + Sync>(
     rt: &R,
     problem: &Problem,
     setting: &Setting<'_, S>,
@@ -198,14 +198,14 @@ fn found_by<R: Threads + Wait + Sync, S: Supervisor + Sync>(
 {
     let known = known_at_root(setting)?;
     match effort.method {
-        Method::FileOrder => found_in_file_order(rt, setting, known, effort.workers, effort.limit),
-        Method::Learn => found_learned(rt, problem, setting, known, effort.workers, effort.limit),
-        Method::Auto => found_auto(rt, problem, setting, known, effort.workers, effort.limit),
+        Method::FileOrder => search_in_file_order(rt, setting, known, effort.workers, effort.limit),
+        Method::Learn => search_learning(rt, problem, setting, known, effort.workers, effort.limit),
+        Method::Auto => search_auto(rt, problem, setting, known, effort.workers, effort.limit),
     }
 }
 
 // What is found in the order of the file alone.
-fn found_in_file_order<R: Threads + Wait + Sync, S: Supervisor + Sync>(
+fn search_in_file_order<R: Threads + Wait + Sync, S: Supervisor + Sync>(
     rt: &R,
     setting: &Setting<'_, S>,
     known: Known,
@@ -221,11 +221,11 @@ fn found_in_file_order<R: Threads + Wait + Sync, S: Supervisor + Sync>(
     ensures book { IfOk result HasNoArgument }
 {
     setting.supervisor.begin(Phase::File);
-    found_with(rt, setting, known, workers, limit)
+    search_with(rt, setting, known, workers, limit)
 }
 
 // What is found in the order of the file, or, where more may be settled than that search may, by the search that learns.
-fn found_auto<R: Threads + Wait + Sync, S: Supervisor + Sync>(
+fn search_auto<R: Threads + Wait + Sync, S: Supervisor + Sync>(
     rt: &R,
     problem: &Problem,
     setting: &Setting<'_, S>,
@@ -243,17 +243,17 @@ fn found_auto<R: Threads + Wait + Sync, S: Supervisor + Sync>(
     ensures method { IfOk result (λ found. limit ≤ FILE_ORDER_LIMIT → HasNoArgument found) }
 {
     if limit <= FILE_ORDER_LIMIT {
-        return found_in_file_order(rt, setting, known, workers, limit);
+        return search_in_file_order(rt, setting, known, workers, limit);
     }
     if workers == 1 {
-        return found_auto_alone(problem, setting, known, limit);
+        return search_auto_alone(problem, setting, known, limit);
     }
-    let first = found_in_file_order(rt, setting, known, workers, FILE_ORDER_LIMIT)?;
-    found_beyond(rt, problem, setting, first, workers, limit)
+    let first = search_in_file_order(rt, setting, known, workers, FILE_ORDER_LIMIT)?;
+    search_beyond(rt, problem, setting, first, workers, limit)
 }
 
 // What several workers find, where their first search left this.
-fn found_beyond<R: Threads + Wait + Sync, S: Supervisor + Sync>(
+fn search_beyond<R: Threads + Wait + Sync, S: Supervisor + Sync>(
     rt: &R,
     problem: &Problem,
     setting: &Setting<'_, S>,
@@ -272,7 +272,7 @@ fn found_beyond<R: Threads + Wait + Sync, S: Supervisor + Sync>(
     match first {
         Found::Stopped(book, known) => {
             drop(book);
-            found_learned(rt, problem, setting, known, workers, limit)
+            search_learning(rt, problem, setting, known, workers, limit)
         }
         Found::Argued(plan, argument) => Ok(Found::Argued(plan, argument)),
         Found::Finished(finished) => Ok(Found::Finished(finished)),
@@ -280,7 +280,7 @@ fn found_beyond<R: Threads + Wait + Sync, S: Supervisor + Sync>(
 }
 
 // What one worker finds in the order of the file, or else by the search that learns.
-fn found_auto_alone<S: Supervisor>(
+fn search_auto_alone<S: Supervisor>(
     problem: &Problem,
     setting: &Setting<'_, S>,
     known: Known,
@@ -298,14 +298,14 @@ fn found_auto_alone<S: Supervisor>(
     let book = Book::new(setting.alloc, timing, 1, limit)?;
     let book = settle_open(setting, 0, FILE_ORDER_LIMIT, None, book)?;
     if book.open_count() == 0 {
-        return found_in(timing, known, limit, book);
+        return conclude(timing, known, limit, book);
     }
-    found_after(problem, setting, known, limit, book)
+    search_after(problem, setting, known, limit, book)
 }
 
 // What one worker finds by the search that learns, once a book keeps some schedule; where that gives up it goes on in the same book,
 // or begins anew.
-fn found_after<S: Supervisor>(
+fn search_after<S: Supervisor>(
     problem: &Problem,
     setting: &Setting<'_, S>,
     known: Known,
@@ -333,12 +333,12 @@ fn found_after<S: Supervisor>(
             drop(book);
             Ok(Found::Argued(plan, argument))
         }
-        Learned::Open(known) => found_on(setting, known, limit, book),
+        Learned::Open(known) => go_on(setting, known, limit, book),
     }
 }
 
 // What the caller finds alone in a book in which something is settled, or, where too few nodes are left for that, from the root on.
-fn found_on<S: Supervisor>(
+fn go_on<S: Supervisor>(
     setting: &Setting<'_, S>,
     known: Known,
     limit: usize,
@@ -354,13 +354,13 @@ fn found_on<S: Supervisor>(
 {
     if limit < GOES_ON_FROM {
         drop(book);
-        return found_anew(setting, known, limit);
+        return begin_anew(setting, known, limit);
     }
-    found_along(setting, known, limit, book)
+    search_along(setting, known, limit, book)
 }
 
 // What the caller finds alone from the root on, along the best schedule that is known.
-fn found_anew<S: Supervisor>(
+fn begin_anew<S: Supervisor>(
     setting: &Setting<'_, S>,
     known: Known,
     limit: usize,
@@ -372,11 +372,11 @@ fn found_anew<S: Supervisor>(
     ensures kept { IfOk result (KeepsKnown known) }
 {
     setting.supervisor.begin(Phase::File);
-    found_alone(setting, known, limit)
+    search_alone(setting, known, limit)
 }
 
 // What the caller finds alone, in a book in which something is settled, along the best schedule that is known.
-fn found_along<S: Supervisor>(
+fn search_along<S: Supervisor>(
     setting: &Setting<'_, S>,
     known: Known,
     limit: usize,
@@ -389,11 +389,11 @@ fn found_along<S: Supervisor>(
     ensures kept { IfOk result (KeepsKnown known) }
 {
     setting.supervisor.begin(Phase::Along);
-    found_from(setting, known, limit, book)
+    search_from(setting, known, limit, book)
 }
 
 // What is found by the search that learns, or else in the order of the file, along the best schedule that is known.
-fn found_learned<R: Threads + Wait + Sync, S: Supervisor + Sync>(
+fn search_learning<R: Threads + Wait + Sync, S: Supervisor + Sync>(
     rt: &R,
     problem: &Problem,
     setting: &Setting<'_, S>,
@@ -418,13 +418,13 @@ fn found_learned<R: Threads + Wait + Sync, S: Supervisor + Sync>(
         Learned::Shown(plan, argument) => Ok(Found::Argued(plan, argument)),
         Learned::Open(known) => {
             setting.supervisor.begin(Phase::Along);
-            found_with(rt, setting, known, workers, limit)
+            search_with(rt, setting, known, workers, limit)
         }
     }
 }
 
 // What 1 to 16 workers find.
-fn found_with<R: Threads + Wait + Sync, S: Supervisor + Sync>(
+fn search_with<R: Threads + Wait + Sync, S: Supervisor + Sync>(
     rt: &R,
     setting: &Setting<'_, S>,
     known: Known,
@@ -440,14 +440,14 @@ fn found_with<R: Threads + Wait + Sync, S: Supervisor + Sync>(
     ensures book { IfOk result HasNoArgument }
 {
     if workers == 1 {
-        return found_alone(setting, known, limit);
+        return search_alone(setting, known, limit);
     }
     let bags = DequeBag::make(setting.alloc, workers)?;
-    found_over(rt, setting, known, limit, bags)
+    search_over(rt, setting, known, limit, bags)
 }
 
 // What 2 to 16 workers find, one a bag.
-fn found_over<R: Threads + Wait + Sync, S: Supervisor + Sync, B: Bag + Send>(
+fn search_over<R: Threads + Wait + Sync, S: Supervisor + Sync, B: Bag + Send>(
     rt: &R,
     setting: &Setting<'_, S>,
     known: Known,
@@ -467,11 +467,11 @@ fn found_over<R: Threads + Wait + Sync, S: Supervisor + Sync, B: Bag + Send>(
     let parts = Parts::new(setting.alloc, timing, workers + 1, limit)?;
     let book = search::<Brand, R, S, B>(rt, setting, bags, parts, known.offsets())?;
     let book = settle_open(setting, workers, limit, None, book)?;
-    found_in(timing, known, limit, book)
+    conclude(timing, known, limit, book)
 }
 
 // What the caller finds alone.
-fn found_alone<S: Supervisor>(
+fn search_alone<S: Supervisor>(
     setting: &Setting<'_, S>,
     known: Known,
     limit: usize,
@@ -484,11 +484,11 @@ fn found_alone<S: Supervisor>(
     ensures book { IfOk result HasNoArgument }
 {
     let book = Book::new(setting.alloc, setting.tables.timing, 1, limit)?;
-    found_from(setting, known, limit, book)
+    search_from(setting, known, limit, book)
 }
 
 // What the caller finds alone in a book, along the best schedule that is known.
-fn found_from<S: Supervisor>(
+fn search_from<S: Supervisor>(
     setting: &Setting<'_, S>,
     known: Known,
     limit: usize,
@@ -502,11 +502,11 @@ fn found_from<S: Supervisor>(
     ensures book { IfOk result HasNoArgument }
 {
     let book = settle_open(setting, 0, limit, known.offsets(), book)?;
-    found_in(setting.tables.timing, known, limit, book)
+    conclude(setting.tables.timing, known, limit, book)
 }
 
 // What is found in the book of a search that left nothing open, or met its limit, where this was known before.
-fn found_in(timing: &Timing, known: Known, limit: usize, book: Book) -> Result<Found, NoMemory>
+fn conclude(timing: &Timing, known: Known, limit: usize, book: Book) -> Result<Found, NoMemory>
     requires formed { IsWellFormed timing.now }
     requires search { IsSearchOf timing.now limit book }
     requires done { (open_paths book.history ≡ []) ⊎ (limit ≤ length book.history) }

@@ -207,11 +207,15 @@ fn proved(
     }
 }
 
-// Whether the argument shows by so many steps at most that no valid schedule undercuts the plan.
+// Whether the argument shows by so many steps at most that no valid schedule undercuts the plan, and whether its file would be read
+// again.
 fn is_shown(alloc: Global, task: Task<'_>, argument: &Argument) -> Result<bool, NoMemory>
     ensures { result ≡ Ok true → IsShownBy task.entry.problem.now.network task.entry.limit task.entry.plan.now argument.now }
 {
     let steps = argument.steps.list().len();
+    if !argument.is_within_limits() {
+        return Ok(false);
+    }
     match check_argument(alloc, task.problem, task.plan, argument) {
         Ok(Verdict::Optimal) => Ok(steps <= task.limit),
         Ok(Verdict::NoSchedule) => Ok(steps <= task.limit),

@@ -2,14 +2,15 @@ use Rattle.std.proofs.Common.{sym, subst}
 use Rattle.std.proofs.lemmas.Result.{IfOk-weaker}
 use Rattle.tsn_worker.specs.Known.{IsKnown}
 use Rattle.tsn_worker.proofs.KnownLemmas.{KeepsKnown-through}
-use Rattle.tsn_worker.proofs.planning.found_learned.Goals as goal
+use Rattle.tsn_worker.proofs.planning.search_learning.Goals as goal
 
 pub find_by_learning-requires-clause-known : goal.find_by_learning-requires-clause-known
 find_by_learning-requires-clause-known g c = subst (λ n. IsKnown n c.args.known) c.requires.timing c.requires.known
 
-pub found_with-requires-clause-known : goal.found_with-requires-clause-known
-found_with-requires-clause-known g c = λ ks lives. subst (λ n. IsKnown n c.in-Open.known) (sym c.requires.timing) c.in-Open.ensures.0
+pub search_with-requires-clause-known : goal.search_with-requires-clause-known
+search_with-requires-clause-known g c = λ ks lives. subst (λ n. IsKnown n c.in-Open.known) (sym c.requires.timing) c.in-Open.ensures.0
 
 pub returns-in-Open-clause-kept : goal.returns-in-Open-clause-kept
 returns-in-Open-clause-kept g c =
-    IfOk-weaker c.found_with.result _ _ (λ found keeps. KeepsKnown-through c.args.known c.in-Open.known found c.in-Open.ensures.1 keeps) c.found_with.ensures.kept
+    IfOk-weaker c.search_with.result _ _ (λ found keeps. KeepsKnown-through c.args.known c.in-Open.known found c.in-Open.ensures.1 keeps)
+    c.search_with.ensures.kept

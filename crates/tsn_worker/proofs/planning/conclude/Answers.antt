@@ -3,7 +3,7 @@ use Rattle.std.proofs.lemmas.List.{nil_from_length}
 use Rattle.tsn_model.specs.Search.{open_paths}
 use Rattle.tsn_worker.specs.Known.{HoldsKept, IsKnown}
 use Rattle.tsn_worker.proofs.Deciding.{stopped, finished_for}
-use Rattle.tsn_worker.proofs.planning.found_in.Goals as goal
+use Rattle.tsn_worker.proofs.planning.conclude.Goals as goal
 
 pub returns-then-open_count-eq0-clause-found : goal.returns-then-open_count-eq0-clause-found
 returns-then-open_count-eq0-clause-found c =

@@ -1,4 +1,4 @@
-use Rattle.tsn_worker.proofs.planning.found_over.Given as goal
+use Rattle.tsn_worker.proofs.planning.search_over.Given as goal
 
 abbrev pub ghosts-search : goal.ghosts-search
 ghosts-search g a = record { names = a.parts }

@@ -1,7 +1,0 @@
-use Rattle.std.proofs.lemmas.Result.{IfOk-weaker}
-use Rattle.tsn_worker.proofs.KnownLemmas.{KeepsFound-through}
-use Rattle.tsn_worker.proofs.planning.found_auto.Goals as goal
-
-pub returns-clause-kept : goal.returns-clause-kept
-returns-clause-kept g c =
-    IfOk-weaker c.found_beyond.result _ _ (λ found keeps. KeepsFound-through c.args.known c.in_ok-first.first found c.in_ok-first.ensures.kept keeps) c.found_beyond.ensures.kept
