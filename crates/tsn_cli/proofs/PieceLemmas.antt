@@ -2,10 +2,12 @@
 use Rattle.std.proofs.Common.{◌≡◌, ◌+◌, ℕ, List, [], ◌∷◌, ◌++◌, Bool, true, false, take, drop, length, Option, Some, None, Result, Ok, Err, OnErr, refl, sym, ap, ◌∙◌, append_assoc, subst}
 use Rattle.std.proofs.Math.Seq.{take-append_seam, take-append-add}
 use Rattle.std.proofs.lemmas.List.{append-nil, take-append-drop}
+use Rattle.std.proofs.lemmas.List.Elements.{All-nil, All-cons}
 use Rattle.std.specs.Io.KnownBytes.{Appends}
 use Rattle.tsn_model.specs.Certificate.{Node}
 use Rattle.tsn_cert.specs.declared.cert.Cert.{Cert}
 use Rattle.tsn_cert.specs.Cert.{cert_text}
+use Rattle.tsn_cert.specs.Laws.{IsInGrammar, AreInGrammar}
 use Rattle.tsn_cert.specs.Text.{head_text, node_text, nodes_text, tail_text}
 use Rattle.tsn_cert.proofs.Parts.{cert_text_parts}
 use Rattle.tsn_cli.specs.Pieces.{IsParted}
@@ -99,3 +101,13 @@ err_last result a b c rest bytes whole n same parted taken =
 -- the last write took all that was left
 pub last_whole : (a b c : Option (List ℕ)) (rest bytes whole : List ℕ) → bytes ≡ rest → IsParted a b rest whole → Appends b c bytes → Appends a c whole
 last_whole a b c rest bytes whole same parted taken = parted_whole a b c rest whole parted (subst (λ l. Appends b c l) same taken)
+
+-- ---- the nodes that were given
+
+-- the grammar has a node, and those that are left behind it
+pub one_more_given : (nodes left : List Node) (node : Node) → nodes ≡ node ∷ left → IsInGrammar node → AreInGrammar left → AreInGrammar nodes
+one_more_given nodes left node first has rest = subst AreInGrammar (sym first) (All-cons IsInGrammar node left has rest)
+
+-- none is left
+pub all_given : (nodes all : List Node) → (AreInGrammar nodes → AreInGrammar all) → nodes ≡ [] → AreInGrammar all
+all_given nodes all given none = given (subst AreInGrammar (sym none) (All-nil IsInGrammar))

@@ -1,12 +1,13 @@
 -- What a run of `plan` prints is what it has to print.
-use Rattle.std.proofs.Common.{◌≡◌, ℕ, true, false, List, [], ◌∷◌, take, codes, Option, None, Some, IsSome, Result, Ok, Err, OnOk, OnErr, is_err, refl, sym, subst, All}
+use Rattle.std.proofs.Common.{◌≡◌, ◌⊎◌, ℕ, true, false, List, [], ◌∷◌, take, codes, string_bytes, Option, None, Some, IsSome, Result, Ok, Err, OnOk, OnErr, is_err, inl, inr, refl, sym, ap, subst, All}
+use Rattle.std.proofs.Math.Seq.{take-nil}
 use Rattle.std.proofs.lemmas.List.Elements.{All-nil, All-cons}
 use Rattle.std.specs.Io.KnownBytes.{Appends}
 use Rattle.tsn_device.specs.declared.device.ReadFault.{ReadFault}
 use Rattle.tsn_cli.specs.declared.answer.Written.{Written}
 use Rattle.tsn_cli.specs.declared.answer.PlanOutput.{PlanOutput}
 use Rattle.tsn_cli.specs.Run.{Output, IsUnwritten, writing_of}
-use Rattle.tsn_cli.specs.PlanOutput.{IsCut, IsPrinted, cert_bytes, printed, written_in}
+use Rattle.tsn_cli.specs.PlanOutput.{HasFormIfAny, IsCut, IsPrinted, cert_bytes, printed, written_in}
 use Rattle.tsn_cli.proofs.RunLemmas.{Keeps-same}
 
 -- the plan, so many bytes of the certificate, and the line
@@ -16,6 +17,31 @@ cut plan cert n = record { status = 7; texts = plan ∷ take n (cert_bytes (writ
 pub is_cut : (plan : List ℕ) (cert : Option Written) (n : ℕ) → IsSome cert → IsCut plan (written_in cert) (cut plan cert n)
 is_cut plan None n some = cc
 is_cut plan (Some cert) n some = (n, refl)
+
+-- The plan and a beginning of the certificate are those of a run in which memory is refused, where there is a certificate; and else of one that is done.
+abbrev early_status : ℕ → Option Written → ℕ
+early_status status None = status
+early_status status (Some written) = 7
+
+abbrev early_line : List ℕ → Option Written → List ℕ
+early_line line None = line
+early_line line (Some written) = codes "no memory\n"
+
+abbrev pub early : PlanOutput → ℕ → Output
+early output n = record {
+  status = early_status output.status output.cert;
+  texts = string_bytes output.plan ∷ take n (cert_bytes (written_in output.cert)) ∷ early_line (string_bytes output.line) output.cert ∷ [];
+}
+
+early_is : (status : ℕ) (plan line : List ℕ) (cert : Option Written) (n : ℕ)
+    → let shown : Output = record { status = early_status status cert; texts = plan ∷ take n (cert_bytes (written_in cert)) ∷ early_line line cert ∷ [] } in
+    ((shown ≡ record { status = status; texts = plan ∷ cert_bytes (written_in cert) ∷ line ∷ [] }) × HasFormIfAny (written_in cert))
+    ⊎ IsCut plan (written_in cert) shown
+early_is status plan line None n = inl (ap (λ (t : List ℕ). record { status = status; texts = plan ∷ t ∷ line ∷ [] }) (take-nil n), tt)
+early_is status plan line (Some cert) n = inr (n, refl)
+
+pub is_early : (output : PlanOutput) (n : ℕ) → IsPrinted (Ok output) (early output n)
+is_early output n = early_is output.status (string_bytes output.plan) (string_bytes output.line) output.cert n
 
 -- a fault is printed as its line
 pub printed_fault : (outcome : Result PlanOutput ReadFault) (fault : ReadFault) → outcome ≡ Err fault → IsPrinted outcome (printed (Err fault))

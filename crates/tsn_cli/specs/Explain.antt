@@ -2,7 +2,10 @@
 --     ShowsText, ShowsAccepted      what is shown once the certificate is accepted
 --     JudgesShown, CertAnswers      the answer to the files read so far
 --     ExplainAnswers, MarkedChartAnswers      that of `explain`, and of `chart` with a certificate
-use Rattle.std.specs.Prelude.{◌≡◌, ◌⊎◌, ℕ, List, [], ◌∷◌, Ok}
+--     GoesOnOver                    a run that has a certificate left to read
+use Rattle.std.specs.Prelude.{◌≡◌, ◌⊎◌, ℕ, List, [], ◌∷◌, Result, Ok}
+use Rattle.tsn_device.specs.declared.device.ReadFault.{ReadFault}
+use Rattle.tsn_cli.specs.declared.answer.Answer.{Answer}
 use Rattle.tsn_net.specs.File.{States}
 use Rattle.tsn_net.specs.Problem.{NamedNetwork}
 use Rattle.tsn_cert.specs.declared.plan.Plan.{Plan}
@@ -14,7 +17,8 @@ use Rattle.tsn_chart.specs.declared.picture.View.{View}
 use Rattle.tsn_cli.specs.declared.showing.Showing.{Showing}
 use Rattle.tsn_cli.specs.declared.showing.Showing.TheVariants.{Verdict, Words, Picture}
 use Rattle.tsn_cli.specs.declared.table.Table.TheVariants.{Chart}
-use Rattle.tsn_cli.specs.Run.{Output, Command, IsLine}
+use Rattle.tsn_cli.specs.Run.{Output, Command, IsLine, SourceRun}
+use Rattle.tsn_cli.specs.Outcome.{ComesTo, TellsFailures, output_of}
 use Rattle.tsn_cli.specs.Valid.{RefusesNetwork}
 use Rattle.tsn_cli.specs.Check.{RefusesPlan, RefusesCert, ShowsNothing, StatesNetwork, accepted_line}
 use Rattle.tsn_cli.specs.Tables.{ShowsPlan, RejectsPlan}
@@ -52,3 +56,9 @@ ExplainAnswers = CertAnswers Words
 
 abbrev pub MarkedChartAnswers : View → Command
 MarkedChartAnswers view = CertAnswers (Picture view)
+
+-- what becomes of a run that has taken this network and this plan, and has the source of a certificate left
+pub record GoesOnOver (showing : Showing) (problem : NamedNetwork) (stated : Plan) (cert : SourceRun) (outcome : Result Answer ReadFault) : Type 0 where
+  pub comes : (network_file plan_file : List ℕ) → States network_file problem → plan_in plan_file ≡ Ok stated
+      → ComesTo output_of (CertAnswers showing) (network_file ∷ plan_file ∷ []) (cert.reading ∷ []) outcome
+  pub failures : TellsFailures (cert.reads ∷ []) outcome

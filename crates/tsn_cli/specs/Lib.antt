@@ -4,10 +4,14 @@ pub mod Check
 pub mod Tables
 pub mod Explain
 pub mod Outcome
+pub mod Inputs
 pub mod Pieces
+pub mod Stop
+pub mod Finding
 pub mod PlanOutput
 pub mod Plan
 pub mod Laws
 pub mod ProofOutput
 pub mod Prove
 pub mod ProveLaws
+pub mod PlanLaws

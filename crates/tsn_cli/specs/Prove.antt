@@ -2,7 +2,8 @@
 --     claim_text, proved_line, undercut_line, stopped_line     its lines
 --     output_of                                                the texts of what was found of a plan
 --     ProveAnswers                                             the answer to the files read so far
-use Rattle.std.specs.Prelude.{◌≡◌, ◌⊎◌, ℕ, List, [], ◌∷◌, ◌++◌, codes, decimal, Ok}
+--     finding_of, FindsAs, FindsIn, ProveFinds                 what is found of a plan, as a value
+use Rattle.std.specs.Prelude.{◌≡◌, ◌⊎◌, ℕ, List, [], ◌∷◌, ◌++◌, codes, decimal, Ok, Option, Some, None}
 use Rattle.tsn_model.specs.Network.{Network}
 use Rattle.tsn_net.specs.File.{States}
 use Rattle.tsn_net.specs.Problem.{NamedNetwork}
@@ -16,6 +17,8 @@ use Rattle.tsn_argument.specs.Argument.{argument_text}
 use Rattle.tsn_worker.specs.declared.proof.Proof.{Proof}
 use Rattle.tsn_worker.specs.declared.proof.Proof.TheVariants.{Proved, Undercut, Stopped}
 use Rattle.tsn_worker.specs.Proof.{IsProof}
+use Rattle.tsn_cli.specs.declared.finding.Finding.{Finding}
+use Rattle.tsn_cli.specs.declared.finding.Finding.TheVariants as finding
 use Rattle.tsn_cli.specs.Run.{Output, Command, IsLine}
 use Rattle.tsn_cli.specs.Valid.{RefusesNetwork}
 use Rattle.tsn_cli.specs.Check.{RefusesPlan}
@@ -69,3 +72,28 @@ ProveAnswers limit [] output = ⊥
 ProveAnswers limit (network ∷ []) output = RefusesNetwork network output
 ProveAnswers limit (network ∷ plan ∷ []) output = (problem : NamedNetwork) × States network problem × ProvesPlan limit problem.network plan output
 ProveAnswers limit _ output = ⊥
+
+-- the flowspan of a plan, if it is a schedule
+abbrev pub span_if_any : Plan → Option ℕ
+span_if_any (plan.Schedule span offsets) = Some span
+span_if_any plan.None = None
+
+-- what is found of a plan, as a value: that it is proved; by what it is undercut; or what is known where the limit was met: its own flowspan, and a bound
+abbrev pub finding_of : Plan → Proof → Finding
+finding_of stated (Proved argument count) = finding.Proved
+finding_of stated (Undercut better count) = finding.Undercut (record { stated = span_if_any stated; better = span_in better })
+finding_of stated (Stopped bound count) = finding.Stopped (record { best = span_if_any stated; bound = bound })
+
+-- this is found of the plan, which is a valid schedule with its own flowspan, or that there is none
+abbrev pub FindsAs : ℕ → Network → Plan → Finding → Output → Type 0
+FindsAs limit network stated found output =
+    IsPlanRight network stated × ((proof : Proof) × IsProof network limit stated proof × (found ≡ finding_of stated proof) × (output ≡ output_of stated proof))
+
+-- and of the plan of this file
+abbrev pub FindsIn : ℕ → Network → List ℕ → Finding → Output → Type 0
+FindsIn limit network file found output = (stated : Plan) × (plan_in file ≡ Ok stated) × FindsAs limit network stated found output
+
+-- the answer to the files read, by at most so many steps or conflicts, where this is found of the plan
+abbrev pub ProveFinds : ℕ → Finding → Command
+ProveFinds limit found (network ∷ file ∷ []) output = (problem : NamedNetwork) × States network problem × FindsIn limit problem.network file found output
+ProveFinds limit found _ output = ⊥

@@ -4,8 +4,11 @@
 --     taken_in, failed_in                   a sink that may be none
 --     Output, Command, Answers, BreaksOff   what a command answers, and how far it goes where a read fails
 --     Ends, EndsEarly                       a run that was done, and one in which a write failed
-use Rattle.std.specs.Prelude.{◌≡◌, ◌+◌, ◌≤◌, ◌<◌, ◌⊎◌, ℕ, List, [], ◌∷◌, ◌++◌, Bool, IsTrue, length, take, codes, Option, None, Some, All}
+--     source_over, sink_over                a source or a sink over a run, with the calls that failed
+--     EndsOver, RunsOver                    how a run ends over them
+use Rattle.std.specs.Prelude.{◌≡◌, ◌≢◌, ◌+◌, ◌≤◌, ◌<◌, ◌⊎◌, ℕ, List, [], ◌∷◌, ◌++◌, Bool, IsTrue, length, take, codes, Option, None, Some, All, sum_by, map}
 use Rattle.std.specs.Io.KnownBytes.{Appends, Keeps}
+use Rattle.tsn_device.specs.declared.run.TheConstants.{DEVICE}
 
 -- the most bytes of a file
 abbrev pub max_file : ℕ
@@ -130,3 +133,78 @@ pub record EndsEarly (command : Command) (readings : List Reading) (writings : L
   pub output : Output
   pub answer : IsOutput command readings output
   pub written : TakesBeginning writings output.texts
+
+-- ---- a run over its sources and sinks
+
+-- how many calls of a device had failed before a run, and have after it
+pub record Failures : Type 0 where
+  pub before : ℕ
+  pub after : ℕ
+
+-- a source over a run, and its reads that failed
+pub record SourceRun : Type 0 where
+  pub reading : Reading
+  pub reads : Failures
+
+abbrev pub source_over : {S : Type 0} → (S → Option (List ℕ)) → (S → ℕ) → (S → Bool) → S → S → SourceRun
+source_over given failed is_at_end before after = record {
+  reading = reading_of (given before) (given after) (is_at_end after);
+  reads = record { before = failed before; after = failed after };
+}
+
+-- a sink over a run, and its writes that failed
+pub record SinkRun : Type 0 where
+  pub writing : Writing
+  pub writes : Failures
+
+abbrev pub sink_over : {S : Type 0} → (S → Option (List ℕ)) → (S → ℕ) → S → S → SinkRun
+sink_over taken failed before after = record {
+  writing = writing_of (taken before) (taken after);
+  writes = record { before = failed before; after = failed after };
+}
+
+abbrev pub readings_of : List SourceRun → List Reading
+readings_of sources = map (λ (source : SourceRun). source.reading) sources
+
+abbrev pub reads_of : List SourceRun → List Failures
+reads_of sources = map (λ (source : SourceRun). source.reads) sources
+
+abbrev pub writings_of : List SinkRun → List Writing
+writings_of sinks = map (λ (sink : SinkRun). sink.writing) sinks
+
+abbrev pub writes_of : List SinkRun → List Failures
+writes_of sinks = map (λ (sink : SinkRun). sink.writes) sinks
+
+-- how many calls had failed before, and have after
+abbrev pub failed_before : List Failures → ℕ
+failed_before devices = sum_by (λ (calls : Failures). calls.before) devices
+
+abbrev pub failed_after : List Failures → ℕ
+failed_after devices = sum_by (λ (calls : Failures). calls.after) devices
+
+-- no call of a device failed
+abbrev pub NoneFailed : List Failures → Type 0
+NoneFailed [] = Unit {0}
+NoneFailed (calls ∷ []) = calls.after ≡ calls.before
+NoneFailed (calls ∷ devices) = (calls.after ≡ calls.before) × NoneFailed devices
+
+-- the sinks took nothing
+abbrev pub AreUnwritten : List Writing → Type 0
+AreUnwritten [] = Unit {0}
+AreUnwritten (writing ∷ []) = IsUnwritten writing
+AreUnwritten (writing ∷ writings) = IsUnwritten writing × AreUnwritten writings
+
+-- a run over these sources and sinks ended with this status, and each sink took its text
+abbrev pub EndsOver : Command → List SourceRun → List SinkRun → ℕ → Type 0
+EndsOver command sources sinks status = Ends command (readings_of sources) (writings_of sinks) status
+
+-- A run of a command over these sources and sinks ended with this status. It is that of the answer, which the sinks took whole, and no call failed; or
+-- that of a device of which one call failed: where that was a read nothing was written, and where it was a write a beginning.
+pub record RunsOver (command : Command) (sources : List SourceRun) (sinks : List SinkRun) (status : ℕ) : Type 0 where
+  pub ended : status ≢ DEVICE → EndsOver command sources sinks status
+  pub no_failure : status ≢ DEVICE → NoneFailed (reads_of sources) × NoneFailed (writes_of sinks)
+  pub failure : status ≡ DEVICE
+      → failed_after (reads_of sources) + failed_after (writes_of sinks) ≡ failed_before (reads_of sources) + failed_before (writes_of sinks) + 1
+  pub read_failed : failed_after (reads_of sources) ≢ failed_before (reads_of sources)
+      → AreUnwritten (writings_of sinks) × BreaksOff command [] (readings_of sources)
+  pub write_failed : failed_after (writes_of sinks) ≢ failed_before (writes_of sinks) → EndsEarly command (readings_of sources) (writings_of sinks)

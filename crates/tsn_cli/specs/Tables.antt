@@ -3,7 +3,7 @@
 --     ShowsLists, ShowsReplay, ShowsShares, ShowsTable      the table of a plan
 --     RejectsPlan                              a plan that has none
 --     TableAnswers, GatesAnswers, ReplayAnswers, ChartAnswers, StreamsAnswers    the answer to the files read so far
-use Rattle.std.specs.Prelude.{◌≡◌, ◌⊎◌, ℕ, ◌≤◌, List, [], ◌∷◌, ◌++◌, codes, Ok}
+use Rattle.std.specs.Prelude.{◌≡◌, ◌⊎◌, ℕ, ◌≤◌, Option, List, [], ◌∷◌, ◌++◌, codes, Ok}
 use Rattle.std.specs.List.{flat_map}
 use Rattle.tsn_model.specs.Network.{Network}
 use Rattle.tsn_model.specs.Schedule.{IsValid, flowspan}
@@ -31,12 +31,12 @@ use Rattle.tsn_streams.specs.Shares.{stream_shares, AreSharesOfLinks}
 use Rattle.tsn_streams.specs.Table as streams
 use Rattle.tsn_streams.specs.Json as streams_json
 use Rattle.tsn_streams.specs.Csv as streams_csv
-use Rattle.tsn_cli.specs.declared.format.GatesFormat.{GatesFormat}
-use Rattle.tsn_cli.specs.declared.format.GatesFormat.TheVariants as lists
-use Rattle.tsn_cli.specs.declared.format.ReplayFormat.{ReplayFormat}
-use Rattle.tsn_cli.specs.declared.format.ReplayFormat.TheVariants as replays
-use Rattle.tsn_cli.specs.declared.format.StreamsFormat.{StreamsFormat}
-use Rattle.tsn_cli.specs.declared.format.StreamsFormat.TheVariants as shares
+use Rattle.tsn_format.specs.declared.GatesFormat.{GatesFormat}
+use Rattle.tsn_format.specs.declared.GatesFormat.TheVariants as lists
+use Rattle.tsn_format.specs.declared.ReplayFormat.{ReplayFormat}
+use Rattle.tsn_format.specs.declared.ReplayFormat.TheVariants as replays
+use Rattle.tsn_format.specs.declared.StreamsFormat.{StreamsFormat}
+use Rattle.tsn_format.specs.declared.StreamsFormat.TheVariants as shares
 use Rattle.tsn_cli.specs.declared.table.GatesOptions.{GatesOptions}
 use Rattle.tsn_cli.specs.declared.table.ReplayOptions.{ReplayOptions}
 use Rattle.tsn_cli.specs.declared.table.Table.{Table}
@@ -46,7 +46,7 @@ use Rattle.tsn_cli.specs.Valid.{RefusesNetwork}
 use Rattle.tsn_cli.specs.Check.{RefusesPlan, cause_text}
 
 -- the lists in a format, a script with the limits of a device
-abbrev pub text_in : GatesFormat → ℕ → ℕ → NamedNetwork → List LinkGates → List ℕ
+abbrev pub text_in : GatesFormat → ℕ → Option ℕ → NamedNetwork → List LinkGates → List ℕ
 text_in lists.Table most least problem all = flat_map (gate.table_text problem) all
 text_in lists.Taprio most least problem all = script_text_within most least problem all
 text_in lists.Json most least problem all = flat_map (json_text problem) all

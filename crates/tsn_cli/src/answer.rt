@@ -1,6 +1,7 @@
 //! What a command answers, before any of it is written.
-ghost use Rattle.std.specs.Prelude.{◌<◌};
+ghost use Rattle.std.specs.Prelude.{◌<◌, ◌≡◌, is_some, nat_eq};
 
+use crate::stop::Stop;
 use tsn_argument::Argument;
 use tsn_book::Spelling;
 
@@ -22,12 +23,14 @@ pub(crate) enum Written {
 }
 
 /// What a run of `plan` prints: a status, and what goes with it: the text of a plan, its certificate, where one is written, and
-/// a line.
+/// a line; and what is known where the search was stopped.
 #[derive(Drop)]
 pub(crate) struct PlanOutput {
     pub(crate) status: u8,
     pub(crate) plan: String,
     pub(crate) cert: Option<Written>,
     pub(crate) line: String,
+    pub(crate) stop: Option<Stop>,
     ghost not_device: { status < 8 },
+    ghost stopped: { is_some stop ≡ nat_eq status 5 },
 }

@@ -2,12 +2,13 @@
 ghost use Rattle.std.specs.Prelude.{◌≡◌, ◌<◌, ◌+◌, ◌++◌, ◌-◌, ◌^◌, ℕ, List, false, IfOk, IsSome, OnErr, OnOk, string_bytes, take};
 ghost use Rattle.std.specs.Io.KnownBytes.{Appends};
 ghost use Rattle.tsn_cert.specs.Cert.{cert_text};
+ghost use Rattle.tsn_cert.specs.Laws.{IsInGrammar, AreInGrammar};
 ghost use Rattle.tsn_cert.specs.Node.{tree_node};
 ghost use Rattle.tsn_cert.specs.Text.{node_text, nodes_text};
 ghost use Rattle.tsn_cli.specs.Run.{taken_in, failed_in};
 ghost use Rattle.tsn_argument.specs.Argument.{argument_text};
 ghost use Rattle.tsn_argument.specs.Certificate.{certificate_text};
-ghost use Rattle.tsn_cli.specs.PlanOutput.{cert_bytes, certificate_of, written_in};
+ghost use Rattle.tsn_cli.specs.PlanOutput.{cert_bytes, certificate_of, written_in, HasForm, HasFormIfAny};
 ghost use Rattle.tsn_cli.specs.Pieces.{IsParted};
 
 use crate::answer::Written;
@@ -76,6 +77,7 @@ pub(crate) fn write_wanted<C: Sink>(
     ensures beginning { OnErr result ((n : ℕ)
         × Appends (taken_in C.taken sink.old) (taken_in C.taken sink.new) (take n (cert_bytes (written_in cert)))) }
     ensures some { OnErr result (IsSome cert) }
+    ensures form { OnOk result (HasFormIfAny (written_in cert)) }
     ensures kept { (result ≡ Err CertFault.Broken → ⊥) → failed_in C.failed sink.new ≡ failed_in C.failed sink.old }
     ensures broken { result ≡ Err CertFault.Broken → failed_in C.failed sink.new ≡ failed_in C.failed sink.old + 1 }
 {
@@ -92,6 +94,7 @@ pub(crate) fn write_wanted<C: Sink>(
 fn write_certificate<C: Sink>(alloc: Global, sink: &mut C, cert: Written) -> Result<(), CertFault>
     requires { C.failed sink.old < 2 ^ 64 - 1 }
     ensures whole { OnOk result (Appends (C.taken sink.old) (C.taken sink.new) (certificate_text (certificate_of cert))) }
+    ensures form { OnOk result (HasForm (certificate_of cert)) }
     ensures beginning { OnErr result ((n : ℕ)
         × Appends (C.taken sink.old) (C.taken sink.new) (take n (certificate_text (certificate_of cert)))) }
     ensures kept { (result ≡ Err CertFault.Broken → ⊥) → C.failed sink.new ≡ C.failed sink.old }
@@ -123,6 +126,7 @@ fn write_argument<C: Sink>(alloc: Global, sink: &mut C, argument: Argument) -> R
 fn write_cert<C: Sink>(alloc: Global, sink: &mut C, cert: Spelling) -> Result<(), CertFault>
     requires { C.failed sink.old < 2 ^ 64 - 1 }
     ensures whole { OnOk result (Appends (C.taken sink.old) (C.taken sink.new) (cert_text cert)) }
+    ensures form { OnOk result (AreInGrammar cert.nodes) }
     ensures beginning { OnErr result ((n : ℕ)
         × Appends (C.taken sink.old) (C.taken sink.new) (take n (cert_text cert))) }
     ensures kept { (result ≡ Err CertFault.Broken → ⊥) → C.failed sink.new ≡ C.failed sink.old }
@@ -138,6 +142,7 @@ fn write_cert<C: Sink>(alloc: Global, sink: &mut C, cert: Spelling) -> Result<()
 }
 
 /// Writes the nodes behind a text. The answer is what isn't written yet.
+#[tactic(auto, using(crate::proofs::PieceLemmas::all_given))]
 fn write_nodes<C: Sink>(
     alloc: Global,
     sink: &mut C,
@@ -149,6 +154,7 @@ fn write_nodes<C: Sink>(
         (string_bytes head ++ nodes_text false cert.old.nodes)) }
     ensures beginning { OnErr result ((rest : List ℕ) × IsParted (C.taken sink.old) (C.taken sink.new) rest
         (string_bytes head ++ nodes_text false cert.old.nodes)) }
+    ensures form { OnOk result (AreInGrammar cert.old.nodes) }
     ensures target { cert.new.target ≡ cert.old.target }
     ensures kept { (result ≡ Err CertFault.Broken → ⊥) → C.failed sink.new ≡ C.failed sink.old }
     ensures broken { result ≡ Err CertFault.Broken → C.failed sink.new ≡ C.failed sink.old + 1 }
@@ -173,6 +179,7 @@ fn write_node<C: Sink>(
     requires { C.failed sink.old < 2 ^ 64 - 1 }
     ensures parted { OnOk result (IsParted (C.taken sink.old) (C.taken sink.new) (string_bytes text.new)
         (string_bytes text.old ++ node_text later (tree_node node))) }
+    ensures form { OnOk result (IsInGrammar (tree_node node)) }
     ensures beginning { OnErr result ((rest : List ℕ) × IsParted (C.taken sink.old) (C.taken sink.new) rest
         (string_bytes text.old ++ node_text later (tree_node node))) }
     ensures kept { (result ≡ Err CertFault.Broken → ⊥) → C.failed sink.new ≡ C.failed sink.old }

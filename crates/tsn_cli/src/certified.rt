@@ -1,31 +1,29 @@
 //! A plan and its certificate: read, judged, and shown where the certificate is accepted.
-ghost use Rattle.std.specs.Prelude.{◌≡◌, ◌<◌, ◌+◌, ◌-◌, ◌^◌, ◌⊎◌, ℕ, List, [], ◌∷◌, IfOk};
-ghost use Rattle.tsn_net.specs.File.{States};
-ghost use Rattle.tsn_cert.specs.Plan.{plan_in};
+ghost use Rattle.std.specs.Prelude.{◌≡◌, ◌<◌, ◌-◌, ◌^◌, ◌⊎◌, [], ◌∷◌, IfOk};
 ghost use Rattle.tsn_argue.specs.Certified.{Certifies, certificate_verdict};
 ghost use Rattle.tsn_cli.specs.declared.table.Table.TheVariants.{Chart};
-ghost use Rattle.tsn_cli.specs.Run.{reading_of};
-ghost use Rattle.tsn_cli.specs.Outcome.{ComesTo, output_of};
+ghost use Rattle.tsn_cli.specs.Run.{source_over};
+ghost use Rattle.tsn_cli.specs.Outcome.{ComesOver, output_of};
 ghost use Rattle.tsn_cli.specs.Check.{ShowsNothing};
-ghost use Rattle.tsn_cli.specs.Explain.{CertAnswers, JudgesShown, ShowsAccepted, ShowsText};
+ghost use Rattle.tsn_cli.specs.Explain.{CertAnswers, GoesOnOver, JudgesShown, ShowsAccepted, ShowsText};
 ghost use Rattle.tsn_cli.specs.Tables.{RejectsPlan, ShowsPlan};
 
 use crate::answer::Answer;
 use crate::check::{acceptance, file_refusal, rejection};
+use crate::inputs::{InputsRead, read_inputs};
 use crate::run::{DONE, MAX_FILE};
 use crate::showing::Showing;
 use crate::tables::picture_of;
-use crate::valid::refusal;
 use std::alloc::Global;
 use tsn_argue::check_certificate;
 use tsn_argument::{Certificate, certificate_from_json};
-use tsn_cert::{Plan, plan_from_json};
+use tsn_cert::Plan;
 use tsn_chart::View;
 use tsn_check::Verdict;
 use tsn_device::device::{ReadFault, Source, read_all};
 use tsn_explain::{explanation, marked_frames};
 use tsn_model::NoMemory;
-use tsn_net::{Problem, read_problem};
+use tsn_net::Problem;
 
 /// What a run answers over a network, a plan and a certificate.
 pub(crate) fn answer_of<N: Source, P: Source, C: Source>(
@@ -38,109 +36,45 @@ pub(crate) fn answer_of<N: Source, P: Source, C: Source>(
     requires network_reads { N.failed network.old < 2 ^ 64 - 1 }
     requires plan_reads { P.failed plan.old < 2 ^ 64 - 1 }
     requires cert_reads { C.failed cert.old < 2 ^ 64 - 1 }
-    ensures comes { ComesTo (CertAnswers showing) []
-        (reading_of (N.given network.old) (N.given network.new) (N.is_at_end network.new)
-        ∷ reading_of (P.given plan.old) (P.given plan.new) (P.is_at_end plan.new)
-        ∷ reading_of (C.given cert.old) (C.given cert.new) (C.is_at_end cert.new) ∷ []) result }
-    ensures broken { result ≡ Err ReadFault.Broken
-        → N.failed network.new + P.failed plan.new + C.failed cert.new
-        ≡ N.failed network.old + P.failed plan.old + C.failed cert.old + 1 }
-    ensures kept { (result ≡ Err ReadFault.Broken → ⊥) → (N.failed network.new ≡ N.failed network.old)
-        × (P.failed plan.new ≡ P.failed plan.old) × (C.failed cert.new ≡ C.failed cert.old) }
+    ensures { ComesOver output_of (CertAnswers showing)
+        (source_over N.given N.failed N.is_at_end network.old network.new
+        ∷ source_over P.given P.failed P.is_at_end plan.old plan.new
+        ∷ source_over C.given C.failed C.is_at_end cert.old cert.new ∷ []) result }
 {
-    let file = read_all(alloc, network, MAX_FILE)?;
-    answer_to_network(alloc, &file, plan, cert, showing)
-}
-
-/// What the run answers to a network file, and to what it reads after that.
-fn answer_to_network<P: Source, C: Source>(
-    alloc: Global,
-    file: &[u8],
-    plan: &mut P,
-    cert: &mut C,
-    showing: Showing,
-) -> Result<Answer, ReadFault>
-    requires plan_reads { P.failed plan.old < 2 ^ 64 - 1 }
-    requires cert_reads { C.failed cert.old < 2 ^ 64 - 1 }
-    ensures comes { ComesTo (CertAnswers showing) (file.now ∷ [])
-        (reading_of (P.given plan.old) (P.given plan.new) (P.is_at_end plan.new)
-        ∷ reading_of (C.given cert.old) (C.given cert.new) (C.is_at_end cert.new) ∷ []) result }
-    ensures broken { result ≡ Err ReadFault.Broken → P.failed plan.new + C.failed cert.new
-        ≡ P.failed plan.old + C.failed cert.old + 1 }
-    ensures kept { (result ≡ Err ReadFault.Broken → ⊥) → (P.failed plan.new ≡ P.failed plan.old)
-        × (C.failed cert.new ≡ C.failed cert.old) }
-{
-    match read_problem(alloc, file) {
-        Ok(problem) => {
-            let answer = answer_on(alloc, &problem, plan, cert, showing);
-            drop(problem);
-            answer
-        }
-        Err(fault) => Ok(refusal(alloc, fault)?),
+    match read_inputs(alloc, network, plan) {
+        Ok(InputsRead::Taken(problem, plan)) => answer_to(alloc, problem, plan, cert, showing),
+        Ok(InputsRead::Refused(answer)) => Ok(answer),
+        Err(fault) => Err(fault),
     }
 }
 
-/// What the run answers on a network, once its file is read.
-fn answer_on<P: Source, C: Source>(
+/// What the run answers to a network and a plan, and to what it reads after that.
+fn answer_to<C: Source>(
     alloc: Global,
-    problem: &Problem,
-    plan: &mut P,
+    problem: Problem,
+    plan: Plan,
     cert: &mut C,
     showing: Showing,
 ) -> Result<Answer, ReadFault>
-    requires plan_reads { P.failed plan.old < 2 ^ 64 - 1 }
-    requires cert_reads { C.failed cert.old < 2 ^ 64 - 1 }
-    ensures comes { (network : List ℕ) → States network problem.now → ComesTo (CertAnswers showing) (network ∷ [])
-        (reading_of (P.given plan.old) (P.given plan.new) (P.is_at_end plan.new)
-        ∷ reading_of (C.given cert.old) (C.given cert.new) (C.is_at_end cert.new) ∷ []) result }
-    ensures broken { result ≡ Err ReadFault.Broken → P.failed plan.new + C.failed cert.new
-        ≡ P.failed plan.old + C.failed cert.old + 1 }
-    ensures kept { (result ≡ Err ReadFault.Broken → ⊥) → (P.failed plan.new ≡ P.failed plan.old)
-        × (C.failed cert.new ≡ C.failed cert.old) }
+    requires { C.failed cert.old < 2 ^ 64 - 1 }
+    ensures { GoesOnOver showing problem plan (source_over C.given C.failed C.is_at_end cert.old cert.new) result }
 {
-    let file = read_all(alloc, plan, MAX_FILE)?;
-    answer_to_plan(alloc, problem, &file, cert, showing)
+    let answer = answer_on(alloc, &problem, &plan, cert, showing);
+    drop(problem);
+    drop(plan);
+    answer
 }
 
-/// What the run answers to a plan file, and to what it reads after that.
-fn answer_to_plan<C: Source>(
-    alloc: Global,
-    problem: &Problem,
-    file: &[u8],
-    cert: &mut C,
-    showing: Showing,
-) -> Result<Answer, ReadFault>
-    requires cert_reads { C.failed cert.old < 2 ^ 64 - 1 }
-    ensures comes { (network : List ℕ) → States network problem.now
-        → ComesTo (CertAnswers showing) (network ∷ file.now ∷ [])
-        (reading_of (C.given cert.old) (C.given cert.new) (C.is_at_end cert.new) ∷ []) result }
-    ensures broken { result ≡ Err ReadFault.Broken → C.failed cert.new ≡ C.failed cert.old + 1 }
-    ensures kept { (result ≡ Err ReadFault.Broken → ⊥) → C.failed cert.new ≡ C.failed cert.old }
-{
-    match plan_from_json(alloc, file) {
-        Ok(plan) => {
-            let answer = answer_on_plan(alloc, problem, &plan, cert, showing);
-            drop(plan);
-            answer
-        }
-        Err(fault) => Ok(file_refusal(alloc, "plan", fault)?),
-    }
-}
-
-/// What the run answers on a network and a plan, once their files are read.
-fn answer_on_plan<C: Source>(
+/// What the run answers on a network and a plan.
+fn answer_on<C: Source>(
     alloc: Global,
     problem: &Problem,
     plan: &Plan,
     cert: &mut C,
     showing: Showing,
 ) -> Result<Answer, ReadFault>
-    requires cert_reads { C.failed cert.old < 2 ^ 64 - 1 }
-    ensures comes { (network plan_file : List ℕ) → States network problem.now
-        → plan_in plan_file ≡ Ok plan.now → ComesTo (CertAnswers showing) (network ∷ plan_file ∷ [])
-        (reading_of (C.given cert.old) (C.given cert.new) (C.is_at_end cert.new) ∷ []) result }
-    ensures broken { result ≡ Err ReadFault.Broken → C.failed cert.new ≡ C.failed cert.old + 1 }
-    ensures kept { (result ≡ Err ReadFault.Broken → ⊥) → C.failed cert.new ≡ C.failed cert.old }
+    requires { C.failed cert.old < 2 ^ 64 - 1 }
+    ensures { GoesOnOver showing problem.now plan.now (source_over C.given C.failed C.is_at_end cert.old cert.new) result }
 {
     let file = read_all(alloc, cert, MAX_FILE)?;
     Ok(answer_to_cert(alloc, problem, plan, &file, showing)?)

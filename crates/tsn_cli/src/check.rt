@@ -1,13 +1,12 @@
 //! `check`: judges a plan and its certificate.
-ghost use Rattle.std.specs.Prelude.{◌≡◌, ◌≢◌, ◌<◌, ◌+◌, ◌-◌, ◌^◌, [], ◌∷◌, codes, IfOk, IsErr, Some};
-ghost use Rattle.std.specs.Io.KnownBytes.{Keeps};
-ghost use Rattle.tsn_cli.specs.Run.{BreaksOff, Ends, EndsEarly, IsLine, reading_of, writing_of};
+ghost use Rattle.std.specs.Prelude.{◌≡◌, ◌<◌, ◌-◌, ◌^◌, [], ◌∷◌, IfOk, IsErr, Some};
+ghost use Rattle.tsn_cli.specs.Run.{IsLine, RunsOver, sink_over, source_over};
 ghost use Rattle.tsn_cli.specs.Outcome.{output_of};
 ghost use Rattle.tsn_cli.specs.Check.{CheckAnswers, accepted_line, refusal_line, rejected_line};
 
 use crate::answer::Answer;
 use crate::certified::answer_of;
-use crate::run::{DEVICE, DONE, REFUSED, REJECTED, respond};
+use crate::run::{DONE, REFUSED, REJECTED, respond};
 use crate::showing::Showing;
 use std::alloc::Global;
 use std::fmt;
@@ -30,29 +29,11 @@ pub fn check_run<N: Source, P: Source, C: Source, W: Sink>(
     requires cert_reads { C.failed cert.old < 2 ^ 64 - 1 }
     requires writes { W.failed sink.old < 2 ^ 64 - 1 }
 
-    ensures ended { result ≢ DEVICE → Ends CheckAnswers
-        (reading_of (N.given network.old) (N.given network.new) (N.is_at_end network.new)
-        ∷ reading_of (P.given plan.old) (P.given plan.new) (P.is_at_end plan.new)
-        ∷ reading_of (C.given cert.old) (C.given cert.new) (C.is_at_end cert.new) ∷ [])
-        (writing_of (W.taken sink.old) (W.taken sink.new) ∷ []) result }
-    ensures no_failure { result ≢ DEVICE → (N.failed network.new ≡ N.failed network.old)
-        × (P.failed plan.new ≡ P.failed plan.old) × (C.failed cert.new ≡ C.failed cert.old)
-        × (W.failed sink.new ≡ W.failed sink.old) }
-
-    ensures failure { result ≡ DEVICE → N.failed network.new + P.failed plan.new + C.failed cert.new
-        + W.failed sink.new
-        ≡ N.failed network.old + P.failed plan.old + C.failed cert.old + W.failed sink.old + 1 }
-    ensures read_failed { N.failed network.new + P.failed plan.new + C.failed cert.new
-        ≢ N.failed network.old + P.failed plan.old + C.failed cert.old
-        → Keeps (W.taken sink.old) (W.taken sink.new) × BreaksOff CheckAnswers []
-        (reading_of (N.given network.old) (N.given network.new) (N.is_at_end network.new)
-        ∷ reading_of (P.given plan.old) (P.given plan.new) (P.is_at_end plan.new)
-        ∷ reading_of (C.given cert.old) (C.given cert.new) (C.is_at_end cert.new) ∷ []) }
-    ensures write_failed { W.failed sink.new ≢ W.failed sink.old → EndsEarly CheckAnswers
-        (reading_of (N.given network.old) (N.given network.new) (N.is_at_end network.new)
-        ∷ reading_of (P.given plan.old) (P.given plan.new) (P.is_at_end plan.new)
-        ∷ reading_of (C.given cert.old) (C.given cert.new) (C.is_at_end cert.new) ∷ [])
-        (writing_of (W.taken sink.old) (W.taken sink.new) ∷ []) }
+    ensures { RunsOver CheckAnswers
+        (source_over N.given N.failed N.is_at_end network.old network.new
+        ∷ source_over P.given P.failed P.is_at_end plan.old plan.new
+        ∷ source_over C.given C.failed C.is_at_end cert.old cert.new ∷ [])
+        (sink_over W.taken W.failed sink.old sink.new ∷ []) result }
 {
     respond(
         sink,

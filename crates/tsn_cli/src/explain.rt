@@ -1,11 +1,10 @@
 //! `explain`, and `chart` with a certificate: show why no schedule is faster.
-ghost use Rattle.std.specs.Prelude.{◌≡◌, ◌≢◌, ◌<◌, ◌+◌, ◌-◌, ◌^◌, [], ◌∷◌};
-ghost use Rattle.std.specs.Io.KnownBytes.{Keeps};
-ghost use Rattle.tsn_cli.specs.Run.{BreaksOff, Ends, EndsEarly, reading_of, writing_of};
+ghost use Rattle.std.specs.Prelude.{◌<◌, ◌-◌, ◌^◌, [], ◌∷◌};
+ghost use Rattle.tsn_cli.specs.Run.{RunsOver, sink_over, source_over};
 ghost use Rattle.tsn_cli.specs.Explain.{ExplainAnswers, MarkedChartAnswers};
 
 use crate::certified::answer_of;
-use crate::run::{DEVICE, respond};
+use crate::run::respond;
 use crate::showing::Showing;
 use std::alloc::Global;
 use tsn_chart::View;
@@ -26,29 +25,11 @@ pub fn explain_run<N: Source, P: Source, C: Source, W: Sink>(
     requires cert_reads { C.failed cert.old < 2 ^ 64 - 1 }
     requires writes { W.failed sink.old < 2 ^ 64 - 1 }
 
-    ensures ended { result ≢ DEVICE → Ends ExplainAnswers
-        (reading_of (N.given network.old) (N.given network.new) (N.is_at_end network.new)
-        ∷ reading_of (P.given plan.old) (P.given plan.new) (P.is_at_end plan.new)
-        ∷ reading_of (C.given cert.old) (C.given cert.new) (C.is_at_end cert.new) ∷ [])
-        (writing_of (W.taken sink.old) (W.taken sink.new) ∷ []) result }
-    ensures no_failure { result ≢ DEVICE → (N.failed network.new ≡ N.failed network.old)
-        × (P.failed plan.new ≡ P.failed plan.old) × (C.failed cert.new ≡ C.failed cert.old)
-        × (W.failed sink.new ≡ W.failed sink.old) }
-
-    ensures failure { result ≡ DEVICE → N.failed network.new + P.failed plan.new + C.failed cert.new
-        + W.failed sink.new
-        ≡ N.failed network.old + P.failed plan.old + C.failed cert.old + W.failed sink.old + 1 }
-    ensures read_failed { N.failed network.new + P.failed plan.new + C.failed cert.new
-        ≢ N.failed network.old + P.failed plan.old + C.failed cert.old
-        → Keeps (W.taken sink.old) (W.taken sink.new) × BreaksOff ExplainAnswers []
-        (reading_of (N.given network.old) (N.given network.new) (N.is_at_end network.new)
-        ∷ reading_of (P.given plan.old) (P.given plan.new) (P.is_at_end plan.new)
-        ∷ reading_of (C.given cert.old) (C.given cert.new) (C.is_at_end cert.new) ∷ []) }
-    ensures write_failed { W.failed sink.new ≢ W.failed sink.old → EndsEarly ExplainAnswers
-        (reading_of (N.given network.old) (N.given network.new) (N.is_at_end network.new)
-        ∷ reading_of (P.given plan.old) (P.given plan.new) (P.is_at_end plan.new)
-        ∷ reading_of (C.given cert.old) (C.given cert.new) (C.is_at_end cert.new) ∷ [])
-        (writing_of (W.taken sink.old) (W.taken sink.new) ∷ []) }
+    ensures { RunsOver ExplainAnswers
+        (source_over N.given N.failed N.is_at_end network.old network.new
+        ∷ source_over P.given P.failed P.is_at_end plan.old plan.new
+        ∷ source_over C.given C.failed C.is_at_end cert.old cert.new ∷ [])
+        (sink_over W.taken W.failed sink.old sink.new ∷ []) result }
 {
     respond(sink, answer_of(alloc, network, plan, cert, Showing::Words))
 }
@@ -69,29 +50,11 @@ pub fn marked_chart_run<N: Source, P: Source, C: Source, W: Sink>(
     requires cert_reads { C.failed cert.old < 2 ^ 64 - 1 }
     requires writes { W.failed sink.old < 2 ^ 64 - 1 }
 
-    ensures ended { result ≢ DEVICE → Ends (MarkedChartAnswers view)
-        (reading_of (N.given network.old) (N.given network.new) (N.is_at_end network.new)
-        ∷ reading_of (P.given plan.old) (P.given plan.new) (P.is_at_end plan.new)
-        ∷ reading_of (C.given cert.old) (C.given cert.new) (C.is_at_end cert.new) ∷ [])
-        (writing_of (W.taken sink.old) (W.taken sink.new) ∷ []) result }
-    ensures no_failure { result ≢ DEVICE → (N.failed network.new ≡ N.failed network.old)
-        × (P.failed plan.new ≡ P.failed plan.old) × (C.failed cert.new ≡ C.failed cert.old)
-        × (W.failed sink.new ≡ W.failed sink.old) }
-
-    ensures failure { result ≡ DEVICE → N.failed network.new + P.failed plan.new + C.failed cert.new
-        + W.failed sink.new
-        ≡ N.failed network.old + P.failed plan.old + C.failed cert.old + W.failed sink.old + 1 }
-    ensures read_failed { N.failed network.new + P.failed plan.new + C.failed cert.new
-        ≢ N.failed network.old + P.failed plan.old + C.failed cert.old
-        → Keeps (W.taken sink.old) (W.taken sink.new) × BreaksOff (MarkedChartAnswers view) []
-        (reading_of (N.given network.old) (N.given network.new) (N.is_at_end network.new)
-        ∷ reading_of (P.given plan.old) (P.given plan.new) (P.is_at_end plan.new)
-        ∷ reading_of (C.given cert.old) (C.given cert.new) (C.is_at_end cert.new) ∷ []) }
-    ensures write_failed { W.failed sink.new ≢ W.failed sink.old → EndsEarly (MarkedChartAnswers view)
-        (reading_of (N.given network.old) (N.given network.new) (N.is_at_end network.new)
-        ∷ reading_of (P.given plan.old) (P.given plan.new) (P.is_at_end plan.new)
-        ∷ reading_of (C.given cert.old) (C.given cert.new) (C.is_at_end cert.new) ∷ [])
-        (writing_of (W.taken sink.old) (W.taken sink.new) ∷ []) }
+    ensures { RunsOver (MarkedChartAnswers view)
+        (source_over N.given N.failed N.is_at_end network.old network.new
+        ∷ source_over P.given P.failed P.is_at_end plan.old plan.new
+        ∷ source_over C.given C.failed C.is_at_end cert.old cert.new ∷ [])
+        (sink_over W.taken W.failed sink.old sink.new ∷ []) result }
 {
     respond(
         sink,

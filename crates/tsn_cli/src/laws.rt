@@ -2,7 +2,8 @@
 
 ghost use Rattle.tsn_cli.specs.Laws.{PlanFilesAreOne};
 
-/// Two answers of `plan` to one network file that both end with status 0 have the same plan file, whatever their limits.
+/// Two answers of `plan` to one network file that both end with status 0 have the same plan file, however they were
+/// searched for.
 pub fn plan_files_are_one()
     ensures { PlanFilesAreOne }
 {}

@@ -1,17 +1,20 @@
 //! `plan`: finds the schedule of least flowspan that is first in list order.
-ghost use Rattle.std.specs.Prelude.{◌≡◌, ◌≢◌, ◌≤◌, ◌<◌, ◌+◌, ◌-◌, ◌^◌, ◌⊎◌, ℕ, [], ◌∷◌, IfOk, IsTrue, None, OnErr, Some, if◌then◌else◌, is_some, length, string_bytes};
-ghost use Rattle.std.specs.Io.KnownBytes.{Keeps};
+ghost use Rattle.std.specs.Prelude.{◌≡◌, ◌≢◌, ◌≤◌, ◌<◌, ◌-◌, ◌^◌, ◌⊎◌, ◌↔◌, ℕ, [], ◌∷◌, IfOk, IfSome, IsTrue, None, OnErr, Some, if◌then◌else◌, is_some, length, string_bytes};
 ghost use Rattle.tsn_model.specs.Network.{Network};
 ghost use Rattle.tsn_model.specs.Search.{kept_of, open_paths};
-ghost use Rattle.tsn_cli.specs.Run.{Output, Ends, EndsEarly, IsOutput, reading_of, writing_of, taken_in, failed_in};
-ghost use Rattle.tsn_cli.specs.Plan.{IsWanted, PlanAnswers, TellsPlan, TellsStop, best_plan_text, optimal_line, found_status, stopped_line, stopped_output};
-ghost use Rattle.tsn_cli.specs.PlanOutput.{IsPrinted, line_alone, printed, written_in};
+ghost use Rattle.tsn_cli.specs.Run.{EndsOver, IsOutput, Output, RunsOver, failed_in, readings_of, reads_of, sink_over, source_over, taken_in};
+ghost use Rattle.tsn_cli.specs.Outcome.{TellsFailures};
+ghost use Rattle.tsn_cli.specs.Plan.{IsWanted, PlanAnswers, PlanStops, TellsPlan, TellsStop, best_plan_text, optimal_line, found_status, stopped_line, stopped_output};
+ghost use Rattle.tsn_cli.specs.PlanOutput.{IsPrinted, line_alone, printed, stop_in, written_in};
+ghost use Rattle.tsn_cli.specs.Stop.{stop_of};
 ghost use Rattle.tsn_cert.specs.Plan.{plan_text};
-ghost use Rattle.tsn_worker.specs.Answer.{IsArgued, IsFinished, IsFound, plan_kept};
+ghost use Rattle.tsn_worker.specs.declared.planning.Effort.{Effort};
+ghost use Rattle.tsn_worker.specs.Answer.{IsArgued, IsFinished, IsFound, IsFoundBy, MayArgue, plan_kept};
 
 use crate::answer::{Answer as Line, PlanOutput, Written};
 use crate::print::print;
-use crate::run::{DEVICE, DONE, MAX_FILE};
+use crate::run::{DONE, MAX_FILE};
+use crate::stop::Stop;
 use crate::valid::refusal;
 use std::alloc::Global;
 use std::mem;
@@ -24,7 +27,7 @@ use tsn_device::device::{ReadFault, Sink, Source, read_all};
 use tsn_model::NoMemory;
 use tsn_net::read_problem;
 use tsn_timing::Solved;
-use tsn_worker::{Effort, Found, Supervisor, plan_of, search_by};
+use tsn_worker::{Effort, Found, Known, Supervisor, plan_of, search_by};
 
 /// There is no schedule.
 pub const NO_SCHEDULE: u8 = 4;
@@ -32,12 +35,20 @@ pub const NO_SCHEDULE: u8 = 4;
 /// The limit of settlements, or of conflicts, was met.
 pub const STOPPED: u8 = 5;
 
+/// How a run of `plan` ended: its status, and what is known where that is `STOPPED`.
+#[derive(Clone, Copy, Debug)]
+pub struct PlanEnd {
+    pub status: u8,
+    pub stop: Option<Stop>,
+}
+
 /// Reads a network file and plans it by a method, with 1 to 16 workers and at most so many settlements, 1 to 1,000,000,000. It
 /// writes the plan, then its certificate, where there is a sink for it, then a line on what was found; or a line on why the file is
 /// refused. Where the limit is met it writes the best plan that is known, if there is one, and no certificate. The certificate is a tree
 /// (format 2), written a node at a time, or an argument (format 3), and the line tells its nodes or steps; where memory is refused
-/// for a node or for the argument, the line says that. The supervisor hears of each settlement. The answer is the status. The memory of
-/// the search stays taken until the process ends.
+/// for a node or for the argument, the line says that. The supervisor hears of each settlement. The answer is the status, and what is
+/// known where the limit was met: the flowspan of the plan that was written, if any, and what no valid schedule's flowspan is below.
+/// The memory of the search stays taken until the process ends.
 pub fn plan_run<
     R: Threads + Wait + Sync,
     N: Source,
@@ -54,7 +65,7 @@ pub fn plan_run<
     plan: &mut P,
     cert: &mut Option<C>,
     sink: &mut W,
-) -> u8
+) -> PlanEnd
     requires workers { (1 ≤ effort.workers) × (effort.workers ≤ 16) }
     requires some { 1 ≤ effort.limit }
     requires few { effort.limit ≤ 1_000_000_000 }
@@ -63,37 +74,52 @@ pub fn plan_run<
     requires cert_writes { failed_in C.failed cert.old < 2 ^ 64 - 1 }
     requires writes { W.failed sink.old < 2 ^ 64 - 1 }
 
-    ensures ended { result ≢ DEVICE → Ends (PlanAnswers effort.limit (is_some cert.old))
-        (reading_of (N.given network.old) (N.given network.new) (N.is_at_end network.new) ∷ [])
-        (writing_of (P.taken plan.old) (P.taken plan.new) ∷ writing_of (taken_in C.taken cert.old) (taken_in C.taken cert.new)
-        ∷ writing_of (W.taken sink.old) (W.taken sink.new) ∷ []) result }
-    ensures no_failure { result ≢ DEVICE → (N.failed network.new ≡ N.failed network.old)
-        × (P.failed plan.new ≡ P.failed plan.old) × (failed_in C.failed cert.new ≡ failed_in C.failed cert.old)
-        × (W.failed sink.new ≡ W.failed sink.old) }
+    ensures runs { RunsOver (PlanAnswers effort (is_some cert.old))
+        (source_over N.given N.failed N.is_at_end network.old network.new ∷ [])
+        (sink_over P.taken P.failed plan.old plan.new
+        ∷ sink_over (taken_in C.taken) (failed_in C.failed) cert.old cert.new
+        ∷ sink_over W.taken W.failed sink.old sink.new ∷ []) result.status }
 
-    ensures failure { result ≡ DEVICE → N.failed network.new + P.failed plan.new + failed_in C.failed cert.new
-        + W.failed sink.new
-        ≡ N.failed network.old + P.failed plan.old + failed_in C.failed cert.old + W.failed sink.old + 1 }
-    ensures read_failed { N.failed network.new ≢ N.failed network.old
-        → Keeps (P.taken plan.old) (P.taken plan.new) × Keeps (taken_in C.taken cert.old) (taken_in C.taken cert.new)
-        × Keeps (W.taken sink.old) (W.taken sink.new) }
-    ensures write_failed { P.failed plan.new + failed_in C.failed cert.new + W.failed sink.new
-        ≢ P.failed plan.old + failed_in C.failed cert.old + W.failed sink.old → EndsEarly (PlanAnswers effort.limit (is_some cert.old))
-        (reading_of (N.given network.old) (N.given network.new) (N.is_at_end network.new) ∷ [])
-        (writing_of (P.taken plan.old) (P.taken plan.new) ∷ writing_of (taken_in C.taken cert.old) (taken_in C.taken cert.new)
-        ∷ writing_of (W.taken sink.old) (W.taken sink.new) ∷ []) }
+    // What is known where the limit was met, and only there.
+    ensures stopped { result.status ≡ STOPPED ↔ IsTrue (is_some result.stop) }
+    ensures stop { IfSome result.stop (λ stop. EndsOver (PlanStops effort.limit stop)
+        (source_over N.given N.failed N.is_at_end network.old network.new ∷ [])
+        (sink_over P.taken P.failed plan.old plan.new
+        ∷ sink_over (taken_in C.taken) (failed_in C.failed) cert.old cert.new
+        ∷ sink_over W.taken W.failed sink.old sink.new ∷ []) STOPPED) }
 {
     let task = Task {
         effort,
         wanted: cert.is_some(),
     };
-    print(
-        alloc,
-        plan,
-        cert,
-        sink,
-        found(rt, alloc, network, task, supervisor),
-    )
+    let outcome = found(rt, alloc, network, task, supervisor);
+    let stop = stop_in(&outcome);
+    let status = print(alloc, plan, cert, sink, outcome);
+    PlanEnd::of(status, stop)
+}
+
+impl PlanEnd {
+    /// What is known stays only where the run ended with `STOPPED`.
+    fn of(status: u8, stop: Option<Stop>) -> PlanEnd
+        ensures status { result.status ≡ status }
+        ensures stopped { status ≡ STOPPED → result.stop ≡ stop }
+        ensures only { IsTrue (is_some result.stop) → status ≡ STOPPED }
+    {
+        PlanEnd {
+            status,
+            stop: if status == STOPPED { stop } else { None },
+        }
+    }
+}
+
+/// What is known where the search was stopped.
+fn stop_in(outcome: &Result<PlanOutput, ReadFault>) -> Option<Stop>
+    ensures { result ≡ stop_in outcome.now }
+{
+    match outcome {
+        Ok(output) => output.stop,
+        Err(_) => None,
+    }
 }
 
 /// How much is to be done, and whether a certificate is wanted.
@@ -115,14 +141,15 @@ fn found<R: Threads + Wait + Sync, N: Source, S: Supervisor + Sync>(
     requires some { 1 ≤ task.effort.limit }
     requires few { task.effort.limit ≤ 1_000_000_000 }
     requires reads { N.failed network.old < 2 ^ 64 - 1 }
-    ensures faults { (result ≡ Err ReadFault.Broken → ⊥) → OnErr result (IsOutput (PlanAnswers task.effort.limit task.wanted)
-        (reading_of (N.given network.old) (N.given network.new) (N.is_at_end network.new) ∷ []) (printed result)) }
+    ensures faults { (result ≡ Err ReadFault.Broken → ⊥) → OnErr result (IsOutput (PlanAnswers task.effort task.wanted)
+        (readings_of (source_over N.given N.failed N.is_at_end network.old network.new ∷ [])) (printed result)) }
     ensures answers { IfOk result (λ output. (shown : Output) → IsPrinted (Ok output) shown
-        → IsOutput (PlanAnswers task.effort.limit task.wanted)
-        (reading_of (N.given network.old) (N.given network.new) (N.is_at_end network.new) ∷ []) shown) }
+        → IsOutput (PlanAnswers task.effort task.wanted)
+        (readings_of (source_over N.given N.failed N.is_at_end network.old network.new ∷ [])) shown) }
+    ensures stops { IfOk result (λ output. IfSome output.stop (λ stop. IsOutput (PlanStops task.effort.limit stop)
+        (readings_of (source_over N.given N.failed N.is_at_end network.old network.new ∷ [])) (printed result))) }
     ensures wanted { IfOk result (λ output. IsTrue (is_some output.cert) → IsTrue task.wanted) }
-    ensures broken { result ≡ Err ReadFault.Broken → N.failed network.new ≡ N.failed network.old + 1 }
-    ensures kept { (result ≡ Err ReadFault.Broken → ⊥) → N.failed network.new ≡ N.failed network.old }
+    ensures failures { TellsFailures (reads_of (source_over N.given N.failed N.is_at_end network.old network.new ∷ [])) result }
 {
     let file = read_all(alloc, network, MAX_FILE)?;
     match found_in(rt, alloc, &file, task, supervisor) {
@@ -143,7 +170,8 @@ fn found_in<R: Threads + Wait + Sync, S: Supervisor + Sync>(
     requires some { 1 ≤ task.effort.limit }
     requires few { task.effort.limit ≤ 1_000_000_000 }
     ensures answers { IfOk result (λ output. (shown : Output) → IsPrinted (Ok output) shown
-        → PlanAnswers task.effort.limit task.wanted (file.now ∷ []) shown) }
+        → PlanAnswers task.effort task.wanted (file.now ∷ []) shown) }
+    ensures stops { IfOk result (λ output. IfSome output.stop (λ stop. PlanStops task.effort.limit stop (file.now ∷ []) (printed (Ok output)))) }
     ensures wanted { IfOk result (λ output. IsTrue (is_some output.cert) → IsTrue task.wanted) }
 {
     match read_problem(alloc, file) {
@@ -162,9 +190,11 @@ fn found_in<R: Threads + Wait + Sync, S: Supervisor + Sync>(
 // all memory back at once, where letting go of a million events one by one took a sixth of a search by four workers.
 fn output_for(alloc: Global, found: Found, wanted: bool) -> Result<PlanOutput, NoMemory>
     requires { (network : Network) × ((limit : ℕ) × IsFound network limit found) }
-    ensures tells { IfOk result (λ output. (network : Network) (limit : ℕ) → IsFound network limit found
-        → (shown : Output) → IsPrinted (Ok output) shown
-        → TellsPlan network limit wanted shown ⊎ TellsStop network limit shown) }
+    ensures tells { IfOk result (λ output. (network : Network) (effort : Effort) → IsFound network effort.limit found
+        → IsFoundBy effort found → (shown : Output) → IsPrinted (Ok output) shown
+        → TellsPlan network effort wanted shown ⊎ ((stop : Stop) × TellsStop network effort.limit stop shown)) }
+    ensures stops { IfOk result (λ output. IfSome output.stop (λ stop. (network : Network) (limit : ℕ) → IsFound network limit found
+        → TellsStop network limit stop (printed (Ok output)))) }
     ensures wanted { IfOk result (λ output. IsTrue (is_some output.cert) → IsTrue wanted) }
 {
     match found {
@@ -175,7 +205,7 @@ fn output_for(alloc: Global, found: Found, wanted: bool) -> Result<PlanOutput, N
             output
         }
         Found::Stopped(book, known) => {
-            let output = stopped(alloc, book.count(), &known.best);
+            let output = stopped(alloc, book.count(), &known);
             mem::forget(book);
             drop(known);
             output
@@ -185,8 +215,10 @@ fn output_for(alloc: Global, found: Found, wanted: bool) -> Result<PlanOutput, N
 
 /// An answer that is a line alone.
 fn alone(alloc: Global, answer: Line) -> PlanOutput
+    requires { answer.status ≢ STOPPED }
     ensures alone { printed (Ok result) ≡ line_alone answer.status (string_bytes answer.text) }
     ensures none { result.cert ≡ None }
+    ensures not_stopped { result.stop ≡ None }
 {
     let Line { status, text } = answer;
     PlanOutput {
@@ -194,14 +226,16 @@ fn alone(alloc: Global, answer: Line) -> PlanOutput
         plan: String::new(alloc),
         cert: None,
         line: text,
+        stop: None,
     }
 }
 
 /// What is said of a finished search, with its certificate, where that is wanted.
 fn finished(alloc: Global, book: Book, wanted: bool) -> Result<PlanOutput, NoMemory>
     requires { (network : Network) × ((limit : ℕ) × IsFinished network limit book) }
-    ensures tells { IfOk result (λ output. (network : Network) (limit : ℕ) → IsFinished network limit book
-        → (shown : Output) → IsPrinted (Ok output) shown → TellsPlan network limit wanted shown) }
+    ensures tells { IfOk result (λ output. (network : Network) (effort : Effort) → IsFinished network effort.limit book
+        → (shown : Output) → IsPrinted (Ok output) shown → TellsPlan network effort wanted shown) }
+    ensures not_stopped { IfOk result (λ output. output.stop ≡ None) }
     ensures wanted { IfOk result (λ output. IsTrue (is_some output.cert) → IsTrue wanted) }
 {
     let (status, plan, line) = match texts_of(alloc, &book) {
@@ -217,6 +251,7 @@ fn finished(alloc: Global, book: Book, wanted: bool) -> Result<PlanOutput, NoMem
         plan,
         cert,
         line,
+        stop: None,
     })
 }
 
@@ -236,6 +271,7 @@ fn spelled(book: Book, wanted: bool) -> Result<Option<Written>, NoMemory>
 /// The status of a finished search, the text of its plan, and its line.
 fn texts_of(alloc: Global, book: &Book) -> Result<(u8, String, String), NoMemory>
     ensures status { IfOk result (λ texts. texts.0 ≡ found_status (plan_kept book.now.network (kept_of book.now.network book.now.history))) }
+    ensures not_stopped { IfOk result (λ texts. texts.0 ≢ STOPPED) }
     ensures plan { IfOk result (λ texts. string_bytes texts.1 ≡ plan_text (plan_kept book.now.network (kept_of book.now.network book.now.history))) }
     ensures line { IfOk result (λ texts. string_bytes texts.2 ≡ optimal_line (plan_kept book.now.network (kept_of book.now.network book.now.history)) (length book.now.history)) }
 {
@@ -246,6 +282,7 @@ fn texts_of(alloc: Global, book: &Book) -> Result<(u8, String, String), NoMemory
 /// The status of a plan that was found, its text, and its line.
 fn texts_for(alloc: Global, plan: &Plan, count: usize) -> Result<(u8, String, String), NoMemory>
     ensures status { IfOk result (λ texts. texts.0 ≡ found_status plan.now) }
+    ensures not_stopped { IfOk result (λ texts. texts.0 ≢ STOPPED) }
     ensures plan { IfOk result (λ texts. string_bytes texts.1 ≡ plan_text plan.now) }
     ensures line { IfOk result (λ texts. string_bytes texts.2 ≡ optimal_line plan.now count) }
 {
@@ -265,8 +302,9 @@ fn argued(
     argument: Argument,
     wanted: bool,
 ) -> Result<PlanOutput, NoMemory>
-    ensures tells { IfOk result (λ output. (network : Network) (limit : ℕ) → IsArgued network limit plan.now argument
-        → (shown : Output) → IsPrinted (Ok output) shown → TellsPlan network limit wanted shown) }
+    ensures tells { IfOk result (λ output. (network : Network) (effort : Effort) → IsArgued network effort.limit plan.now argument
+        → MayArgue effort.method effort.limit → (shown : Output) → IsPrinted (Ok output) shown → TellsPlan network effort wanted shown) }
+    ensures not_stopped { IfOk result (λ output. output.stop ≡ None) }
     ensures wanted { IfOk result (λ output. IsTrue (is_some output.cert) → IsTrue wanted) }
 {
     let count = argument.steps.list().len();
@@ -282,6 +320,7 @@ fn argued(
         plan: text,
         cert: argument_if(argument, wanted),
         line,
+        stop: None,
     })
 }
 
@@ -311,15 +350,17 @@ fn line_of(alloc: Global, plan: &Plan, count: usize) -> Result<String, NoMemory>
 }
 
 /// What is said of a search that was stopped after so many settlements.
-fn stopped(alloc: Global, count: usize, best: &Option<Solved>) -> Result<PlanOutput, NoMemory>
-    ensures output { IfOk result (λ output. printed (Ok output) ≡ stopped_output best.now count) }
+fn stopped(alloc: Global, count: usize, known: &Known) -> Result<PlanOutput, NoMemory>
+    ensures output { IfOk result (λ output. printed (Ok output) ≡ stopped_output known.now.best count) }
     ensures none { IfOk result (λ output. output.cert ≡ None) }
+    ensures stop { IfOk result (λ output. output.stop ≡ Some (stop_of known.now)) }
 {
     Ok(PlanOutput {
         status: STOPPED,
-        plan: best_text(alloc, best)?,
+        plan: best_text(alloc, &known.best)?,
         cert: None,
-        line: stopped_line(alloc, best, count)?,
+        line: stopped_line(alloc, &known.best, count)?,
+        stop: Some(Stop::of(known)),
     })
 }
 

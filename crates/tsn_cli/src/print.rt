@@ -1,6 +1,7 @@
 //! How a run of `plan` ends: it prints a plan, its certificate, where one is wanted, and a line.
-ghost use Rattle.std.specs.Prelude.{◌≡◌, ◌≢◌, ◌<◌, ◌+◌, ◌-◌, ◌^◌, [], ◌∷◌, IfOk, IsSome};
-ghost use Rattle.tsn_cli.specs.Run.{Output, TakesAll, TakesBeginning, writing_of, taken_in, failed_in};
+ghost use Rattle.std.specs.Prelude.{◌<◌, ◌-◌, ◌^◌, [], ◌∷◌, IfOk, IsSome};
+ghost use Rattle.tsn_cli.specs.Run.{failed_in, sink_over, taken_in};
+ghost use Rattle.tsn_cli.specs.Outcome.{IsWrittenAs};
 ghost use Rattle.tsn_cli.specs.PlanOutput.{IsPrinted};
 
 use crate::answer::PlanOutput;
@@ -21,23 +22,9 @@ pub(crate) fn print<P: Sink, C: Sink, W: Sink>(
     requires cert_writes { failed_in C.failed cert.old < 2 ^ 64 - 1 }
     requires writes { W.failed sink.old < 2 ^ 64 - 1 }
     requires wanted { IfOk outcome (λ output. IsSome output.cert → IsSome cert.old) }
-    ensures whole { result ≢ DEVICE → (shown : Output) × IsPrinted outcome shown × (result ≡ shown.status)
-        × TakesAll (writing_of (P.taken plan.old) (P.taken plan.new)
-        ∷ writing_of (taken_in C.taken cert.old) (taken_in C.taken cert.new)
-        ∷ writing_of (W.taken sink.old) (W.taken sink.new) ∷ []) shown.texts
-        × (P.failed plan.new ≡ P.failed plan.old) × (failed_in C.failed cert.new ≡ failed_in C.failed cert.old)
-        × (W.failed sink.new ≡ W.failed sink.old) }
-    ensures unread { outcome ≡ Err ReadFault.Broken → (result ≡ DEVICE) × (plan.new ≡ plan.old)
-        × (cert.new ≡ cert.old) × (sink.new ≡ sink.old) }
-    ensures device { result ≡ DEVICE → (outcome ≡ Err ReadFault.Broken → ⊥)
-        → P.failed plan.new + failed_in C.failed cert.new + W.failed sink.new
-        ≡ P.failed plan.old + failed_in C.failed cert.old + W.failed sink.old + 1 }
-    ensures beginning { P.failed plan.new + failed_in C.failed cert.new + W.failed sink.new
-        ≢ P.failed plan.old + failed_in C.failed cert.old + W.failed sink.old → (outcome ≡ Err ReadFault.Broken → ⊥)
-        × ((shown : Output) × IsPrinted outcome shown
-        × TakesBeginning (writing_of (P.taken plan.old) (P.taken plan.new)
-        ∷ writing_of (taken_in C.taken cert.old) (taken_in C.taken cert.new)
-        ∷ writing_of (W.taken sink.old) (W.taken sink.new) ∷ []) shown.texts) }
+    ensures { IsWrittenAs IsPrinted outcome (sink_over P.taken P.failed plan.old plan.new
+        ∷ sink_over (taken_in C.taken) (failed_in C.failed) cert.old cert.new
+        ∷ sink_over W.taken W.failed sink.old sink.new ∷ []) result }
 {
     match outcome {
         Ok(output) => print_all(alloc, plan, cert, sink, output),
@@ -60,26 +47,16 @@ fn print_all<P: Sink, C: Sink, W: Sink>(
     requires cert_writes { failed_in C.failed cert.old < 2 ^ 64 - 1 }
     requires writes { W.failed sink.old < 2 ^ 64 - 1 }
     requires wanted { IsSome output.cert → IsSome cert.old }
-    ensures whole { result ≢ DEVICE → (shown : Output) × IsPrinted (Ok output) shown × (result ≡ shown.status)
-        × TakesAll (writing_of (P.taken plan.old) (P.taken plan.new)
-        ∷ writing_of (taken_in C.taken cert.old) (taken_in C.taken cert.new)
-        ∷ writing_of (W.taken sink.old) (W.taken sink.new) ∷ []) shown.texts
-        × (P.failed plan.new ≡ P.failed plan.old) × (failed_in C.failed cert.new ≡ failed_in C.failed cert.old)
-        × (W.failed sink.new ≡ W.failed sink.old) }
-    ensures device { result ≡ DEVICE → P.failed plan.new + failed_in C.failed cert.new + W.failed sink.new
-        ≡ P.failed plan.old + failed_in C.failed cert.old + W.failed sink.old + 1 }
-    ensures beginning { P.failed plan.new + failed_in C.failed cert.new + W.failed sink.new
-        ≢ P.failed plan.old + failed_in C.failed cert.old + W.failed sink.old
-        → (shown : Output) × IsPrinted (Ok output) shown
-        × TakesBeginning (writing_of (P.taken plan.old) (P.taken plan.new)
-        ∷ writing_of (taken_in C.taken cert.old) (taken_in C.taken cert.new)
-        ∷ writing_of (W.taken sink.old) (W.taken sink.new) ∷ []) shown.texts }
+    ensures { IsWrittenAs IsPrinted (Ok output) (sink_over P.taken P.failed plan.old plan.new
+        ∷ sink_over (taken_in C.taken) (failed_in C.failed) cert.old cert.new
+        ∷ sink_over W.taken W.failed sink.old sink.new ∷ []) result }
 {
     let PlanOutput {
         status,
         plan: text,
         cert: found,
         line,
+        stop: _,
     } = output;
     if write_whole(plan, text.as_bytes()).is_err() {
         drop(found);

@@ -1,7 +1,8 @@
 //! How a run of `prove` ends: it prints a certificate, a better plan, and a line.
-ghost use Rattle.std.specs.Prelude.{◌≡◌, ◌≢◌, ◌<◌, ◌+◌, ◌-◌, ◌^◌, [], ◌∷◌};
-ghost use Rattle.tsn_cli.specs.Run.{TakesAll, TakesBeginning, writing_of};
-ghost use Rattle.tsn_cli.specs.ProofOutput.{shown};
+ghost use Rattle.std.specs.Prelude.{◌<◌, ◌-◌, ◌^◌, [], ◌∷◌};
+ghost use Rattle.tsn_cli.specs.Run.{sink_over};
+ghost use Rattle.tsn_cli.specs.Outcome.{IsWrittenAs};
+ghost use Rattle.tsn_cli.specs.ProofOutput.{IsShown};
 
 use crate::proof_output::ProofOutput;
 use crate::run::{DEVICE, MEMORY, NO_MEMORY_LINE, REFUSED, TOO_LONG_LINE, finish};
@@ -17,20 +18,8 @@ pub(crate) fn print_proof<C: Sink, P: Sink, W: Sink>(
     requires cert_writes { C.failed cert.old < 2 ^ 64 - 1 }
     requires plan_writes { P.failed plan.old < 2 ^ 64 - 1 }
     requires writes { W.failed sink.old < 2 ^ 64 - 1 }
-    ensures whole { result ≢ DEVICE → (result ≡ (shown outcome).status)
-        × TakesAll (writing_of (C.taken cert.old) (C.taken cert.new) ∷ writing_of (P.taken plan.old) (P.taken plan.new)
-        ∷ writing_of (W.taken sink.old) (W.taken sink.new) ∷ []) (shown outcome).texts
-        × (C.failed cert.new ≡ C.failed cert.old) × (P.failed plan.new ≡ P.failed plan.old)
-        × (W.failed sink.new ≡ W.failed sink.old) }
-    ensures unread { outcome ≡ Err ReadFault.Broken → (result ≡ DEVICE) × (cert.new ≡ cert.old)
-        × (plan.new ≡ plan.old) × (sink.new ≡ sink.old) }
-    ensures device { result ≡ DEVICE → (outcome ≡ Err ReadFault.Broken → ⊥)
-        → C.failed cert.new + P.failed plan.new + W.failed sink.new
-        ≡ C.failed cert.old + P.failed plan.old + W.failed sink.old + 1 }
-    ensures beginning { C.failed cert.new + P.failed plan.new + W.failed sink.new
-        ≢ C.failed cert.old + P.failed plan.old + W.failed sink.old → (outcome ≡ Err ReadFault.Broken → ⊥)
-        × TakesBeginning (writing_of (C.taken cert.old) (C.taken cert.new) ∷ writing_of (P.taken plan.old) (P.taken plan.new)
-        ∷ writing_of (W.taken sink.old) (W.taken sink.new) ∷ []) (shown outcome).texts }
+    ensures { IsWrittenAs IsShown outcome (sink_over C.taken C.failed cert.old cert.new
+        ∷ sink_over P.taken P.failed plan.old plan.new ∷ sink_over W.taken W.failed sink.old sink.new ∷ []) result }
 {
     match outcome {
         Ok(output) => print_all(cert, plan, sink, &output),
@@ -50,17 +39,8 @@ fn print_all<C: Sink, P: Sink, W: Sink>(
     requires cert_writes { C.failed cert.old < 2 ^ 64 - 1 }
     requires plan_writes { P.failed plan.old < 2 ^ 64 - 1 }
     requires writes { W.failed sink.old < 2 ^ 64 - 1 }
-    ensures whole { result ≢ DEVICE → (result ≡ output.now.status)
-        × TakesAll (writing_of (C.taken cert.old) (C.taken cert.new) ∷ writing_of (P.taken plan.old) (P.taken plan.new)
-        ∷ writing_of (W.taken sink.old) (W.taken sink.new) ∷ []) (shown (Ok output.now)).texts
-        × (C.failed cert.new ≡ C.failed cert.old) × (P.failed plan.new ≡ P.failed plan.old)
-        × (W.failed sink.new ≡ W.failed sink.old) }
-    ensures device { result ≡ DEVICE → C.failed cert.new + P.failed plan.new + W.failed sink.new
-        ≡ C.failed cert.old + P.failed plan.old + W.failed sink.old + 1 }
-    ensures beginning { C.failed cert.new + P.failed plan.new + W.failed sink.new
-        ≢ C.failed cert.old + P.failed plan.old + W.failed sink.old
-        → TakesBeginning (writing_of (C.taken cert.old) (C.taken cert.new) ∷ writing_of (P.taken plan.old) (P.taken plan.new)
-        ∷ writing_of (W.taken sink.old) (W.taken sink.new) ∷ []) (shown (Ok output.now)).texts }
+    ensures { IsWrittenAs IsShown (Ok output.now) (sink_over C.taken C.failed cert.old cert.new
+        ∷ sink_over P.taken P.failed plan.old plan.new ∷ sink_over W.taken W.failed sink.old sink.new ∷ []) result }
 {
     if write_whole(cert, output.cert.as_bytes()).is_err() {
         return DEVICE;

@@ -1,38 +1,73 @@
 //! `prove`: shows that no valid schedule undercuts a plan, whoever made it, or finds one that does.
-ghost use Rattle.std.specs.Prelude.{◌≡◌, ◌≢◌, ◌<◌, ◌+◌, ◌-◌, ◌^◌, ◌⊎◌, ℕ, List, [], ◌∷◌, IfOk, IfErr, OnOk, string_bytes};
-ghost use Rattle.std.specs.Io.KnownBytes.{Keeps};
-ghost use Rattle.tsn_net.specs.File.{States};
+ghost use Rattle.std.specs.Prelude.{◌≡◌, ◌≢◌, ◌<◌, ◌-◌, ◌^◌, ◌⊎◌, ◌↔◌, [], ◌∷◌, IfOk, IfErr, IfSome, IsTrue, None, OnOk, Some, is_some, string_bytes};
 ghost use Rattle.tsn_cert.specs.declared.plan.Plan.{Plan};
 ghost use Rattle.tsn_check.specs.Plans.{IsPlanRight, span_in};
 ghost use Rattle.tsn_check.specs.Faults.{IsClaimFault};
-ghost use Rattle.tsn_worker.specs.declared.proof.Proof.TheVariants.{Proved, Undercut};
-ghost use Rattle.tsn_cli.specs.Run.{BreaksOff, Ends, EndsEarly, reading_of, writing_of};
-ghost use Rattle.tsn_cli.specs.ProofOutput.{Reaches, line_after, shown};
-ghost use Rattle.tsn_cli.specs.Prove.{FindsOf, ProveAnswers, ProvesPlan, RejectsClaim, output_of, proved_line, stopped_line, undercut_line};
+ghost use Rattle.tsn_worker.specs.declared.proof.Proof.TheVariants.{Proved, Stopped, Undercut};
+ghost use Rattle.tsn_cli.specs.Run.{EndsOver, RunsOver, readings_of, sink_over, source_over};
+ghost use Rattle.tsn_cli.specs.Outcome.{ComesOver};
+ghost use Rattle.tsn_cli.specs.Finding.{stop_among};
+ghost use Rattle.tsn_cli.specs.ProofOutput.{Finds, finding_in, line_after, shown};
+ghost use Rattle.tsn_cli.specs.Prove.{FindsAs, FindsOf, ProveAnswers, ProveFinds, RejectsClaim, finding_of, output_of, proved_line, span_if_any, stopped_line, undercut_line};
 
 use crate::answer::Answer as Line;
-use crate::check::file_refusal;
+use crate::finding::{Finding, Spans};
+use crate::inputs::{InputsRead, read_inputs};
 use crate::plan::STOPPED;
 use crate::print_proof::print_proof;
 use crate::proof_output::ProofOutput;
-use crate::run::{DEVICE, DONE, MAX_FILE, REJECTED};
+use crate::run::{DEVICE, DONE, REJECTED};
+use crate::stop::Stop;
 use crate::tables::rejection;
-use crate::valid::refusal;
 use std::alloc::Global;
 use tsn_argument::{Argument, argument_to_json};
-use tsn_cert::{Plan, plan_from_json, plan_to_json};
+use tsn_cert::{Plan, plan_to_json};
 use tsn_check::{CheckFault, check_plan};
-use tsn_device::device::{ReadFault, Sink, Source, read_all};
+use tsn_device::device::{ReadFault, Sink, Source};
 use tsn_model::NoMemory;
-use tsn_net::{Problem, read_problem};
+use tsn_net::Problem;
 use tsn_timing::Timing;
 use tsn_worker::{Proof, Supervisor, prove};
+
+/// How a run of `prove` ended: its status, and what was found of the plan, where one was taken and all was written.
+#[derive(Clone, Copy, Debug)]
+pub struct ProofEnd {
+    pub status: u8,
+    pub finding: Option<Finding>,
+}
+
+impl ProofEnd {
+    // What was found is told only where no device failed.
+    fn of(status: u8, finding: Option<Finding>) -> ProofEnd
+        ensures status { result.status ≡ status }
+        ensures found { status ≢ DEVICE → result.finding ≡ finding }
+        ensures only { IsTrue (is_some result.finding) → status ≢ DEVICE }
+    {
+        ProofEnd {
+            status,
+            finding: if status == DEVICE { None } else { finding },
+        }
+    }
+
+    /// What is known where the limit was met.
+    pub fn stop(&self) -> Option<Stop>
+        ensures { result ≡ stop_among self.now.finding }
+    {
+        match self.finding {
+            Some(Finding::Stopped(stop)) => Some(stop),
+            Some(Finding::Proved) => None,
+            Some(Finding::Undercut(_)) => None,
+            None => None,
+        }
+    }
+}
 
 /// Reads a network file and a plan file, the first judged before the second is read, and seeks a valid schedule that undercuts the
 /// plan, by at most so many conflicts. Where there is none it writes a certificate of format 3, an argument of at most so many
 /// steps, that `check` accepts; where one is found it writes that; and then a line on what was found, or on what is refused. The
 /// line tells the steps of the argument, or else the conflicts. Where the limit is met it writes a line alone. The supervisor hears of the
-/// conflicts. The answer is the status.
+/// conflicts. The answer is the status, and what was found of the plan: where the limit was met, its flowspan, if it is a schedule, and
+/// what no valid schedule's flowspan is below.
 pub fn prove_run<N: Source, P: Source, S: Supervisor, C: Sink, B: Sink, W: Sink>(
     alloc: Global,
     network: &mut N,
@@ -42,45 +77,41 @@ pub fn prove_run<N: Source, P: Source, S: Supervisor, C: Sink, B: Sink, W: Sink>
     cert: &mut C,
     better: &mut B,
     sink: &mut W,
-) -> u8
+) -> ProofEnd
     requires network_reads { N.failed network.old < 2 ^ 64 - 1 }
     requires plan_reads { P.failed plan.old < 2 ^ 64 - 1 }
     requires cert_writes { C.failed cert.old < 2 ^ 64 - 1 }
     requires plan_writes { B.failed better.old < 2 ^ 64 - 1 }
     requires writes { W.failed sink.old < 2 ^ 64 - 1 }
 
-    ensures ended { result ≢ DEVICE → Ends (ProveAnswers limit)
-        (reading_of (N.given network.old) (N.given network.new) (N.is_at_end network.new)
-        ∷ reading_of (P.given plan.old) (P.given plan.new) (P.is_at_end plan.new) ∷ [])
-        (writing_of (C.taken cert.old) (C.taken cert.new) ∷ writing_of (B.taken better.old) (B.taken better.new)
-        ∷ writing_of (W.taken sink.old) (W.taken sink.new) ∷ []) result }
-    ensures no_failure { result ≢ DEVICE → (N.failed network.new ≡ N.failed network.old)
-        × (P.failed plan.new ≡ P.failed plan.old) × (C.failed cert.new ≡ C.failed cert.old)
-        × (B.failed better.new ≡ B.failed better.old) × (W.failed sink.new ≡ W.failed sink.old) }
+    ensures runs { RunsOver (ProveAnswers limit)
+        (source_over N.given N.failed N.is_at_end network.old network.new
+        ∷ source_over P.given P.failed P.is_at_end plan.old plan.new ∷ [])
+        (sink_over C.taken C.failed cert.old cert.new ∷ sink_over B.taken B.failed better.old better.new
+        ∷ sink_over W.taken W.failed sink.old sink.new ∷ []) result.status }
 
-    ensures failure { result ≡ DEVICE → N.failed network.new + P.failed plan.new + C.failed cert.new
-        + B.failed better.new + W.failed sink.new
-        ≡ N.failed network.old + P.failed plan.old + C.failed cert.old + B.failed better.old
-        + W.failed sink.old + 1 }
-    ensures read_failed { N.failed network.new + P.failed plan.new
-        ≢ N.failed network.old + P.failed plan.old
-        → Keeps (C.taken cert.old) (C.taken cert.new) × Keeps (B.taken better.old) (B.taken better.new)
-        × Keeps (W.taken sink.old) (W.taken sink.new) × BreaksOff (ProveAnswers limit) []
-        (reading_of (N.given network.old) (N.given network.new) (N.is_at_end network.new)
-        ∷ reading_of (P.given plan.old) (P.given plan.new) (P.is_at_end plan.new) ∷ []) }
-    ensures write_failed { C.failed cert.new + B.failed better.new + W.failed sink.new
-        ≢ C.failed cert.old + B.failed better.old + W.failed sink.old → EndsEarly (ProveAnswers limit)
-        (reading_of (N.given network.old) (N.given network.new) (N.is_at_end network.new)
-        ∷ reading_of (P.given plan.old) (P.given plan.new) (P.is_at_end plan.new) ∷ [])
-        (writing_of (C.taken cert.old) (C.taken cert.new) ∷ writing_of (B.taken better.old) (B.taken better.new)
-        ∷ writing_of (W.taken sink.old) (W.taken sink.new) ∷ []) }
+    // What was found of the plan, as a value.
+    ensures stopped { result.status ≡ STOPPED ↔ IsTrue (is_some (stop_among result.finding)) }
+    ensures found { IfSome result.finding (λ finding. EndsOver (ProveFinds limit finding)
+        (source_over N.given N.failed N.is_at_end network.old network.new
+        ∷ source_over P.given P.failed P.is_at_end plan.old plan.new ∷ [])
+        (sink_over C.taken C.failed cert.old cert.new ∷ sink_over B.taken B.failed better.old better.new
+        ∷ sink_over W.taken W.failed sink.old sink.new ∷ []) result.status) }
 {
-    print_proof(
-        cert,
-        better,
-        sink,
-        answer_of(alloc, network, plan, limit, supervisor),
-    )
+    let outcome = answer_of(alloc, network, plan, limit, supervisor);
+    let finding = finding_in(&outcome);
+    let status = print_proof(cert, better, sink, outcome);
+    ProofEnd::of(status, finding)
+}
+
+/// What was found of the plan, where one was judged.
+fn finding_in(outcome: &Result<ProofOutput, ReadFault>) -> Option<Finding>
+    ensures { result ≡ finding_in outcome.now }
+{
+    match outcome {
+        Ok(output) => output.finding,
+        Err(_) => None,
+    }
 }
 
 /// What the run prints.
@@ -93,78 +124,39 @@ fn answer_of<N: Source, P: Source, S: Supervisor>(
 ) -> Result<ProofOutput, ReadFault>
     requires network_reads { N.failed network.old < 2 ^ 64 - 1 }
     requires plan_reads { P.failed plan.old < 2 ^ 64 - 1 }
-    ensures comes { Reaches (ProveAnswers limit) []
-        (reading_of (N.given network.old) (N.given network.new) (N.is_at_end network.new)
-        ∷ reading_of (P.given plan.old) (P.given plan.new) (P.is_at_end plan.new) ∷ []) result }
-    ensures broken { result ≡ Err ReadFault.Broken → N.failed network.new + P.failed plan.new
-        ≡ N.failed network.old + P.failed plan.old + 1 }
-    ensures kept { (result ≡ Err ReadFault.Broken → ⊥) → (N.failed network.new ≡ N.failed network.old)
-        × (P.failed plan.new ≡ P.failed plan.old) }
+    ensures comes { ComesOver shown (ProveAnswers limit)
+        (source_over N.given N.failed N.is_at_end network.old network.new
+        ∷ source_over P.given P.failed P.is_at_end plan.old plan.new ∷ []) result }
+    ensures finds { Finds (ProveFinds limit) [] (readings_of
+        (source_over N.given N.failed N.is_at_end network.old network.new
+        ∷ source_over P.given P.failed P.is_at_end plan.old plan.new ∷ [])) result }
 {
-    let file = read_all(alloc, network, MAX_FILE)?;
-    answer_to_network(alloc, &file, plan, limit, supervisor)
-}
-
-/// What the run prints to a network file, and to what it reads after that.
-fn answer_to_network<P: Source, S: Supervisor>(
-    alloc: Global,
-    file: &[u8],
-    plan: &mut P,
-    limit: usize,
-    supervisor: &S,
-) -> Result<ProofOutput, ReadFault>
-    requires plan_reads { P.failed plan.old < 2 ^ 64 - 1 }
-    ensures comes { Reaches (ProveAnswers limit) (file.now ∷ [])
-        (reading_of (P.given plan.old) (P.given plan.new) (P.is_at_end plan.new) ∷ []) result }
-    ensures broken { result ≡ Err ReadFault.Broken → P.failed plan.new ≡ P.failed plan.old + 1 }
-    ensures kept { (result ≡ Err ReadFault.Broken → ⊥) → P.failed plan.new ≡ P.failed plan.old }
-{
-    match read_problem(alloc, file) {
-        Ok(problem) => {
-            let answer = answer_on(alloc, &problem, plan, limit, supervisor);
-            drop(problem);
-            answer
+    match read_inputs(alloc, network, plan) {
+        Ok(InputsRead::Taken(problem, plan)) => {
+            Ok(answer_to(alloc, problem, plan, limit, supervisor)?)
         }
-        Err(fault) => Ok(alone(alloc, refusal(alloc, fault)?)),
+        Ok(InputsRead::Refused(answer)) => Ok(alone(alloc, answer)),
+        Err(fault) => Err(fault),
     }
 }
 
-/// What the run prints on a network, once its file is read.
-fn answer_on<P: Source, S: Supervisor>(
+/// What the run prints to a network and a plan.
+fn answer_to<S: Supervisor>(
     alloc: Global,
-    problem: &Problem,
-    plan: &mut P,
-    limit: usize,
-    supervisor: &S,
-) -> Result<ProofOutput, ReadFault>
-    requires plan_reads { P.failed plan.old < 2 ^ 64 - 1 }
-    ensures comes { (network : List ℕ) → States network problem.now → Reaches (ProveAnswers limit) (network ∷ [])
-        (reading_of (P.given plan.old) (P.given plan.new) (P.is_at_end plan.new) ∷ []) result }
-    ensures broken { result ≡ Err ReadFault.Broken → P.failed plan.new ≡ P.failed plan.old + 1 }
-    ensures kept { (result ≡ Err ReadFault.Broken → ⊥) → P.failed plan.new ≡ P.failed plan.old }
-{
-    let file = read_all(alloc, plan, MAX_FILE)?;
-    Ok(answer_to_plan(alloc, problem, &file, limit, supervisor)?)
-}
-
-/// What the run prints to a plan file.
-fn answer_to_plan<S: Supervisor>(
-    alloc: Global,
-    problem: &Problem,
-    file: &[u8],
+    problem: Problem,
+    plan: Plan,
     limit: usize,
     supervisor: &S,
 ) -> Result<ProofOutput, NoMemory>
-    ensures { IfOk result (λ output. ProvesPlan limit problem.now.network file.now (shown (Ok output))) }
+    ensures judges { IfOk result (λ output. FindsOf limit problem.network plan (shown (Ok output))
+        ⊎ RejectsClaim problem.network plan (shown (Ok output))) }
+    ensures finds { IfOk result (λ output. IfSome output.finding (λ finding.
+        FindsAs limit problem.network plan finding (shown (Ok output)))) }
 {
-    match plan_from_json(alloc, file) {
-        Ok(plan) => {
-            let output = judgement(alloc, problem, &plan, limit, supervisor);
-            drop(plan);
-            output
-        }
-        Err(fault) => Ok(alone(alloc, file_refusal(alloc, "plan", fault)?)),
-    }
+    let output = judgement(alloc, &problem, &plan, limit, supervisor);
+    drop(problem);
+    drop(plan);
+    output
 }
 
 /// What is printed of a plan.
@@ -175,8 +167,10 @@ fn judgement<S: Supervisor>(
     limit: usize,
     supervisor: &S,
 ) -> Result<ProofOutput, NoMemory>
-    ensures { IfOk result (λ output. FindsOf limit problem.now.network plan.now (shown (Ok output))
+    ensures judges { IfOk result (λ output. FindsOf limit problem.now.network plan.now (shown (Ok output))
         ⊎ RejectsClaim problem.now.network plan.now (shown (Ok output))) }
+    ensures finds { IfOk result (λ output. IfSome output.finding (λ finding.
+        FindsAs limit problem.now.network plan.now finding (shown (Ok output)))) }
 {
     let timing = Timing::of(alloc, problem)?;
     let judged = judge_claim(alloc, &timing, plan);
@@ -204,7 +198,9 @@ fn judge_claim(alloc: Global, timing: &Timing, plan: &Plan) -> Result<(), CheckF
 
 /// An output that is a line alone.
 fn alone(alloc: Global, answer: Line) -> ProofOutput
-    ensures { shown (Ok result) ≡ line_after answer.status (string_bytes answer.text) }
+    requires { answer.status ≢ STOPPED }
+    ensures line { shown (Ok result) ≡ line_after answer.status (string_bytes answer.text) }
+    ensures none { result.finding ≡ None }
 {
     let Line { status, text } = answer;
     ProofOutput {
@@ -212,12 +208,14 @@ fn alone(alloc: Global, answer: Line) -> ProofOutput
         cert: String::new(alloc),
         plan: String::new(alloc),
         line: text,
+        finding: None,
     }
 }
 
 /// What is printed of what was found of a plan.
 fn output_for(alloc: Global, plan: &Plan, proof: Proof) -> Result<ProofOutput, NoMemory>
-    ensures { IfOk result (λ output. shown (Ok output) ≡ output_of plan.now proof) }
+    ensures output { IfOk result (λ output. shown (Ok output) ≡ output_of plan.now proof) }
+    ensures finding { IfOk result (λ output. output.finding ≡ Some (finding_of plan.now proof)) }
 {
     match proof {
         Proof::Proved(argument, count) => {
@@ -230,7 +228,7 @@ fn output_for(alloc: Global, plan: &Plan, proof: Proof) -> Result<ProofOutput, N
             drop(better);
             output
         }
-        Proof::Stopped(_, count) => stopped(alloc, plan, count),
+        Proof::Stopped(bound, count) => stopped(alloc, plan, bound, count),
     }
 }
 
@@ -241,13 +239,15 @@ fn proved(
     argument: &Argument,
     count: usize,
 ) -> Result<ProofOutput, NoMemory>
-    ensures { IfOk result (λ output. shown (Ok output) ≡ output_of plan.now (Proved argument.now count)) }
+    ensures output { IfOk result (λ output. shown (Ok output) ≡ output_of plan.now (Proved argument.now count)) }
+    ensures finding { IfOk result (λ output. output.finding ≡ Some (finding_of plan.now (Proved argument.now count))) }
 {
     Ok(ProofOutput {
         status: DONE,
         cert: argument_to_json(alloc, argument)?,
         plan: String::new(alloc),
         line: proved_line(alloc, plan, count)?,
+        finding: Some(Finding::Proved),
     })
 }
 
@@ -258,26 +258,46 @@ fn undercut(
     better: &Plan,
     count: usize,
 ) -> Result<ProofOutput, NoMemory>
-    ensures { IfOk result (λ output. shown (Ok output) ≡ output_of plan.now (Undercut better.now count)) }
+    ensures output { IfOk result (λ output. shown (Ok output) ≡ output_of plan.now (Undercut better.now count)) }
+    ensures finding { IfOk result (λ output. output.finding ≡ Some (finding_of plan.now (Undercut better.now count))) }
 {
     Ok(ProofOutput {
         status: REJECTED,
         cert: String::new(alloc),
         plan: plan_to_json(alloc, better)?,
         line: undercut_line(alloc, plan, span_of(better), count)?,
+        finding: Some(Finding::Undercut(Spans {
+            stated: span_if_any(plan),
+            better: span_of(better),
+        })),
     })
 }
 
 /// What is printed of a plan where the limit was met.
-fn stopped(alloc: Global, plan: &Plan, count: usize) -> Result<ProofOutput, NoMemory>
-    ensures { IfOk result (λ output. shown (Ok output) ≡ line_after STOPPED (stopped_line plan.now count)) }
+fn stopped(alloc: Global, plan: &Plan, bound: u64, count: usize) -> Result<ProofOutput, NoMemory>
+    ensures output { IfOk result (λ output. shown (Ok output) ≡ output_of plan.now (Stopped bound count)) }
+    ensures finding { IfOk result (λ output. output.finding ≡ Some (finding_of plan.now (Stopped bound count))) }
 {
-    let text = stopped_line(alloc, plan, count)?;
-    let line = Line {
+    Ok(ProofOutput {
         status: STOPPED,
-        text,
-    };
-    Ok(alone(alloc, line))
+        cert: String::new(alloc),
+        plan: String::new(alloc),
+        line: stopped_line(alloc, plan, count)?,
+        finding: Some(Finding::Stopped(Stop {
+            best: span_if_any(plan),
+            bound,
+        })),
+    })
+}
+
+/// The flowspan of a plan in nanoseconds, if it is a schedule.
+fn span_if_any(plan: &Plan) -> Option<u64>
+    ensures { result ≡ span_if_any plan.now }
+{
+    match plan {
+        Plan::Schedule { flowspan, .. } => Some(*flowspan),
+        Plan::None => None,
+    }
 }
 
 /// The flowspan of a plan in nanoseconds, 0 where it is that there is none.

@@ -4,7 +4,7 @@ ghost use Rattle.tsn_cli.specs.ProveLaws.{ProvedIsAccepted};
 
 use tsn_argue::laws::first_faults_refute;
 
-/// An argument that proves a plan is accepted by `check`, where it answers to the argument's file.
+/// The certificate that `prove` writes of a plan that it proved is accepted by `check`, where it answers to these files.
 pub fn proved_is_accepted()
     ensures { ProvedIsAccepted }
 {

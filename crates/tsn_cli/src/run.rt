@@ -1,7 +1,7 @@
 //! What the runs of all commands share: their statuses, and how a run ends.
-ghost use Rattle.std.specs.Prelude.{◌≡◌, ◌≢◌, ◌<◌, ◌+◌, ◌-◌, ◌^◌, [], ◌∷◌};
-ghost use Rattle.tsn_cli.specs.Run.{TakesAll, TakesBeginning, writing_of};
-ghost use Rattle.tsn_cli.specs.Outcome.{output_of};
+ghost use Rattle.std.specs.Prelude.{◌<◌, ◌-◌, ◌^◌, [], ◌∷◌};
+ghost use Rattle.tsn_cli.specs.Run.{sink_over};
+ghost use Rattle.tsn_cli.specs.Outcome.{IsOutputOf, IsWrittenAs};
 
 use crate::answer::Answer;
 use tsn_device::device::{ReadFault, Sink};
@@ -34,14 +34,7 @@ pub const MAX_FILE: usize = 1_099_511_627_776;
 /// Writes the answer, or the line of the fault for which there is none, and says the status.
 pub(crate) fn respond<W: Sink>(sink: &mut W, outcome: Result<Answer, ReadFault>) -> u8
     requires few_failures { W.failed sink.old < 2 ^ 64 - 1 }
-    ensures whole { result ≢ DEVICE → (result ≡ (output_of outcome).status)
-        × TakesAll (writing_of (W.taken sink.old) (W.taken sink.new) ∷ []) (output_of outcome).texts
-        × (W.failed sink.new ≡ W.failed sink.old) }
-    ensures unread { outcome ≡ Err ReadFault.Broken → (result ≡ DEVICE) × (sink.new ≡ sink.old) }
-    ensures device { result ≡ DEVICE → (outcome ≡ Err ReadFault.Broken → ⊥)
-        → W.failed sink.new ≡ W.failed sink.old + 1 }
-    ensures beginning { W.failed sink.new ≢ W.failed sink.old → (outcome ≡ Err ReadFault.Broken → ⊥)
-        × TakesBeginning (writing_of (W.taken sink.old) (W.taken sink.new) ∷ []) (output_of outcome).texts }
+    ensures { IsWrittenAs IsOutputOf outcome (sink_over W.taken W.failed sink.old sink.new ∷ []) result }
 {
     match outcome {
         Ok(answer) => finish(sink, answer.status, answer.text.as_bytes()),

@@ -1,7 +1,7 @@
 //! What a plan is shown by.
 
-use crate::format::{GatesFormat, ReplayFormat, StreamsFormat};
 use tsn_chart::View;
+use tsn_format::{GatesFormat, ReplayFormat, StreamsFormat};
 use tsn_gate::DeviceLimits;
 
 /// How the gate control lists of a plan are printed, and of how many nanoseconds an entry is to be at least: with `merge`,

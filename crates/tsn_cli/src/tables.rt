@@ -1,33 +1,31 @@
 //! `gates`, `replay`, `chart` and `streams`: print the gate control lists of a plan, a replay by them, a picture, and what each
 //! stream and each link gets.
-ghost use Rattle.std.specs.Prelude.{◌≡◌, ◌≢◌, ◌≤◌, ◌<◌, ◌+◌, ◌-◌, ◌^◌, ◌⊎◌, ℕ, List, [], ◌∷◌, All, IfOk, IsErr, length, string_bytes};
+ghost use Rattle.std.specs.Prelude.{◌≡◌, ◌≤◌, ◌<◌, ◌-◌, ◌^◌, ◌⊎◌, [], ◌∷◌, All, IfOk, IsErr, length, string_bytes};
 ghost use Rattle.std.specs.List.{flat_map};
-ghost use Rattle.std.specs.Io.KnownBytes.{Keeps};
 ghost use Rattle.tsn_model.specs.Schedule.{IsValid};
-ghost use Rattle.tsn_net.specs.File.{States};
-ghost use Rattle.tsn_cli.specs.Run.{BreaksOff, Ends, EndsEarly, IsLine, reading_of, writing_of};
-ghost use Rattle.tsn_cli.specs.Outcome.{ComesTo, output_of};
+ghost use Rattle.tsn_cli.specs.Run.{IsLine, RunsOver, sink_over, source_over};
+ghost use Rattle.tsn_cli.specs.Outcome.{ComesOver, output_of};
 ghost use Rattle.tsn_gate.specs.Json.{json_text};
 ghost use Rattle.tsn_gate.specs.Table.{table_text};
 ghost use Rattle.tsn_replay.specs.declared.trace.Row.{Row};
 ghost use Rattle.tsn_streams.specs.declared.link.LinkShare.{LinkShare};
 ghost use Rattle.tsn_streams.specs.declared.stream.StreamShare.{StreamShare};
-ghost use Rattle.tsn_cli.specs.Tables.{CanShow, ChartAnswers, GatesAnswers, JudgesPlan, RejectsPlan, ReplayAnswers, ShowsLists, ShowsPicture, ShowsPlan, ShowsReplay, ShowsShares, ShowsTable, StreamsAnswers, TableAnswers, lists_text, rejected_plan, rows_text, shares_text};
+ghost use Rattle.tsn_cli.specs.Tables.{CanShow, ChartAnswers, GatesAnswers, RejectsPlan, ReplayAnswers, ShowsLists, ShowsPicture, ShowsPlan, ShowsReplay, ShowsShares, ShowsTable, StreamsAnswers, TableAnswers, lists_text, rejected_plan, rows_text, shares_text};
 
 use crate::answer::Answer;
-use crate::check::{Cause, file_refusal};
-use crate::format::{GatesFormat, ReplayFormat, StreamsFormat};
-use crate::run::{DEVICE, DONE, MAX_FILE, REJECTED, respond};
+use crate::check::Cause;
+use crate::inputs::{InputsRead, read_inputs};
+use crate::run::{DONE, REJECTED, respond};
 use crate::table::{GatesOptions, ReplayOptions, Table};
-use crate::valid::refusal;
 use std::alloc::Global;
-use tsn_cert::{Plan, plan_from_json};
+use tsn_cert::Plan;
 use tsn_chart::{View, marked_chart};
 use tsn_check::{CheckFault, check_plan};
-use tsn_device::device::{ReadFault, Sink, Source, read_all};
+use tsn_device::device::{ReadFault, Sink, Source};
+use tsn_format::{GatesFormat, ReplayFormat, StreamsFormat};
 use tsn_gate::{GateList, gate_lists, lists_by, to_taprio_within};
 use tsn_model::NoMemory;
-use tsn_net::{Problem, read_problem};
+use tsn_net::Problem;
 use tsn_replay::{Background, ReplayFault, ReplayTable, replay_rows};
 use tsn_streams::{Shares, plan_shares, to_csv, to_json, to_text};
 use tsn_timing::{Timing, Valid};
@@ -45,24 +43,10 @@ pub fn gates_run<N: Source, P: Source, W: Sink>(
     requires plan_reads { P.failed plan.old < 2 ^ 64 - 1 }
     requires writes { W.failed sink.old < 2 ^ 64 - 1 }
 
-    ensures ended { result ≢ DEVICE → Ends (GatesAnswers options)
-        (reading_of (N.given network.old) (N.given network.new) (N.is_at_end network.new)
-        ∷ reading_of (P.given plan.old) (P.given plan.new) (P.is_at_end plan.new) ∷ [])
-        (writing_of (W.taken sink.old) (W.taken sink.new) ∷ []) result }
-    ensures no_failure { result ≢ DEVICE → (N.failed network.new ≡ N.failed network.old)
-        × (P.failed plan.new ≡ P.failed plan.old) × (W.failed sink.new ≡ W.failed sink.old) }
-
-    ensures failure { result ≡ DEVICE → N.failed network.new + P.failed plan.new + W.failed sink.new
-        ≡ N.failed network.old + P.failed plan.old + W.failed sink.old + 1 }
-    ensures read_failed { N.failed network.new + P.failed plan.new
-        ≢ N.failed network.old + P.failed plan.old
-        → Keeps (W.taken sink.old) (W.taken sink.new) × BreaksOff (GatesAnswers options) []
-        (reading_of (N.given network.old) (N.given network.new) (N.is_at_end network.new)
-        ∷ reading_of (P.given plan.old) (P.given plan.new) (P.is_at_end plan.new) ∷ []) }
-    ensures write_failed { W.failed sink.new ≢ W.failed sink.old → EndsEarly (GatesAnswers options)
-        (reading_of (N.given network.old) (N.given network.new) (N.is_at_end network.new)
-        ∷ reading_of (P.given plan.old) (P.given plan.new) (P.is_at_end plan.new) ∷ [])
-        (writing_of (W.taken sink.old) (W.taken sink.new) ∷ []) }
+    ensures { RunsOver (GatesAnswers options)
+        (source_over N.given N.failed N.is_at_end network.old network.new
+        ∷ source_over P.given P.failed P.is_at_end plan.old plan.new ∷ [])
+        (sink_over W.taken W.failed sink.old sink.new ∷ []) result }
 {
     respond(sink, answer_of(alloc, network, plan, Table::Gates(options)))
 }
@@ -83,24 +67,10 @@ pub fn replay_run<N: Source, P: Source, W: Sink>(
     requires plan_reads { P.failed plan.old < 2 ^ 64 - 1 }
     requires writes { W.failed sink.old < 2 ^ 64 - 1 }
 
-    ensures ended { result ≢ DEVICE → Ends (ReplayAnswers options)
-        (reading_of (N.given network.old) (N.given network.new) (N.is_at_end network.new)
-        ∷ reading_of (P.given plan.old) (P.given plan.new) (P.is_at_end plan.new) ∷ [])
-        (writing_of (W.taken sink.old) (W.taken sink.new) ∷ []) result }
-    ensures no_failure { result ≢ DEVICE → (N.failed network.new ≡ N.failed network.old)
-        × (P.failed plan.new ≡ P.failed plan.old) × (W.failed sink.new ≡ W.failed sink.old) }
-
-    ensures failure { result ≡ DEVICE → N.failed network.new + P.failed plan.new + W.failed sink.new
-        ≡ N.failed network.old + P.failed plan.old + W.failed sink.old + 1 }
-    ensures read_failed { N.failed network.new + P.failed plan.new
-        ≢ N.failed network.old + P.failed plan.old
-        → Keeps (W.taken sink.old) (W.taken sink.new) × BreaksOff (ReplayAnswers options) []
-        (reading_of (N.given network.old) (N.given network.new) (N.is_at_end network.new)
-        ∷ reading_of (P.given plan.old) (P.given plan.new) (P.is_at_end plan.new) ∷ []) }
-    ensures write_failed { W.failed sink.new ≢ W.failed sink.old → EndsEarly (ReplayAnswers options)
-        (reading_of (N.given network.old) (N.given network.new) (N.is_at_end network.new)
-        ∷ reading_of (P.given plan.old) (P.given plan.new) (P.is_at_end plan.new) ∷ [])
-        (writing_of (W.taken sink.old) (W.taken sink.new) ∷ []) }
+    ensures { RunsOver (ReplayAnswers options)
+        (source_over N.given N.failed N.is_at_end network.old network.new
+        ∷ source_over P.given P.failed P.is_at_end plan.old plan.new ∷ [])
+        (sink_over W.taken W.failed sink.old sink.new ∷ []) result }
 {
     respond(
         sink,
@@ -122,24 +92,10 @@ pub fn chart_run<N: Source, P: Source, W: Sink>(
     requires plan_reads { P.failed plan.old < 2 ^ 64 - 1 }
     requires writes { W.failed sink.old < 2 ^ 64 - 1 }
 
-    ensures ended { result ≢ DEVICE → Ends (ChartAnswers view)
-        (reading_of (N.given network.old) (N.given network.new) (N.is_at_end network.new)
-        ∷ reading_of (P.given plan.old) (P.given plan.new) (P.is_at_end plan.new) ∷ [])
-        (writing_of (W.taken sink.old) (W.taken sink.new) ∷ []) result }
-    ensures no_failure { result ≢ DEVICE → (N.failed network.new ≡ N.failed network.old)
-        × (P.failed plan.new ≡ P.failed plan.old) × (W.failed sink.new ≡ W.failed sink.old) }
-
-    ensures failure { result ≡ DEVICE → N.failed network.new + P.failed plan.new + W.failed sink.new
-        ≡ N.failed network.old + P.failed plan.old + W.failed sink.old + 1 }
-    ensures read_failed { N.failed network.new + P.failed plan.new
-        ≢ N.failed network.old + P.failed plan.old
-        → Keeps (W.taken sink.old) (W.taken sink.new) × BreaksOff (ChartAnswers view) []
-        (reading_of (N.given network.old) (N.given network.new) (N.is_at_end network.new)
-        ∷ reading_of (P.given plan.old) (P.given plan.new) (P.is_at_end plan.new) ∷ []) }
-    ensures write_failed { W.failed sink.new ≢ W.failed sink.old → EndsEarly (ChartAnswers view)
-        (reading_of (N.given network.old) (N.given network.new) (N.is_at_end network.new)
-        ∷ reading_of (P.given plan.old) (P.given plan.new) (P.is_at_end plan.new) ∷ [])
-        (writing_of (W.taken sink.old) (W.taken sink.new) ∷ []) }
+    ensures { RunsOver (ChartAnswers view)
+        (source_over N.given N.failed N.is_at_end network.old network.new
+        ∷ source_over P.given P.failed P.is_at_end plan.old plan.new ∷ [])
+        (sink_over W.taken W.failed sink.old sink.new ∷ []) result }
 {
     respond(sink, answer_of(alloc, network, plan, Table::Chart(view)))
 }
@@ -157,24 +113,10 @@ pub fn streams_run<N: Source, P: Source, W: Sink>(
     requires plan_reads { P.failed plan.old < 2 ^ 64 - 1 }
     requires writes { W.failed sink.old < 2 ^ 64 - 1 }
 
-    ensures ended { result ≢ DEVICE → Ends (StreamsAnswers format)
-        (reading_of (N.given network.old) (N.given network.new) (N.is_at_end network.new)
-        ∷ reading_of (P.given plan.old) (P.given plan.new) (P.is_at_end plan.new) ∷ [])
-        (writing_of (W.taken sink.old) (W.taken sink.new) ∷ []) result }
-    ensures no_failure { result ≢ DEVICE → (N.failed network.new ≡ N.failed network.old)
-        × (P.failed plan.new ≡ P.failed plan.old) × (W.failed sink.new ≡ W.failed sink.old) }
-
-    ensures failure { result ≡ DEVICE → N.failed network.new + P.failed plan.new + W.failed sink.new
-        ≡ N.failed network.old + P.failed plan.old + W.failed sink.old + 1 }
-    ensures read_failed { N.failed network.new + P.failed plan.new
-        ≢ N.failed network.old + P.failed plan.old
-        → Keeps (W.taken sink.old) (W.taken sink.new) × BreaksOff (StreamsAnswers format) []
-        (reading_of (N.given network.old) (N.given network.new) (N.is_at_end network.new)
-        ∷ reading_of (P.given plan.old) (P.given plan.new) (P.is_at_end plan.new) ∷ []) }
-    ensures write_failed { W.failed sink.new ≢ W.failed sink.old → EndsEarly (StreamsAnswers format)
-        (reading_of (N.given network.old) (N.given network.new) (N.is_at_end network.new)
-        ∷ reading_of (P.given plan.old) (P.given plan.new) (P.is_at_end plan.new) ∷ [])
-        (writing_of (W.taken sink.old) (W.taken sink.new) ∷ []) }
+    ensures { RunsOver (StreamsAnswers format)
+        (source_over N.given N.failed N.is_at_end network.old network.new
+        ∷ source_over P.given P.failed P.is_at_end plan.old plan.new ∷ [])
+        (sink_over W.taken W.failed sink.old sink.new ∷ []) result }
 {
     respond(
         sink,
@@ -192,78 +134,27 @@ fn answer_of<N: Source, P: Source>(
     requires table { CanShow table }
     requires network_reads { N.failed network.old < 2 ^ 64 - 1 }
     requires plan_reads { P.failed plan.old < 2 ^ 64 - 1 }
-    ensures comes { ComesTo (TableAnswers table) []
-        (reading_of (N.given network.old) (N.given network.new) (N.is_at_end network.new)
-        ∷ reading_of (P.given plan.old) (P.given plan.new) (P.is_at_end plan.new) ∷ []) result }
-    ensures broken { result ≡ Err ReadFault.Broken → N.failed network.new + P.failed plan.new
-        ≡ N.failed network.old + P.failed plan.old + 1 }
-    ensures kept { (result ≡ Err ReadFault.Broken → ⊥) → (N.failed network.new ≡ N.failed network.old)
-        × (P.failed plan.new ≡ P.failed plan.old) }
+    ensures { ComesOver output_of (TableAnswers table)
+        (source_over N.given N.failed N.is_at_end network.old network.new
+        ∷ source_over P.given P.failed P.is_at_end plan.old plan.new ∷ []) result }
 {
-    let file = read_all(alloc, network, MAX_FILE)?;
-    answer_to_network(alloc, &file, plan, table)
-}
-
-/// What the run answers to a network file, and to what it reads after that.
-fn answer_to_network<P: Source>(
-    alloc: Global,
-    file: &[u8],
-    plan: &mut P,
-    table: Table,
-) -> Result<Answer, ReadFault>
-    requires table { CanShow table }
-    requires plan_reads { P.failed plan.old < 2 ^ 64 - 1 }
-    ensures comes { ComesTo (TableAnswers table) (file.now ∷ [])
-        (reading_of (P.given plan.old) (P.given plan.new) (P.is_at_end plan.new) ∷ []) result }
-    ensures broken { result ≡ Err ReadFault.Broken → P.failed plan.new ≡ P.failed plan.old + 1 }
-    ensures kept { (result ≡ Err ReadFault.Broken → ⊥) → P.failed plan.new ≡ P.failed plan.old }
-{
-    match read_problem(alloc, file) {
-        Ok(problem) => {
-            let answer = answer_on(alloc, &problem, plan, table);
-            drop(problem);
-            answer
-        }
-        Err(fault) => Ok(refusal(alloc, fault)?),
+    match read_inputs(alloc, network, plan) {
+        Ok(InputsRead::Taken(problem, plan)) => Ok(answer_to(alloc, problem, plan, table)?),
+        Ok(InputsRead::Refused(answer)) => Ok(answer),
+        Err(fault) => Err(fault),
     }
 }
 
-/// What the run answers on a network, once its file is read.
-fn answer_on<P: Source>(
-    alloc: Global,
-    problem: &Problem,
-    plan: &mut P,
-    table: Table,
-) -> Result<Answer, ReadFault>
-    requires table { CanShow table }
-    requires plan_reads { P.failed plan.old < 2 ^ 64 - 1 }
-    ensures comes { (network : List ℕ) → States network problem.now → ComesTo (TableAnswers table) (network ∷ [])
-        (reading_of (P.given plan.old) (P.given plan.new) (P.is_at_end plan.new) ∷ []) result }
-    ensures broken { result ≡ Err ReadFault.Broken → P.failed plan.new ≡ P.failed plan.old + 1 }
-    ensures kept { (result ≡ Err ReadFault.Broken → ⊥) → P.failed plan.new ≡ P.failed plan.old }
-{
-    let file = read_all(alloc, plan, MAX_FILE)?;
-    Ok(answer_to_plan(alloc, problem, &file, table)?)
-}
-
-/// What the run answers to a plan file.
-fn answer_to_plan(
-    alloc: Global,
-    problem: &Problem,
-    file: &[u8],
-    table: Table,
-) -> Result<Answer, NoMemory>
+/// What the run answers to a network and a plan.
+fn answer_to(alloc: Global, problem: Problem, plan: Plan, table: Table) -> Result<Answer, NoMemory>
     requires { CanShow table }
-    ensures { IfOk result (λ a. JudgesPlan table problem.now file.now (output_of (Ok a))) }
+    ensures { IfOk result (λ a. ShowsPlan table problem plan (output_of (Ok a))
+        ⊎ RejectsPlan problem.network plan (output_of (Ok a))) }
 {
-    match plan_from_json(alloc, file) {
-        Ok(plan) => {
-            let answer = judgement(alloc, problem, &plan, table);
-            drop(plan);
-            answer
-        }
-        Err(fault) => file_refusal(alloc, "plan", fault),
-    }
+    let answer = judgement(alloc, &problem, &plan, table);
+    drop(problem);
+    drop(plan);
+    answer
 }
 
 /// What is said of a plan.

@@ -1,18 +1,18 @@
 //! `valid`: judges a list of offsets.
-ghost use Rattle.std.specs.Prelude.{◌≡◌, ◌≢◌, ◌<◌, ◌+◌, ◌-◌, ◌^◌, ◌⊎◌, [], ◌∷◌, ◌++◌, IfOk, IsErr, Some, codes};
-ghost use Rattle.std.specs.Io.KnownBytes.{Keeps};
-ghost use Rattle.tsn_cli.specs.Run.{Ends, EndsEarly, IsLine, IsOutput, reading_of, writing_of};
+ghost use Rattle.std.specs.Prelude.{◌≡◌, ◌<◌, ◌-◌, ◌^◌, ◌⊎◌, [], ◌∷◌, ◌++◌, IfOk, IsErr, Some, codes};
+ghost use Rattle.tsn_cli.specs.Run.{IsLine, RunsOver, sink_over, source_over};
 ghost use Rattle.tsn_net.specs.Fault.{fault_text};
-ghost use Rattle.tsn_cli.specs.Outcome.{output_of};
+ghost use Rattle.tsn_cli.specs.Outcome.{ComesOver, output_of};
 ghost use Rattle.tsn_cli.specs.Valid.{ValidAnswers, Accepts, Rejects};
 
 use crate::answer::Answer;
-use crate::run::{DEVICE, DONE, MAX_FILE, REFUSED, REJECTED, respond};
+use crate::inputs::{NetworkRead, read_network};
+use crate::run::{DONE, REFUSED, REJECTED, respond};
 use std::alloc::Global;
 use std::fmt;
-use tsn_device::device::{ReadFault, Sink, Source, read_all};
+use tsn_device::device::{ReadFault, Sink, Source};
 use tsn_model::{NoMemory, Triple, Violation};
-use tsn_net::{Code, NetFault, read_problem};
+use tsn_net::{Code, NetFault, Problem};
 use tsn_timing::{Timing, Validity};
 
 /// Reads a network file, judges the offsets (nanoseconds, of any size, in the order of the file's streams), and writes
@@ -26,19 +26,9 @@ pub fn valid_run<S: Source, W: Sink>(
     requires reads { S.failed source.old < 2 ^ 64 - 1 }
     requires writes { W.failed sink.old < 2 ^ 64 - 1 }
 
-    ensures ended { result ≢ DEVICE → Ends (ValidAnswers offsets.now)
-        (reading_of (S.given source.old) (S.given source.new) (S.is_at_end source.new) ∷ [])
-        (writing_of (W.taken sink.old) (W.taken sink.new) ∷ []) result }
-    ensures no_failure { result ≢ DEVICE → (S.failed source.new ≡ S.failed source.old)
-        × (W.failed sink.new ≡ W.failed sink.old) }
-
-    ensures failure { result ≡ DEVICE → S.failed source.new + W.failed sink.new
-        ≡ S.failed source.old + W.failed sink.old + 1 }
-    ensures read_failed { S.failed source.new ≢ S.failed source.old
-        → Keeps (W.taken sink.old) (W.taken sink.new) }
-    ensures write_failed { W.failed sink.new ≢ W.failed sink.old → EndsEarly (ValidAnswers offsets.now)
-        (reading_of (S.given source.old) (S.given source.new) (S.is_at_end source.new) ∷ [])
-        (writing_of (W.taken sink.old) (W.taken sink.new) ∷ []) }
+    ensures { RunsOver (ValidAnswers offsets.now)
+        (source_over S.given S.failed S.is_at_end source.old source.new ∷ [])
+        (sink_over W.taken W.failed sink.old sink.new ∷ []) result }
 {
     respond(sink, answer_of(alloc, source, offsets))
 }
@@ -46,31 +36,24 @@ pub fn valid_run<S: Source, W: Sink>(
 /// What the run answers.
 fn answer_of<S: Source>(alloc: Global, source: &mut S, offsets: &[u64]) -> Result<Answer, ReadFault>
     requires { S.failed source.old < 2 ^ 64 - 1 }
-    ensures answer { (result ≡ Err ReadFault.Broken → ⊥) → IsOutput (ValidAnswers offsets.now)
-        (reading_of (S.given source.old) (S.given source.new) (S.is_at_end source.new) ∷ [])
-        (output_of result) }
-    ensures broken { result ≡ Err ReadFault.Broken → S.failed source.new ≡ S.failed source.old + 1 }
-    ensures kept { (result ≡ Err ReadFault.Broken → ⊥) → S.failed source.new ≡ S.failed source.old }
+    ensures { ComesOver output_of (ValidAnswers offsets.now)
+        (source_over S.given S.failed S.is_at_end source.old source.new ∷ []) result }
 {
-    let file = read_all(alloc, source, MAX_FILE)?;
-    match answer_to(alloc, &file, offsets) {
-        Ok(answer) => Ok(answer),
-        Err(NoMemory) => Err(ReadFault::Memory),
+    match read_network(alloc, source) {
+        Ok(NetworkRead::Taken(problem)) => Ok(answer_to(alloc, problem, offsets)?),
+        Ok(NetworkRead::Refused(answer)) => Ok(answer),
+        Err(fault) => Err(fault),
     }
 }
 
-/// What the run answers to a network file.
-fn answer_to(alloc: Global, file: &[u8], offsets: &[u64]) -> Result<Answer, NoMemory>
-    ensures { IfOk result (λ a. ValidAnswers offsets.now (file.now ∷ []) (output_of (Ok a))) }
+/// What the run answers on a network.
+fn answer_to(alloc: Global, problem: Problem, offsets: &[u64]) -> Result<Answer, NoMemory>
+    ensures { IfOk result (λ a. Accepts problem.network offsets.now (output_of (Ok a))
+        ⊎ Rejects problem.network offsets.now (output_of (Ok a))) }
 {
-    match read_problem(alloc, file) {
-        Ok(problem) => {
-            let timing = Timing::of(alloc, &problem);
-            drop(problem);
-            answer_on(alloc, timing?, offsets)
-        }
-        Err(fault) => refusal(alloc, fault),
-    }
+    let timing = Timing::of(alloc, &problem);
+    drop(problem);
+    answer_on(alloc, timing?, offsets)
 }
 
 /// What the run answers on a network of these times.

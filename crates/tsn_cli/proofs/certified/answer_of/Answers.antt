@@ -1,14 +1,18 @@
-use Rattle.std.proofs.Common.{[], ◌∷◌}
-use Rattle.tsn_cli.specs.Run.{reading_of}
+use Rattle.std.proofs.Common.{refl}
 use Rattle.tsn_cli.specs.Explain.{CertAnswers}
-use Rattle.tsn_cli.proofs.RunLemmas.{ComesTo-next}
+use Rattle.tsn_cli.proofs.RunLemmas.{Keeps-same}
+use Rattle.tsn_cli.proofs.InputLemmas.{cert_inputs, comes_after, comes_unread, comes_without}
 use Rattle.tsn_cli.proofs.certified.answer_of.Goals as goal
 
-pub returns-clause-comes : goal.returns-clause-comes
-returns-clause-comes g c =
-    let whole = c.in_ok-file.ensures.whole in
-    let network = reading_of (g.N.Source.given c.args.network.now) (g.N.Source.given c.read_all.new.source) (g.N.Source.is_at_end c.read_all.new.source) in
-    let plan = reading_of (g.P.Source.given c.args.plan.now) (g.P.Source.given c.answer_to_network.new.plan) (g.P.Source.is_at_end c.answer_to_network.new.plan) in
-    let cert = reading_of (g.C.Source.given c.args.cert.now) (g.C.Source.given c.answer_to_network.new.cert) (g.C.Source.is_at_end c.answer_to_network.new.cert) in
-    ComesTo-next (CertAnswers c.args.showing) [] network (plan ∷ cert ∷ []) c.answer_to_network.result c.in_ok-file.file.items
-    (record { given = whole.0; ended = whole.1; short = whole.2 }) (rw c.deref.ensures.value at c.answer_to_network.ensures.comes)
+pub returns-in-Ok-Taken : goal.returns-in-Ok-Taken
+returns-in-Ok-Taken g c =
+    comes_after (CertAnswers c.args.showing) _ _ _ c.in-Ok-Taken.problem c.in-Ok-Taken.plan c.answer_to.result
+    (rw c.in-Ok-Taken.field-0-is at c.in-Ok-Taken.ensures) c.answer_to.ensures.failures c.answer_to.ensures.comes
+
+pub returns-in-Ok-Refused : goal.returns-in-Ok-Refused
+returns-in-Ok-Refused g c =
+    comes_without (CertAnswers c.args.showing) _ _ _ (cert_inputs c.args.showing) (Keeps-same _) refl c.in-Ok-Refused.answer
+    (rw c.in-Ok-Refused.field-0-is at c.in-Ok-Refused.ensures)
+
+pub returns-in-Err : goal.returns-in-Err
+returns-in-Err g c = comes_unread (CertAnswers c.args.showing) _ _ _ (cert_inputs c.args.showing) (Keeps-same _) refl c.in-Err.fault c.in-Err.ensures

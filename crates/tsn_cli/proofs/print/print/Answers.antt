@@ -7,22 +7,44 @@ use Rattle.tsn_cli.proofs.PieceLemmas.{Appends-nothing}
 use Rattle.tsn_cli.proofs.PrintLemmas.{printed_fault, text_beginning, text_whole}
 use Rattle.tsn_cli.proofs.print.print.Goals as goal
 
-pub returns-in-Err-TooLong-clause-whole : goal.returns-in-Err-TooLong-clause-whole
-returns-in-Err-TooLong-clause-whole g c done =
-    let line = c.finish.ensures.whole done in
-    (printed (Err TooLong), printed_fault _ TooLong (search rules), search rules, (Appends-nothing _, (Appends-nothing _, (text_whole _ _ _ _ (search rules) line.1, tt))), search rules, search rules, search rules)
+pub returns-in-Err-TooLong : goal.returns-in-Err-TooLong
+returns-in-Err-TooLong g c = record {
+  whole = λ done. let line = c.finish.ensures.whole done in (
+    printed (Err TooLong),
+    printed_fault _ TooLong (search rules),
+    search rules,
+    (Appends-nothing _, (Appends-nothing _, (text_whole _ _ _ _ (search rules) line.1, tt))),
+    search rules,
+  );
+  unread = search rules;
+  device = λ device unbroken. search rules;
+  beginning = λ failed. let line = text_beginning _ _ _ (codes "too long\n") (search rules) (c.finish.ensures.beginning (search rules)) in (
+    search rules,
+    (
+      printed (Err TooLong),
+      printed_fault _ TooLong (search rules),
+      inr (Appends-nothing _, inr (Appends-nothing _, inl (line.0, line.1, All-nil IsUnwritten))),
+    ),
+  );
+}
 
-pub returns-in-Err-TooLong-clause-beginning : goal.returns-in-Err-TooLong-clause-beginning
-returns-in-Err-TooLong-clause-beginning g c failed =
-    let line = text_beginning _ _ _ (codes "too long\n") (search rules) (c.finish.ensures.beginning (search rules)) in
-    (search rules, (printed (Err TooLong), printed_fault _ TooLong (search rules), inr (Appends-nothing _, inr (Appends-nothing _, inl (line.0, line.1, All-nil IsUnwritten)))))
-
-pub returns-in-Err-Memory-clause-whole : goal.returns-in-Err-Memory-clause-whole
-returns-in-Err-Memory-clause-whole g c done =
-    let line = c.finish-in-Err-Memory.ensures.whole done in
-    (printed (Err Memory), printed_fault _ Memory (search rules), search rules, (Appends-nothing _, (Appends-nothing _, (text_whole _ _ _ _ (search rules) line.1, tt))), search rules, search rules, search rules)
-
-pub returns-in-Err-Memory-clause-beginning : goal.returns-in-Err-Memory-clause-beginning
-returns-in-Err-Memory-clause-beginning g c failed =
-    let line = text_beginning _ _ _ (codes "no memory\n") (search rules) (c.finish-in-Err-Memory.ensures.beginning (search rules)) in
-    (search rules, (printed (Err Memory), printed_fault _ Memory (search rules), inr (Appends-nothing _, inr (Appends-nothing _, inl (line.0, line.1, All-nil IsUnwritten)))))
+pub returns-in-Err-Memory : goal.returns-in-Err-Memory
+returns-in-Err-Memory g c = record {
+  whole = λ done. let line = c.finish-in-Err-Memory.ensures.whole done in (
+    printed (Err Memory),
+    printed_fault _ Memory (search rules),
+    search rules,
+    (Appends-nothing _, (Appends-nothing _, (text_whole _ _ _ _ (search rules) line.1, tt))),
+    search rules,
+  );
+  unread = search rules;
+  device = λ device unbroken. search rules;
+  beginning = λ failed. let line = text_beginning _ _ _ (codes "no memory\n") (search rules) (c.finish-in-Err-Memory.ensures.beginning (search rules)) in (
+    search rules,
+    (
+      printed (Err Memory),
+      printed_fault _ Memory (search rules),
+      inr (Appends-nothing _, inr (Appends-nothing _, inl (line.0, line.1, All-nil IsUnwritten))),
+    ),
+  );
+}

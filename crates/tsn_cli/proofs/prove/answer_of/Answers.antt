@@ -1,13 +1,21 @@
-use Rattle.std.proofs.Common.{[], ◌∷◌}
-use Rattle.tsn_cli.specs.Run.{reading_of}
+use Rattle.std.proofs.Common.{inl, inr}
 use Rattle.tsn_cli.specs.Prove.{ProveAnswers}
-use Rattle.tsn_cli.proofs.ProveLemmas.{Reaches-next}
+use Rattle.tsn_cli.specs.ProofOutput.{shown}
+use Rattle.tsn_cli.proofs.RunLemmas.{tells_ok}
+use Rattle.tsn_cli.proofs.InputLemmas.{comes_failed, comes_refused, comes_taken}
+use Rattle.tsn_cli.proofs.ProveLemmas.{line_alone, prove_inputs, shown_faults}
 use Rattle.tsn_cli.proofs.prove.answer_of.Goals as goal
 
-pub returns-clause-comes : goal.returns-clause-comes
-returns-clause-comes g c =
-    let whole = c.in_ok-file.ensures.whole in
-    let network = reading_of (g.N.Source.given c.args.network.now) (g.N.Source.given c.read_all.new.source) (g.N.Source.is_at_end c.read_all.new.source) in
-    let plan = reading_of (g.P.Source.given c.args.plan.now) (g.P.Source.given c.answer_to_network.new.plan) (g.P.Source.is_at_end c.answer_to_network.new.plan) in
-    Reaches-next (ProveAnswers c.args.limit) [] network (plan ∷ []) c.answer_to_network.result c.in_ok-file.file.items (record { given = whole.0; ended = whole.1; short = whole.2 })
-    (rw c.deref.ensures.value at c.answer_to_network.ensures.comes)
+pub returns-in_ok-answer_to-in-Ok-Taken-clause-comes : goal.returns-in_ok-answer_to-in-Ok-Taken-clause-comes
+returns-in_ok-answer_to-in-Ok-Taken-clause-comes g c =
+    let over = rw c.in-Ok-Taken.field-0-is at c.in-Ok-Taken.ensures in
+    comes_taken shown (ProveAnswers c.args.limit) _ _ c.in-Ok-Taken.problem c.in-Ok-Taken.plan _ over (tells_ok _ _ _ over.failures)
+    (λ file plan_file states is. inl (c.in-Ok-Taken.problem, states, inr (c.in-Ok-Taken.plan, is, c.in_ok-answer_to-in-Ok-Taken.ensures.judges)))
+
+pub returns-in-Ok-Refused-clause-comes : goal.returns-in-Ok-Refused-clause-comes
+returns-in-Ok-Refused-clause-comes g c =
+    comes_refused shown (ProveAnswers c.args.limit) _ _ (prove_inputs c.args.limit) c.in-Ok-Refused.answer c.alone.result
+    (λ line is. line_alone _ _ line _ c.alone.ensures.line is) (rw c.in-Ok-Refused.field-0-is at c.in-Ok-Refused.ensures)
+
+pub returns-in-Err-clause-comes : goal.returns-in-Err-clause-comes
+returns-in-Err-clause-comes g c = comes_failed shown (ProveAnswers c.args.limit) _ _ shown_faults (prove_inputs c.args.limit) c.in-Err.fault c.in-Err.ensures

@@ -1,5 +1,5 @@
-use Rattle.tsn_cli.proofs.ProvedLemmas.{accepted}
+use Rattle.tsn_cli.proofs.ProvedLemmas.{proved}
 use Rattle.tsn_cli.proofs.prove_laws.proved_is_accepted.Goals as goal
 
 pub returns : goal.returns
-returns c = accepted c.first_faults_refute.ensures
+returns c = proved c.first_faults_refute.ensures

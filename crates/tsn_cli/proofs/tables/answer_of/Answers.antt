@@ -1,13 +1,20 @@
-use Rattle.std.proofs.Common.{[], ◌∷◌}
-use Rattle.tsn_cli.specs.Run.{reading_of}
+use Rattle.std.proofs.Common.{inl, inr}
+use Rattle.tsn_cli.specs.Outcome.{output_of}
 use Rattle.tsn_cli.specs.Tables.{TableAnswers}
-use Rattle.tsn_cli.proofs.RunLemmas.{ComesTo-next}
+use Rattle.tsn_cli.proofs.RunLemmas.{line_faults, tells_ok}
+use Rattle.tsn_cli.proofs.InputLemmas.{comes_failed, comes_refused, comes_taken, table_inputs}
 use Rattle.tsn_cli.proofs.tables.answer_of.Goals as goal
 
-pub returns-clause-comes : goal.returns-clause-comes
-returns-clause-comes g c =
-    let whole = c.in_ok-file.ensures.whole in
-    let network = reading_of (g.N.Source.given c.args.network.now) (g.N.Source.given c.read_all.new.source) (g.N.Source.is_at_end c.read_all.new.source) in
-    let plan = reading_of (g.P.Source.given c.args.plan.now) (g.P.Source.given c.answer_to_network.new.plan) (g.P.Source.is_at_end c.answer_to_network.new.plan) in
-    ComesTo-next (TableAnswers c.args.table) [] network (plan ∷ []) c.answer_to_network.result c.in_ok-file.file.items (record { given = whole.0; ended = whole.1; short = whole.2 })
-    (rw c.deref.ensures.value at c.answer_to_network.ensures.comes)
+pub returns-in_ok-answer_to-in-Ok-Taken : goal.returns-in_ok-answer_to-in-Ok-Taken
+returns-in_ok-answer_to-in-Ok-Taken g c =
+    let over = rw c.in-Ok-Taken.field-0-is at c.in-Ok-Taken.ensures in
+    comes_taken output_of (TableAnswers c.args.table) _ _ c.in-Ok-Taken.problem c.in-Ok-Taken.plan _ over (tells_ok _ _ _ over.failures)
+    (λ file plan_file states is. inl (c.in-Ok-Taken.problem, states, inr (c.in-Ok-Taken.plan, is, c.in_ok-answer_to-in-Ok-Taken.ensures)))
+
+pub returns-in-Ok-Refused : goal.returns-in-Ok-Refused
+returns-in-Ok-Refused g c =
+    comes_refused output_of (TableAnswers c.args.table) _ _ (table_inputs c.args.table) c.in-Ok-Refused.answer c.in-Ok-Refused.answer (λ line is. is)
+    (rw c.in-Ok-Refused.field-0-is at c.in-Ok-Refused.ensures)
+
+pub returns-in-Err : goal.returns-in-Err
+returns-in-Err g c = comes_failed output_of (TableAnswers c.args.table) _ _ line_faults (table_inputs c.args.table) c.in-Err.fault c.in-Err.ensures

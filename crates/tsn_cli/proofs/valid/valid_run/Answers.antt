@@ -1,7 +1,7 @@
 use Rattle.tsn_cli.specs.Outcome.{output_of}
+use Rattle.tsn_cli.specs.Valid.{ValidAnswers}
+use Rattle.tsn_cli.proofs.RunLemmas.{runs_with}
 use Rattle.tsn_cli.proofs.valid.valid_run.Goals as goal
 
-pub returns-clause-write_failed : goal.returns-clause-write_failed
-returns-clause-write_failed g c failed =
-    let part = c.respond.ensures.beginning failed in
-    record { output = output_of c.answer_of.result; answer = c.answer_of.ensures.answer part.0; written = part.1 }
+pub returns : goal.returns
+returns g c = runs_with output_of (ValidAnswers c.args.offsets.now) _ _ c.answer_of.result c.respond.result c.answer_of.ensures c.respond.ensures
