@@ -1,1 +1,2 @@
 mod RunsLemmas
+mod AskedLemmas

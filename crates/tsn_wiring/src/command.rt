@@ -1,10 +1,15 @@
 //! The commands, over what they are given.
+ghost use Rattle.std.specs.Prelude.{◌≡◌};
+ghost use Rattle.tsn_cli.specs.Run.{writing_of};
+ghost use Rattle.tsn_wiring.specs.Asked.{RunsAsked};
+ghost use Rattle.tsn_wiring.specs.Runs.{WithSome};
 
-use crate::devices::Given;
-use crate::explained::explain;
+use crate::devices::{Given, Made};
+use crate::explained::{explain, picture};
 use crate::judged::{check, valid};
 use crate::planning::{plan, prove};
-use crate::tables::{chart, gates, replay, streams};
+use crate::tables::{gates, replay, streams};
+use crate::told::Ran;
 use std::alloc::Global;
 use std::io::Eprint;
 use std::sync::Wait;
@@ -20,16 +25,43 @@ pub fn run<'a, T: Threads + Wait + Sync, C: Clock + Eprint + Sync, G: Given<'a>>
     alloc: Global,
     given: &mut G,
     words: Words<'a>,
-) -> u8 {
+) -> u8
+    ensures { WithSome (G.is_output given.old) (λ before. WithSome (G.is_output given.new) (λ after.
+        RunsAsked G.Source.given G.Source.is_at_end G.Source.failed
+        (G.opens_network given.old) (G.opens_plan given.old) (G.opens_cert given.old) G.File.taken G.File.failed
+        (G.makes_plan given.old) (G.makes_cert given.old) (G.refuses_plan given.old) (G.refuses_cert given.old) words.entry
+        (writing_of (G.Output.taken before) (G.Output.taken after)) result (G.Output.failed after))) }
+{
+    let output = given.output();
+    let Ran { status, output } = run_to(rt, console, alloc, given, output, words);
+    given.close_output(output);
+    status
+}
+
+/// Runs a command over what its words name, with this standard output.
+pub fn run_to<'a, T: Threads + Wait + Sync, C: Clock + Eprint + Sync, G: Given<'a>, W: Made>(
+    rt: &T,
+    console: &C,
+    alloc: Global,
+    given: &mut G,
+    output: W,
+    words: Words<'a>,
+) -> Ran<W>
+    requires { W.failed output ≡ 0 }
+    ensures { RunsAsked G.Source.given G.Source.is_at_end G.Source.failed
+        (G.opens_network given.old) (G.opens_plan given.old) (G.opens_cert given.old) G.File.taken G.File.failed
+        (G.makes_plan given.old) (G.makes_cert given.old) (G.refuses_plan given.old) (G.refuses_cert given.old) words.entry
+        (writing_of (W.taken output) (W.taken result.output)) result.status (W.failed result.output) }
+{
     match words {
-        Words::Valid(words) => valid(alloc, given, &words),
-        Words::Plan(words) => plan(rt, console, alloc, given, words),
-        Words::Check(words) => check(alloc, given, words),
-        Words::Prove(words) => prove(console, alloc, given, words),
-        Words::Explain(words) => explain(alloc, given, words),
-        Words::Gates(words) => gates(alloc, given, words),
-        Words::Replay(words) => replay(alloc, given, words),
-        Words::Chart(words) => chart(alloc, given, words),
-        Words::Streams(words) => streams(alloc, given, words),
+        Words::Valid(words) => valid(alloc, given, output, &words),
+        Words::Plan(words) => plan(rt, console, alloc, given, output, words),
+        Words::Check(words) => check(alloc, given, output, words),
+        Words::Prove(words) => prove(console, alloc, given, output, words),
+        Words::Explain(words) => explain(alloc, given, output, words),
+        Words::Gates(words) => gates(alloc, given, output, words),
+        Words::Replay(words) => replay(alloc, given, output, words),
+        Words::Chart(words) => picture(alloc, given, output, words),
+        Words::Streams(words) => streams(alloc, given, output, words),
     }
 }

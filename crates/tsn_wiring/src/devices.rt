@@ -1,5 +1,5 @@
 //! What a command is given: sources and sinks by its words, and whom it tells.
-ghost use Rattle.std.specs.Prelude.{◌≡◌, ℕ, List, Option, IfOk, option_map};
+ghost use Rattle.std.specs.Prelude.{◌≡◌, ℕ, List, Option, IfOk, OnErr, option_map, ⊤};
 
 use tsn_device::Failure;
 use tsn_device::device::{Sink, Source};
@@ -48,6 +48,15 @@ pub trait Given<'a> {
     /// Whether it is of the file that a word names for a certificate.
     ghost makes_cert: { Self → Option (List ℕ) → Self.File → Type 0 };
 
+    /// Whether the file that a word names for a plan, if one does, can't be made.
+    ghost refuses_plan: { Self → Option (List ℕ) → Type 0 } = { λ _ _. ⊤ };
+
+    /// Whether the file that a word names for a certificate can't be made.
+    ghost refuses_cert: { Self → Option (List ℕ) → Type 0 } = { λ _ _. ⊤ };
+
+    /// Whether this sink is standard output, as it is now.
+    ghost is_output: { Self → Self.Output → Type 0 } = { λ _ _. ⊤ };
+
     /// The network that a word names; `-` is standard input.
     fn network(&self, word: &'a str) -> Self::Source
         ensures opened { opens_network self.now word.now result }
@@ -66,16 +75,19 @@ pub trait Given<'a> {
     /// What a plan is written to, where a word names it; else what is written is dropped. The error says why it can't be written.
     fn plan_file(&self, word: Option<&'a str>) -> Result<Self::File, Failure<'a>>
         ensures made { IfOk result (λ file. makes_plan self.now (option_map (λ path. path.now) word.entry) file) }
-        ensures failures { IfOk result (λ file. Self.File.failed file ≡ 0) };
+        ensures failures { IfOk result (λ file. Self.File.failed file ≡ 0) }
+        ensures refused { OnErr result (refuses_plan self.now (option_map (λ path. path.now) word.entry)) };
 
     /// What a certificate is written to.
     fn cert_file(&self, word: Option<&'a str>) -> Result<Self::File, Failure<'a>>
         ensures made { IfOk result (λ file. makes_cert self.now (option_map (λ path. path.now) word.entry) file) }
-        ensures failures { IfOk result (λ file. Self.File.failed file ≡ 0) };
+        ensures failures { IfOk result (λ file. Self.File.failed file ≡ 0) }
+        ensures refused { OnErr result (refuses_cert self.now (option_map (λ path. path.now) word.entry)) };
 
     /// Standard output.
     fn output(&self) -> Self::Output
-        ensures { Self.Output.failed result ≡ 0 };
+        ensures opened { is_output self.now result }
+        ensures failures { Self.Output.failed result ≡ 0 };
 
     /// Takes back what a plan was written to.
     fn close_plan(&mut self, file: Self::File);
@@ -84,7 +96,8 @@ pub trait Given<'a> {
     fn close_cert(&mut self, file: Self::File);
 
     /// Takes back standard output.
-    fn close_output(&mut self, output: Self::Output);
+    fn close_output(&mut self, output: Self::Output)
+        ensures { is_output self.new output };
 
     /// Tells a line on standard error, behind the program's name. That it can't be told there ends no run.
     fn tell(&mut self, line: &str);

@@ -1,47 +1,86 @@
 //! The commands that show what a certificate is about: `explain` in words, and `chart` with a certificate in a picture.
-ghost use Rattle.std.specs.Prelude.{◌≡◌, ◌+◌, [], ◌∷◌};
+ghost use Rattle.std.specs.Prelude.{◌≡◌, ◌+◌, [], ◌∷◌, option_map};
 ghost use Rattle.tsn_cli.specs.Run.{reading_of, writing_of};
 ghost use Rattle.tsn_cli.specs.Explain.{ExplainAnswers, MarkedChartAnswers};
 ghost use Rattle.tsn_wiring.specs.Options.{IsViewOf};
-ghost use Rattle.tsn_wiring.specs.Runs.{WithSome, Runs};
+ghost use Rattle.tsn_wiring.specs.Asked.{RunsChart};
+ghost use Rattle.tsn_wiring.specs.Runs.{OverCert, Runs, WithSome};
 
-use crate::devices::Given;
+use crate::devices::{Given, Made};
 use crate::judged::CertRun;
 use crate::options::view_of;
 use crate::reason::{cert_line, plan_line, source_line};
-use crate::told::{Ended, end_at};
+use crate::tables::chart;
+use crate::told::{Ended, Ran, end_at};
 use std::alloc::Global;
 use tsn_cli::device::Sink;
 use tsn_cli::{explain_run, marked_chart_run};
 use tsn_words::{ChartWords, ExplainWords};
 
 /// Says in words why no schedule is faster; the network `-` is standard input.
-pub fn explain<'a, G: Given<'a>>(alloc: Global, given: &mut G, words: ExplainWords<'a>) -> u8 {
-    let mut output = given.output();
+pub fn explain<'a, G: Given<'a>, W: Made>(
+    alloc: Global,
+    given: &mut G,
+    mut output: W,
+    words: ExplainWords<'a>,
+) -> Ran<W>
+    requires { W.failed output ≡ 0 }
+    ensures { OverCert G.Source.given G.Source.is_at_end G.Source.failed (G.opens_network given.old words.entry.network.now)
+        (G.opens_plan given.old words.entry.plan.now) (G.opens_cert given.old words.entry.cert.now)
+        (λ readings reads. Runs ExplainAnswers readings
+        (writing_of (W.taken output) (W.taken result.output) ∷ []) result.status reads (W.failed result.output)) }
+{
     let run = explain_over(alloc, given, words, &mut output);
     end_explained(alloc, given, run, output)
 }
 
-/// Draws a plan, and marks the frames that the certificate of this word is about; the network `-` is standard input.
-pub(crate) fn marked_chart<'a, G: Given<'a>>(
+/// Draws a plan, with marks where the words name a certificate; the network `-` is standard input.
+pub fn picture<'a, G: Given<'a>, W: Made>(
     alloc: Global,
     given: &mut G,
+    output: W,
+    words: ChartWords<'a>,
+) -> Ran<W>
+    requires { W.failed output ≡ 0 }
+    ensures { RunsChart G.Source.given G.Source.is_at_end G.Source.failed
+        (G.opens_network given.old) (G.opens_plan given.old) (G.opens_cert given.old) words.entry
+        (option_map (λ cert. cert.now) words.entry.cert)
+        (writing_of (W.taken output) (W.taken result.output)) result.status (W.failed result.output) }
+{
+    match words.cert {
+        Some(cert) => marked_chart(alloc, given, output, words, cert),
+        None => chart(alloc, given, output, words),
+    }
+}
+
+/// Draws a plan, and marks the frames that the certificate of this word is about.
+fn marked_chart<'a, G: Given<'a>, W: Made>(
+    alloc: Global,
+    given: &mut G,
+    mut output: W,
     words: ChartWords<'a>,
     cert: &'a str,
-) -> u8 {
-    let mut output = given.output();
+) -> Ran<W>
+    requires { W.failed output ≡ 0 }
+    ensures { WithSome (IsViewOf words.entry) (λ view. OverCert G.Source.given G.Source.is_at_end G.Source.failed
+        (G.opens_network given.old words.entry.network.now) (G.opens_plan given.old words.entry.plan.now)
+        (G.opens_cert given.old cert.entry.now)
+        (λ readings reads. Runs (MarkedChartAnswers view) readings
+        (writing_of (W.taken output) (W.taken result.output) ∷ []) result.status reads (W.failed result.output))) }
+{
     let run = marked_chart_over(alloc, given, words, cert, &mut output);
     end_explained(alloc, given, run, output)
 }
 
-/// Tells why a certificate is not explained, and says the status.
-fn end_explained<'a, G: Given<'a>>(
+/// Tells why a certificate is not explained.
+fn end_explained<'a, G: Given<'a>, W: Made>(
     alloc: Global,
     given: &mut G,
     run: CertRun<G::Source>,
-    output: G::Output,
-) -> u8
-    ensures { result ≡ run.status }
+    output: W,
+) -> Ran<W>
+    ensures status { result.status ≡ run.status }
+    ensures output { result.output ≡ output }
 {
     let CertRun {
         status,

@@ -1,17 +1,17 @@
 //! The commands that judge: offsets, and certificates.
 ghost use Rattle.std.specs.Prelude.{◌≡◌, ◌≢◌, ◌+◌, ◌-◌, ◌^◌, ◌<◌, [], ◌∷◌};
 ghost use Rattle.tsn_cli.specs.Run.{reading_of, writing_of};
-ghost use Rattle.tsn_cli.specs.Valid.{ValidAnswers};
+ghost use Rattle.tsn_cli.specs.Valid.{JudgeAnswers, ValidAnswers};
 ghost use Rattle.tsn_cli.specs.Check.{CheckAnswers};
-ghost use Rattle.tsn_wiring.specs.Runs.{WithSome, Runs};
+ghost use Rattle.tsn_wiring.specs.Runs.{OverCert, OverNetwork, Runs, RunsTold, WithSome};
 
-use crate::devices::Given;
+use crate::devices::{Given, Made};
 use crate::json::{end_as_json, line_keeper};
 use crate::reason::{cert_line, offsets_line, source_line};
-use crate::told::{Ended, end_at};
+use crate::told::{Ended, Ran, end_at};
 use std::alloc::Global;
 use tsn_cli::device::Sink;
-use tsn_cli::{check_run, valid_run};
+use tsn_cli::{check_run, judge_run, valid_run};
 use tsn_words::{CheckWords, ValidWords};
 
 /// How a run over a network ended, and its source.
@@ -31,13 +31,22 @@ pub struct CertRun<S> {
 }
 
 /// Judges offsets; the network `-` is standard input.
-pub fn valid<'a, G: Given<'a>>(alloc: Global, given: &mut G, words: &ValidWords<'a>) -> u8 {
+pub fn valid<'a, G: Given<'a>, W: Made>(
+    alloc: Global,
+    given: &mut G,
+    mut output: W,
+    words: &ValidWords<'a>,
+) -> Ran<W>
+    requires { W.failed output ≡ 0 }
+    ensures { OverNetwork G.Source.given G.Source.is_at_end G.Source.failed (G.opens_network given.old words.now.network.now)
+        (λ readings reads. RunsTold words.now.json (ValidAnswers words.now.offsets.items) readings []
+        (writing_of (W.taken output) (W.taken result.output)) result.status reads 0 (W.failed result.output)) }
+{
     if words.json {
         let mut line = line_keeper(alloc);
         let ended = valid_to(alloc, given, words, &mut line);
-        return end_as_json(alloc, given, ended, line);
+        return end_as_json(alloc, given, output, ended, line);
     }
-    let mut output = given.output();
     let ended = valid_to(alloc, given, words, &mut output);
     end_at(alloc, given, ended, output)
 }
@@ -50,6 +59,9 @@ fn valid_to<'a, G: Given<'a>, W: Sink>(
     sink: &mut W,
 ) -> Ended
     requires { W.failed sink.old ≡ 0 }
+    ensures { OverNetwork G.Source.given G.Source.is_at_end G.Source.failed (G.opens_network given.now words.now.network.now)
+        (λ readings reads. Runs (ValidAnswers words.now.offsets.items) readings
+        (writing_of (W.taken sink.old) (W.taken sink.new) ∷ []) result.status reads (W.failed sink.new)) }
 {
     let NetworkRun { status, network } = valid_over(alloc, given, words, sink);
     let line = source_line(alloc, status, &network).or(offsets_line(
@@ -81,14 +93,42 @@ pub fn valid_over<'a, G: Given<'a>, W: Sink>(
     NetworkRun { status, network }
 }
 
+/// Judges the network of a word alone, and writes why it is refused to a sink.
+pub fn judge_over<'a, G: Given<'a>, W: Sink>(
+    alloc: Global,
+    given: &G,
+    word: &'a str,
+    sink: &mut W,
+) -> NetworkRun<G::Source>
+    requires { W.failed sink.old ≡ 0 }
+    ensures { WithSome (G.opens_network given.now word.entry.now) (λ network. Runs JudgeAnswers
+        (reading_of (G.Source.given network) (G.Source.given result.network) (G.Source.is_at_end result.network) ∷ [])
+        (writing_of (W.taken sink.old) (W.taken sink.new) ∷ [])
+        result.status (G.Source.failed result.network) (W.failed sink.new)) }
+{
+    let mut network = given.network(word);
+    let status = judge_run(alloc, &mut network, sink);
+    NetworkRun { status, network }
+}
+
 /// Checks a certificate; the network `-` is standard input.
-pub fn check<'a, G: Given<'a>>(alloc: Global, given: &mut G, words: CheckWords<'a>) -> u8 {
+pub fn check<'a, G: Given<'a>, W: Made>(
+    alloc: Global,
+    given: &mut G,
+    mut output: W,
+    words: CheckWords<'a>,
+) -> Ran<W>
+    requires { W.failed output ≡ 0 }
+    ensures { OverCert G.Source.given G.Source.is_at_end G.Source.failed (G.opens_network given.old words.entry.network.now)
+        (G.opens_plan given.old words.entry.plan.now) (G.opens_cert given.old words.entry.cert.now)
+        (λ readings reads. RunsTold words.entry.json CheckAnswers readings []
+        (writing_of (W.taken output) (W.taken result.output)) result.status reads 0 (W.failed result.output)) }
+{
     if words.json {
         let mut line = line_keeper(alloc);
         let ended = check_to(alloc, given, words, &mut line);
-        return end_as_json(alloc, given, ended, line);
+        return end_as_json(alloc, given, output, ended, line);
     }
-    let mut output = given.output();
     let ended = check_to(alloc, given, words, &mut output);
     end_at(alloc, given, ended, output)
 }
@@ -101,6 +141,10 @@ fn check_to<'a, G: Given<'a>, W: Sink>(
     sink: &mut W,
 ) -> Ended
     requires { W.failed sink.old ≡ 0 }
+    ensures { OverCert G.Source.given G.Source.is_at_end G.Source.failed (G.opens_network given.now words.entry.network.now)
+        (G.opens_plan given.now words.entry.plan.now) (G.opens_cert given.now words.entry.cert.now)
+        (λ readings reads. Runs CheckAnswers readings
+        (writing_of (W.taken sink.old) (W.taken sink.new) ∷ []) result.status reads (W.failed sink.new)) }
 {
     let CertRun {
         status,

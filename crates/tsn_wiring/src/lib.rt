@@ -7,13 +7,13 @@ pub mod explained;
 mod files;
 mod json;
 pub mod judged;
-mod kept;
 pub mod options;
 pub mod planning;
 pub mod reason;
 pub mod tables;
 mod told;
 
-pub use command::run;
+pub use command::{run, run_to};
 pub use devices::{Given, Made, Opened};
 pub use reason::failure_line;
+pub use told::Ran;

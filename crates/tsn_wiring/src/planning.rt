@@ -1,17 +1,20 @@
 //! The commands that search: a plan, and a proof of one.
-ghost use Rattle.std.specs.Prelude.{◌≡◌, ◌+◌, ◌-◌, ◌^◌, ◌<◌, [], ◌∷◌, IfOk, IfSome, is_some, option_map};
-ghost use Rattle.tsn_cli.specs.Run.{failed_in, reading_of, taken_in, writing_of};
-ghost use Rattle.tsn_cli.specs.Plan.{PlanAnswers};
-ghost use Rattle.tsn_cli.specs.Prove.{ProveAnswers};
-ghost use Rattle.tsn_wiring.specs.Runs.{WithSome, Runs};
+ghost use Rattle.std.specs.Prelude.{◌≡◌, ◌+◌, ◌-◌, ◌^◌, ◌<◌, ◌↔◌, ◌⊎◌, ◌++◌, [], ◌∷◌, IfOk, IfSome, OnErr, IsTrue, is_some, option_map, string_bytes, ⊤};
+ghost use Rattle.tsn_cli.specs.Run.{Ends, failed_in, reading_of, taken_in, writing_of};
+ghost use Rattle.tsn_cli.specs.Plan.{PlanAnswers, PlanStops};
+ghost use Rattle.tsn_cli.specs.Finding.{stop_among};
+ghost use Rattle.tsn_cli.specs.Prove.{ProveAnswers, ProveFinds};
+ghost use Rattle.tsn_cli.specs.Stop.{stop_text};
+ghost use Rattle.tsn_wiring.specs.Options.{effort_of};
+ghost use Rattle.tsn_wiring.specs.Asked.{IsUnmade, RunsPlan, RunsProve};
+ghost use Rattle.tsn_wiring.specs.Runs.{IsUnmadeStatus, OverFiles, OverNetwork, OverPlan, OverProofFiles, Runs, RunsTold, RunsUnmade, WithSome};
 
 use crate::devices::{Given, Made};
-use crate::json::{end_as_json, line_keeper};
-use crate::judged::NetworkRun;
-use crate::kept::KeptLine;
+use crate::json::{end_as_json, line_keeper, say_no_memory};
+use crate::judged::{NetworkRun, judge_over};
 use crate::options::effort_of;
 use crate::reason::{failure_line, network_line, plan_line, source_line, undercut_line};
-use crate::told::{Ended, end_at, no_memory};
+use crate::told::{Ended, Ran, end_at};
 use std::alloc::Global;
 use std::io::{Eprint, ErrorKind};
 use std::sync::Wait;
@@ -19,11 +22,11 @@ use std::thread::Threads;
 use std::time::Clock;
 use tsn_cli::device::Sink;
 use tsn_cli::run::{DEVICE, DONE};
-use tsn_cli::{STOPPED, judge_run, plan_run, prove_run};
+use tsn_cli::{PlanEnd, ProofEnd, STOPPED, Stop, plan_run, prove_run};
 use tsn_device::Failure;
-use tsn_progress::{Heard, Progress};
+use tsn_progress::Progress;
 use tsn_words::{PlanWords, ProveWords};
-use tsn_worker::Supervisor;
+use tsn_worker::{NoSupervisor, Supervisor};
 
 /// What a plan and its certificate are written to.
 #[derive(Drop)]
@@ -42,7 +45,7 @@ pub struct ProofFiles<F> {
 /// How a run of `plan` ended, and its devices.
 #[derive(Drop)]
 pub struct PlanRun<S, F> {
-    pub status: u8,
+    pub end: PlanEnd,
     pub network: S,
     pub plan: F,
     pub cert: Option<F>,
@@ -51,7 +54,7 @@ pub struct PlanRun<S, F> {
 /// How a run of `prove` ended, and its devices.
 #[derive(Drop)]
 pub struct ProofRun<S, F> {
-    pub status: u8,
+    pub end: ProofEnd,
     pub network: S,
     pub given: S,
     pub better: F,
@@ -60,22 +63,28 @@ pub struct ProofRun<S, F> {
 
 /// Plans a network; the network `-` is standard input. Where the words ask for it, how far the plan has got is told at once, on a
 /// console. Where a file can't be written, that ends the run before the search, unless the network is refused.
-pub fn plan<'a, T: Threads + Wait + Sync, C: Clock + Eprint + Sync, G: Given<'a>>(
+pub fn plan<'a, T: Threads + Wait + Sync, C: Clock + Eprint + Sync, G: Given<'a>, W: Made>(
     rt: &T,
     console: &C,
     alloc: Global,
     given: &mut G,
+    output: W,
     words: PlanWords<'a>,
-) -> u8 {
+) -> Ran<W>
+    requires { W.failed output ≡ 0 }
+    ensures { RunsPlan G.Source.given G.Source.is_at_end G.Source.failed (G.opens_network given.old) G.File.taken G.File.failed
+        (G.makes_plan given.old) (G.makes_cert given.old) (G.refuses_plan given.old) (G.refuses_cert given.old) words.entry
+        (writing_of (W.taken output) (W.taken result.output)) result.status (W.failed result.output) }
+{
     match plan_files(given, words) {
-        Ok(files) => plan_to(rt, console, alloc, given, words, files),
+        Ok(files) => plan_to(rt, console, alloc, given, output, words, files),
         Err(failure) => {
             let unwritten = Unwritten {
                 network: words.network,
                 failure,
                 json: words.json,
             };
-            unwritable(alloc, given, unwritten)
+            unwritable(alloc, given, output, unwritten)
         }
     }
 }
@@ -90,6 +99,8 @@ pub fn plan_files<'a, G: Given<'a>>(
         G.makes_cert given.now (option_map (λ path. path.now) words.entry.cert) cert)) }
     ensures wanted { IfOk result (λ files. is_some files.cert ≡ is_some words.entry.cert) }
     ensures failures { IfOk result (λ files. (G.File.failed files.plan ≡ 0) × (failed_in G.File.failed files.cert ≡ 0)) }
+    ensures refused { OnErr result (G.refuses_plan given.now (option_map (λ path. path.now) words.entry.plan)
+        ⊎ G.refuses_cert given.now (option_map (λ path. path.now) words.entry.cert)) }
 {
     let plan = given.plan_file(words.plan)?;
     let cert = match words.cert {
@@ -109,16 +120,24 @@ struct Unwritten<'a> {
 }
 
 /// Tells that a file can't be written, where the network isn't refused.
-fn unwritable<'a, G: Given<'a>>(alloc: Global, given: &mut G, unwritten: Unwritten<'a>) -> u8 {
+fn unwritable<'a, G: Given<'a>, W: Made>(
+    alloc: Global,
+    given: &mut G,
+    mut output: W,
+    unwritten: Unwritten<'a>,
+) -> Ran<W>
+    requires { W.failed output ≡ 0 }
+    ensures { IsUnmade G.Source.given G.Source.is_at_end G.Source.failed (G.opens_network given.old unwritten.entry.network.now) ⊤
+        unwritten.entry.json (writing_of (W.taken output) (W.taken result.output)) result.status (W.failed result.output) }
+{
     if unwritten.failure.cause.kind() == ErrorKind::OutOfMemory {
-        return no_memory(given);
+        return say_no_memory(output);
     }
     if unwritten.json {
         let mut line = line_keeper(alloc);
         let ended = judge_to(alloc, given, &unwritten, &mut line);
-        return end_as_json(alloc, given, ended, line);
+        return end_as_json(alloc, given, output, ended, line);
     }
-    let mut output = given.output();
     let ended = judge_to(alloc, given, &unwritten, &mut output);
     end_at(alloc, given, ended, output)
 }
@@ -131,42 +150,55 @@ fn judge_to<'a, G: Given<'a>, W: Sink>(
     sink: &mut W,
 ) -> Ended
     requires { W.failed sink.old ≡ 0 }
+    ensures { OverNetwork G.Source.given G.Source.is_at_end G.Source.failed (G.opens_network given.now unwritten.now.network.now)
+        (λ readings reads. RunsUnmade readings (writing_of (W.taken sink.old) (W.taken sink.new)) result.status reads
+        (W.failed sink.new)) }
 {
-    let mut network = given.network(unwritten.network);
-    let status = judge_run(alloc, &mut network, sink);
-    let ended = if status == DONE {
-        Ended {
-            status: DEVICE,
-            line: failure_line(alloc, DEVICE, Some(unwritten.failure)),
-        }
+    let NetworkRun { status, network } = judge_over(alloc, given, unwritten.network, sink);
+    let line = if status == DONE {
+        failure_line(alloc, DEVICE, Some(unwritten.failure))
     } else {
-        let line = source_line(alloc, status, &network).or(network_line(alloc, status, &network));
-        Ended { status, line }
+        source_line(alloc, status, &network).or(network_line(alloc, status, &network))
     };
     drop(network);
-    ended
+    Ended {
+        status: unmade_status(status),
+        line,
+    }
+}
+
+/// The status of a run of which a file can't be made, where its network was judged with this one.
+fn unmade_status(judged: u8) -> u8
+    ensures { IsUnmadeStatus judged result }
+{
+    if judged == DONE { DEVICE } else { judged }
 }
 
 /// Plans a network to these files, and writes the line, or a line of JSON in its place.
-fn plan_to<'a, T: Threads + Wait + Sync, C: Clock + Eprint + Sync, G: Given<'a>>(
+fn plan_to<'a, T: Threads + Wait + Sync, C: Clock + Eprint + Sync, G: Given<'a>, W: Made>(
     rt: &T,
     console: &C,
     alloc: Global,
     given: &mut G,
+    mut output: W,
     words: PlanWords<'a>,
     files: PlanFiles<G::File>,
-) -> u8
+) -> Ran<W>
     requires plan { G.makes_plan given.old (option_map (λ path. path.now) words.plan) files.plan }
     requires cert { IfSome files.cert (λ cert. G.makes_cert given.old (option_map (λ path. path.now) words.cert) cert) }
     requires wanted { is_some files.cert ≡ is_some words.cert }
     requires failures { (G.File.failed files.plan ≡ 0) × (failed_in G.File.failed files.cert ≡ 0) }
+    requires output { W.failed output ≡ 0 }
+    ensures { OverNetwork G.Source.given G.Source.is_at_end G.Source.failed (G.opens_network given.old words.entry.network.now)
+        (λ readings reads. OverFiles G.File.taken G.File.failed files.plan files.cert
+        (λ written writes. RunsTold words.entry.json (PlanAnswers (effort_of words.entry) (is_some words.entry.cert)) readings written
+        (writing_of (W.taken output) (W.taken result.output)) result.status reads writes (W.failed result.output))) }
 {
     if words.json {
         let mut line = line_keeper(alloc);
         let ended = plan_told(rt, console, alloc, given, words, files, &mut line);
-        return end_as_json(alloc, given, ended, line);
+        return end_as_json(alloc, given, output, ended, line);
     }
-    let mut output = given.output();
     let ended = plan_told(rt, console, alloc, given, words, files, &mut output);
     end_at(alloc, given, ended, output)
 }
@@ -186,15 +218,18 @@ fn plan_told<'a, T: Threads + Wait + Sync, C: Clock + Eprint + Sync, G: Given<'a
     requires wanted { is_some files.cert ≡ is_some words.cert }
     requires failures { (G.File.failed files.plan ≡ 0) × (failed_in G.File.failed files.cert ≡ 0) }
     requires sink { W.failed sink.old ≡ 0 }
+    ensures { OverNetwork G.Source.given G.Source.is_at_end G.Source.failed (G.opens_network given.old words.entry.network.now)
+        (λ readings reads. OverFiles G.File.taken G.File.failed files.plan files.cert
+        (λ written writes. Runs (PlanAnswers (effort_of words.entry) (is_some words.entry.cert)) readings
+        (written ++ writing_of (W.taken sink.old) (W.taken sink.new) ∷ []) result.status reads (writes + W.failed sink.new))) }
 {
     if !words.progress {
-        let known = Heard::new();
-        let run = plan_over(rt, alloc, given, words, files, &known, sink);
-        return end_plan(alloc, given, run, &known);
+        let run = plan_over(rt, alloc, given, words, files, &NoSupervisor, sink);
+        return end_plan(alloc, given, run);
     }
     let progress = Progress::new(console, words.workers);
     let run = plan_over(rt, alloc, given, words, files, &progress, sink);
-    let ended = end_plan(alloc, given, run, progress.known());
+    let ended = end_plan(alloc, given, run);
     progress.end();
     ended
 }
@@ -214,19 +249,28 @@ pub fn plan_over<'a, T: Threads + Wait + Sync, A: Supervisor + Sync, G: Given<'a
     requires wanted { is_some files.cert ≡ is_some words.cert }
     requires failures { (G.File.failed files.plan ≡ 0) × (failed_in G.File.failed files.cert ≡ 0) }
     requires sink { W.failed sink.old ≡ 0 }
-    ensures { WithSome (G.opens_network given.now words.entry.network.now) (λ network.
-        Runs (PlanAnswers words.entry.steps (is_some words.entry.cert))
+    ensures runs { WithSome (G.opens_network given.now words.entry.network.now) (λ network.
+        Runs (PlanAnswers (effort_of words.entry) (is_some words.entry.cert))
         (reading_of (G.Source.given network) (G.Source.given result.network) (G.Source.is_at_end result.network) ∷ [])
         (writing_of (G.File.taken files.plan) (G.File.taken result.plan)
         ∷ writing_of (taken_in G.File.taken files.cert) (taken_in G.File.taken result.cert)
         ∷ writing_of (W.taken sink.old) (W.taken sink.new) ∷ [])
-        result.status (G.Source.failed result.network)
+        result.end.status (G.Source.failed result.network)
         (G.File.failed result.plan + failed_in G.File.failed result.cert + W.failed sink.new)) }
+
+    // What is known where the limit was met, and only there.
+    ensures stopped { result.end.status ≡ STOPPED ↔ IsTrue (is_some result.end.stop) }
+    ensures stop { IfSome result.end.stop (λ stop. WithSome (G.opens_network given.now words.entry.network.now) (λ network.
+        Ends (PlanStops words.entry.steps stop)
+        (reading_of (G.Source.given network) (G.Source.given result.network) (G.Source.is_at_end result.network) ∷ [])
+        (writing_of (G.File.taken files.plan) (G.File.taken result.plan)
+        ∷ writing_of (taken_in G.File.taken files.cert) (taken_in G.File.taken result.cert)
+        ∷ writing_of (W.taken sink.old) (W.taken sink.new) ∷ []) STOPPED)) }
 {
     let PlanFiles { mut plan, mut cert } = files;
     let mut network = given.network(words.network);
     let effort = effort_of(words);
-    let status = plan_run(
+    let end = plan_run(
         rt,
         alloc,
         &mut network,
@@ -237,7 +281,7 @@ pub fn plan_over<'a, T: Threads + Wait + Sync, A: Supervisor + Sync, G: Given<'a
         sink,
     );
     PlanRun {
-        status,
+        end,
         network,
         plan,
         cert,
@@ -249,10 +293,12 @@ fn end_plan<'a, G: Given<'a>>(
     alloc: Global,
     given: &mut G,
     run: PlanRun<G::Source, G::File>,
-    known: &Heard,
-) -> Ended {
+) -> Ended
+    ensures status { result.status ≡ run.end.status }
+    ensures line { IfSome run.end.stop (λ stop. IfSome result.line (λ line. string_bytes line ≡ stop_text stop)) }
+{
     let PlanRun {
-        status,
+        end: PlanEnd { status, stop },
         network,
         plan,
         cert,
@@ -266,7 +312,23 @@ fn end_plan<'a, G: Given<'a>>(
     if let Some(cert) = cert {
         given.close_cert(cert);
     }
-    with_bound(alloc, Ended { status, line }, known)
+    Ended {
+        status,
+        line: stop_or(alloc, stop, line),
+    }
+}
+
+/// The line on what is known where the limit was met, and else this one.
+fn stop_or(alloc: Global, stop: Option<Stop>, line: Option<String>) -> Option<String>
+    ensures { IfSome stop (λ stop. IfSome result (λ line. string_bytes line ≡ stop_text stop)) }
+{
+    match stop {
+        Some(stop) => {
+            drop(line);
+            stop.line(alloc).ok()
+        }
+        None => line,
+    }
 }
 
 /// The line on a file of which a write failed, where there is the file and that ended a run of this status.
@@ -277,35 +339,30 @@ fn file_line<F: Made>(alloc: Global, status: u8, file: &Option<F>) -> Option<Str
     }
 }
 
-/// How a run ended; where the limit was met the line says what is known then.
-fn with_bound(alloc: Global, ended: Ended, known: &Heard) -> Ended {
-    if ended.status != STOPPED {
-        return ended;
-    }
-    drop(ended);
-    Ended {
-        status: STOPPED,
-        line: known.line(alloc),
-    }
-}
-
 /// Proves a plan, or finds a better one; the network `-` is standard input. What is said of `plan` holds of the words, the files
 /// and the lines on standard error.
-pub fn prove<'a, C: Clock + Eprint, G: Given<'a>>(
+pub fn prove<'a, C: Clock + Eprint, G: Given<'a>, W: Made>(
     console: &C,
     alloc: Global,
     given: &mut G,
+    output: W,
     words: ProveWords<'a>,
-) -> u8 {
+) -> Ran<W>
+    requires { W.failed output ≡ 0 }
+    ensures { RunsProve G.Source.given G.Source.is_at_end G.Source.failed (G.opens_network given.old) (G.opens_plan given.old)
+        G.File.taken G.File.failed (G.makes_plan given.old) (G.makes_cert given.old) (G.refuses_plan given.old)
+        (G.refuses_cert given.old) words.entry
+        (writing_of (W.taken output) (W.taken result.output)) result.status (W.failed result.output) }
+{
     match proof_files(given, words) {
-        Ok(files) => prove_to(console, alloc, given, words, files),
+        Ok(files) => prove_to(console, alloc, given, output, words, files),
         Err(failure) => {
             let unwritten = Unwritten {
                 network: words.network,
                 failure,
-                json: false,
+                json: words.json,
             };
-            unwritable(alloc, given, unwritten)
+            unwritable(alloc, given, output, unwritten)
         }
     }
 }
@@ -318,35 +375,70 @@ pub fn proof_files<'a, G: Given<'a>>(
     ensures better { IfOk result (λ files. G.makes_plan given.now (option_map (λ path. path.now) words.entry.plan) files.better) }
     ensures cert { IfOk result (λ files. G.makes_cert given.now (option_map (λ path. path.now) words.entry.cert) files.cert) }
     ensures failures { IfOk result (λ files. (G.File.failed files.better ≡ 0) × (G.File.failed files.cert ≡ 0)) }
+    ensures refused { OnErr result (G.refuses_plan given.now (option_map (λ path. path.now) words.entry.plan)
+        ⊎ G.refuses_cert given.now (option_map (λ path. path.now) words.entry.cert)) }
 {
     let better = given.plan_file(words.plan)?;
     let cert = given.cert_file(words.cert)?;
     Ok(ProofFiles { better, cert })
 }
 
+/// Proves a plan with these files, and writes the line, or a line of JSON in its place.
+fn prove_to<'a, C: Clock + Eprint, G: Given<'a>, W: Made>(
+    console: &C,
+    alloc: Global,
+    given: &mut G,
+    mut output: W,
+    words: ProveWords<'a>,
+    files: ProofFiles<G::File>,
+) -> Ran<W>
+    requires better { G.makes_plan given.old (option_map (λ path. path.now) words.plan) files.better }
+    requires cert { G.makes_cert given.old (option_map (λ path. path.now) words.cert) files.cert }
+    requires failures { (G.File.failed files.better ≡ 0) × (G.File.failed files.cert ≡ 0) }
+    requires output { W.failed output ≡ 0 }
+    ensures { OverPlan G.Source.given G.Source.is_at_end G.Source.failed (G.opens_network given.old words.entry.network.now)
+        (G.opens_plan given.old words.entry.given.now)
+        (λ readings reads. OverProofFiles G.File.taken G.File.failed files.cert files.better
+        (λ written writes. RunsTold words.entry.json (ProveAnswers words.entry.steps) readings written
+        (writing_of (W.taken output) (W.taken result.output)) result.status reads writes (W.failed result.output))) }
+{
+    if words.json {
+        let mut line = line_keeper(alloc);
+        let ended = prove_told(console, alloc, given, words, files, &mut line);
+        return end_as_json(alloc, given, output, ended, line);
+    }
+    let ended = prove_told(console, alloc, given, words, files, &mut output);
+    end_at(alloc, given, ended, output)
+}
+
 /// Proves a plan with these files, and tells of the progress where the words ask for that.
-fn prove_to<'a, C: Clock + Eprint, G: Given<'a>>(
+fn prove_told<'a, C: Clock + Eprint, G: Given<'a>, W: Sink>(
     console: &C,
     alloc: Global,
     given: &mut G,
     words: ProveWords<'a>,
     files: ProofFiles<G::File>,
-) -> u8
+    sink: &mut W,
+) -> Ended
     requires better { G.makes_plan given.old (option_map (λ path. path.now) words.plan) files.better }
     requires cert { G.makes_cert given.old (option_map (λ path. path.now) words.cert) files.cert }
     requires failures { (G.File.failed files.better ≡ 0) × (G.File.failed files.cert ≡ 0) }
+    requires sink { W.failed sink.old ≡ 0 }
+    ensures { OverPlan G.Source.given G.Source.is_at_end G.Source.failed (G.opens_network given.old words.entry.network.now)
+        (G.opens_plan given.old words.entry.given.now)
+        (λ readings reads. OverProofFiles G.File.taken G.File.failed files.cert files.better
+        (λ written writes. Runs (ProveAnswers words.entry.steps) readings
+        (written ++ writing_of (W.taken sink.old) (W.taken sink.new) ∷ []) result.status reads (writes + W.failed sink.new))) }
 {
-    let mut output = KeptLine::new(alloc, given.output());
     if !words.progress {
-        let known = Heard::new();
-        let run = prove_over(alloc, given, words, files, &known, &mut output);
-        return end_proof(alloc, given, run, &known, output);
+        let run = prove_over(alloc, given, words, files, &NoSupervisor, sink);
+        return end_proof(alloc, given, run);
     }
     let progress = Progress::new(console, 1);
-    let run = prove_over(alloc, given, words, files, &progress, &mut output);
-    let status = end_proof(alloc, given, run, progress.known(), output);
+    let run = prove_over(alloc, given, words, files, &progress, sink);
+    let ended = end_proof(alloc, given, run);
     progress.end();
-    status
+    ended
 }
 
 /// Proves the plan of the words for their network at a supervisor, to their files, and writes the line to a sink.
@@ -362,15 +454,25 @@ pub fn prove_over<'a, A: Supervisor, G: Given<'a>, W: Sink>(
     requires cert { G.makes_cert given.now (option_map (λ path. path.now) words.cert) files.cert }
     requires failures { (G.File.failed files.better ≡ 0) × (G.File.failed files.cert ≡ 0) }
     requires sink { W.failed sink.old ≡ 0 }
-    ensures { WithSome (G.opens_network given.now words.entry.network.now) (λ network.
+    ensures runs { WithSome (G.opens_network given.now words.entry.network.now) (λ network.
         WithSome (G.opens_plan given.now words.entry.given.now) (λ plan. Runs (ProveAnswers words.entry.steps)
         (reading_of (G.Source.given network) (G.Source.given result.network) (G.Source.is_at_end result.network)
         ∷ reading_of (G.Source.given plan) (G.Source.given result.given) (G.Source.is_at_end result.given) ∷ [])
         (writing_of (G.File.taken files.cert) (G.File.taken result.cert)
         ∷ writing_of (G.File.taken files.better) (G.File.taken result.better)
         ∷ writing_of (W.taken sink.old) (W.taken sink.new) ∷ [])
-        result.status (G.Source.failed result.network + G.Source.failed result.given)
+        result.end.status (G.Source.failed result.network + G.Source.failed result.given)
         (G.File.failed result.cert + G.File.failed result.better + W.failed sink.new))) }
+
+    // What was found of the plan, as a value.
+    ensures stopped { result.end.status ≡ STOPPED ↔ IsTrue (is_some (stop_among result.end.finding)) }
+    ensures found { IfSome result.end.finding (λ finding. WithSome (G.opens_network given.now words.entry.network.now) (λ network.
+        WithSome (G.opens_plan given.now words.entry.given.now) (λ plan. Ends (ProveFinds words.entry.steps finding)
+        (reading_of (G.Source.given network) (G.Source.given result.network) (G.Source.is_at_end result.network)
+        ∷ reading_of (G.Source.given plan) (G.Source.given result.given) (G.Source.is_at_end result.given) ∷ [])
+        (writing_of (G.File.taken files.cert) (G.File.taken result.cert)
+        ∷ writing_of (G.File.taken files.better) (G.File.taken result.better)
+        ∷ writing_of (W.taken sink.old) (W.taken sink.new) ∷ []) result.end.status))) }
 {
     let ProofFiles {
         mut better,
@@ -378,7 +480,7 @@ pub fn prove_over<'a, A: Supervisor, G: Given<'a>, W: Sink>(
     } = files;
     let mut network = given.network(words.network);
     let mut plan = given.plan(words.given);
-    let status = prove_run(
+    let end = prove_run(
         alloc,
         &mut network,
         &mut plan,
@@ -389,7 +491,7 @@ pub fn prove_over<'a, A: Supervisor, G: Given<'a>, W: Sink>(
         sink,
     );
     ProofRun {
-        status,
+        end,
         network,
         given: plan,
         better,
@@ -397,35 +499,36 @@ pub fn prove_over<'a, A: Supervisor, G: Given<'a>, W: Sink>(
     }
 }
 
-/// Tells why a run of `prove` ended, where the limit was met what is known then, and says its status.
+/// How a run of `prove` ended; where the limit was met the line says what is known then.
 fn end_proof<'a, G: Given<'a>>(
     alloc: Global,
     given: &mut G,
     run: ProofRun<G::Source, G::File>,
-    known: &Heard,
-    output: KeptLine<G::Output>,
-) -> u8 {
+) -> Ended
+    ensures status { result.status ≡ run.end.status }
+    ensures line { IfSome (stop_among run.end.finding) (λ stop.
+        IfSome result.line (λ line. string_bytes line ≡ stop_text stop)) }
+{
     let ProofRun {
-        status,
+        end,
         network,
         given: plan,
         better,
         cert,
     } = run;
+    let status = end.status;
     let line = source_line(alloc, status, &network)
         .or(source_line(alloc, status, &plan))
         .or(failure_line(alloc, status, cert.failure()))
         .or(failure_line(alloc, status, better.failure()))
-        .or(undercut_line(alloc, status, &plan, output.text()))
+        .or(undercut_line(alloc, &plan, end.finding))
         .or(plan_line(alloc, status, &network, &plan));
     drop(network);
     drop(plan);
     given.close_plan(better);
     given.close_cert(cert);
-    end_at(
-        alloc,
-        given,
-        with_bound(alloc, Ended { status, line }, known),
-        output.into_output(),
-    )
+    Ended {
+        status,
+        line: stop_or(alloc, end.stop(), line),
+    }
 }

@@ -4,12 +4,12 @@ use crate::devices::Opened;
 use std::alloc::{AllocError, Global};
 use std::fmt::Write;
 use tsn_cli::run::{DEVICE, DONE, MAX_FILE, REFUSED, REJECTED};
-use tsn_cli::{GatesFormat, GatesOptions};
+use tsn_cli::{Finding, GatesFormat, GatesOptions, Spans};
 use tsn_device::{Action, Failure};
 use tsn_reason::{
     File, cert_reason, device_reason, line_of, network_reason, offsets_reason, plan_reason,
+    unused_reason,
 };
-use tsn_report::number_after;
 
 /// The line on a source, where it ended a run of this status.
 pub(crate) fn source_line<S: Opened>(alloc: Global, status: u8, source: &S) -> Option<String> {
@@ -106,31 +106,26 @@ pub(crate) fn plan_line<S: Opened>(
     }
 }
 
-/// The line on a plan that a valid schedule undercuts, by the line on standard output; None where that tells of none, or where
-/// there is no memory for the line.
+/// The line on a plan that a valid schedule undercuts; None where none does, or where there is no memory for the line.
 pub(crate) fn undercut_line<S: Opened>(
     alloc: Global,
-    status: u8,
     plan: &S,
-    told: &str,
+    finding: Option<Finding>,
 ) -> Option<String> {
-    if status != REJECTED {
-        return None;
+    match finding {
+        Some(Finding::Undercut(spans)) => undercut_text(alloc, plan.name(), spans).ok(),
+        Some(Finding::Proved) => None,
+        Some(Finding::Stopped(_)) => None,
+        None => None,
     }
-    let better = number_after(told, "by")?;
-    undercut_text(alloc, plan.name(), number_after(told, "undercut"), better).ok()
 }
 
-/// The text on a plan of the file of this name: its flowspan, where it is a schedule, and that of the better one, in nanoseconds.
-fn undercut_text(
-    alloc: Global,
-    name: &str,
-    flowspan: Option<u64>,
-    better: u64,
-) -> Result<String, AllocError> {
+/// The text on a plan of the file of this name, and on the better one.
+fn undercut_text(alloc: Global, name: &str, spans: Spans) -> Result<String, AllocError> {
+    let Spans { stated, better } = spans;
     let mut text = line_of(alloc, name)?;
     write!(text, "a schedule of flowspan {better} is valid")?;
-    if let Some(flowspan) = flowspan {
+    if let Some(flowspan) = stated {
         let less = flowspan.saturating_sub(better);
         write!(text, ", which is {less} ns less")?;
     }
@@ -164,6 +159,21 @@ pub(crate) fn untaken<S: Opened>(
     match (file_of(network), file_of(plan)) {
         (Some(network), Some(plan)) if status == DONE && is_script(options.format) => {
             device_reason(alloc, network, plan, options.merge, options.limits).unwrap_or(None)
+        }
+        _ => None,
+    }
+}
+
+/// That no stream uses the link of which alone a picture was drawn, where what was read was kept and there is memory for that.
+pub(crate) fn unused_line<S: Opened>(
+    alloc: Global,
+    status: u8,
+    link: Option<usize>,
+    network: &S,
+) -> Option<String> {
+    match (file_of(network), link) {
+        (Some(network), Some(link)) if status == DONE => {
+            unused_reason(alloc, network, link).unwrap_or(None)
         }
         _ => None,
     }

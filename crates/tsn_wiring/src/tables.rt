@@ -2,14 +2,13 @@
 ghost use Rattle.std.specs.Prelude.{◌≡◌, ◌+◌, [], ◌∷◌};
 ghost use Rattle.tsn_cli.specs.Run.{reading_of, writing_of};
 ghost use Rattle.tsn_cli.specs.Tables.{ChartAnswers, GatesAnswers, ReplayAnswers, StreamsAnswers};
-ghost use Rattle.tsn_wiring.specs.Options.{gates_options, replay_options, shares_format, IsViewOf};
-ghost use Rattle.tsn_wiring.specs.Runs.{WithSome, Runs};
+ghost use Rattle.tsn_wiring.specs.Options.{gates_options, replay_options, IsViewOf};
+ghost use Rattle.tsn_wiring.specs.Runs.{OverPlan, Runs, WithSome};
 
-use crate::devices::Given;
-use crate::explained::marked_chart;
-use crate::options::{gates_options, replay_options, shares_format, view_of};
-use crate::reason::{plan_line, source_line, untaken};
-use crate::told::{Ended, end_at, tell_all};
+use crate::devices::{Given, Made};
+use crate::options::{gates_options, replay_options, view_of};
+use crate::reason::{plan_line, source_line, untaken, unused_line};
+use crate::told::{Ended, Ran, end_at, tell, tell_all};
 use std::alloc::Global;
 use tsn_cli::device::Sink;
 use tsn_cli::{chart_run, gates_run, replay_run, streams_run};
@@ -25,48 +24,89 @@ pub struct PlanShown<S> {
 
 /// Prints gate lists; the network `-` is standard input. Of those that are printed as a script it is told what the device doesn't
 /// take.
-pub fn gates<'a, G: Given<'a>>(alloc: Global, given: &mut G, words: GatesWords<'a>) -> u8 {
-    let mut output = given.output();
+pub fn gates<'a, G: Given<'a>, W: Made>(
+    alloc: Global,
+    given: &mut G,
+    mut output: W,
+    words: GatesWords<'a>,
+) -> Ran<W>
+    requires { W.failed output ≡ 0 }
+    ensures { OverPlan G.Source.given G.Source.is_at_end G.Source.failed
+        (G.opens_network given.old words.entry.network.now) (G.opens_plan given.old words.entry.plan.now)
+        (λ readings reads. Runs (GatesAnswers (gates_options words.entry)) readings
+        (writing_of (W.taken output) (W.taken result.output) ∷ []) result.status reads (W.failed result.output)) }
+{
     let shown = gates_over(alloc, given, words, &mut output);
     let options = gates_options(words);
     let untaken = untaken(alloc, shown.status, options, &shown.network, &shown.plan);
-    let status = end_shown(alloc, given, shown, output);
+    let ran = end_shown(alloc, given, shown, output);
     tell_all(given, untaken);
-    status
+    ran
 }
 
 /// Replays the gate control lists of a plan; the network `-` is standard input.
-pub fn replay<'a, G: Given<'a>>(alloc: Global, given: &mut G, words: ReplayWords<'a>) -> u8 {
-    let mut output = given.output();
+pub fn replay<'a, G: Given<'a>, W: Made>(
+    alloc: Global,
+    given: &mut G,
+    mut output: W,
+    words: ReplayWords<'a>,
+) -> Ran<W>
+    requires { W.failed output ≡ 0 }
+    ensures { OverPlan G.Source.given G.Source.is_at_end G.Source.failed
+        (G.opens_network given.old words.entry.network.now) (G.opens_plan given.old words.entry.plan.now)
+        (λ readings reads. Runs (ReplayAnswers (replay_options words.entry)) readings
+        (writing_of (W.taken output) (W.taken result.output) ∷ []) result.status reads (W.failed result.output)) }
+{
     let shown = replay_over(alloc, given, words, &mut output);
     end_shown(alloc, given, shown, output)
 }
 
-/// Draws a plan, with marks where the words name a certificate; the network `-` is standard input.
-pub fn chart<'a, G: Given<'a>>(alloc: Global, given: &mut G, words: ChartWords<'a>) -> u8 {
-    if let Some(cert) = words.cert {
-        return marked_chart(alloc, given, words, cert);
-    }
-    let mut output = given.output();
+/// Draws a plan; the network `-` is standard input.
+pub fn chart<'a, G: Given<'a>, W: Made>(
+    alloc: Global,
+    given: &mut G,
+    mut output: W,
+    words: ChartWords<'a>,
+) -> Ran<W>
+    requires { W.failed output ≡ 0 }
+    ensures { WithSome (IsViewOf words.entry) (λ view. OverPlan G.Source.given G.Source.is_at_end G.Source.failed
+        (G.opens_network given.old words.entry.network.now) (G.opens_plan given.old words.entry.plan.now)
+        (λ readings reads. Runs (ChartAnswers view) readings
+        (writing_of (W.taken output) (W.taken result.output) ∷ []) result.status reads (W.failed result.output))) }
+{
     let shown = chart_over(alloc, given, words, &mut output);
-    end_shown(alloc, given, shown, output)
+    let unused = unused_line(alloc, shown.status, words.link, &shown.network);
+    let ran = end_shown(alloc, given, shown, output);
+    tell(given, unused);
+    ran
 }
 
 /// Prints what each stream and each link gets by a plan; the network `-` is standard input.
-pub fn streams<'a, G: Given<'a>>(alloc: Global, given: &mut G, words: StreamsWords<'a>) -> u8 {
-    let mut output = given.output();
+pub fn streams<'a, G: Given<'a>, W: Made>(
+    alloc: Global,
+    given: &mut G,
+    mut output: W,
+    words: StreamsWords<'a>,
+) -> Ran<W>
+    requires { W.failed output ≡ 0 }
+    ensures { OverPlan G.Source.given G.Source.is_at_end G.Source.failed
+        (G.opens_network given.old words.entry.network.now) (G.opens_plan given.old words.entry.plan.now)
+        (λ readings reads. Runs (StreamsAnswers words.entry.format) readings
+        (writing_of (W.taken output) (W.taken result.output) ∷ []) result.status reads (W.failed result.output)) }
+{
     let shown = streams_over(alloc, given, words, &mut output);
     end_shown(alloc, given, shown, output)
 }
 
-/// Tells why a plan isn't shown, and says the status.
-fn end_shown<'a, G: Given<'a>>(
+/// Tells why a plan isn't shown.
+fn end_shown<'a, G: Given<'a>, W: Made>(
     alloc: Global,
     given: &mut G,
     shown: PlanShown<G::Source>,
-    output: G::Output,
-) -> u8
-    ensures { result ≡ shown.status }
+    output: W,
+) -> Ran<W>
+    ensures status { result.status ≡ shown.status }
+    ensures output { result.output ≡ output }
 {
     let PlanShown {
         status,
@@ -170,7 +210,7 @@ pub fn streams_over<'a, G: Given<'a>, W: Sink>(
 ) -> PlanShown<G::Source>
     requires { W.failed sink.old ≡ 0 }
     ensures { WithSome (G.opens_network given.now words.entry.network.now) (λ network.
-        WithSome (G.opens_plan given.now words.entry.plan.now) (λ plan. Runs (StreamsAnswers (shares_format words.entry.format))
+        WithSome (G.opens_plan given.now words.entry.plan.now) (λ plan. Runs (StreamsAnswers words.entry.format)
         (reading_of (G.Source.given network) (G.Source.given result.network) (G.Source.is_at_end result.network)
         ∷ reading_of (G.Source.given plan) (G.Source.given result.plan) (G.Source.is_at_end result.plan) ∷ [])
         (writing_of (W.taken sink.old) (W.taken sink.new) ∷ [])
@@ -178,8 +218,7 @@ pub fn streams_over<'a, G: Given<'a>, W: Sink>(
 {
     let mut network = given.network(words.network);
     let mut plan = given.plan(words.plan);
-    let options = shares_format(words.format);
-    let status = streams_run(alloc, &mut network, &mut plan, options, sink);
+    let status = streams_run(alloc, &mut network, &mut plan, words.format, sink);
     PlanShown {
         status,
         network,

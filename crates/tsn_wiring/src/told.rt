@@ -1,10 +1,20 @@
 //! How a run ends: what is told, and its status.
 ghost use Rattle.std.specs.Prelude.{◌≡◌};
+ghost use Rattle.tsn_cli.specs.Run.{writing_of};
+ghost use Rattle.tsn_wiring.specs.Runs.{Says};
 
 use crate::devices::{Given, Made};
 use crate::reason::failure_line;
 use std::alloc::Global;
-use tsn_cli::run::{MEMORY, NO_MEMORY_LINE, finish};
+use tsn_cli::run::DEVICE;
+use tsn_device::device::write_all;
+
+/// How a command ended: its status, and standard output as the command left it.
+#[derive(Drop)]
+pub struct Ran<W> {
+    pub status: u8,
+    pub output: W,
+}
 
 /// How a run ended: its status, and the line on standard error that says why.
 #[derive(Drop)]
@@ -13,20 +23,34 @@ pub(crate) struct Ended {
     pub(crate) line: Option<String>,
 }
 
-/// Tells why a run ended that wrote to standard output, which may have failed, and says its status.
-pub(crate) fn end_at<'a, G: Given<'a>>(
+/// Tells why a run ended that wrote to standard output, which may have failed.
+pub(crate) fn end_at<'a, G: Given<'a>, W: Made>(
     alloc: Global,
     given: &mut G,
     ended: Ended,
-    output: G::Output,
-) -> u8
-    ensures { result ≡ ended.status }
+    output: W,
+) -> Ran<W>
+    ensures status { result.status ≡ ended.status }
+    ensures output { result.output ≡ output }
 {
     let Ended { status, line } = ended;
     let failed = failure_line(alloc, status, output.failure());
-    given.close_output(output);
     tell(given, line.or(failed));
-    status
+    Ran { status, output }
+}
+
+/// Writes a text to standard output.
+pub(crate) fn say<W: Made>(mut output: W, status: u8, text: &[u8]) -> Ran<W>
+    requires { W.failed output ≡ 0 }
+    ensures { Says status text.now (writing_of (W.taken output) (W.taken result.output)) result.status (W.failed result.output) }
+{
+    match write_all(&mut output, text) {
+        Ok(()) => Ran { status, output },
+        Err(_) => Ran {
+            status: DEVICE,
+            output,
+        },
+    }
 }
 
 /// Tells a line, if there is one.
@@ -43,12 +67,4 @@ pub(crate) fn tell_all<'a, G: Given<'a>>(given: &mut G, text: Option<String>) {
             given.tell(line);
         }
     }
-}
-
-/// Says that memory was refused.
-pub(crate) fn no_memory<'a, G: Given<'a>>(given: &mut G) -> u8 {
-    let mut output = given.output();
-    let status = finish(&mut output, MEMORY, NO_MEMORY_LINE);
-    given.close_output(output);
-    status
 }

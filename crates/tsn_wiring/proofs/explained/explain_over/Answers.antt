@@ -1,4 +1,4 @@
-use Rattle.std.proofs.Common.{rules, ◌∙◌}
+use Rattle.std.proofs.Common.{rules, arith}
 use Rattle.tsn_wiring.proofs.explained.explain_over.Goals as goal
 
 pub returns : goal.returns
@@ -19,7 +19,7 @@ returns g c = (
               unfailing = λ done. search rules;
               failed = λ broken. search rules;
               read_failed = λ broken. search rules;
-              write_failed = λ broken. c.explain_run-status.ensures.write_failed (λ same. broken (same ∙ c.requires));
+              write_failed = λ broken. c.explain_run-status.ensures.write_failed (λ same. broken (omega (arith, same, c.requires)));
             },
           ),
         ),
