@@ -60,7 +60,7 @@ fn call<R: Print + AllocGlobal>(rt: &R) -> ExitCode {
 }
 
 fn call_networks<R: Print + AllocGlobal>(rt: &R) -> Result<(), NoMemory> {
-    call_all(rt, "two streams", networks::TWO_STREAMS)?;
+    call_all(rt, "two streams", tsn_networks::TWO_STREAMS)?;
     call_all(rt, "star of ten", networks::STAR_OF_TEN)
 }
 

@@ -1,24 +1,5 @@
 //! The networks: stations and a bridge, and streams of 64 octets to station C.
 
-/// Two streams.
-pub const TWO_STREAMS: &str = "cycle = 1000000
-node = [
-    {name = 'A', kind = 'station'},
-    {name = 'B', kind = 'station'},
-    {name = 'C', kind = 'station'},
-    {name = 'S', kind = 'bridge', proc = 1000},
-]
-link = [
-    {a = 'A', b = 'S', mbps = 1000, prop = 50},
-    {a = 'B', b = 'S', mbps = 1000, prop = 50},
-    {a = 'S', b = 'C', mbps = 1000, prop = 50},
-]
-stream = [
-    {name = 'one', octets = 64, route = ['A', 'S', 'C']},
-    {name = 'two', octets = 64, route = ['B', 'S', 'C']},
-]
-";
-
 /// Ten streams.
 pub const STAR_OF_TEN: &str = "cycle = 1000000
 node = [

@@ -2,7 +2,7 @@
 
 ghost use Rattle.std.specs.Prelude.{◌≤◌};
 
-use crate::inputs::{NETWORK, PLAN};
+use crate::inputs::PLAN;
 use std::alloc::Global;
 use std::process::Abort;
 use std::str::from_utf8;
@@ -10,13 +10,14 @@ use std::test::Fail;
 use tsn_chart::{Shown, View};
 use tsn_cli::chart_run;
 use tsn_cli::memory::{MemorySink, MemorySource, NEVER};
+use tsn_networks::TWO_STREAMS;
 
 /// The bytes of a picture from 0 to an instant.
 fn chart_to<R: Abort>(rt: &R, alloc: Global, until: u64) -> Vec<u8>
     requires some { 1 ≤ until }
     requires few { until ≤ 1_000_000_000 }
 {
-    let mut network = MemorySource::new(NETWORK.as_bytes(), 4096, NEVER);
+    let mut network = MemorySource::new(TWO_STREAMS.as_bytes(), 4096, NEVER);
     let mut plan = MemorySource::new(PLAN.as_bytes(), 4096, NEVER);
     let mut sink = MemorySink::new(alloc, 4096, NEVER);
     let view = View {

@@ -1,12 +1,12 @@
 //! Gate control lists of entries that are handed in.
 
-use crate::inputs::NETWORK;
 use std::alloc::Global;
 use std::process::Abort;
 use std::test::Fail;
 use tsn_gate::{GateEntry, GateFault, GateList};
 use tsn_model::NoMemory;
 use tsn_net::{Problem, read_problem};
+use tsn_networks::TWO_STREAMS;
 
 fn entry(interval: u64, octet: u8) -> GateEntry {
     GateEntry { interval, octet }
@@ -86,7 +86,7 @@ fn table_of(
 
 /// The list's table in the network.
 fn table_by(rt: &impl Abort, alloc: Global, list: &GateList) -> Result<String, Fail> {
-    let problem = read_problem(alloc, NETWORK.as_bytes())?;
+    let problem = read_problem(alloc, TWO_STREAMS.as_bytes())?;
     let table = table_of(rt, alloc, list, &problem);
     drop(problem);
     Ok(table?)

@@ -1,12 +1,12 @@
 //! The numbers of faults, and the check of a plan alone.
 
-use crate::files::network::NET;
 use std::alloc::Global;
 use std::process::Abort;
 use std::test::Fail;
 use tsn_cert::{FileFault, plan_from_json};
 use tsn_check::{CheckFault, check_plan};
 use tsn_net::read_problem;
+use tsn_networks::TWO_STREAMS;
 use tsn_timing::{Timing, Valid};
 
 #[test]
@@ -38,7 +38,7 @@ fn faults_of_the_check_have_numbers(rt: HostRuntime) {
 
 /// The network of the two streams.
 fn two_streams(alloc: Global) -> Result<Timing, Fail> {
-    let problem = read_problem(alloc, NET.as_bytes())?;
+    let problem = read_problem(alloc, TWO_STREAMS.as_bytes())?;
     let timing = Timing::of(alloc, &problem);
     drop(problem);
     Ok(timing?)

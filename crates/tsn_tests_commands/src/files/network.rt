@@ -6,25 +6,7 @@ use std::process::Abort;
 use std::test::Fail;
 use tsn_model::Link;
 use tsn_net::{Code, NetFault, Place, Problem, read_problem};
-
-/// Two streams over one bridge.
-pub const NET: &str = "cycle = 1000000
-node = [
-    {name = 'A', kind = 'station'},
-    {name = 'B', kind = 'station'},
-    {name = 'C', kind = 'station'},
-    {name = 'S', kind = 'bridge', proc = 1000},
-]
-link = [
-    {a = 'A', b = 'S', mbps = 1000, prop = 50},
-    {a = 'B', b = 'S', mbps = 1000, prop = 50},
-    {a = 'S', b = 'C', mbps = 1000, prop = 50},
-]
-stream = [
-    {name = 'one', octets = 64, route = ['A', 'S', 'C']},
-    {name = 'two', octets = 64, route = ['B', 'S', 'C']},
-]
-";
+use tsn_networks::TWO_STREAMS;
 
 const NAMES: [&str; 4] = ["A", "B", "C", "S"];
 
@@ -87,7 +69,7 @@ fn is_two_streams(rt: &impl Abort, problem: &Problem) {
 
 #[test]
 fn reads_two_streams(rt: HostRuntime) -> Result<(), Fail> {
-    let problem = read_problem(rt.alloc(), NET.as_bytes())?;
+    let problem = read_problem(rt.alloc(), TWO_STREAMS.as_bytes())?;
     is_two_streams(&rt, &problem);
     Ok(())
 }

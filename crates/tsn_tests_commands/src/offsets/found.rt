@@ -49,7 +49,7 @@ fn text_of(alloc: Global, arcs: &[Arc], found: &Option<Feasibility>) -> Result<S
 }
 
 /// What is found for the arcs, at once and by adding the last one; for no arcs the same twice.
-pub fn found_texts(alloc: Global, net: &Net, arcs: &[Arc]) -> Result<(String, String), Fail> {
+pub fn print_found(alloc: Global, net: &Net, arcs: &[Arc]) -> Result<(String, String), Fail> {
     let at_once = text_of(alloc, arcs, &solved(alloc, net, arcs)?)?;
     match arcs.split_last() {
         Some((last, others)) => {

@@ -1,7 +1,7 @@
 //! Least offsets, found at once and by adding the last arc to the solution for the others.
 
 use crate::offsets::arcs::{arc, arcs_of};
-use crate::offsets::found::{expect_same, found_texts, offsets_text};
+use crate::offsets::found::{expect_same, offsets_text, print_found};
 use std::alloc::{AllocError, Global};
 use std::process::Abort;
 use std::test::Fail;
@@ -15,7 +15,7 @@ fn expect_found<R: Abort + AllocGlobal>(
     arcs: &[Arc],
     wanted: &str,
 ) -> Result<(), Fail> {
-    let (at_once, by_adding) = found_texts(rt.alloc(), net, arcs)?;
+    let (at_once, by_adding) = print_found(rt.alloc(), net, arcs)?;
     expect_same(rt, at_once.as_str(), wanted);
     expect_same(rt, by_adding.as_str(), wanted);
     Ok(())
@@ -218,7 +218,7 @@ fn expect_offsets<R: Abort + AllocGlobal>(
 ) -> Result<(), Fail> {
     let wanted = offsets_text(rt.alloc(), offsets, &[])?;
     let start = wanted.as_str().trim_end_matches(']');
-    let (at_once, by_adding) = found_texts(rt.alloc(), &Net::new(MAX_STREAMS), arcs)?;
+    let (at_once, by_adding) = print_found(rt.alloc(), &Net::new(MAX_STREAMS), arcs)?;
     assert!(rt; at_once.as_str().starts_with(start));
     assert!(rt; by_adding.as_str().starts_with(start));
     Ok(())

@@ -6,26 +6,10 @@ use std::process::Abort;
 use std::test::Fail;
 use tsn_model::{Link, NoMemory};
 use tsn_net::Problem;
+use tsn_networks::{CABLES, NODES, ONE, TWO};
 use tsn_timing::Timing;
 
-/// Stations A, B and C, and a bridge.
-const NODES: &str = "node = [
-    {name = 'A', kind = 'station'},
-    {name = 'B', kind = 'station'},
-    {name = 'C', kind = 'station'},
-    {name = 'S', kind = 'bridge', proc = 1000},
-]
-";
-
-/// The cables from A and B to the bridge, and the one from there to C.
-const FAST: &str = "link = [
-    {a = 'A', b = 'S', mbps = 1000, prop = 50},
-    {a = 'B', b = 'S', mbps = 1000, prop = 50},
-    {a = 'S', b = 'C', mbps = 1000, prop = 50},
-]
-";
-
-/// The same with 100 Mb/s on the last one.
+/// The cables from A and B to the bridge, and the one from there to C, which has 100 Mb/s.
 const SLOW: &str = "link = [
     {a = 'A', b = 'S', mbps = 1000, prop = 50},
     {a = 'B', b = 'S', mbps = 1000, prop = 50},
@@ -38,15 +22,6 @@ const SLOW_FIRST: &str = "link = [
     {a = 'A', b = 'S', mbps = 10, prop = 50},
     {a = 'B', b = 'S', mbps = 1000, prop = 50},
     {a = 'S', b = 'C', mbps = 1000, prop = 50},
-]
-";
-
-const ONE: &str = "stream = [{name = 'one', octets = 64, route = ['A', 'S', 'C']}]
-";
-
-const TWO: &str = "stream = [
-    {name = 'one', octets = 64, route = ['A', 'S', 'C']},
-    {name = 'two', octets = 64, route = ['B', 'S', 'C']},
 ]
 ";
 
@@ -94,19 +69,19 @@ type Parts = [&'static str; 4];
 
 const CYCLE: &str = "cycle = 1000000\n";
 
-const ONE_FAST: Parts = [CYCLE, NODES, FAST, ONE];
+const ONE_FAST: Parts = [CYCLE, NODES, CABLES, ONE];
 
-const TWO_FAST: Parts = [CYCLE, NODES, FAST, TWO];
+const TWO_FAST: Parts = [CYCLE, NODES, CABLES, TWO];
 
 const TWO_SLOW: Parts = [CYCLE, NODES, SLOW, TWO];
 
 const ONE_SLOW_FIRST: Parts = [CYCLE, NODES, SLOW_FIRST, ONE];
 
-const LONG_FAST: Parts = [CYCLE, NODES, FAST, LONG];
+const LONG_FAST: Parts = [CYCLE, NODES, CABLES, LONG];
 
 const LONG_SLOW: Parts = [CYCLE, NODES, SLOW, LONG];
 
-const TIMED_FAST: Parts = [CYCLE, NODES, FAST, TIMED];
+const TIMED_FAST: Parts = [CYCLE, NODES, CABLES, TIMED];
 
 const ROUND: Parts = [LOOP, "", "", ""];
 
@@ -308,7 +283,7 @@ fn agrees(timing: &Timing) -> bool {
 #[test]
 fn agrees_with_the_plain_program(rt: HostRuntime) -> Result<(), Fail> {
     for streams in [TWO, TIMED, LONG] {
-        let timing = timing_of(rt.alloc(), ["cycle = 30000\n", NODES, FAST, streams])?;
+        let timing = timing_of(rt.alloc(), ["cycle = 30000\n", NODES, CABLES, streams])?;
         assert!(rt; agrees(&timing));
     }
     Ok(())

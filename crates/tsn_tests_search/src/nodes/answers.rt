@@ -1,19 +1,19 @@
 //! Rows that ask for one thing of a network: `CYCLE, WHAT: ..`.
 
-use crate::nodes::branch::{told_fitting, told_look};
+use crate::nodes::branch::{print_fitting, print_look};
 use crate::nodes::networks::{Network, timing_of};
 use crate::nodes::rows::{cut, expect_text};
-use crate::nodes::shared_links::{told_arc, told_overlap, told_triples};
+use crate::nodes::shared_links::{print_arc, print_overlap, print_triples};
 use std::process::Abort;
 use tsn_timing::Timing;
 
 fn answer<R: Abort + AllocGlobal>(rt: &R, timing: &Timing, what: &str, asked: &str) -> String {
     match what {
-        "look" => told_look(rt, timing, asked),
-        "fits" => told_fitting(rt, timing, asked),
-        "shared" => told_triples(rt, timing),
-        "arc" => told_arc(rt, timing, asked),
-        "overlap" => told_overlap(rt, timing, asked),
+        "look" => print_look(rt, timing, asked),
+        "fits" => print_fitting(rt, timing, asked),
+        "shared" => print_triples(rt, timing),
+        "arc" => print_arc(rt, timing, asked),
+        "overlap" => print_overlap(rt, timing, asked),
         _ => panic!(rt; "nothing answers that"),
     }
 }

@@ -22,7 +22,7 @@ type Found = (Look, Option<Least>);
 /// Above any flowspan within the cycle.
 const TARGET: u64 = 1_000_001;
 
-fn found_at<R: Abort + AllocGlobal>(
+fn find_at<R: Abort + AllocGlobal>(
     rt: &R,
     timing: &Timing,
     shared: &Conflicts,
@@ -50,7 +50,7 @@ fn child(rt: &impl Abort, node: &Node, triple: Triple, side: Side) -> Node
 }
 
 /// What is found on that side of a node that is split.
-fn found_below<R: Abort + AllocGlobal>(
+fn find_below<R: Abort + AllocGlobal>(
     rt: &R,
     timing: &Timing,
     shared: &Conflicts,
@@ -67,7 +67,7 @@ fn found_below<R: Abort + AllocGlobal>(
     match found {
         (Look::Split(triple), Some(least)) => {
             let node = child(rt, above, *triple, side);
-            let found = found_at(rt, timing, shared, &node, Some(least));
+            let found = find_at(rt, timing, shared, &node, Some(least));
             (node, found)
         }
         _ => panic!(rt; "no split"),
@@ -75,7 +75,7 @@ fn found_below<R: Abort + AllocGlobal>(
 }
 
 /// What is found two decisions below the root.
-fn found_two_below<R: Abort + AllocGlobal>(
+fn find_two_below<R: Abort + AllocGlobal>(
     rt: &R,
     timing: &Timing,
     shared: &Conflicts,
@@ -84,9 +84,9 @@ fn found_two_below<R: Abort + AllocGlobal>(
     requires { AreConflictsOf timing.now shared.now }
 {
     let root = Node::root(rt.alloc());
-    let found = found_at(rt, timing, shared, &root, None);
-    let (above, found) = found_below(rt, timing, shared, &root, &found, sides.0);
-    found_below(rt, timing, shared, &above, &found, sides.1)
+    let found = find_at(rt, timing, shared, &root, None);
+    let (above, found) = find_below(rt, timing, shared, &root, &found, sides.0);
+    find_below(rt, timing, shared, &above, &found, sides.1)
 }
 
 fn expect_two_below<R: Abort + AllocGlobal>(
@@ -96,7 +96,7 @@ fn expect_two_below<R: Abort + AllocGlobal>(
     wanted: &str,
 ) {
     let shared = conflicts(rt.alloc(), timing).expect(rt, "memory");
-    let found = found_two_below(rt, timing, &shared, sides);
+    let found = find_two_below(rt, timing, &shared, sides);
     drop(shared);
     expect_look(rt, &found.1.0, wanted);
     drop(found);

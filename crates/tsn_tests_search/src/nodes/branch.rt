@@ -66,7 +66,7 @@ fn refuted_text<R: Abort + AllocGlobal>(rt: &R, leaf: &Leaf) -> String {
 }
 
 /// What a look finds, as at `Left 4: 2925 beside 0 672`.
-pub fn told_look<R: Abort + AllocGlobal>(rt: &R, timing: &Timing, asked: &str) -> String {
+pub fn print_look<R: Abort + AllocGlobal>(rt: &R, timing: &Timing, asked: &str) -> String {
     let (path, asked) = cut(rt, asked, ": ");
     let node = node_at(rt, path);
     let look = looked(rt, timing, &node, asked);
@@ -83,7 +83,7 @@ fn fits_in<R: Abort + AllocGlobal>(rt: &R, timing: &Timing, node: &Node) -> bool
 }
 
 /// Whether a node fits the search.
-pub fn told_fitting<R: Abort + AllocGlobal>(rt: &R, timing: &Timing, path: &str) -> String {
+pub fn print_fitting<R: Abort + AllocGlobal>(rt: &R, timing: &Timing, path: &str) -> String {
     let node = node_at(rt, path);
     let fitting = fits_in(rt, timing, &node);
     format!(in rt.alloc(); "{fitting}").expect(rt, "memory")

@@ -2,10 +2,11 @@
 
 use std::process::Abort;
 use tsn_net::{Problem, read_problem};
+use tsn_networks::{CABLES, NODES};
 use tsn_timing::Timing;
 
-/// Nodes and cables, and streams.
-pub type Network = (&'static str, &'static str);
+/// Nodes, cables and streams.
+pub type Network = (&'static str, &'static str, &'static str);
 
 /// The problem of a network with that cycle, in nanoseconds.
 pub fn problem_of<R: Abort + AllocGlobal>(rt: &R, network: Network, cycle: &str) -> Problem {
@@ -20,8 +21,8 @@ pub fn problem_of<R: Abort + AllocGlobal>(rt: &R, network: Network, cycle: &str)
 }
 
 fn file_of<R: Abort + AllocGlobal>(rt: &R, network: Network, cycle: &str) -> String {
-    let (cables, streams) = network;
-    format!(in rt.alloc(); "cycle = {cycle}\n{cables}{streams}").expect(rt, "memory")
+    let (nodes, cables, streams) = network;
+    format!(in rt.alloc(); "cycle = {cycle}\n{nodes}{cables}{streams}").expect(rt, "memory")
 }
 
 pub fn timing_of<R: Abort + AllocGlobal>(rt: &R, network: Network, cycle: &str) -> Timing {
@@ -31,40 +32,16 @@ pub fn timing_of<R: Abort + AllocGlobal>(rt: &R, network: Network, cycle: &str) 
     timing
 }
 
-/// Stations A, B and C, and a bridge with a cable to each.
-const STAR: &str = "node = [
-    {name = 'A', kind = 'station'},
-    {name = 'B', kind = 'station'},
-    {name = 'C', kind = 'station'},
-    {name = 'S', kind = 'bridge', proc = 1000},
-]
-link = [
-    {a = 'A', b = 'S', mbps = 1000, prop = 50},
-    {a = 'B', b = 'S', mbps = 1000, prop = 50},
-    {a = 'S', b = 'C', mbps = 1000, prop = 50},
-]
-";
-
 /// One stream.
-pub const ONE: Network = (
-    STAR,
-    "stream = [{name = 'one', octets = 64, route = ['A', 'S', 'C']}]
-",
-);
+pub const ONE: Network = (NODES, CABLES, tsn_networks::ONE);
 
 /// Two streams that share link 4.
-pub const TWO: Network = (
-    STAR,
-    "stream = [
-    {name = 'one', octets = 64, route = ['A', 'S', 'C']},
-    {name = 'two', octets = 64, route = ['B', 'S', 'C']},
-]
-",
-);
+pub const TWO: Network = (NODES, CABLES, tsn_networks::TWO);
 
 /// The same, where the second is of 1522 octets.
 pub const LONG: Network = (
-    STAR,
+    NODES,
+    CABLES,
     "stream = [
     {name = 'one', octets = 64, route = ['A', 'S', 'C']},
     {name = 'two', octets = 1522, route = ['B', 'S', 'C']},
@@ -74,7 +51,8 @@ pub const LONG: Network = (
 
 /// Two streams that share no link.
 pub const THERE_AND_BACK: Network = (
-    STAR,
+    NODES,
+    CABLES,
     "stream = [
     {name = 'one', octets = 64, route = ['A', 'S', 'C']},
     {name = 'two', octets = 64, route = ['C', 'S', 'A']},
@@ -83,7 +61,7 @@ pub const THERE_AND_BACK: Network = (
 );
 
 /// Stations A, B and C, bridges S, T, V and U without processing time; the cable from T to V is long.
-const LOOP_CABLES: &str = "node = [
+const LOOP_NODES: &str = "node = [
     {name = 'A', kind = 'station'},
     {name = 'B', kind = 'station'},
     {name = 'C', kind = 'station'},
@@ -92,7 +70,9 @@ const LOOP_CABLES: &str = "node = [
     {name = 'V', kind = 'bridge', proc = 0},
     {name = 'U', kind = 'bridge', proc = 0},
 ]
-link = [
+";
+
+const LOOP_CABLES: &str = "link = [
     {a = 'A', b = 'S', mbps = 1000, prop = 0},
     {a = 'B', b = 'S', mbps = 1000, prop = 0},
     {a = 'S', b = 'T', mbps = 1000, prop = 0},
@@ -105,6 +85,7 @@ link = [
 
 /// Two streams that share links that lie apart.
 pub const LOOP: Network = (
+    LOOP_NODES,
     LOOP_CABLES,
     "stream = [
     {name = 'one', octets = 64, route = ['A', 'S', 'T', 'V', 'U', 'C']},
@@ -114,14 +95,16 @@ pub const LOOP: Network = (
 );
 
 /// Stations A, B and C, and bridges S and T in a line, without delays but those of the frames.
-const LINE_CABLES: &str = "node = [
+const LINE_NODES: &str = "node = [
     {name = 'A', kind = 'station'},
     {name = 'B', kind = 'station'},
     {name = 'C', kind = 'station'},
     {name = 'S', kind = 'bridge', proc = 0},
     {name = 'T', kind = 'bridge', proc = 0},
 ]
-link = [
+";
+
+const LINE_CABLES: &str = "link = [
     {a = 'A', b = 'S', mbps = 1000, prop = 0},
     {a = 'B', b = 'S', mbps = 1000, prop = 0},
     {a = 'S', b = 'T', mbps = 1000, prop = 0},
@@ -131,6 +114,7 @@ link = [
 
 /// Two streams that share the links from S to T and from there to C.
 pub const LINE: Network = (
+    LINE_NODES,
     LINE_CABLES,
     "stream = [
     {name = 'one', octets = 64, route = ['A', 'S', 'T', 'C']},
@@ -140,7 +124,7 @@ pub const LINE: Network = (
 );
 
 /// Ten stations and C round a bridge.
-const TEN_CABLES: &str = "node = [
+const TEN_NODES: &str = "node = [
     {name = 'A0', kind = 'station'},
     {name = 'A1', kind = 'station'},
     {name = 'A2', kind = 'station'},
@@ -154,7 +138,9 @@ const TEN_CABLES: &str = "node = [
     {name = 'C', kind = 'station'},
     {name = 'S', kind = 'bridge', proc = 1000},
 ]
-link = [
+";
+
+const TEN_CABLES: &str = "link = [
     {a = 'A0', b = 'S', mbps = 1000, prop = 50},
     {a = 'A1', b = 'S', mbps = 1000, prop = 50},
     {a = 'A2', b = 'S', mbps = 1000, prop = 50},
@@ -171,6 +157,7 @@ link = [
 
 /// Ten streams of 64 octets, each from a station of its own over one bridge to the same station.
 pub const TEN: Network = (
+    TEN_NODES,
     TEN_CABLES,
     "stream = [
     {name = 's0', octets = 64, route = ['A0', 'S', 'C']},

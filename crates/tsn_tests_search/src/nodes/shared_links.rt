@@ -29,7 +29,7 @@ fn triples_text<R: Abort + AllocGlobal>(rt: &R, triples: &[Triple]) -> String {
 }
 
 /// All streams that share a link.
-pub fn told_triples<R: Abort + AllocGlobal>(rt: &R, timing: &Timing) -> String {
+pub fn print_triples<R: Abort + AllocGlobal>(rt: &R, timing: &Timing) -> String {
     let found = conflicts_of(rt, timing);
     let text = triples_text(rt, found.triples());
     drop(found);
@@ -48,7 +48,7 @@ fn arc_text<R: Abort + AllocGlobal>(rt: &R, arc: Arc) -> String {
 }
 
 /// The arc of going first of the first two streams, as `Left 4`.
-pub fn told_arc<R: Abort + AllocGlobal>(rt: &R, timing: &Timing, asked: &str) -> String {
+pub fn print_arc<R: Abort + AllocGlobal>(rt: &R, timing: &Timing, asked: &str) -> String {
     let (side, link) = cut(rt, asked, " ");
     let found = conflicts_of(rt, timing);
     let arc = arc_of(rt, &found, place(rt, link), side_of(rt, side));
@@ -70,7 +70,7 @@ fn first_overlap<R: Abort + AllocGlobal>(
 }
 
 /// The first overlap of these offsets.
-pub fn told_overlap<R: Abort + AllocGlobal>(rt: &R, timing: &Timing, offsets: &str) -> String {
+pub fn print_overlap<R: Abort + AllocGlobal>(rt: &R, timing: &Timing, offsets: &str) -> String {
     let offsets = numbers(rt, offsets);
     let found = first_overlap(rt, timing, offsets.as_slice());
     triples_text(rt, found.as_slice())

@@ -1,12 +1,13 @@
 //! What a supervisor hears, added up: each node is told of once, behind a pass of the supervisor.
 
-use crate::workers::networks::{TEN, TWELVE, TWO};
+use crate::workers::networks::{TEN, TWELVE};
 use crate::workers::planner::{Outcome, expect, planned_by, settled_by};
 use crate::workers::supervisors::{AccountingSupervisor, MeetingSupervisor, WaitingSupervisor};
 use std::process::Abort;
 use std::sync::Wait;
 use std::test::*;
 use std::thread::Threads;
+use tsn_networks::TWO_STREAMS;
 
 /// The least flowspan of the star of ten.
 const LEAST: u64 = 8_300;
@@ -73,7 +74,7 @@ fn a_batch_has_sixty_four_nodes(rt: HostRuntime) -> Result<(), Fail> {
 #[test]
 fn what_is_solved_last_is_told(rt: HostRuntime) -> Result<(), Fail> {
     expect_told(&rt, TWELVE, 1, 67, 9_644)?;
-    expect_told(&rt, TWO, 2, 2, 2_924)
+    expect_told(&rt, TWO_STREAMS, 2, 2, 2_924)
 }
 
 fn expect_told<R: AllocGlobal + Abort + Threads + Wait + Sync>(
@@ -100,7 +101,7 @@ fn a_plan_by_two_is_made_by_two(rt: HostRuntime) -> Result<(), Fail> {
     let supervisor = MeetingSupervisor::new(rt);
     expect(
         &rt,
-        &planned_by(&rt, rt.alloc(), TWO, &supervisor, 2)?,
+        &planned_by(&rt, rt.alloc(), TWO_STREAMS, &supervisor, 2)?,
         2_924,
     );
     assert!(rt; supervisor.has_brought_together());

@@ -1,5 +1,4 @@
 //! The planner by one worker, and the supervisor that it passes.
-use crate::workers::networks::TWO;
 use crate::workers::planner::network;
 use std::process::Abort;
 use std::sync::Wait;
@@ -8,6 +7,7 @@ use std::test::*;
 use std::thread::Threads;
 use tsn_cert::Plan;
 use tsn_net::Problem;
+use tsn_networks::TWO_STREAMS;
 use tsn_worker::{Answer, Supervisor, plan};
 
 /// A supervisor that counts how often the first teller passes.
@@ -67,7 +67,7 @@ fn stopped_text<R: Abort + AllocGlobal>(rt: &R, settled: usize, passes: u64) -> 
     format!(in rt.alloc(); "stopped settled {settled} passed {passes}").expect(rt, "memory")
 }
 
-fn told_plan<R: AllocGlobal + Abort + Threads + Wait + Sync>(
+fn print_plan<R: AllocGlobal + Abort + Threads + Wait + Sync>(
     rt: &R,
     problem: &Problem,
     limit: usize,
@@ -89,9 +89,9 @@ const PLANS: [(usize, &str); 4] = [
 
 #[test]
 fn passes_the_supervisor_once_a_settlement(rt: HostRuntime) -> Result<(), Fail> {
-    let problem = network(rt.alloc(), TWO)?;
+    let problem = network(rt.alloc(), TWO_STREAMS)?;
     for (limit, wanted) in PLANS {
-        let found = told_plan(&rt, &problem, limit);
+        let found = print_plan(&rt, &problem, limit);
         assert_eq!(rt; found.as_str(), wanted);
     }
     Ok(())

@@ -1,11 +1,11 @@
 //! The planner by each method, and what its supervisor hears of phases and of what no schedule undercuts.
-use crate::workers::networks::TWO;
 use crate::workers::planner::{Outcome, judge, network};
 use std::process::Abort;
 use std::sync::Wait;
 use std::sync::atomic::{AtomicU64, Ordering};
 use std::test::*;
 use std::thread::Threads;
+use tsn_networks::TWO_STREAMS;
 use tsn_worker::{Effort, Method, Phase, Supervisor, plan_by};
 
 /// A supervisor that keeps the bound and the phases that it hears of: a digit each, 1 for the order of the file, 2 for the search that
@@ -44,7 +44,7 @@ fn planned<R: AllocGlobal + Abort + Threads + Wait + Sync>(
     supervisor: &ListeningSupervisor,
 ) -> Result<Outcome, Fail> {
     assert!(rt; 1 <= workers && workers <= 16);
-    let problem = network(rt.alloc(), TWO)?;
+    let problem = network(rt.alloc(), TWO_STREAMS)?;
     let effort = Effort {
         method,
         workers,

@@ -1,24 +1,5 @@
 //! The networks of these tests.
 
-/// Stations A, B and C, a bridge, and two streams that share the link from the bridge to C.
-pub const TWO: &str = "cycle = 1000000
-node = [
-    {name = 'A', kind = 'station'},
-    {name = 'B', kind = 'station'},
-    {name = 'C', kind = 'station'},
-    {name = 'S', kind = 'bridge', proc = 1000},
-]
-link = [
-    {a = 'A', b = 'S', mbps = 1000, prop = 50},
-    {a = 'B', b = 'S', mbps = 1000, prop = 50},
-    {a = 'S', b = 'C', mbps = 1000, prop = 50},
-]
-stream = [
-    {name = 'one', octets = 64, route = ['A', 'S', 'C']},
-    {name = 'two', octets = 64, route = ['B', 'S', 'C']},
-]
-";
-
 /// Ten streams of 64 octets, each from a station of its own over one bridge to the same station.
 pub const TEN: &str = "cycle = 1000000
 node = [

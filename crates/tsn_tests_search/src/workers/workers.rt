@@ -1,13 +1,14 @@
 //! Workers that meet, begin, share and settle by batches.
 
 use crate::workers::bags::{noting_bags, stacks};
-use crate::workers::networks::{TEN, TWO};
+use crate::workers::networks::TEN;
 use crate::workers::planner::{expect, planned};
 use crate::workers::supervisors::{CountingSupervisor, MeetingSupervisor};
 use std::alloc::Global;
 use std::sync::atomic::{AtomicU64, Ordering};
 use std::test::*;
 use tsn_branch::{NoMemory, Node, Side, Triple};
+use tsn_networks::TWO_STREAMS;
 use tsn_worker::{Bag, DequeBag, NoSupervisor};
 
 /// A worker that waits for the other one meets it only where each has a thread of its own.
@@ -16,7 +17,7 @@ fn two_tellers_meet(rt: HostRuntime) -> Result<(), Fail> {
     let alloc = rt.alloc();
     let supervisor = MeetingSupervisor::new(rt);
     let bags = DequeBag::make(alloc, 2)?;
-    let found = planned(&rt, alloc, TWO, &supervisor, bags)?;
+    let found = planned(&rt, alloc, TWO_STREAMS, &supervisor, bags)?;
     assert!(rt; supervisor.has_brought_together());
     expect(&rt, &found, 2_924);
     Ok(())
