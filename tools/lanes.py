@@ -79,7 +79,10 @@ def path_in(root, name, *parts):
 
 
 def link_or_copy(source, target):
-    """One file stands at both paths, where both are on one device."""
+    """One file stands at both paths, where both are on one device; but a stamp is copied, since `rt` writes that in place."""
+    if os.path.basename(source) == "stamp":
+        shutil.copy2(source, target)
+        return
     try:
         os.link(source, target)
     except OSError:
@@ -87,8 +90,8 @@ def link_or_copy(source, target):
 
 
 def hand_out(name, kept, source, target):
-    """Puts one folder of a crate's `out` from one root to another too, where it is there; the old one is replaced whole. (A check
-    writes a file anew and not into the old one, so it changes none that stands at two paths.)"""
+    """Puts one folder of a crate's `out` from one root to another too, where it is there; the old one is replaced whole. (But for
+    the stamp a check writes a file anew and not into the old one, so it changes none that stands at two paths.)"""
     there, here = path_in(source, name, "out", kept), path_in(target, name, "out", kept)
     if not os.path.isdir(there):
         return
