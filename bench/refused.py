@@ -5,11 +5,13 @@ refused.py [N]   N, 1 unless given: only each Nth call is refused.
 
 A small library (bench/refused/refuse.c, which needs a C compiler) stands before the allocator of the built program. Each run
 has to end with status 7 and the line `no memory`, or whole, where the call that was refused could be done without. Then the same
-with all calls refused from each one on; and `plan` with 4 workers and by the search that learns on the star of ten, each call alone: no memory,
-or the optimum with a certificate that is accepted, never a stopped run. What is told at the end has how many calls were refused
-in all.
+with all calls refused from each one on; and `plan` with 4 workers and by the search that learns, each call alone, on the star of
+ten and on networks on which that search learns: no memory, or the optimum with a certificate that is accepted. A run is stopped
+only where the limit is too little for the order of the file, when the search that learns or the check of its argument had no
+memory; its plan is then a valid schedule. What is told at the end has how many calls were refused in all.
 """
 
+import json
 import os
 import subprocess
 import sys
@@ -21,6 +23,14 @@ HERE = os.path.dirname(os.path.abspath(__file__))
 EXAMPLES = os.path.join(ROOT, "examples")
 NO_MEMORY = ("no memory", 7)
 CALLS = os.path.join(ROOT, "crates", "tsn_calls", "out", "tsn_calls")
+STAR = "examples/ten-stream-star.toml"
+SEARCHES = [
+    (STAR, 8300, ["--workers", "4"]),
+    (STAR, 8300, ["--search", "learn"]),
+    (STAR, 8300, ["--search", "learn", "--workers", "4"]),
+    ("bench/suite/ring-010-fe-eq-hot-loose-3.toml", 60250, ["--search", "learn"]),
+    ("bench/suite/tree-020-gig-wild-hot-tight-2.toml", 95302, ["--search", "learn", "--steps", "1000"]),
+]
 EVERY = int(sys.argv[1]) if len(sys.argv) > 1 else 1
 
 
@@ -78,27 +88,43 @@ def commands(folder):
         yield ["replay", network, plan, "--cycles", "2", "--greedy"]
         yield ["streams", network, plan, "--format", "json"]
         yield ["chart", network, plan]
+        yield ["explain", network, plan, argument]
+        yield ["chart", network, plan, "--cert", argument]
 
 
-def refuse_search(program, search):
-    """A search by some words: no memory, or the optimum with a certificate that is accepted."""
-    network = os.path.join(EXAMPLES, "ten-stream-star.toml")
+def is_stopped(network, plan, line, optimum):
+    """Whether a stopped run's plan is a valid schedule of the flowspan that its line tells, or it tells none."""
+    if line.startswith("stopped none settled "):
+        return not os.path.exists(plan) or os.path.getsize(plan) == 0
+    if int(line.split()[1]) < optimum:
+        return False
+    with open(plan) as file:
+        found = json.load(file)
+    told = subprocess.run([PROGRAM, "valid", network, *map(str, found["offsets"])], capture_output=True, text=True).stdout.split()
+    return line.startswith(f"stopped {found['flowspan']} settled ") and told == ["valid", str(found["flowspan"])]
+
+
+def refuse_search(program, network, optimum, search):
+    """A search by some words: no memory, or the optimum with a certificate that is accepted, or stopped with a valid schedule."""
     plan, cert = os.path.join(program.folder, "plan"), os.path.join(program.folder, "cert")
     words = ["plan", network, *search, "--plan", plan, "--cert", cert]
     _, calls = program.run(words)
-    optimal = 0
+    optimal = stopped = 0
     for number in range(1, calls + 1, EVERY):
         for path in (plan, cert):
             if os.path.exists(path):
                 os.remove(path)
-        end, _ = program.run(words, str(number))
-        if end == NO_MEMORY:
+        (line, status), _ = program.run(words, str(number))
+        if (line, status) == NO_MEMORY:
+            continue
+        if status == 5 and "--steps" in search and is_stopped(network, plan, line, optimum):
+            stopped += 1
             continue
         told = subprocess.run([PROGRAM, "check", network, plan, cert], capture_output=True, text=True).stdout.strip()
-        if not end[0].startswith("optimal 8300 settled ") or end[1] != 0 or told != "accepted first 8300":
-            sys.exit(f"{' '.join(search)}: with call {number} refused it ends with {end}, and the check says {told!r}")
+        if not line.startswith(f"optimal {optimum} settled ") or status != 0 or told != f"accepted first {optimum}":
+            sys.exit(f"{' '.join(search)}: with call {number} refused it ends with {line!r}, and the check says {told!r}")
         optimal += 1
-    return calls, optimal
+    return calls, optimal, stopped
 
 
 def refuse_calls(folder):
@@ -130,10 +156,11 @@ def main():
         calls, again = refuse_calls(folder)
         refused += calls
         print(f"calls that no command makes: {calls} calls, {again} made again")
-        for search in (["--workers", "4"], ["--search", "learn"], ["--search", "learn", "--workers", "4"]):
-            calls, optimal = refuse_search(program, search)
+        for network, optimum, search in SEARCHES:
+            calls, optimal, stopped = refuse_search(program, os.path.join(ROOT, network), optimum, search)
             refused += calls
-            print(f"plan {' '.join(search)} on the star of ten: {calls} calls, {optimal} runs optimal, the others with no memory", flush=True)
+            ends = f"{optimal} runs optimal, {stopped} stopped, the others with no memory"
+            print(f"plan {' '.join(search)} on {os.path.basename(network)}: {calls} calls, {ends}", flush=True)
         print(f"{refused} calls, {'each' if EVERY == 1 else f'one of {EVERY}'} refused, and each run ended as it has to")
 
 

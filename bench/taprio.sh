@@ -19,10 +19,17 @@ wrong=0
 
 # VARIABLES..: runs the script with them; what it has `tc` do is stored.
 run() {
+    run_of "$script" "$@"
+}
+
+# SCRIPT VARIABLES..: the same of another script.
+run_of() {
+    ran=$1
+    shift
     : >"$STORED"
     status=0
     env -u FLAGS -u DRY -u FORCE -u MOST -u LEAST -u BASE_TIME -u CLOCKID PATH="$made/bin:$PATH" "$@" \
-        "${SHELL_OF:-sh}" "$script" >"$made/printed" 2>"$made/told" || status=$?
+        "${SHELL_OF:-sh}" "$ran" >"$made/printed" 2>"$made/told" || status=$?
 }
 
 is() {
@@ -73,6 +80,26 @@ for SHELL_OF in sh dash bash; do
     case_name="$SHELL_OF, just long enough"
     run DEV_0=eth0 LEAST=672 MOST=3
     is "$status $(wc -l <"$STORED" | tr -d ' ')" "0 1"
+
+    case_name="$SHELL_OF, no shortest entry but the link's"
+    run DEV_0=eth0 LEAST=
+    is "$status $(wc -l <"$STORED" | tr -d ' ')" "0 1"
+
+    case_name="$SHELL_OF, an entry that is too short for the link's rate"
+    sed 's/sched-entry S 80 672/sched-entry S 80 479/' "$script" >"$made/short.taprio"
+    run_of "$made/short.taprio" DEV_0=eth0
+    is "$status $(cat "$STORED")" "1 "
+    is "$(head -n 1 "$made/told")" "eth0: an entry of 479 ns, shorter than 480"
+    run_of "$made/short.taprio" DEV_0=eth0 LEAST=479
+    is "$status $(wc -l <"$STORED" | tr -d ' ')" "0 1"
+
+    case_name="$SHELL_OF, links of several rates"
+    sed '/DEV_4/s/ 480 / 4800 /' "$script" >"$made/rates.taprio"
+    run_of "$made/rates.taprio" DEV_0=eth0 DEV_4=eth4
+    is "$status $(cat "$STORED")" "1 "
+    is "$(grep -v FORCE "$made/told")" "eth4: an entry of 1344 ns, shorter than 4800"
+    run_of "$made/rates.taprio" DEV_0=eth0 DEV_4=eth4 LEAST=480
+    is "$status $(wc -l <"$STORED" | tr -d ' ')" "0 2"
 
     for word in 3x x 5e3 -1 +3 0x10 ' 3' 1234567890123456789; do
         case_name="$SHELL_OF, MOST=$word"
