@@ -101,7 +101,7 @@ def is_stopped(network, plan, line, optimum):
     with open(plan) as file:
         found = json.load(file)
     told = subprocess.run([PROGRAM, "valid", network, *map(str, found["offsets"])], capture_output=True, text=True).stdout.split()
-    return line.startswith(f"stopped {found['flowspan']} settled ") and told == ["valid", str(found["flowspan"])]
+    return line.startswith(f"stopped {found['flowspan']} settled ") and told == ["valid", "flowspan", str(found["flowspan"])]
 
 
 def refuse_search(program, network, optimum, search):
