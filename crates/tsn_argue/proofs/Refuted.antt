@@ -20,7 +20,7 @@ use Rattle.tsn_cert.specs.declared.plan.Plan.{Plan}
 use Rattle.tsn_cert.specs.declared.plan.Plan.TheVariants as plan
 use Rattle.tsn_argument.specs.declared.argument.Argument.{Argument}
 use Rattle.tsn_argument.specs.Meaning.{steps_of}
-use Rattle.tsn_argue.specs.Certified.{IsFitting, Shows}
+use Rattle.tsn_argue.specs.Certified.{IsFitting, ArgumentCertifies}
 use Rattle.tsn_argue.specs.Faults.{IsShowFault}
 use Rattle.tsn_argue.proofs.FirstLemmas.{first_wrong_refutes, one_first_wrong, same_place, all_there, none_before}
 use Rattle.std.proofs.lemmas.Option.{slice_get_within}
@@ -288,7 +288,7 @@ same_goal network p argument g h one two =
     cc both
 
 pub shows_refuted : (network : Network) (p : Plan) (argument : Argument) (fault : CheckFault) → IsShowFault network p argument fault
-    → Shows network p argument → ⊥
+    → ArgumentCertifies network p argument → ⊥
 shows_refuted network p argument fault (inl claim) shows = claim_refuted network p fault claim shows.plan_right
 shows_refuted network p argument fault (inr (inl unfit)) shows = unfit.1 shows.goal shows.fitting
 shows_refuted network p argument fault (inr (inr wrong)) shows =

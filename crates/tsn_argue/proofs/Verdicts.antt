@@ -15,7 +15,7 @@ use Rattle.tsn_argument.specs.declared.step.Step.{Step}
 use Rattle.tsn_check.specs.Plans.{IsPlanRight, IsOptimalPlan, IsFirstPlan}
 use Rattle.tsn_check.specs.declared.fault.CheckFault.{CheckFault}
 use Rattle.tsn_check.specs.declared.verdict.Verdict.TheVariants.{Optimal, First, NoSchedule}
-use Rattle.tsn_argue.specs.Certified.{goal_for, IsFitting, Shows, argument_verdict}
+use Rattle.tsn_argue.specs.Certified.{goal_for, IsFitting, ArgumentCertifies, argument_verdict}
 use Rattle.tsn_argue.specs.Faults.{IsArgumentFault, IsShowFault}
 
 -- ---- what a goal shows of a plan
@@ -55,17 +55,17 @@ none_by network formed aim.Least plan.None asked steps fits argues is = cc is
 
 -- ---- what an argument shows
 
-pub shown_optimal : (network timing : Network) (p : Plan) (argument : Argument) → timing ≡ network → IsWellFormed timing → Shows network p argument
+pub shown_optimal : (network timing : Network) (p : Plan) (argument : Argument) → timing ≡ network → IsWellFormed timing → ArgumentCertifies network p argument
     → argument_verdict argument.goal ≡ Optimal → IsOptimalPlan network p
 shown_optimal network timing p argument same formed shows is =
     optimal_by network (subst IsWellFormed same formed) argument.goal p shows.goal (steps_of argument.steps) shows.plan_right shows.fitting.1 shows.argues is
 
-pub shown_first : (network timing : Network) (p : Plan) (argument : Argument) → timing ≡ network → IsWellFormed timing → Shows network p argument
+pub shown_first : (network timing : Network) (p : Plan) (argument : Argument) → timing ≡ network → IsWellFormed timing → ArgumentCertifies network p argument
     → argument_verdict argument.goal ≡ First → IsFirstPlan network p
 shown_first network timing p argument same formed shows is =
     first_by network (subst IsWellFormed same formed) argument.goal p shows.goal (steps_of argument.steps) shows.plan_right shows.fitting.1 shows.argues is
 
-pub shown_none : (network timing : Network) (p : Plan) (argument : Argument) → timing ≡ network → IsWellFormed timing → Shows network p argument
+pub shown_none : (network timing : Network) (p : Plan) (argument : Argument) → timing ≡ network → IsWellFormed timing → ArgumentCertifies network p argument
     → argument_verdict argument.goal ≡ NoSchedule → HasNoSchedule network
 shown_none network timing p argument same formed shows is =
     none_by network (subst IsWellFormed same formed) argument.goal p shows.goal (steps_of argument.steps) shows.fitting.1 shows.argues is
@@ -75,7 +75,7 @@ shown_none network timing p argument same formed shows is =
 module _ (network timing : Network) (p : Plan) (argument : Argument) (goal : model.Goal) (steps : List Step) (same : timing ≡ network)
     (right : IsPlanRight timing p) (fitting : IsFitting timing p argument goal) (listed : steps ≡ argument.steps) where
   -- the plan and the goal are right, and the steps argue it
-  pub argued : Argues timing goal (steps_of steps) → Shows network p argument
+  pub argued : Argues timing goal (steps_of steps) → ArgumentCertifies network p argument
   argued argues = record {
     plan_right = subst (λ n. IsPlanRight n p) same right;
     goal = goal;

@@ -1,6 +1,6 @@
 -- What a certificate shows of a plan.
 --     goal_for, IsFitting                      what an argument is to show of a plan
---     Shows, argument_verdict                  the plan is right, and so is the argument; and what it then shows
+--     ArgumentCertifies, argument_verdict      the plan is right, and so is the argument; and what it then shows
 --     Certifies, certificate_verdict           the same of a certificate of either kind: a tree, or an argument
 use Rattle.std.specs.Prelude.{◌≡◌, Option, Some, None}
 use Rattle.tsn_model.specs.Network.{Network}
@@ -33,7 +33,7 @@ abbrev pub IsFitting : Network → Plan → Argument → model.Goal → Type 0
 IsFitting network plan argument goal = (argument.target ≡ target_of network (offsets_in plan)) × (goal_for argument.goal plan ≡ Some goal)
 
 -- the plan is right, and the argument shows its goal of it
-pub record Shows (network : Network) (plan : Plan) (argument : Argument) : Type 0 where
+pub record ArgumentCertifies (network : Network) (plan : Plan) (argument : Argument) : Type 0 where
   pub plan_right : IsPlanRight network plan
   pub goal : model.Goal
   pub fitting : IsFitting network plan argument goal
@@ -47,8 +47,8 @@ argument_verdict aim.None = NoSchedule
 
 -- a certificate of either kind shows what it is to show of the plan
 abbrev pub Certifies : Network → Plan → Certificate → Type 0
-Certifies network plan (Tree cert) = tree.Certifies network plan cert
-Certifies network plan (Argued argument) = Shows network plan argument
+Certifies network plan (Tree cert) = tree.TreeCertifies network plan cert
+Certifies network plan (Argued argument) = ArgumentCertifies network plan argument
 
 abbrev pub certificate_verdict : Certificate → Plan → Verdict
 certificate_verdict (Tree cert) plan = verdict_of cert.format plan

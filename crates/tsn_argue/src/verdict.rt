@@ -3,7 +3,7 @@ ghost use Rattle.std.specs.Prelude.{◌≡◌, ◌⊎◌, IfOk, IfErr, IsOkUnles
 ghost use Rattle.tsn_model.specs.Schedule.{HasNoSchedule};
 ghost use Rattle.tsn_check.specs.Plans.{IsOptimalPlan, IsFirstPlan, IsPlanRight};
 ghost use Rattle.tsn_check.specs.Faults.{IsClaimFault};
-ghost use Rattle.tsn_argue.specs.Certified.{Shows, Certifies, argument_verdict, certificate_verdict};
+ghost use Rattle.tsn_argue.specs.Certified.{ArgumentCertifies, Certifies, argument_verdict, certificate_verdict};
 ghost use Rattle.tsn_argue.specs.Faults.{IsShowFault, IsFirstFault};
 ghost use Rattle.tsn_argue.specs.Aims.{FindsAim};
 
@@ -52,12 +52,12 @@ pub fn check_argument(
     plan: &Plan,
     argument: &Argument,
 ) -> Result<Verdict, CheckFault>
-    ensures accepted { IfOk result (λ verdict. Shows problem.now.network plan.now argument.now) }
+    ensures accepted { IfOk result (λ verdict. ArgumentCertifies problem.now.network plan.now argument.now) }
     ensures verdict { IfOk result (λ verdict. verdict ≡ argument_verdict argument.now.goal) }
     ensures optimal { result ≡ Ok Verdict.Optimal → IsOptimalPlan problem.now.network plan.now }
     ensures first { result ≡ Ok Verdict.First → IsFirstPlan problem.now.network plan.now }
     ensures no_schedule { result ≡ Ok Verdict.NoSchedule → HasNoSchedule problem.now.network }
-    ensures complete { Shows problem.now.network plan.now argument.now → IsOkUnless result CheckFault.Memory }
+    ensures complete { ArgumentCertifies problem.now.network plan.now argument.now → IsOkUnless result CheckFault.Memory }
     ensures fault { IfErr result (λ fault. (fault ≡ CheckFault.Memory)
         ⊎ IsShowFault problem.now.network plan.now argument.now fault) }
 {

@@ -16,7 +16,7 @@ use Rattle.tsn_model.specs.Certificate as tree
 use Rattle.tsn_model.specs.Places.{Fills}
 use Rattle.tsn_check.specs.Claims.{IsClaim}
 use Rattle.tsn_check.specs.Plans.{span_in, IsPlanRight, IsOptimalPlan, IsFirstPlan, offsets_in}
-use Rattle.tsn_check.specs.Certified.{Certifies, leaf_target, tie_plan, verdict_of}
+use Rattle.tsn_check.specs.Certified.{TreeCertifies, leaf_target, tie_plan, verdict_of}
 use Rattle.tsn_check.specs.Faults.{IsClaimFault, IsScheduleFault, IsFirstFault, IsTreeFault}
 use Rattle.tsn_check.specs.declared.verdict.Verdict.TheVariants.{Optimal, First, NoSchedule}
 use Rattle.tsn_check.specs.declared.fault.CheckFault.{CheckFault}
@@ -26,7 +26,7 @@ use Rattle.tsn_check.proofs.Refusals.{tree_fault_refutes}
 
 -- nodes that fill the root's place for the plan's target
 pub certified : (network : Network) (plan : Plan) (cert : Cert) → IsPlanRight network plan → cert.target ≡ target_of network (offsets_in plan)
-    → Fills (IsNodeShown network (leaf_target network cert.format cert.target) (tie_plan cert.format (offsets_in plan))) ([] ∷ []) cert.nodes → Certifies network plan cert
+    → Fills (IsNodeShown network (leaf_target network cert.format cert.target) (tie_plan cert.format (offsets_in plan))) ([] ∷ []) cert.nodes → TreeCertifies network plan cert
 certified network plan cert right target fills =
     let found = filled_tree (IsNodeShown network (leaf_target network cert.format cert.target) (tie_plan cert.format (offsets_in plan))) [] cert.nodes fills in
     record { plan_right = right; target_right = target; tree = found.0; spelled = found.1; accepted = found.2 }
@@ -34,7 +34,7 @@ certified network plan cert right target fills =
 abbrev AcceptedIn : Network → Plan → Format → ℕ → tree.Tree → Type 0
 AcceptedIn network plan format target accepted = AcceptsBy (IsNodeShown network (leaf_target network format target) (tie_plan format (offsets_in plan))) [] accepted
 
-accepted_for : (network : Network) (plan : Plan) (cert : Cert) (certifies : Certifies network plan cert) → AcceptedIn network plan cert.format (target_of network (offsets_in plan)) certifies.tree
+accepted_for : (network : Network) (plan : Plan) (cert : Cert) (certifies : TreeCertifies network plan cert) → AcceptedIn network plan cert.format (target_of network (offsets_in plan)) certifies.tree
 accepted_for network plan cert certifies = subst (λ target. AcceptedIn network plan cert.format target certifies.tree) certifies.target_right certifies.accepted
 
 optimal_in : (network : Network) → IsWellFormed network → (format : Format) (plan : Plan) (accepted : tree.Tree) → IsPlanRight network plan → AcceptedIn network plan format (target_of network (offsets_in plan)) accepted
@@ -76,7 +76,7 @@ pub claim_fault_refutes : (network : Network) (plan : Plan) (fault : CheckFault)
 claim_fault_refutes network (plan.Schedule span offsets) fault is right = schedule_fault_refutes network span offsets fault is right
 claim_fault_refutes network plan.None fault is right = is
 
-pub first_fault_refutes : (network : Network) (plan : Plan) (cert : Cert) (fault : CheckFault) → IsFirstFault network plan cert fault → Certifies network plan cert → ⊥
+pub first_fault_refutes : (network : Network) (plan : Plan) (cert : Cert) (fault : CheckFault) → IsFirstFault network plan cert fault → TreeCertifies network plan cert → ⊥
 first_fault_refutes network plan cert fault is certifies = elim is [
   | inl claim ↦ claim_fault_refutes network plan fault claim certifies.plan_right
   | inr later ↦ elim later [
@@ -95,7 +95,7 @@ span-small network plan.None formed right = omega arith
 
 -- its claim holds, and the nodes fill the root's place
 pub checked : (network timing : Network) (plan : Plan) (cert : Cert) (target : ℕ) (nodes : List tree.Node) → timing ≡ network → IsClaim timing plan target
-    → cert.target ≡ target → nodes ≡ cert.nodes → Fills (IsNodeShown timing (leaf_target timing cert.format target) (tie_plan cert.format (offsets_in plan))) ([] ∷ []) nodes → Certifies network plan cert
+    → cert.target ≡ target → nodes ≡ cert.nodes → Fills (IsNodeShown timing (leaf_target timing cert.format target) (tie_plan cert.format (offsets_in plan))) ([] ∷ []) nodes → TreeCertifies network plan cert
 checked network timing plan cert target nodes same claim aimed listed fills =
     let right = subst (λ n. IsPlanRight n plan) same claim.right in
     let aim : cert.target ≡ target_of network (offsets_in plan) = aimed ∙ claim.aim ∙ ap (λ n. target_of n (offsets_in plan)) same in
@@ -103,17 +103,17 @@ checked network timing plan cert target nodes same claim aimed listed fills =
     let whole : Filled network cert.target cert.nodes = subst (Filled network cert.target) listed (subst (λ t. Filled network t nodes) (sym aimed) (subst (λ n. Filled n target nodes) same fills)) in
     certified network plan cert right aim whole
 
-pub shown_optimal : (network timing : Network) (plan : Plan) (cert : Cert) (target : ℕ) → timing ≡ network → IsClaim timing plan target → Certifies network plan cert
+pub shown_optimal : (network timing : Network) (plan : Plan) (cert : Cert) (target : ℕ) → timing ≡ network → IsClaim timing plan target → TreeCertifies network plan cert
     → verdict_of cert.format plan ≡ Optimal → IsOptimalPlan network plan
 shown_optimal network timing plan cert target same claim certifies is =
     optimal_in network (subst IsWellFormed same claim.formed) cert.format plan certifies.tree certifies.plan_right (accepted_for network plan cert certifies) is
 
-pub shown_first : (network timing : Network) (plan : Plan) (cert : Cert) (target : ℕ) → timing ≡ network → IsClaim timing plan target → Certifies network plan cert
+pub shown_first : (network timing : Network) (plan : Plan) (cert : Cert) (target : ℕ) → timing ≡ network → IsClaim timing plan target → TreeCertifies network plan cert
     → verdict_of cert.format plan ≡ First → IsFirstPlan network plan
 shown_first network timing plan cert target same claim certifies is =
     first_in network (subst IsWellFormed same claim.formed) cert.format plan certifies.tree certifies.plan_right (accepted_for network plan cert certifies) is
 
-pub shown_none : (network timing : Network) (plan : Plan) (cert : Cert) (target : ℕ) → timing ≡ network → IsClaim timing plan target → Certifies network plan cert
+pub shown_none : (network timing : Network) (plan : Plan) (cert : Cert) (target : ℕ) → timing ≡ network → IsClaim timing plan target → TreeCertifies network plan cert
     → verdict_of cert.format plan ≡ NoSchedule → HasNoSchedule network
 shown_none network timing plan cert target same claim certifies is =
     none_in network (subst IsWellFormed same claim.formed) cert.format plan certifies.tree certifies.plan_right (accepted_for network plan cert certifies) is

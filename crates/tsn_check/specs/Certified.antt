@@ -1,6 +1,6 @@
 -- What a tree shows of a plan.
 --     leaf_target, tie_plan     what the leaves of a format show, and with which schedule they may tie
---     Certifies                 the plan is right, and the nodes spell an accepted tree
+--     TreeCertifies             the plan is right, and the nodes spell an accepted tree
 --     verdict_of                what such a tree shows
 use Rattle.std.specs.Prelude.{◌≡◌, ℕ, List, [], Option, None}
 use Rattle.tsn_model.specs.Network.{Network}
@@ -26,7 +26,7 @@ tie_plan One planned = None
 tie_plan Two planned = planned
 
 -- The plan is right, and the nodes spell a tree that is accepted, in the certificate's format, for what no schedule may undercut.
-pub record Certifies (network : Network) (plan : Plan) (cert : Cert) : Type 0 where
+pub record TreeCertifies (network : Network) (plan : Plan) (cert : Cert) : Type 0 where
   pub plan_right : IsPlanRight network plan
   pub target_right : cert.target ≡ target_of network (offsets_in plan)
   pub tree : Tree

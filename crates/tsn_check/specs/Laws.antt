@@ -3,11 +3,11 @@ use Rattle.std.specs.Prelude.{◌≡◌}
 use Rattle.tsn_model.specs.Network.{Network}
 use Rattle.tsn_cert.specs.declared.plan.Plan.{Plan}
 use Rattle.tsn_cert.specs.declared.cert.Cert.{Cert}
-use Rattle.tsn_check.specs.Certified.{Certifies}
+use Rattle.tsn_check.specs.Certified.{TreeCertifies}
 use Rattle.tsn_check.specs.Faults.{IsFirstFault}
 use Rattle.tsn_check.specs.declared.fault.CheckFault.{CheckFault}
 
 -- a plan and a certificate with a first fault show nothing, and have no other first fault
 abbrev pub FirstFaultsRefute : Type 0
 FirstFaultsRefute = (network : Network) (plan : Plan) (cert : Cert) (fault : CheckFault) → IsFirstFault network plan cert fault
-    → (Certifies network plan cert → ⊥) × ((other : CheckFault) → IsFirstFault network plan cert other → fault ≡ other)
+    → (TreeCertifies network plan cert → ⊥) × ((other : CheckFault) → IsFirstFault network plan cert other → fault ≡ other)

@@ -9,7 +9,7 @@ use Rattle.tsn_cert.specs.Laws.{AreInGrammar}
 use Rattle.tsn_cert.specs.declared.plan.Plan.{Plan}
 use Rattle.tsn_cert.specs.declared.cert.Cert.{Cert}
 use Rattle.tsn_check.specs.Plans.{IsPlanRight}
-use Rattle.tsn_check.specs.Certified.{Certifies}
+use Rattle.tsn_check.specs.Certified.{TreeCertifies}
 
 -- no number of a right plan of a network within its limits is above those of a file
 abbrev pub RightPlansFit : Type 0
@@ -17,5 +17,5 @@ RightPlansFit = (network : Network) (plan : Plan) → IsWellFormed network → I
 
 -- nor is one of a tree that shows something of a plan, where the file's grammar has its nodes, and there are at most 4,294,967,295
 abbrev pub CertifiedTreesFit : Type 0
-CertifiedTreesFit = (network : Network) (plan : Plan) (cert : Cert) → IsWellFormed network → Certifies network plan cert
+CertifiedTreesFit = (network : Network) (plan : Plan) (cert : Cert) → IsWellFormed network → TreeCertifies network plan cert
     → AreInGrammar cert.nodes → length cert.nodes ≤ max_number → IsTrue (cert_fits cert)

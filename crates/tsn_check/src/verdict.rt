@@ -6,7 +6,7 @@ ghost use Rattle.tsn_model.specs.Certificate.{IsNodeShown};
 ghost use Rattle.tsn_model.specs.Places.{Fills};
 ghost use Rattle.tsn_cert.specs.Node.{tree_node};
 ghost use Rattle.tsn_check.specs.Plans.{IsOptimalPlan, IsFirstPlan, offsets_in};
-ghost use Rattle.tsn_check.specs.Certified.{Certifies, leaf_target, tie_plan, verdict_of};
+ghost use Rattle.tsn_check.specs.Certified.{TreeCertifies, leaf_target, tie_plan, verdict_of};
 ghost use Rattle.tsn_check.specs.Faults.{IsClaimFault, IsTreeFault, IsFirstFault};
 
 use crate::claim::Claim;
@@ -38,7 +38,7 @@ pub fn check(
     plan: &Plan,
     cert: &Cert,
 ) -> Result<Verdict, CheckFault>
-    ensures accepted { IfOk result (λ verdict. Certifies problem.now.network plan.now cert.now) }
+    ensures accepted { IfOk result (λ verdict. TreeCertifies problem.now.network plan.now cert.now) }
     ensures verdict { IfOk result (λ verdict. verdict ≡ verdict_of cert.now.format plan.now) }
 
     // What the verdict means.
@@ -47,7 +47,7 @@ pub fn check(
     ensures no_schedule { result ≡ Ok Verdict.NoSchedule → HasNoSchedule problem.now.network }
 
     // Whatever shows it is accepted, and else the first fault is told, unless memory is wanting.
-    ensures complete { Certifies problem.now.network plan.now cert.now → IsOkUnless result CheckFault.Memory }
+    ensures complete { TreeCertifies problem.now.network plan.now cert.now → IsOkUnless result CheckFault.Memory }
     ensures fault { IfErr result (λ fault. (fault ≡ CheckFault.Memory)
         ⊎ IsFirstFault problem.now.network plan.now cert.now fault) }
 {

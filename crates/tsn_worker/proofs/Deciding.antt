@@ -134,14 +134,14 @@ none_fits network aim.None (plan.Schedule span offsets) is found fits none = cc
 none_fits network aim.None plan.None is found fits none = (none, refl)
 
 -- an argument that was accepted as all that the plan says
-pub accepted_first : (network : Network) (limit : ℕ) (plan : Plan) (argument : Argument) → argue.Shows network plan argument
+pub accepted_first : (network : Network) (limit : ℕ) (plan : Plan) (argument : Argument) → argue.ArgumentCertifies network plan argument
     → First ≡ argument_verdict argument.goal → IsFirstPlan network plan
     → length argument.steps ≤ limit → ArgumentIsReadAgain argument → IsArgued network limit plan argument
 accepted_first network limit plan argument shows is first within again =
     let found = first_found network plan first in
     (found.0, record { certifies = shows; whole = sym is ∙ found.1; counted = refl; within = within; read_again = again })
 
-pub accepted_none : (network : Network) (limit : ℕ) (plan : Plan) (argument : Argument) → argue.Shows network plan argument
+pub accepted_none : (network : Network) (limit : ℕ) (plan : Plan) (argument : Argument) → argue.ArgumentCertifies network plan argument
     → NoSchedule ≡ argument_verdict argument.goal → HasNoSchedule network
     → length argument.steps ≤ limit → ArgumentIsReadAgain argument → IsArgued network limit plan argument
 accepted_none network limit plan argument shows is none within again =

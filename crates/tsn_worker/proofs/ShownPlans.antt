@@ -27,13 +27,13 @@ none_shown network aim.Least plan is found fits none = cc
 none_shown network aim.None (plan.Schedule span offsets) is found fits none = cc
 none_shown network aim.None plan.None is found fits none = none
 
-pub shown_optimal : (network : Network) (limit : ℕ) (plan : Plan) (argument : Argument) → argue.Shows network plan argument
+pub shown_optimal : (network : Network) (limit : ℕ) (plan : Plan) (argument : Argument) → argue.ArgumentCertifies network plan argument
     → Optimal ≡ argument_verdict argument.goal → IsOptimalPlan network plan
     → length argument.steps ≤ limit → ArgumentIsReadAgain argument → IsShownBy network limit plan argument
 shown_optimal network limit plan argument shows is optimal within again =
     record { shown = optimal_shown network plan optimal; shows = shows; least = λ first. cc; within = within; read_again = again }
 
-pub shown_none : (network : Network) (limit : ℕ) (plan : Plan) (argument : Argument) → argue.Shows network plan argument
+pub shown_none : (network : Network) (limit : ℕ) (plan : Plan) (argument : Argument) → argue.ArgumentCertifies network plan argument
     → NoSchedule ≡ argument_verdict argument.goal → HasNoSchedule network
     → length argument.steps ≤ limit → ArgumentIsReadAgain argument → IsShownBy network limit plan argument
 shown_none network limit plan argument shows is none within again =

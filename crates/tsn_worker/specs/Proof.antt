@@ -27,7 +27,7 @@ IsShown network plan.None = HasNoSchedule network
 -- the argument, whose goal isn't that the plan is the first one, shows what the plan says, by at most so many steps, and is read again from its file
 pub record IsShownBy (network : Network) (limit : ℕ) (plan : Plan) (argument : Argument) : Type 0 where
   pub shown : IsShown network plan
-  pub shows : argue.Shows network plan argument
+  pub shows : argue.ArgumentCertifies network plan argument
   pub least : argument_verdict argument.goal ≢ verdict.First
   pub within : length argument.steps ≤ limit
   pub read_again : ArgumentIsReadAgain argument
