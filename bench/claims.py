@@ -138,16 +138,34 @@ def wrong_links(path, mend):
     return wrong
 
 
+def code_lines(path):
+    """The lines of a file without their indentation, but for empty ones and comments."""
+    return [line.strip() for line in read(path).splitlines() if line.strip() and not line.strip().startswith(("//", "--"))]
+
+
+def is_within(piece, lines):
+    """Whether these lines stand in the file one after another."""
+    return any(lines[at : at + len(piece)] == piece for at in range(len(lines)))
+
+
 def wrong_quotes(path):
-    """Lines of code blocks of the page on proofs that aren't in the file of the link before."""
-    wrong, file, quoting = [], "", False
+    """Pieces of code blocks of the page on proofs that don't stand so in the file of the link before; a line `..` says that something
+    is left out."""
+    wrong, file, quoted = [], "", None
     for line in read(path).splitlines():
         links = re.findall(r"\]\((\.\./crates/[^)#]+)", line)
-        file = links[-1] if links and not quoting else file
+        file = links[-1] if links and quoted is None else file
         if line.startswith("```"):
-            quoting = not quoting
-        elif quoting and line.strip() and line.strip() not in {it.strip() for it in read(os.path.join(os.path.dirname(path), file)).splitlines()}:
-            wrong.append(f"not in {file}: {line.strip()}")
+            if quoted is None:
+                quoted = [[]]
+                continue
+            lines = code_lines(os.path.join(os.path.dirname(path), file))
+            wrong += [f"not in {file}: {piece[0]} .." for piece in quoted if piece and not is_within(piece, lines)]
+            quoted = None
+        elif quoted is not None and line.strip() == "..":
+            quoted.append([])
+        elif quoted is not None and line.strip():
+            quoted[-1].append(line.strip())
     return wrong
 
 
