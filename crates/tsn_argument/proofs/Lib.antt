@@ -1,5 +1,3 @@
 pub mod Parts
-pub mod Spelled
 pub mod Shape
-pub mod TextParts
 pub mod Plain

@@ -1,17 +1,13 @@
 -- Lists, facts, moves and steps that are printed are read again.
-use Rattle.std.proofs.Common.{◌≡◌, ◌≤◌, ◌<◌, ◌+◌, ℕ, List, [], ◌∷◌, ◌++◌, length, take, get_or, map, Bool, true, Option, Some, refl, sym, ap, ap₂, ◌∙◌, arith, Vec}
+use Rattle.std.proofs.Common.{◌≡◌, ◌≤◌, ◌<◌, ◌+◌, ℕ, List, [], ◌∷◌, ◌++◌, length, take, get_or, map, Bool, true, Option, Some, refl, sym, ap, ap₂, ◌∙◌, arith}
 use Rattle.std.proofs.lemmas.Bool.Decides.{nat_tests}
 use Rattle.std.specs.Prelude.{option_and_then, option_map, nat_le, ◌&&◌}
 use Rattle.std.specs.List.{list_all}
-use Rattle.std.proofs.lemmas.List.{take_more, map-append}
+use Rattle.std.proofs.lemmas.List.{take_more}
 use Rattle.std.proofs.lemmas.List.Folds.{list_all_more}
-use Rattle.std.specs.declared.alloc.Global.{Global}
 use Rattle.serde_json.specs.Data.{Data, string}
-use Rattle.serde_json.specs.View.{view}
-use Rattle.serde_json.specs.declared.value.Value.{Value, Array}
 use Rattle.tsn_cert.specs.Json.{when, each, elements, array_value}
-use Rattle.tsn_cert.proofs.JsonLemmas.{listed-items_of_list, view-printed, taken_all, numbers-array_value, each-printed}
-use Rattle.tsn_cert.proofs.CertLemmas.{each_push}
+use Rattle.tsn_cert.proofs.JsonLemmas.{listed-items_of_list, taken_all, numbers-array_value, each-printed, each_push}
 use Rattle.tsn_argument.specs.Argument.{streams_of, streams_value, order_in, order_value, order_list, orders_of, orders_value, fact_in, fact_value, clause_in, clause_value, placing_parts, placing_items, move_in, move_value, moves_in, moves_value, step_in, step_value, steps_in, steps_value, goal_of, goal_word, argument_of, argument_value}
 use Rattle.tsn_argument.specs.declared.order.Order.{Order}
 use Rattle.tsn_argument.specs.declared.fact.Fact.{Fact}
@@ -23,26 +19,7 @@ use Rattle.tsn_argument.specs.declared.argument.Argument.{Argument}
 use Rattle.tsn_argument.specs.declared.argument.Goal.{Goal}
 use Rattle.tsn_argument.specs.declared.argument.Goal.TheVariants as aim
 
--- ---- a loop that prints each element
-
--- the element at i was printed
-pub shown_at : {X V : Type 0} (seen : V → Data) (g : X → Data) (old new : List V) (v : V) (xs : List X) (i : ℕ) (x : X)
-    → i < length xs → new ≡ old ++ v ∷ [] → seen v ≡ g (get_or xs i x) → map seen old ≡ map g (take i xs)
-    → map seen new ≡ map g (take (i + 1) xs)
-shown_at seen g old new v xs i x within pushed e h =
-    ap (map seen) pushed ∙ map-append seen old (v ∷ []) ∙ ap₂ (λ a b. a ++ b ∷ []) h e
-    ∙ sym (map-append g (take i xs) (get_or xs i x ∷ [])) ∙ ap (map g) (sym (take_more xs i x within))
-
--- the same of an element that owns memory
-pub shown_more : {X V : Type 0} (seen : V → Data) (g : X → Data) (old new : List V) (v : V) (xs : List X) (i : ℕ) (x : X)
-    → i < length xs → x ≡ get_or xs i x → new ≡ old ++ v ∷ [] → seen v ≡ g x → map seen old ≡ map g (take i xs)
-    → map seen new ≡ map g (take (i + 1) xs)
-shown_more seen g old new v xs i x within is pushed e h = shown_at seen g old new v xs i x within pushed (e ∙ ap g is) h
-
--- the array of all elements that were printed
-pub shown_all : {X : Type 0} (g : X → Data) (v : Vec Value Global) (xs : List X) (i : ℕ)
-    → length xs ≤ i → map view v.items ≡ map g (take i xs) → view (Array v) ≡ array_value (map g xs)
-shown_all g v xs i done e = view-printed v (map g xs) (e ∙ ap (map g) (taken_all xs i done))
+-- ---- a loop over each element
 
 taken_more : {X : Type 0} (xs : List X) (i : ℕ) (x : X) → i < length xs → x ≡ get_or xs i x → take (i + 1) xs ≡ take i xs ++ x ∷ []
 taken_more xs i x within is = take_more xs i x within ∙ ap (λ y. take i xs ++ y ∷ []) (sym is)

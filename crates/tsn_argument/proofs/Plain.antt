@@ -7,13 +7,12 @@ use Rattle.serde_json.specs.Data.{string}
 use Rattle.tsn_cert.specs.Json.{items_of_list, all_within}
 use Rattle.tsn_cert.specs.Fault.{shaped, answer}
 use Rattle.tsn_cert.specs.Plan.{max_time}
-use Rattle.tsn_cert.specs.Cert.{max_number, cert_value}
-use Rattle.tsn_cert.proofs.CertLemmas.{cert_back, depth-cert_value}
+use Rattle.tsn_cert.specs.Cert.{max_number}
 use Rattle.tsn_cert.proofs.Written.{IsPlain, ArePlain, file_read}
-use Rattle.tsn_cert.proofs.Plain.{all_plain, number_plain, time_plain, numbers_plain, cert_plain, nodes_read_again}
-use Rattle.tsn_argument.specs.Argument.{order_fits, fact_fits, placing_fits, move_fits, step_fits, argument_fits, order_items, order_value, fact_value, placing_items, move_value, step_value, goal_word, argument_of, argument_value}
+use Rattle.tsn_cert.proofs.Plain.{all_plain, number_plain, time_plain, numbers_plain}
+use Rattle.tsn_argument.specs.Argument.{order_fits, fact_fits, placing_fits, move_fits, step_fits, argument_fits, order_items, order_value, fact_value, placing_items, move_value, step_value, goal_word, argument_value}
 use Rattle.tsn_argument.specs.Certificate.{tree_or, certificate_of, certificate_fits}
-use Rattle.tsn_argument.specs.Laws.{CertificateTextIsRead}
+use Rattle.tsn_argument.specs.Laws.{IsArgumentInGrammar, ArgumentIsReadAgain}
 use Rattle.tsn_argument.specs.declared.order.Order.{Order}
 use Rattle.tsn_argument.specs.declared.fact.Fact.{Fact}
 use Rattle.tsn_argument.specs.declared.fact.Fact.TheVariants as fact
@@ -24,7 +23,6 @@ use Rattle.tsn_argument.specs.declared.step.Step.{Step}
 use Rattle.tsn_argument.specs.declared.argument.Argument.{Argument}
 use Rattle.tsn_argument.specs.declared.argument.Goal.{Goal}
 use Rattle.tsn_argument.specs.declared.argument.Goal.TheVariants as aim
-use Rattle.tsn_argument.specs.declared.certificate.Certificate.TheVariants as kind
 use Rattle.tsn_argument.proofs.Shape.{argument_depth}
 
 order_plain : (o : Order) → order_fits o ≡ true → ArePlain (items_of_list (order_items o))
@@ -79,10 +77,8 @@ argument_plain a h =
     let steps = all_plain step_fits step_value step_plain a.steps parts.1 in
     ((refl, lit< tt, (refl, goal_plain a.goal, (refl, steps, (refl, time_plain a.target parts.0, tt)))), refl)
 
-pub certificate_text_read : CertificateTextIsRead
-certificate_text_read (kind.Tree cert) form of fits =
-    ap (answer certificate_of certificate_fits) (file_read (cert_value cert) (cert_plain cert fits) (depth-cert_value cert))
-    ∙ ap (λ o. shaped certificate_fits (tree_or o (argument_of (cert_value cert)))) (cert_back cert (nodes_read_again cert.nodes form) of) ∙ rw fits refl
-certificate_text_read (kind.Argument argument) form of fits =
-    ap (answer certificate_of certificate_fits) (file_read (argument_value argument) (argument_plain argument fits) (argument_depth argument))
+-- the file of an argument within the limits says that argument, where the grammar has it
+pub argument_read_again : (a : Argument) → IsArgumentInGrammar a → argument_fits a ≡ true → ArgumentIsReadAgain a
+argument_read_again a form fits =
+    ap (answer certificate_of certificate_fits) (file_read (argument_value a) (argument_plain a fits) (argument_depth a))
     ∙ ap (λ o. shaped certificate_fits (tree_or None o)) form ∙ rw fits refl

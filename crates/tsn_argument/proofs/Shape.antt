@@ -1,12 +1,10 @@
--- The value of an argument has no float and is shallow, so that what is printed is read again.
-use Rattle.std.proofs.Common.{◌≡◌, ◌≤◌, ℕ, List, true, false, Some, Ok, refl, ap, ◌∙◌, arith, lit≤}
+-- The value of an argument is shallow, so that what is printed is read again.
+use Rattle.std.proofs.Common.{◌≤◌, ℕ, List, arith, lit≤}
 use Rattle.serde_json.specs.Data.{depth}
 use Rattle.serde_json.specs.Read.{max_depth}
-use Rattle.serde_json.specs.Written.{has_float}
-use Rattle.tsn_cert.specs.Json.{number_value, value_of}
-use Rattle.tsn_cert.specs.Fault.{shaped, answer}
-use Rattle.tsn_cert.proofs.JsonLemmas.{no_float-items, items_depth-le}
-use Rattle.tsn_argument.specs.Argument.{order_value, orders_value, streams_value, fact_value, clause_value, move_value, moves_value, step_value, argument_of, argument_fits, argument_in, argument_value}
+use Rattle.tsn_cert.specs.Json.{number_value}
+use Rattle.tsn_cert.proofs.JsonLemmas.{items_depth-le}
+use Rattle.tsn_argument.specs.Argument.{order_value, orders_value, streams_value, fact_value, clause_value, move_value, moves_value, step_value, argument_value}
 use Rattle.tsn_argument.specs.declared.order.Order.{Order}
 use Rattle.tsn_argument.specs.declared.fact.Fact.{Fact}
 use Rattle.tsn_argument.specs.declared.fact.Fact.TheVariants as fact
@@ -14,45 +12,6 @@ use Rattle.tsn_argument.specs.declared.motion.Move.{Move}
 use Rattle.tsn_argument.specs.declared.motion.Move.TheVariants as form
 use Rattle.tsn_argument.specs.declared.step.Step.{Step}
 use Rattle.tsn_argument.specs.declared.argument.Argument.{Argument}
-
--- ---- no float
-
-streams_no_float : (streams : List ℕ) → has_float (streams_value streams) ≡ false
-streams_no_float streams = no_float-items number_value (λ n. refl) streams
-
-orders_no_float : (orders : List Order) → has_float (orders_value orders) ≡ false
-orders_no_float orders = no_float-items order_value (λ order. refl) orders
-
-fact_no_float : (f : Fact) → has_float (fact_value f) ≡ false
-fact_no_float (fact.From stream time) = refl
-fact_no_float (fact.Until stream time) = refl
-fact_no_float (fact.Order order) = refl
-fact_no_float (fact.DoneFrom time) = refl
-fact_no_float (fact.DoneUntil time) = refl
-
-clause_no_float : (clause : List Fact) → has_float (clause_value clause) ≡ false
-clause_no_float clause = no_float-items fact_value fact_no_float clause
-
-move_no_float : (m : Move) → has_float (move_value m) ≡ false
-move_no_float (form.Go order) = refl
-move_no_float (form.Turn order) = refl
-move_no_float (form.Use number) = refl
-move_no_float (form.Arrive stream) = refl
-move_no_float (form.Last p) = rw (streams_no_float p.others, streams_no_float p.some) refl
-move_no_float (form.First p) = rw (streams_no_float p.others, streams_no_float p.some) refl
-move_no_float (form.Pack link streams) = rw (streams_no_float streams) refl
-move_no_float (form.Round orders) = rw (orders_no_float orders) refl
-
-moves_no_float : (moves : List Move) → has_float (moves_value moves) ≡ false
-moves_no_float moves = no_float-items move_value move_no_float moves
-
-pub step_no_float : (s : Step) → has_float (step_value s) ≡ false
-step_no_float s = rw (clause_no_float s.clause, moves_no_float s.moves) refl
-
-pub argument_no_float : (a : Argument) → has_float (argument_value a) ≡ false
-argument_no_float a = rw (no_float-items step_value step_no_float a.steps) refl
-
--- ---- shallow
 
 streams_depth : (streams : List ℕ) → depth (streams_value streams) ≤ 1
 streams_depth streams = omega (arith, items_depth-le 0 number_value (λ n. omega arith) streams)
@@ -91,9 +50,3 @@ step_depth s = omega (arith, clause_depth s.clause, moves_depth s.moves)
 
 pub argument_depth : (a : Argument) → depth (argument_value a) ≤ max_depth
 argument_depth a = omega (arith, items_depth-le 5 step_value step_depth a.steps)
-
--- ---- read again
-
-pub argument_in-printed : (s : List ℕ) (a : Argument) → value_of s ≡ Some (argument_value a) → argument_of (argument_value a) ≡ Some a
-    → argument_fits a ≡ true → argument_in s ≡ Ok a
-argument_in-printed s a e back fits = ap (answer argument_of argument_fits) e ∙ ap (shaped argument_fits) back ∙ rw fits refl

@@ -8,7 +8,8 @@ use crate::check::file_refusal;
 use crate::run::MAX_FILE;
 use crate::valid::refusal;
 use std::alloc::Global;
-use tsn_cert::{Plan, plan_from_json};
+use tsn_cert::Plan;
+use tsn_cert_json::plan_from_json;
 use tsn_device::device::{ReadFault, Source, read_all};
 use tsn_net::{Problem, read_problem};
 

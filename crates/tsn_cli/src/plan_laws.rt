@@ -3,8 +3,8 @@
 ghost use Rattle.tsn_cli.specs.PlanLaws.{PlannedIsAccepted};
 
 use tsn_argue::laws::first_faults_refute;
-use tsn_argument::certificate_text_is_read;
-use tsn_cert::plan_text_is_read;
+use tsn_argument_json::certificate_text_is_read;
+use tsn_cert_json::plan_text_is_read;
 use tsn_check::laws::{certified_trees_fit, right_plans_fit};
 
 /// What `plan` writes of a plan that it found, or that there is none, is accepted by `check`, where it answers to these files.

@@ -4,7 +4,7 @@ use crate::json::{elements_at, number_at, push_wrong_keys};
 use serde_json::Value;
 use std::alloc::{AllocError, Global};
 use std::fmt::Write;
-use tsn_argument::argument_from_json;
+use tsn_argument_json::argument_from_json;
 use tsn_cert::FileFault;
 use tsn_cert::plan::MAX_TIME;
 use tsn_model::NoMemory;

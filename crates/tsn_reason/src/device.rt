@@ -3,7 +3,7 @@ ghost use Rattle.tsn_model.specs.Schedule.{IsValid};
 
 use crate::File;
 use std::alloc::Global;
-use tsn_cert::plan_from_json;
+use tsn_cert_json::plan_from_json;
 use tsn_check::check_plan;
 use tsn_gate::{DeviceLimits, GateList, closed_lines, device_lines, lists_by};
 use tsn_model::NoMemory;

@@ -6,8 +6,8 @@ use std::process::Abort;
 use std::test::Fail;
 use tsn_cert::{
     Cert, Chain, Chains, Entries, Format, Leaf, LowerBound, Node, Nodes, Offsets, Plan,
-    cert_from_json, cert_to_json, plan_from_json, plan_to_json,
 };
+use tsn_cert_json::{cert_from_json, cert_to_json, plan_from_json, plan_to_json};
 use tsn_model::Triple;
 
 const TWO_STREAMS: &str =

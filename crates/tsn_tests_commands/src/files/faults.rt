@@ -3,7 +3,8 @@
 use std::alloc::Global;
 use std::process::Abort;
 use std::test::Fail;
-use tsn_cert::{FileFault, plan_from_json};
+use tsn_cert::FileFault;
+use tsn_cert_json::plan_from_json;
 use tsn_check::{CheckFault, check_plan};
 use tsn_net::read_problem;
 use tsn_networks::TWO_STREAMS;

@@ -1,7 +1,8 @@
 //! How these searches end.
 use std::process::Abort;
 use tsn_book::Book;
-use tsn_cert::{Cert, cert_to_json};
+use tsn_cert::Cert;
+use tsn_cert_json::cert_to_json;
 
 fn certificate<R: Abort + AllocGlobal>(rt: &R, book: Book) -> Cert {
     match book.first_open(rt.alloc()).expect(rt, "memory") {

@@ -1,0 +1,5 @@
+pub mod Printed
+pub mod Spelled
+pub mod Shape
+pub mod TextParts
+pub mod Plain

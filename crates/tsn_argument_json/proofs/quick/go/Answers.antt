@@ -1,0 +1,7 @@
+use Rattle.std.proofs.Common.{suc}
+use Rattle.tsn_argument.specs.Argument.{order_items}
+use Rattle.tsn_argument_json.proofs.Spelled.{behind_spelled}
+use Rattle.tsn_argument_json.proofs.quick.go.Goals as goal
+
+pub returns-clause-text : goal.returns-clause-text
+returns-clause-text c = behind_spelled _ _ (order_items c.in_ok-found.found) _ (λ depth. c.in_ok-found.ensures (suc (suc depth)))

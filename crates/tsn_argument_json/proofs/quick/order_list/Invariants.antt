@@ -1,0 +1,10 @@
+use Rattle.std.proofs.Common.{ℕ, suc, length, map}
+use Rattle.tsn_cert.specs.Spelled.{SpellsEach}
+use Rattle.tsn_argument.specs.Argument.{order_value}
+use Rattle.tsn_argument_json.proofs.quick.order_list.Given as goal
+
+abbrev pub invariant-orders : goal.invariant-orders
+invariant-orders l = (depth : ℕ) → SpellsEach (suc depth) l.initial.reader (map order_value l.found.items) l.reader
+
+abbrev pub decreases-orders : goal.decreases-orders
+decreases-orders l = length l.reader

@@ -1,6 +1,0 @@
-use Rattle.tsn_cert.specs.Entry.{tree_entry}
-use Rattle.tsn_cert.proofs.CertLemmas.{back, entry_back}
-use Rattle.tsn_cert.proofs.cert.entry_value.Goals as goal
-
-pub returns-clause-reads_back : goal.returns-clause-reads_back
-returns-clause-reads_back c = back c.pair_value.result (entry_back (tree_entry c.args.entry.now) c.chain_value.ensures.short)
