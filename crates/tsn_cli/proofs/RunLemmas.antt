@@ -1,7 +1,7 @@
 -- How the answers of a run's stages make its answer.
-use Rattle.std.proofs.Common.{◌≡◌, ◌≢◌, ◌⊎◌, ◌+◌, inl, inr, ℕ, List, [], ◌∷◌, ◌++◌, codes, Option, Some, None, Result, Ok, Err, refl, sym, ap, subst, arith}
+use Rattle.std.proofs.Common.{◌≡◌, ◌≢◌, ◌⊎◌, ◌+◌, inl, inr, ℕ, List, [], ◌∷◌, ◌++◌, codes, take, Option, Some, None, Result, Ok, Err, refl, sym, ap, subst, arith}
 use Rattle.std.proofs.lemmas.List.Sums.{sum_by-cons}
-use Rattle.std.specs.Io.KnownBytes.{Keeps}
+use Rattle.std.specs.Io.KnownBytes.{Appends, Keeps}
 use Rattle.tsn_device.specs.declared.device.ReadFault.{ReadFault}
 use Rattle.tsn_device.specs.declared.device.ReadFault.TheVariants.{Broken, TooLong, Memory}
 use Rattle.tsn_device.specs.declared.run.TheConstants.{DEVICE}
@@ -28,6 +28,13 @@ module _ {A : Type 0} (output : Result A ReadFault → Output) (command : Comman
   ComesTo-next (Err Memory) bytes gives (inl rest) = inl (inr (inr (bytes, gives, rest)))
   ComesTo-next (Err Memory) bytes gives (inr line) = inr line
   ComesTo-next (Err Broken) bytes gives rest = inr (bytes, gives, rest)
+
+-- the bytes that were written are those of the text
+pub text_whole : (before after : Option (List ℕ)) (bytes text : List ℕ) → bytes ≡ text → Appends before after bytes → Appends before after text
+text_whole before after bytes text same taken = subst (λ t. Appends before after t) same taken
+
+pub text_beginning : (before after : Option (List ℕ)) (bytes text : List ℕ) → bytes ≡ text → (n : ℕ) × Appends before after (take n bytes) → (n : ℕ) × Appends before after (take n text)
+text_beginning before after bytes text same taken = (taken.0, subst (λ t. Appends before after (take taken.0 t)) same taken.1)
 
 pub never_both : {A : Type 0} {value : A} {fault : ReadFault} → Ok value ≡ Err fault → ⊥
 never_both is = cc
@@ -152,8 +159,3 @@ runs_with output command sources sinks outcome status over written =
     (λ unbroken shown is. subst (λ (s : Output). IsOutput command (readings_of sources) s) (sym is)
     (IsOutput-comes output command (readings_of sources) outcome over.comes unbroken))
     (λ broken. subst (λ (o : Result _ ReadFault). ComesTo output command [] (readings_of sources) o) broken over.comes)
-
--- the status that is told is that of the run
-pub runs_along : (command : Command) (sources : List SourceRun) (sinks : List SinkRun) (status told : ℕ) → told ≡ status → RunsOver command sources sinks status
-    → RunsOver command sources sinks told
-runs_along command sources sinks status told same runs = subst (λ s. RunsOver command sources sinks s) (sym same) runs

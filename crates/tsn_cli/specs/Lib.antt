@@ -5,13 +5,3 @@ pub mod Tables
 pub mod Explain
 pub mod Outcome
 pub mod Inputs
-pub mod Pieces
-pub mod Stop
-pub mod Finding
-pub mod PlanOutput
-pub mod Plan
-pub mod Laws
-pub mod ProofOutput
-pub mod Prove
-pub mod ProveLaws
-pub mod PlanLaws

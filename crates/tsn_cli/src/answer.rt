@@ -1,36 +1,10 @@
 //! What a command answers, before any of it is written.
-ghost use Rattle.std.specs.Prelude.{◌<◌, ◌≡◌, is_some, nat_eq};
-
-use crate::stop::Stop;
-use tsn_argument::Argument;
-use tsn_book::Spelling;
+ghost use Rattle.std.specs.Prelude.{◌<◌};
 
 /// A status, and the text that goes with it.
 #[derive(Drop)]
-pub(crate) struct Answer {
-    pub(crate) status: u8,
-    pub(crate) text: String,
-    ghost not_device: { status < 8 },
-}
-
-/// A certificate that is to be written.
-#[derive(Drop)]
-pub(crate) enum Written {
-    /// A tree, of format 2, whose nodes are given one at a time.
-    Spelled(Spelling),
-    /// An argument, of format 3.
-    Argued(Argument),
-}
-
-/// What a run of `plan` prints: a status, and what goes with it: the text of a plan, its certificate, where one is written, and
-/// a line; and what is known where the search was stopped.
-#[derive(Drop)]
-pub(crate) struct PlanOutput {
-    pub(crate) status: u8,
-    pub(crate) plan: String,
-    pub(crate) cert: Option<Written>,
-    pub(crate) line: String,
-    pub(crate) stop: Option<Stop>,
-    ghost not_device: { status < 8 },
-    ghost stopped: { is_some stop ≡ nat_eq status 5 },
+pub struct Answer {
+    pub status: u8,
+    pub text: String,
+    pub ghost not_device: { status < 8 },
 }

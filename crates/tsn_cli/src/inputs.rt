@@ -29,7 +29,7 @@ enum PlanRead {
 
 /// A network and a plan, or the line on the first file that is refused.
 #[derive(Drop)]
-pub(crate) enum InputsRead {
+pub enum InputsRead {
     Taken(Problem, Plan),
     Refused(Answer),
 }
@@ -62,7 +62,7 @@ fn read_plan<P: Source>(alloc: Global, plan: &mut P) -> Result<PlanRead, ReadFau
 }
 
 /// Reads a network, and a plan once that is taken.
-pub(crate) fn read_inputs<N: Source, P: Source>(
+pub fn read_inputs<N: Source, P: Source>(
     alloc: Global,
     network: &mut N,
     plan: &mut P,

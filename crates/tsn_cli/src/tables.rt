@@ -382,7 +382,7 @@ fn shares_text(
 }
 
 /// What is said of a plan with this fault.
-pub(crate) fn rejection(alloc: Global, fault: CheckFault) -> Result<Answer, NoMemory>
+pub fn rejection(alloc: Global, fault: CheckFault) -> Result<Answer, NoMemory>
     ensures line { IfOk result (λ a. IsLine REJECTED (rejected_plan fault) (output_of (Ok a))) }
     ensures memory { fault ≡ CheckFault.Memory → IsErr result }
 {

@@ -67,7 +67,7 @@ fn answer_on(alloc: Global, timing: Timing, offsets: &[u64]) -> Result<Answer, N
 }
 
 /// What is said of a network file with this fault.
-pub(crate) fn refusal(alloc: Global, fault: NetFault) -> Result<Answer, NoMemory>
+pub fn refusal(alloc: Global, fault: NetFault) -> Result<Answer, NoMemory>
     ensures line { IfOk result (λ a. IsLine REFUSED (codes "refused " ++ fault_text fault ++ codes "\n")
         (output_of (Ok a))) }
     ensures memory { fault.code ≡ Code.Memory → IsErr result }

@@ -14,8 +14,8 @@ use Rattle.tsn_cli.specs.Run.{Writing}
 use Rattle.tsn_cli.specs.Valid.{ValidAnswers}
 use Rattle.tsn_cli.specs.Check.{CheckAnswers}
 use Rattle.tsn_cli.specs.Explain.{ExplainAnswers, MarkedChartAnswers}
-use Rattle.tsn_cli.specs.Plan.{PlanAnswers}
-use Rattle.tsn_cli.specs.Prove.{ProveAnswers}
+use Rattle.tsn_planner.specs.Plan.{PlanAnswers}
+use Rattle.tsn_planner.specs.Prove.{ProveAnswers}
 use Rattle.tsn_cli.specs.Tables.{ChartAnswers, GatesAnswers, ReplayAnswers, StreamsAnswers}
 use Rattle.tsn_wiring.specs.Options.{effort_of, gates_options, replay_options, IsViewOf}
 use Rattle.tsn_wiring.specs.Runs.{MadeFiles, MadeProofFiles, OverCert, OverNetwork, OverPlan, Runs, RunsTold, Says, UnmadeTold, WithSome}

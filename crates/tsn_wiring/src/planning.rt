@@ -1,10 +1,10 @@
 //! The commands that search: a plan, and a proof of one.
 ghost use Rattle.std.specs.Prelude.{◌≡◌, ◌+◌, ◌-◌, ◌^◌, ◌<◌, ◌↔◌, ◌⊎◌, ◌++◌, [], ◌∷◌, IfOk, IfSome, OnErr, IsTrue, is_some, option_map, string_bytes, ⊤};
 ghost use Rattle.tsn_cli.specs.Run.{Ends, failed_in, reading_of, taken_in, writing_of};
-ghost use Rattle.tsn_cli.specs.Plan.{PlanAnswers, PlanStops};
-ghost use Rattle.tsn_cli.specs.Finding.{stop_among};
-ghost use Rattle.tsn_cli.specs.Prove.{ProveAnswers, ProveFinds};
-ghost use Rattle.tsn_cli.specs.Stop.{stop_text};
+ghost use Rattle.tsn_planner.specs.Plan.{PlanAnswers, PlanStops};
+ghost use Rattle.tsn_planner.specs.Finding.{stop_among};
+ghost use Rattle.tsn_planner.specs.Prove.{ProveAnswers, ProveFinds};
+ghost use Rattle.tsn_planner.specs.Stop.{stop_text};
 ghost use Rattle.tsn_wiring.specs.Options.{effort_of};
 ghost use Rattle.tsn_wiring.specs.Asked.{IsUnmade, RunsPlan, RunsProve};
 ghost use Rattle.tsn_wiring.specs.Runs.{IsUnmadeStatus, OverFiles, OverNetwork, OverPlan, OverProofFiles, Runs, RunsTold, RunsUnmade, WithSome};
@@ -22,8 +22,8 @@ use std::thread::Threads;
 use std::time::Clock;
 use tsn_cli::device::Sink;
 use tsn_cli::run::{DEVICE, DONE};
-use tsn_cli::{PlanEnd, ProofEnd, STOPPED, Stop, plan_run, prove_run};
 use tsn_device::Failure;
+use tsn_planner::{PlanEnd, ProofEnd, STOPPED, Stop, plan_run, prove_run};
 use tsn_progress::Progress;
 use tsn_words::{PlanWords, ProveWords};
 use tsn_worker::{NoSupervisor, Supervisor};

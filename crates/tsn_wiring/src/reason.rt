@@ -4,8 +4,9 @@ use crate::devices::Opened;
 use std::alloc::{AllocError, Global};
 use std::fmt::Write;
 use tsn_cli::run::{DEVICE, DONE, MAX_FILE, REFUSED, REJECTED};
-use tsn_cli::{Finding, GatesFormat, GatesOptions, Spans};
+use tsn_cli::{GatesFormat, GatesOptions};
 use tsn_device::{Action, Failure};
+use tsn_planner::{Finding, Spans};
 use tsn_reason::{
     File, cert_reason, device_reason, line_of, network_reason, offsets_reason, plan_reason,
     unused_reason,

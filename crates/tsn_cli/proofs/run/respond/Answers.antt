@@ -3,8 +3,7 @@ use Rattle.std.proofs.lemmas.List.Elements.{All-nil}
 use Rattle.tsn_device.specs.declared.device.ReadFault.TheVariants.{TooLong, Memory}
 use Rattle.tsn_cli.specs.Run.{IsUnwritten}
 use Rattle.tsn_cli.specs.Outcome.{output_of}
-use Rattle.tsn_cli.proofs.RunLemmas.{told_fault}
-use Rattle.tsn_cli.proofs.PrintLemmas.{text_beginning, text_whole}
+use Rattle.tsn_cli.proofs.RunLemmas.{text_beginning, text_whole, told_fault}
 use Rattle.tsn_cli.proofs.run.respond.Goals as goal
 
 pub returns-in-Err-TooLong : goal.returns-in-Err-TooLong

@@ -2,7 +2,7 @@ use Rattle.std.proofs.Common.{rules, ◌≡◌, ◌+◌, arith}
 use Rattle.std.specs.Option.{is_some}
 use Rattle.tsn_worker.specs.declared.planning.Effort.{Effort}
 use Rattle.tsn_cli.specs.Run.{failed_in}
-use Rattle.tsn_cli.specs.Plan.{PlanAnswers, PlanStops}
+use Rattle.tsn_planner.specs.Plan.{PlanAnswers, PlanStops}
 use Rattle.tsn_wiring.specs.Options.{effort_of}
 use Rattle.tsn_wiring.proofs.RunsLemmas.{Ends-along, Runs-along, some_along}
 use Rattle.tsn_wiring.proofs.planning.plan_over.Goals as goal

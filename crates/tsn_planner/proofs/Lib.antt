@@ -1,0 +1,8 @@
+pub mod PieceLemmas
+mod TreeLemmas
+pub mod PlanLemmas
+pub mod PrintLemmas
+mod Agreeing
+mod ProveLemmas
+pub mod ProvedLemmas
+mod PlannedLemmas

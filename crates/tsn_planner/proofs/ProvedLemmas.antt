@@ -1,0 +1,100 @@
+-- What was proved is accepted by `check`.
+use Rattle.std.proofs.Common.{◌≡◌, inl, inr, ℕ, List, [], ◌∷◌, Some, Result, Ok, Err, refl, sym, ap, ◌∙◌, subst, arith}
+use Rattle.std.specs.Prelude.{slice_get}
+use Rattle.std.proofs.lemmas.Option.{same_Some}
+use Rattle.tsn_model.specs.Argument as model
+use Rattle.tsn_net.specs.File.{States}
+use Rattle.tsn_net.specs.Problem.{NamedNetwork}
+use Rattle.tsn_net.proofs.Stating.{stated_once}
+use Rattle.tsn_cert.specs.declared.plan.Plan.{Plan}
+use Rattle.tsn_cert.specs.declared.plan.Plan.TheVariants as plan
+use Rattle.tsn_cert.specs.Plan.{plan_in}
+use Rattle.tsn_check.specs.declared.verdict.Verdict.TheVariants.{First}
+use Rattle.tsn_argument.specs.declared.argument.Goal.{Goal}
+use Rattle.tsn_argument.specs.declared.argument.Goal.TheVariants as aim
+use Rattle.tsn_argument.specs.Argument.{argument_text}
+use Rattle.tsn_argument.specs.declared.certificate.Certificate.{Certificate}
+use Rattle.tsn_argument.specs.declared.certificate.Certificate.TheVariants as certificate
+use Rattle.tsn_argument.specs.Certificate.{certificate_in}
+use Rattle.tsn_argue.specs.Certified.{Certifies, argument_verdict, certificate_verdict, goal_for}
+use Rattle.tsn_argue.specs.Laws.{FirstFaultsRefute}
+use Rattle.tsn_worker.specs.declared.proof.Proof.{Proof}
+use Rattle.tsn_worker.specs.declared.proof.Proof.TheVariants.{Proved, Undercut, Stopped}
+use Rattle.tsn_worker.specs.Proof.{IsProof}
+use Rattle.tsn_cli.specs.Run.{Output, IsLine}
+use Rattle.tsn_cli.specs.Check.{CheckAnswers, JudgesCert, accepted_line}
+use Rattle.tsn_planner.specs.Prove.{output_of}
+use Rattle.tsn_planner.specs.ProveLaws.{ProvedIsAccepted, proved_verdict}
+
+same_ok : {A E : Type 0} (r : Result A E) (x y : A) → r ≡ Ok x → r ≡ Ok y → x ≡ y
+same_ok r x y p q = let both : Ok x ≡ Ok y = sym p ∙ q in cc
+
+not_both : {A E : Type 0} (r : Result A E) (x : A) (e : E) → r ≡ Ok x → r ≡ Err e → ⊥
+not_both r x e p q = let both : Ok x ≡ Err e = sym p ∙ q in cc
+
+-- a certificate that shows what the plan says is accepted
+judged : FirstFaultsRefute → (problem : NamedNetwork) (stated : Plan) (whole : Certificate) (cert_file : List ℕ) (output : Output)
+    → Certifies problem.network stated whole → certificate_in cert_file ≡ Ok whole → JudgesCert problem.network stated cert_file output
+    → IsLine 0 (accepted_line (certificate_verdict whole stated) stated) output
+judged refutes problem stated whole cert_file output certifies is (inl refused) =
+    absurd (not_both (certificate_in cert_file) whole refused.0 is refused.1)
+judged refutes problem stated whole cert_file output certifies is (inr read) =
+    let same : read.0 ≡ whole = same_ok (certificate_in cert_file) read.0 whole read.1 is in
+    elim read.2 [
+      | inl shows ↦ subst (λ (c : Certificate). IsLine 0 (accepted_line (certificate_verdict c stated) stated) output) same shows.1
+      | inr fault ↦
+          absurd ((refutes problem.network stated read.0 fault.0 fault.1).0 (subst (Certifies problem.network stated) (sym same) certifies))
+    ]
+
+-- so it is where `check` answers to the files that say the plan and the certificate
+pub accepted : FirstFaultsRefute → (network_file plan_file cert_file : List ℕ) (problem : NamedNetwork) (stated : Plan) (whole : Certificate) (output : Output)
+    → States network_file problem → plan_in plan_file ≡ Ok stated → Certifies problem.network stated whole → certificate_in cert_file ≡ Ok whole
+    → CheckAnswers (network_file ∷ plan_file ∷ cert_file ∷ []) output → IsLine 0 (accepted_line (certificate_verdict whole stated) stated) output
+accepted refutes network_file plan_file cert_file problem stated whole output states reads certifies is answers =
+    let same : answers.0 ≡ problem = stated_once network_file answers.0 problem answers.1 states in
+    let found = answers.2 in
+    let same_plan : found.0 ≡ stated = same_ok (plan_in plan_file) found.0 stated found.1 reads in
+    let judges : JudgesCert problem.network stated cert_file output =
+    subst (λ (p : Plan). JudgesCert problem.network p cert_file output) same_plan
+    (subst (λ (p : NamedNetwork). JudgesCert p.network found.0 cert_file output) same found.2) in
+    judged refutes problem stated whole cert_file output certifies is judges
+
+-- an argument that isn't for the first plan is for one that is optimal, or for none
+verdict_is : (goal : Goal) (stated : Plan) (found : model.Goal) → goal_for goal stated ≡ Some found → (argument_verdict goal ≡ First → ⊥)
+    → argument_verdict goal ≡ proved_verdict stated
+verdict_is aim.First stated found fits least = absurd (least refl)
+verdict_is aim.Least (plan.Schedule span offsets) found fits least = refl
+verdict_is aim.Least plan.None found fits least = cc
+verdict_is aim.None (plan.Schedule span offsets) found fits least = cc
+verdict_is aim.None plan.None found fits least = refl
+
+-- the status that the output of a proof has
+found_by : FirstFaultsRefute → (limit : ℕ) (network_file plan_file cert_file : List ℕ) (problem : NamedNetwork) (stated : Plan) (proof : Proof)
+    (output checked : Output) → States network_file problem → plan_in plan_file ≡ Ok stated → IsProof problem.network limit stated proof
+    → output ≡ output_of stated proof → output.status ≡ 0 → slice_get output.texts 0 ≡ Some cert_file
+    → CheckAnswers (network_file ∷ plan_file ∷ cert_file ∷ []) checked → IsLine 0 (accepted_line (proved_verdict stated) stated) checked
+found_by refutes limit network_file plan_file cert_file problem stated (Proved argument count) output checked states reads proof is done text answers =
+    let shown = proof.0 in
+    let file : cert_file ≡ argument_text argument = same_Some _ _ (sym text ∙ ap (λ (o : Output). slice_get o.texts 0) is) in
+    let read : certificate_in cert_file ≡ Ok (certificate.Argument argument) = ap certificate_in file ∙ shown.read_again in
+    let line = accepted refutes network_file plan_file cert_file problem stated (certificate.Argument argument) checked states reads shown.shows read answers in
+    subst (λ v. IsLine 0 (accepted_line v stated) checked)
+    (verdict_is argument.goal stated shown.shows.goal shown.shows.fitting.1 shown.least) line
+found_by refutes limit network_file plan_file cert_file problem stated (Undercut better count) output checked states reads proof is done text answers =
+    let status : 6 ≡ 0 = ap (λ (o : Output). o.status) (sym is) ∙ done in
+    absurd (omega (arith, status))
+found_by refutes limit network_file plan_file cert_file problem stated (Stopped bound count) output checked states reads proof is done text answers =
+    let status : 5 ≡ 0 = ap (λ (o : Output). o.status) (sym is) ∙ done in
+    absurd (omega (arith, status))
+
+pub proved : FirstFaultsRefute → ProvedIsAccepted
+proved refutes limit network_file plan_file cert_file output checked (problem, states, inl refused) done text answers =
+    absurd (omega (arith, done, refused.2.0))
+proved refutes limit network_file plan_file cert_file output checked (problem, states, inr (stated, reads, inl found)) done text answers =
+    let proof = found.1 in (
+      stated,
+      reads,
+      found_by refutes limit network_file plan_file cert_file problem stated proof.0 output checked states reads proof.1 proof.2 done text answers,
+    )
+proved refutes limit network_file plan_file cert_file output checked (problem, states, inr (stated, reads, inr rejects)) done text answers =
+    absurd (omega (arith, done, rejects.2.0))
