@@ -27,7 +27,7 @@ pub fn run<'a, R: Files + Input + Eprint + Clock + Threads + Wait + Sync, P: Pri
                 output,
                 told,
             };
-            tsn_wiring::run(rt, rt, alloc, &mut system, words)
+            tsn_command::run(rt, rt, alloc, &mut system, words)
         }
         Err(AllocError) => no_memory(output),
     }

@@ -37,7 +37,7 @@ pub fn run_over<R: AllocGlobal + Threads + Wait + Sync>(
     match words_from(alloc, words) {
         Ok(words) => {
             let mut given = FolderDevices::new(alloc, folder, devices);
-            let status = tsn_wiring::run(rt, &NoConsole, alloc, &mut given, words);
+            let status = tsn_command::run(rt, &NoConsole, alloc, &mut given, words);
             Ok(given.into_outcome(status))
         }
         Err(WordsFault::Refused(told)) => Ok(refused(alloc, told)),

@@ -1,2 +1,1 @@
-mod RunsLemmas
-mod AskedLemmas
+pub mod RunsLemmas

@@ -1,3 +1,3 @@
 pub mod Options
 pub mod Runs
-pub mod Asked
+pub mod Charts

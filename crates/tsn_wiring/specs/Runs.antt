@@ -1,20 +1,16 @@
 -- How a command ran over what it was given.
 --     Runs                                 how a run ended, by what its sources gave and its sinks took
 --     OverNetwork, OverPlan, OverCert      a run with some sources that words name
---     OverFiles, OverProofFiles            a run over files, as they were made and as they were left
---     MadeFiles, MadeProofFiles            a run over files that words name
 --     WithSome                             a run with some source that a word names, or some options that words ask for
 --     IsLineIn, IsObjectOf, IsSaid         what is said in JSON of a run and its line
 --     Says, IsTellingOf, RunsInJson        that it was said, and a run of which it was
 --     RunsTold                             a run of which the line, or an object in its place, goes to standard output
---     RunsUnmade, UnmadeTold               a run that ends before its search, since a file of it can't be made
-use Rattle.std.specs.Prelude.{◌≡◌, ◌≢◌, ◌⊎◌, ◌+◌, ℕ, List, [], ◌∷◌, ◌++◌, Bool, true, false, All, take, codes, is_some, IfSome, Option, Some, None}
+use Rattle.std.specs.Prelude.{◌≡◌, ◌≢◌, ◌⊎◌, ◌+◌, ℕ, List, [], ◌∷◌, ◌++◌, Bool, true, false, All, take, codes, Option, Some, None}
 use Rattle.std.specs.Str.{IsUtf8}
 use Rattle.std.specs.Io.KnownBytes.{Appends}
 use Rattle.tsn_device.specs.declared.run.TheConstants.{DEVICE}
-use Rattle.tsn_cli.specs.declared.run.TheConstants.{DONE, MEMORY}
-use Rattle.tsn_cli.specs.Run.{Command, Reading, Writing, reading_of, writing_of, taken_in, failed_in, Ends, EndsEarly, IsUnwritten}
-use Rattle.tsn_cli.specs.Valid.{JudgeAnswers}
+use Rattle.tsn_cli.specs.declared.run.TheConstants.{MEMORY}
+use Rattle.tsn_cli.specs.Run.{Command, Reading, Writing, reading_of, writing_of, Ends, EndsEarly, IsUnwritten}
 use Rattle.tsn_report.specs.declared.told.Told.{Told}
 use Rattle.tsn_report.specs.Told.{IsTold, told_text}
 
@@ -69,38 +65,6 @@ pub record OverCert {S : Type 0} (given : S → Option (List ℕ)) (is_at_end : 
   pub ran : holds (reading_by given is_at_end network network_read ∷ reading_by given is_at_end plan plan_read ∷ reading_by given is_at_end cert cert_read ∷ [])
       (failed network_read + failed plan_read + failed cert_read)
 
--- ---- files: what they have taken, and how many of their writes failed
-
--- it holds of a run over the file of a plan and that of a certificate, if there is one, of what they took and how many of their writes failed
-pub record OverFiles {F : Type 0} (taken : F → Option (List ℕ)) (failed : F → ℕ) (plan : F) (cert : Option F) (holds : List Writing → ℕ → Type 0)
-    : Type 0 where
-  pub plan_left : F
-  pub cert_left : Option F
-  pub ran : holds (writing_of (taken plan) (taken plan_left) ∷ writing_of (taken_in taken cert) (taken_in taken cert_left) ∷ [])
-      (failed plan_left + failed_in failed cert_left)
-
--- over the file of a certificate and that of a better plan
-pub record OverProofFiles {F : Type 0} (taken : F → Option (List ℕ)) (failed : F → ℕ) (cert better : F) (holds : List Writing → ℕ → Type 0)
-    : Type 0 where
-  pub cert_left : F
-  pub better_left : F
-  pub ran : holds (writing_of (taken cert) (taken cert_left) ∷ writing_of (taken better) (taken better_left) ∷ []) (failed cert_left + failed better_left)
-
--- the files that words name were made, that of a certificate where it is wanted, and it holds of a run over them
-pub record MadeFiles {F : Type 0} (taken : F → Option (List ℕ)) (failed : F → ℕ) (makes_plan makes_cert : F → Type 0) (wanted : Bool)
-    (holds : List Writing → ℕ → Type 0) : Type 0 where
-  pub plan : F
-  pub cert : Option F
-  pub made : makes_plan plan × IfSome cert makes_cert × (is_some cert ≡ wanted)
-  pub over : OverFiles taken failed plan cert holds
-
-pub record MadeProofFiles {F : Type 0} (taken : F → Option (List ℕ)) (failed : F → ℕ) (makes_cert makes_better : F → Type 0)
-    (holds : List Writing → ℕ → Type 0) : Type 0 where
-  pub cert : F
-  pub better : F
-  pub made : makes_cert cert × makes_better better
-  pub over : OverProofFiles taken failed cert better holds
-
 -- ---- what is said of a run
 
 -- a text without the line feed at its end
@@ -153,28 +117,3 @@ pub record RunsInJson (command : Command) (readings : List Reading) (files : Lis
 abbrev pub RunsTold : Bool → Command → List Reading → List Writing → Writing → ℕ → ℕ → ℕ → ℕ → Type 0
 RunsTold false command readings files output status reads writes broken = Runs command readings (files ++ output ∷ []) status reads (writes + broken)
 RunsTold true command readings files output status reads writes broken = RunsInJson command readings files output status reads writes broken
-
--- ---- a run of which a file can't be made
-
--- the status where the network was judged with this one: it is refused so, or else a device failed
-abbrev pub IsUnmadeStatus : ℕ → ℕ → Type 0
-IsUnmadeStatus judged status = ((judged ≡ DONE) × (status ≡ DEVICE)) ⊎ ((judged ≢ DONE) × (status ≡ judged))
-
--- the network alone was judged, and the line went to this sink
-pub record RunsUnmade (readings : List Reading) (line : Writing) (status reads writes : ℕ) : Type 0 where
-  pub judged : ℕ
-  pub runs : Runs JudgeAnswers readings (line ∷ []) judged reads writes
-  pub status_is : IsUnmadeStatus judged status
-
--- it was, with the line kept, and what is said of that went to the output
-pub record UnmadeInJson (readings : List Reading) (output : Writing) (status reads broken : ℕ) : Type 0 where
-  pub run_status : ℕ
-  pub written : List ℕ
-  pub lost : ℕ
-  pub runs : RunsUnmade readings (writing_of (Some []) (Some written)) run_status reads lost
-  pub told : IsTellingOf run_status written lost output status broken
-
--- how such a run is told: by the line of the network that is refused, or with `--json` by what is said of it
-abbrev pub UnmadeTold : Bool → List Reading → Writing → ℕ → ℕ → ℕ → Type 0
-UnmadeTold false readings output status reads broken = RunsUnmade readings output status reads broken
-UnmadeTold true readings output status reads broken = UnmadeInJson readings output status reads broken

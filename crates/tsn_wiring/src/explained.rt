@@ -3,7 +3,7 @@ ghost use Rattle.std.specs.Prelude.{◌≡◌, ◌+◌, [], ◌∷◌, option_ma
 ghost use Rattle.tsn_cli.specs.Run.{reading_of, writing_of};
 ghost use Rattle.tsn_cli.specs.Explain.{ExplainAnswers, MarkedChartAnswers};
 ghost use Rattle.tsn_wiring.specs.Options.{IsViewOf};
-ghost use Rattle.tsn_wiring.specs.Asked.{RunsChart};
+ghost use Rattle.tsn_wiring.specs.Charts.{RunsChart};
 ghost use Rattle.tsn_wiring.specs.Runs.{OverCert, Runs, WithSome};
 
 use crate::devices::{Given, Made};

@@ -15,7 +15,7 @@ use tsn_report::{NoMemory, Told, told_to_json};
 const PIECE: usize = 4096;
 
 /// What keeps a run's line until it is told.
-pub(crate) fn line_keeper(alloc: Global) -> MemorySink
+pub fn line_keeper(alloc: Global) -> MemorySink
     ensures failures { result.failures ≡ 0 }
     ensures bytes { result.bytes.items ≡ [] }
 {
@@ -24,7 +24,7 @@ pub(crate) fn line_keeper(alloc: Global) -> MemorySink
 
 /// Writes how a run ended, with its line, as a line of JSON; that memory was refused is said as ever. What there is to tell is told
 /// on standard error.
-pub(crate) fn end_as_json<'a, G: Given<'a>, W: Made>(
+pub fn end_as_json<'a, G: Given<'a>, W: Made>(
     alloc: Global,
     given: &mut G,
     output: W,
@@ -60,7 +60,7 @@ pub(crate) fn end_as_json<'a, G: Given<'a>, W: Made>(
 }
 
 /// Says that memory was refused.
-pub(crate) fn say_no_memory<W: Made>(output: W) -> Ran<W>
+pub fn say_no_memory<W: Made>(output: W) -> Ran<W>
     requires { W.failed output ≡ 0 }
     ensures { Says MEMORY (codes "no memory\n") (writing_of (W.taken output) (W.taken result.output))
         result.status (W.failed result.output) }

@@ -1,12 +1,11 @@
-//! The options of the commands, of their words.
+//! The options by which a plan is shown, of the words of the command.
 ghost use Rattle.std.specs.Prelude.{◌≡◌};
-ghost use Rattle.tsn_wiring.specs.Options.{gates_options, replay_options, IsViewOf, effort_of, method_of};
+ghost use Rattle.tsn_wiring.specs.Options.{gates_options, replay_options, IsViewOf};
 
 use tsn_chart::{Shown, View};
 use tsn_cli::{GatesOptions, ReplayOptions};
 use tsn_gate::DeviceLimits;
-use tsn_words::{ChartWords, GatesWords, PlanWords, ReplayWords, Search};
-use tsn_worker::{Effort, Method};
+use tsn_words::{ChartWords, GatesWords, ReplayWords};
 
 /// How gate lists are made and printed.
 pub fn gates_options(words: GatesWords<'_>) -> GatesOptions
@@ -53,27 +52,5 @@ pub fn view_of(words: ChartWords<'_>) -> View
     View {
         until: words.until as u64,
         shown,
-    }
-}
-
-/// How a plan is searched for.
-pub fn effort_of(words: PlanWords<'_>) -> Effort
-    ensures { result ≡ effort_of words.entry }
-{
-    Effort {
-        method: method_of(words.search),
-        workers: words.workers,
-        limit: words.steps,
-    }
-}
-
-/// How the search goes.
-fn method_of(search: Search) -> Method
-    ensures { result ≡ method_of search }
-{
-    match search {
-        Search::Auto => Method::Auto,
-        Search::File => Method::FileOrder,
-        Search::Learn => Method::Learn,
     }
 }

@@ -6,14 +6,13 @@ use std::fmt::Write;
 use tsn_cli::run::{DEVICE, DONE, MAX_FILE, REFUSED, REJECTED};
 use tsn_cli::{GatesFormat, GatesOptions};
 use tsn_device::{Action, Failure};
-use tsn_planner::{Finding, Spans};
 use tsn_reason::{
     File, cert_reason, device_reason, line_of, network_reason, offsets_reason, plan_reason,
     unused_reason,
 };
 
 /// The line on a source, where it ended a run of this status.
-pub(crate) fn source_line<S: Opened>(alloc: Global, status: u8, source: &S) -> Option<String> {
+pub fn source_line<S: Opened>(alloc: Global, status: u8, source: &S) -> Option<String> {
     match status {
         REFUSED => too_long_line(alloc, source.name(), source.count()),
         _ => failure_line(alloc, status, source.failure()),
@@ -72,7 +71,7 @@ fn is_refused(status: u8) -> bool {
 }
 
 /// The line on what a run of this status refused, where what it read was kept and there is memory for the line.
-pub(crate) fn network_line<S: Opened>(alloc: Global, status: u8, network: &S) -> Option<String> {
+pub fn network_line<S: Opened>(alloc: Global, status: u8, network: &S) -> Option<String> {
     match file_of(network) {
         Some(network) if is_refused(status) => network_reason(alloc, network).unwrap_or(None),
         _ => None,
@@ -93,44 +92,13 @@ pub(crate) fn offsets_line<S: Opened>(
     }
 }
 
-pub(crate) fn plan_line<S: Opened>(
-    alloc: Global,
-    status: u8,
-    network: &S,
-    plan: &S,
-) -> Option<String> {
+pub fn plan_line<S: Opened>(alloc: Global, status: u8, network: &S, plan: &S) -> Option<String> {
     match (file_of(network), file_of(plan)) {
         (Some(network), Some(plan)) if is_refused(status) => {
             plan_reason(alloc, network, plan).unwrap_or(None)
         }
         _ => None,
     }
-}
-
-/// The line on a plan that a valid schedule undercuts; None where none does, or where there is no memory for the line.
-pub(crate) fn undercut_line<S: Opened>(
-    alloc: Global,
-    plan: &S,
-    finding: Option<Finding>,
-) -> Option<String> {
-    match finding {
-        Some(Finding::Undercut(spans)) => undercut_text(alloc, plan.name(), spans).ok(),
-        Some(Finding::Proved) => None,
-        Some(Finding::Stopped(_)) => None,
-        None => None,
-    }
-}
-
-/// The text on a plan of the file of this name, and on the better one.
-fn undercut_text(alloc: Global, name: &str, spans: Spans) -> Result<String, AllocError> {
-    let Spans { stated, better } = spans;
-    let mut text = line_of(alloc, name)?;
-    write!(text, "a schedule of flowspan {better} is valid")?;
-    if let Some(flowspan) = stated {
-        let less = flowspan.saturating_sub(better);
-        write!(text, ", which is {less} ns less")?;
-    }
-    Ok(text)
 }
 
 pub(crate) fn cert_line<S: Opened>(

@@ -18,13 +18,13 @@ pub struct Ran<W> {
 
 /// How a run ended: its status, and the line on standard error that says why.
 #[derive(Drop)]
-pub(crate) struct Ended {
-    pub(crate) status: u8,
-    pub(crate) line: Option<String>,
+pub struct Ended {
+    pub status: u8,
+    pub line: Option<String>,
 }
 
 /// Tells why a run ended that wrote to standard output, which may have failed.
-pub(crate) fn end_at<'a, G: Given<'a>, W: Made>(
+pub fn end_at<'a, G: Given<'a>, W: Made>(
     alloc: Global,
     given: &mut G,
     ended: Ended,

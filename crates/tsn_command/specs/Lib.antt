@@ -1,0 +1,4 @@
+pub mod Options
+pub mod Files
+pub mod Unmade
+pub mod Asked

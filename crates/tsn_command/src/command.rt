@@ -1,0 +1,66 @@
+//! The commands, over what they are given.
+ghost use Rattle.std.specs.Prelude.{◌≡◌};
+ghost use Rattle.tsn_cli.specs.Run.{writing_of};
+ghost use Rattle.tsn_wiring.specs.Runs.{WithSome};
+ghost use Rattle.tsn_command.specs.Asked.{RunsAsked};
+
+use crate::planning::{plan, prove};
+use std::alloc::Global;
+use std::io::Eprint;
+use std::sync::Wait;
+use std::thread::Threads;
+use std::time::Clock;
+use tsn_wiring::explained::{explain, picture};
+use tsn_wiring::judged::{check, valid};
+use tsn_wiring::tables::{gates, replay, streams};
+use tsn_wiring::{Given, Made, Ran};
+use tsn_words::Words;
+
+/// Runs a command over what its words name, and says the status. Where a file is refused, or a device fails, a line is told on why.
+/// How far a search has got is told on a console, where the words ask for it.
+pub fn run<'a, T: Threads + Wait + Sync, C: Clock + Eprint + Sync, G: Given<'a>>(
+    rt: &T,
+    console: &C,
+    alloc: Global,
+    given: &mut G,
+    words: Words<'a>,
+) -> u8
+    ensures { WithSome (G.is_output given.old) (λ before. WithSome (G.is_output given.new) (λ after.
+        RunsAsked G.Source.given G.Source.is_at_end G.Source.failed
+        (G.opens_network given.old) (G.opens_plan given.old) (G.opens_cert given.old) G.File.taken G.File.failed
+        (G.makes_plan given.old) (G.makes_cert given.old) (G.refuses_plan given.old) (G.refuses_cert given.old) words.entry
+        (writing_of (G.Output.taken before) (G.Output.taken after)) result (G.Output.failed after))) }
+{
+    let output = given.output();
+    let Ran { status, output } = run_to(rt, console, alloc, given, output, words);
+    given.close_output(output);
+    status
+}
+
+/// Runs a command over what its words name, with this standard output.
+pub fn run_to<'a, T: Threads + Wait + Sync, C: Clock + Eprint + Sync, G: Given<'a>, W: Made>(
+    rt: &T,
+    console: &C,
+    alloc: Global,
+    given: &mut G,
+    output: W,
+    words: Words<'a>,
+) -> Ran<W>
+    requires { W.failed output ≡ 0 }
+    ensures { RunsAsked G.Source.given G.Source.is_at_end G.Source.failed
+        (G.opens_network given.old) (G.opens_plan given.old) (G.opens_cert given.old) G.File.taken G.File.failed
+        (G.makes_plan given.old) (G.makes_cert given.old) (G.refuses_plan given.old) (G.refuses_cert given.old) words.entry
+        (writing_of (W.taken output) (W.taken result.output)) result.status (W.failed result.output) }
+{
+    match words {
+        Words::Valid(words) => valid(alloc, given, output, &words),
+        Words::Plan(words) => plan(rt, console, alloc, given, output, words),
+        Words::Check(words) => check(alloc, given, output, words),
+        Words::Prove(words) => prove(console, alloc, given, output, words),
+        Words::Explain(words) => explain(alloc, given, output, words),
+        Words::Gates(words) => gates(alloc, given, output, words),
+        Words::Replay(words) => replay(alloc, given, output, words),
+        Words::Chart(words) => picture(alloc, given, output, words),
+        Words::Streams(words) => streams(alloc, given, output, words),
+    }
+}
