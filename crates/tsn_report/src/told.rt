@@ -3,7 +3,7 @@ ghost use Rattle.std.specs.Prelude.{◌≡◌, IfOk, false, codes, option_map, s
 ghost use Rattle.serde_json.specs.View.{view};
 ghost use Rattle.serde_json.specs.Written.{has_float};
 ghost use Rattle.tsn_report.specs.Line.{code_in, place_in, IsFirstNumber, IsNumberBehind, flowspan_keys};
-ghost use Rattle.tsn_report.specs.Told.{IsTold, line_or_null, line_text, number_or_null, text_or_null, told_text, told_value};
+ghost use Rattle.tsn_report.specs.Told.{IsTold, line_or_null, line_text, text_or_null, told_text, told_value};
 
 use crate::line::{code_in, first_number, number_after, place_in};
 use serde_json::{Value, json};
@@ -102,14 +102,15 @@ fn line(alloc: Global, value: &Value) -> Result<String, AllocError>
 fn value_of(alloc: Global, told: &Told<'_>) -> Result<Value, AllocError>
     ensures { IfOk result (λ value. view value ≡ told_value told.now) }
 {
-    let code = text_or_null(alloc, told.code)?;
-    let flowspan = number_or_null(alloc, told.flowspan)?;
-    let line = line_or_null(alloc, told.line)?;
-    let place = text_or_null(alloc, told.place)?;
-    let reason = text_or_null(alloc, told.reason)?;
-    let settled = number_or_null(alloc, told.settled)?;
-    let status = told.status;
-    json!(in alloc; {"code": code, "flowspan": flowspan, "line": line, "place": place, "reason": reason, "settled": settled, "status": status})
+    json!(in alloc; {
+        "code": text_or_null(alloc, told.code)?,
+        "flowspan": told.flowspan,
+        "line": line_or_null(alloc, told.line)?,
+        "place": text_or_null(alloc, told.place)?,
+        "reason": text_or_null(alloc, told.reason)?,
+        "settled": told.settled,
+        "status": told.status,
+    })
 }
 
 /// A line, or null where it is empty.
@@ -129,16 +130,6 @@ fn text_or_null(alloc: Global, text: Option<&str>) -> Result<Value, AllocError>
 {
     match text {
         Some(text) => Ok(Value::String(String::from_str(alloc, text)?)),
-        None => Ok(Value::Null),
-    }
-}
-
-/// A number, or null where there is none.
-fn number_or_null(alloc: Global, number: Option<u64>) -> Result<Value, AllocError>
-    ensures { IfOk result (λ value. view value ≡ number_or_null number) }
-{
-    match number {
-        Some(number) => json!(in alloc; number),
         None => Ok(Value::Null),
     }
 }
