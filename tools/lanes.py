@@ -18,6 +18,7 @@ import time
 from concurrent.futures import FIRST_COMPLETED, ThreadPoolExecutor, wait
 
 ROOT = os.path.dirname(os.path.dirname(os.path.abspath(__file__)))
+RT = [sys.executable, os.path.join(ROOT, "tools", "rt_once.py")]
 STARTED = set()
 
 
@@ -215,7 +216,7 @@ def prove(name, lane, used, jobs):
         if not os.path.isdir(path_in(lane, name, "out", kept)):
             hand_out(name, kept, ROOT, lane)
     kind = kind_of(name)
-    status, printed, seconds = run(["rt", kind] + (["--jobs", str(jobs)] if kind == "lib" else []), path_in(lane, name))
+    status, printed, seconds = run([*RT, kind] + (["--jobs", str(jobs)] if kind == "lib" else []), path_in(lane, name))
     program = path_in(lane, name, "out", name)
     if kind == "run":
         # (a program may end with another status than 0 where it has no words)
