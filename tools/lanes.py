@@ -206,7 +206,17 @@ def rows_of(name, lane):
     return None if printed == expected else printed + f"\n{name} was to print what {os.path.relpath(path_in(ROOT, name, 'stdout'), ROOT)} has"
 
 
-def prove(name, lane, used, jobs):
+def words_for(name, jobs, keeps):
+    """How a crate is proved. Where work is kept for its next check, or was kept before, a library has its proofs; else it has what
+    other crates can cite of it alone, and costs those above it less."""
+    kind = kind_of(name)
+    if kind != "lib":
+        return [*RT, kind]
+    is_kept = keeps or os.path.isdir(path_in(ROOT, name, "out", "incremental"))
+    return [*RT, *([] if is_kept else ["--statements"]), kind, "--jobs", str(jobs)]
+
+
+def prove(name, lane, used, jobs, keeps):
     """Proves one crate in a lane, and runs its rows. What was said where it failed, and its processor seconds."""
     for it in sorted(below(name, used)):
         if not os.path.isdir(path_in(lane, it, "out", "rlib")):
@@ -216,7 +226,7 @@ def prove(name, lane, used, jobs):
         if not os.path.isdir(path_in(lane, name, "out", kept)):
             hand_out(name, kept, ROOT, lane)
     kind = kind_of(name)
-    status, printed, seconds = run([*RT, kind] + (["--jobs", str(jobs)] if kind == "lib" else []), path_in(lane, name))
+    status, printed, seconds = run(words_for(name, jobs, keeps), path_in(lane, name))
     program = path_in(lane, name, "out", name)
     if kind == "run":
         # (a program may end with another status than 0 where it has no words)
@@ -230,8 +240,9 @@ def prove(name, lane, used, jobs):
     return (rows_of(name, lane) if kind == "run" else None), seconds
 
 
-def prove_all(names, lanes, used):
-    """Proves these crates, each once those below it among them are proved. Ends the program where one can't be."""
+def prove_all(names, lanes, used, kept=frozenset()):
+    """Proves these crates, each once those below it among them are proved, and keeps work for the next check of some. Ends the
+    program where one can't be proved."""
     numbers, begin = {}, time.monotonic()
     names = {it for it in names if not is_proved(it, digest(it, used, numbers))}
     if not names:
@@ -241,7 +252,7 @@ def prove_all(names, lanes, used):
         for lane in free:
             make_lane(lane, names.union(*(below(it, used) for it in names)))
         try:
-            spent = prove_in(free, pool, names, used, lambda name: keep_record(name, numbers[name]))
+            spent = prove_in(free, pool, names, used, kept, lambda name: keep_record(name, numbers[name]))
         except BaseException:
             end_all()
             raise
@@ -249,7 +260,7 @@ def prove_all(names, lanes, used):
     say(f"{told(spent)} of a processor in {told(time.monotonic() - begin)}; the greatest memory of one process {most:.1f} GB")
 
 
-def prove_in(free, pool, names, used, keep):
+def prove_in(free, pool, names, used, kept, keep):
     """Proves them in these lanes. The processor seconds of all."""
     begin, cost, done, running, spent, lanes = time.monotonic(), minutes(), set(), {}, 0.0, len(free)
     while len(done) < len(names):
@@ -260,7 +271,7 @@ def prove_in(free, pool, names, used, keep):
         for name in ready[: len(free)]:
             lane = free.pop()
             jobs = max(1, lanes // max(1, len(ready) + len(running)))
-            running[pool.submit(prove, name, lane, used, jobs)] = name, lane
+            running[pool.submit(prove, name, lane, used, jobs, name in kept)] = name, lane
         for it in wait(running, return_when=FIRST_COMPLETED).done:
             name, lane = running.pop(it)
             failed, seconds = it.result()

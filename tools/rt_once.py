@@ -1,5 +1,12 @@
-"""Runs `rt` with its words. To know what has changed `rt` reads a crate's files anew along each way by which it is used, and the program
-uses the lowest ones in some thousand ways, which takes minutes. Here the files of each crate below the one in this folder are read once."""
+"""Runs `rt` with its words, and spares it work.
+
+To know what has changed `rt` reads a crate's files anew along each way by which it is used, and the program uses the lowest ones in some
+thousand ways, which takes minutes. Here the files of each crate below the one in this folder are read once.
+
+With the word `--statements` before the others a library is built as `rt ci` builds it: with what other crates can cite of it, and
+without its proofs. Else each check above it loads them all, and for the program that takes minutes too. No work is kept then by which
+the next check could begin where this one ended.
+"""
 
 import importlib.machinery
 import importlib.util
@@ -34,7 +41,30 @@ def read_once(crates):
     crates.stamp = stamp
 
 
+def without(words, option):
+    """These words without an option and its value."""
+    if option not in words:
+        return words
+    at = words.index(option)
+    return words[:at] + words[at + 2 :]
+
+
+def cut_libraries(crates, rattle):
+    """Has libraries built with their statements alone."""
+    call = crates.call
+
+    def cut(self, *words):
+        if words[:2] == (rattle, "build") and words[-2:] == ("-o", self.rlib):
+            words = (*without(words, "--incremental")[:-2], "--statements", *words[-2:])
+        return call(self, *words)
+
+    crates.call = cut
+
+
 if __name__ == "__main__":
     rt, sys.argv[0] = loaded(), RT
     read_once(rt.rtlib.Crate)
+    if sys.argv[1:2] == ["--statements"]:
+        cut_libraries(rt.rtlib.Crate, rt.rtlib.RATTLE)
+        del sys.argv[1]
     sys.exit(rt.main(sys.argv[1:]))
