@@ -1,7 +1,7 @@
 //! The records of comma-separated values (RFC 4180).
-ghost use Rattle.std.specs.Prelude.{◌≡◌, ◌++◌, ◌<◌, OnOk, length, string_bytes};
-ghost use Rattle.tsn_streams.specs.Csv.{link_head, link_numbers, link_record, stream_numbers, stream_record};
+ghost use Rattle.tsn_streams.specs.Csv.{link_record, stream_record};
 
+use crate::format::Format;
 use crate::link::LinkShare;
 use crate::stream::StreamShare;
 use std::alloc::AllocError;
@@ -14,64 +14,35 @@ use tsn_net::Problem;
 pub const HEADER: &str =
     "stream,offset,latency,arrival,to_latest,to_cycle,link,from,to,scheduled,guard,open,longest_open\r\n";
 
-/// Writes the record of a stream.
-pub fn write_stream(
-    text: &mut String,
-    problem: &Problem,
-    share: &StreamShare,
-) -> Result<(), AllocError>
-    requires { share.now.stream < length problem.now.stream_names }
-    ensures { OnOk result (string_bytes text.new ≡ string_bytes text.old ++ stream_record problem.now share.now) }
-{
-    write_quoted(text, problem.stream_name(share.stream))?;
-    write_stream_numbers(text, *share)
-}
+/// Comma-separated values: a record for each stream and each link.
+pub struct Csv;
 
-/// Writes the record of a link.
-pub fn write_link(text: &mut String, problem: &Problem, share: &LinkShare) -> Result<(), AllocError>
-    requires { share.now.link < length problem.now.network.links }
-    ensures { OnOk result (string_bytes text.new ≡ string_bytes text.old ++ link_record problem.now share.now) }
-{
-    let (from, to) = names(problem, share.link);
-    write_link_head(text, share.link)?;
-    write_quoted(text, from)?;
-    text.push_str(",")?;
-    write_quoted(text, to)?;
-    write_link_numbers(text, *share)
-}
+impl Format for Csv {
+    ghost stream_text = { stream_record };
 
-/// Writes the numbers of a stream, and the empty fields of a link.
-#[tactic(auto, unfolding(crate::specs::Csv::stream_numbers))]
-fn write_stream_numbers(text: &mut String, share: StreamShare) -> Result<(), AllocError>
-    ensures { OnOk result (string_bytes text.new ≡ string_bytes text.old ++ stream_numbers share) }
-{
-    let offset = share.offset;
-    let latency = share.latency;
-    let arrival = share.arrival;
-    let latest = share.to_latest;
-    let cycle = share.to_cycle;
-    write!(
-        text,
-        ",{offset},{latency},{arrival},{latest},{cycle},,,,,,,\r\n"
-    )
-}
+    ghost link_text = { link_record };
 
-/// Writes the empty fields of a stream, and a link's number.
-#[tactic(auto, unfolding(crate::specs::Csv::link_head))]
-fn write_link_head(text: &mut String, link: usize) -> Result<(), AllocError>
-    ensures { OnOk result (string_bytes text.new ≡ string_bytes text.old ++ link_head link) }
-{
-    write!(text, ",,,,,,{link},")
-}
+    #[tactic(auto, unfolding(crate::specs::Csv::stream_numbers))]
+    fn stream(text: &mut String, problem: &Problem, share: &StreamShare) -> Result<(), AllocError> {
+        write_quoted(text, problem.stream_name(share.stream))?;
+        write!(
+            text,
+            ",{},{},{},{},{},,,,,,,\r\n",
+            share.offset, share.latency, share.arrival, share.to_latest, share.to_cycle
+        )
+    }
 
-/// Writes the numbers of a link.
-#[tactic(auto, unfolding(crate::specs::Csv::link_numbers))]
-fn write_link_numbers(text: &mut String, share: LinkShare) -> Result<(), AllocError>
-    ensures { OnOk result (string_bytes text.new ≡ string_bytes text.old ++ link_numbers share) }
-{
-    let scheduled = share.scheduled;
-    let guard = share.guard;
-    let open = share.open;
-    let longest = share.longest_open;
-    write!(text, ",{scheduled},{guard},{open},{longest}\r\n")
+    #[tactic(auto, unfolding(crate::specs::Csv::link_head, crate::specs::Csv::link_numbers))]
+    fn link(text: &mut String, problem: &Problem, share: &LinkShare) -> Result<(), AllocError> {
+        let (from, to) = names(problem, share.link);
+        write!(text, ",,,,,,{},", share.link)?;
+        write_quoted(text, from)?;
+        text.push_str(",")?;
+        write_quoted(text, to)?;
+        write!(
+            text,
+            ",{},{},{},{}\r\n",
+            share.scheduled, share.guard, share.open, share.longest_open
+        )
+    }
 }

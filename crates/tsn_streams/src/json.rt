@@ -4,6 +4,7 @@ ghost use Rattle.serde_json.specs.View.{view};
 ghost use Rattle.serde_json.specs.Written.{has_float};
 ghost use Rattle.tsn_streams.specs.Json.{line_text, link_json, link_value, stream_json, stream_value};
 
+use crate::format::Format;
 use crate::link::LinkShare;
 use crate::stream::StreamShare;
 use serde_json::{Value, json};
@@ -11,26 +12,23 @@ use std::alloc::{AllocError, Global};
 use tsn_gate::list::names;
 use tsn_net::Problem;
 
-/// Writes the line of a stream.
-pub fn write_stream(
-    text: &mut String,
-    problem: &Problem,
-    share: &StreamShare,
-) -> Result<(), AllocError>
-    requires { share.now.stream < length problem.now.stream_names }
-    ensures { OnOk result (string_bytes text.new ≡ string_bytes text.old ++ stream_json problem.now share.now) }
-{
-    let value = stream_value(*text.allocator(), problem, share)?;
-    write_line(text, &value)
-}
+/// Lines of JSON: an object for each stream and each link.
+pub struct Json;
 
-/// Writes the line of a link.
-pub fn write_link(text: &mut String, problem: &Problem, share: &LinkShare) -> Result<(), AllocError>
-    requires { share.now.link < length problem.now.network.links }
-    ensures { OnOk result (string_bytes text.new ≡ string_bytes text.old ++ link_json problem.now share.now) }
-{
-    let value = link_value(*text.allocator(), problem, share)?;
-    write_line(text, &value)
+impl Format for Json {
+    ghost stream_text = { stream_json };
+
+    ghost link_text = { link_json };
+
+    fn stream(text: &mut String, problem: &Problem, share: &StreamShare) -> Result<(), AllocError> {
+        let value = stream_value(*text.allocator(), problem, share)?;
+        write_line(text, &value)
+    }
+
+    fn link(text: &mut String, problem: &Problem, share: &LinkShare) -> Result<(), AllocError> {
+        let value = link_value(*text.allocator(), problem, share)?;
+        write_line(text, &value)
+    }
 }
 
 /// The object of a stream.
@@ -39,12 +37,10 @@ fn stream_value(alloc: Global, problem: &Problem, share: &StreamShare) -> Result
     ensures { IfOk result (λ value. view value ≡ stream_value problem.now share.now) }
 {
     let stream = Value::String(String::from_str(alloc, problem.stream_name(share.stream))?);
-    let offset = share.offset;
-    let latency = share.latency;
-    let arrival = share.arrival;
-    let latest = share.to_latest;
-    let cycle = share.to_cycle;
-    json!(in alloc; {"arrival": arrival, "latency": latency, "offset": offset, "stream": stream, "to_cycle": cycle, "to_latest": latest})
+    json!(in alloc; {
+        "arrival": share.arrival, "latency": share.latency, "offset": share.offset, "stream": stream,
+        "to_cycle": share.to_cycle, "to_latest": share.to_latest
+    })
 }
 
 /// The object of a link.
@@ -55,12 +51,10 @@ fn link_value(alloc: Global, problem: &Problem, share: &LinkShare) -> Result<Val
     let (from, to) = names(problem, share.link);
     let from = Value::String(String::from_str(alloc, from)?);
     let to = Value::String(String::from_str(alloc, to)?);
-    let link = share.link;
-    let scheduled = share.scheduled;
-    let guard = share.guard;
-    let open = share.open;
-    let longest = share.longest_open;
-    json!(in alloc; {"from": from, "guard": guard, "link": link, "longest_open": longest, "open": open, "scheduled": scheduled, "to": to})
+    json!(in alloc; {
+        "from": from, "guard": share.guard, "link": share.link, "longest_open": share.longest_open,
+        "open": share.open, "scheduled": share.scheduled, "to": to
+    })
 }
 
 /// Writes the line of a value.

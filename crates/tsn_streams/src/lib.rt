@@ -2,6 +2,7 @@
 #![tactic(auto)]
 
 mod csv;
+mod format;
 mod json;
 pub mod link;
 pub mod output;

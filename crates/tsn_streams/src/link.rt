@@ -2,7 +2,7 @@
 ghost use Rattle.std.specs.Prelude.{◌≡◌, ◌≤◌, IfOk};
 ghost use Rattle.tsn_streams.specs.Shares.{AreLinkShares, IsLinkShare, time_in, time_of};
 
-use crate::rest::longest_open;
+use crate::rest::{BACKGROUND, longest_open};
 use std::alloc::{AllocError, Global};
 use tsn_gate::{GateEntry, GateList};
 use tsn_model::NoMemory;
@@ -12,9 +12,6 @@ const SCHEDULED: u8 = 0x80;
 
 /// All gates closed.
 const CLOSED: u8 = 0x00;
-
-/// The gates of the background classes (0 to 6) alone open.
-const BACKGROUND: u8 = 0x7F;
 
 /// What a link gets in each cycle of its gate control list, in nanoseconds.
 #[derive(Clone, Copy)]

@@ -6,7 +6,7 @@ ghost use Rattle.tsn_streams.specs.Rest.{IsLongestOpen, go_on};
 use tsn_gate::{GateEntry, GateList};
 
 /// The gates of the background classes (0 to 6) alone open.
-const BACKGROUND: u8 = 0x7F;
+pub const BACKGROUND: u8 = 0x7F;
 
 /// How long the gates have been open up to some entry's end, and the longest time up to there, in nanoseconds.
 #[derive(Clone, Copy)]

@@ -1,7 +1,7 @@
 //! The lines of a table.
-ghost use Rattle.std.specs.Prelude.{◌≡◌, ◌++◌, ◌<◌, OnOk, length, string_bytes};
-ghost use Rattle.tsn_streams.specs.Table.{link_head, link_line, link_numbers, stream_line, stream_numbers};
+ghost use Rattle.tsn_streams.specs.Table.{link_line, stream_line};
 
+use crate::format::Format;
 use crate::link::LinkShare;
 use crate::stream::StreamShare;
 use std::alloc::AllocError;
@@ -9,65 +9,36 @@ use std::fmt::Write;
 use tsn_gate::list::names;
 use tsn_net::Problem;
 
-/// Writes the line of a stream.
-pub fn write_stream(
-    text: &mut String,
-    problem: &Problem,
-    share: &StreamShare,
-) -> Result<(), AllocError>
-    requires { share.now.stream < length problem.now.stream_names }
-    ensures { OnOk result (string_bytes text.new ≡ string_bytes text.old ++ stream_line problem.now share.now) }
-{
-    text.push_str("stream ")?;
-    text.push_str(problem.stream_name(share.stream))?;
-    write_stream_numbers(text, *share)
-}
+/// A table: a line for each stream and each link.
+pub struct Table;
 
-/// Writes the numbers of a stream.
-#[tactic(auto, unfolding(crate::specs::Table::stream_numbers))]
-fn write_stream_numbers(text: &mut String, share: StreamShare) -> Result<(), AllocError>
-    ensures { OnOk result (string_bytes text.new ≡ string_bytes text.old ++ stream_numbers share) }
-{
-    let offset = share.offset;
-    let latency = share.latency;
-    let arrival = share.arrival;
-    let latest = share.to_latest;
-    let cycle = share.to_cycle;
-    write!(
-        text,
-        " offset {offset} latency {latency} arrival {arrival} to_latest {latest} to_cycle {cycle}\n"
-    )
-}
+impl Format for Table {
+    ghost stream_text = { stream_line };
 
-/// Writes the line of a link.
-pub fn write_link(text: &mut String, problem: &Problem, share: &LinkShare) -> Result<(), AllocError>
-    requires { share.now.link < length problem.now.network.links }
-    ensures { OnOk result (string_bytes text.new ≡ string_bytes text.old ++ link_line problem.now share.now) }
-{
-    let (from, to) = names(problem, share.link);
-    write_link_head(text, share.link, from, to)?;
-    write_link_numbers(text, *share)
-}
+    ghost link_text = { link_line };
 
-/// Writes a link's number, and the names of the nodes that it joins.
-#[tactic(auto, unfolding(crate::specs::Table::link_head))]
-fn write_link_head(text: &mut String, link: usize, from: &str, to: &str) -> Result<(), AllocError>
-    ensures { OnOk result (string_bytes text.new ≡ string_bytes text.old ++ link_head link from.now to.now) }
-{
-    write!(text, "link {link} {from} {to}")
-}
+    #[tactic(auto, unfolding(crate::specs::Table::stream_numbers))]
+    fn stream(text: &mut String, problem: &Problem, share: &StreamShare) -> Result<(), AllocError> {
+        text.push_str("stream ")?;
+        text.push_str(problem.stream_name(share.stream))?;
+        write!(
+            text,
+            " offset {} latency {} arrival {} to_latest {} to_cycle {}\n",
+            share.offset, share.latency, share.arrival, share.to_latest, share.to_cycle
+        )
+    }
 
-/// Writes the numbers of a link.
-#[tactic(auto, unfolding(crate::specs::Table::link_numbers))]
-fn write_link_numbers(text: &mut String, share: LinkShare) -> Result<(), AllocError>
-    ensures { OnOk result (string_bytes text.new ≡ string_bytes text.old ++ link_numbers share) }
-{
-    let scheduled = share.scheduled;
-    let guard = share.guard;
-    let open = share.open;
-    let longest = share.longest_open;
-    write!(
-        text,
-        " scheduled {scheduled} guard {guard} open {open} longest_open {longest}\n"
-    )
+    #[tactic(auto, unfolding(crate::specs::Table::link_head, crate::specs::Table::link_numbers))]
+    fn link(text: &mut String, problem: &Problem, share: &LinkShare) -> Result<(), AllocError> {
+        let (from, to) = names(problem, share.link);
+        write!(text, "link {} ", share.link)?;
+        text.push_str(from)?;
+        text.push_str(" ")?;
+        text.push_str(to)?;
+        write!(
+            text,
+            " scheduled {} guard {} open {} longest_open {}\n",
+            share.scheduled, share.guard, share.open, share.longest_open
+        )
+    }
 }
