@@ -260,14 +260,23 @@ def prove_all(names, lanes, used, kept=frozenset()):
     say(f"{told(spent)} of a processor in {told(time.monotonic() - begin)}; the greatest memory of one process {most:.1f} GB")
 
 
+def chains(names, used):
+    """Of each of these crates the minutes of the longest chain that begins with it and goes up."""
+    cost, found = minutes(), {}
+    # (crates.txt has each crate behind those that it uses)
+    for name in reversed([it for it in used if it in names]):
+        found[name] = cost.get(name, 2) + max((found[up] for up in found if name in used[up]), default=0)
+    return found
+
+
 def prove_in(free, pool, names, used, kept, keep):
     """Proves them in these lanes. The processor seconds of all."""
-    begin, cost, done, running, spent, lanes = time.monotonic(), minutes(), set(), {}, 0.0, len(free)
+    begin, behind, done, running, spent, lanes = time.monotonic(), chains(names, used), set(), {}, 0.0, len(free)
     while len(done) < len(names):
         at_work = {name for name, _ in running.values()}
         ready = [it for it in names - done - at_work if set(used[it]) & names <= done]
-        # First those with most behind them.
-        ready.sort(key=lambda it: -sum(cost.get(up, 2) for up in names & above(it, used)))
+        # First those for which the longest chain waits.
+        ready.sort(key=lambda it: -behind[it])
         for name in ready[: len(free)]:
             lane = free.pop()
             jobs = max(1, lanes // max(1, len(ready) + len(running)))

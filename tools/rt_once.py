@@ -62,9 +62,9 @@ def cut_libraries(crates, rattle):
 
 
 if __name__ == "__main__":
-    rt, sys.argv[0] = loaded(), RT
+    cuts = sys.argv[1:2] == ["--statements"]
+    rt, sys.argv = loaded(), [RT, *sys.argv[1 + cuts :]]
     read_once(rt.rtlib.Crate)
-    if sys.argv[1:2] == ["--statements"]:
+    if cuts:
         cut_libraries(rt.rtlib.Crate, rt.rtlib.RATTLE)
-        del sys.argv[1]
     sys.exit(rt.main(sys.argv[1:]))
