@@ -1,9 +1,7 @@
 //! What a contradiction teaches: the clause of the first unique implication point, over bounds (Marques-Silva and Sakallah 1996;
 //! Ohrimenko, Stuckey and Codish 2007), without what the others imply.
 use crate::literal::{Literal, exchange, literal_at};
-use crate::number::{
-    NONE, at, index_at, is_marked, lengthen, lengthen_indices, lengthen_marks, mark, put, put_index,
-};
+use crate::number::{NONE, at, index_at, is_marked, mark, push, put, put_index};
 use crate::propagate::{end_literal, head_literal, lead};
 use crate::reason::{Deed, Placing, Why};
 use crate::search::Search;
@@ -67,9 +65,9 @@ impl Analysis {
 
     /// Makes it one over so many bounds. The error says that there was no memory.
     pub fn size(&mut self, bounds: usize) -> Result<(), AllocError> {
-        lengthen(&mut self.wanted, 0, bounds)?;
-        lengthen_indices(&mut self.changes, NONE, bounds)?;
-        lengthen_marks(&mut self.is_touched, bounds)
+        self.wanted.resize(bounds, 0)?;
+        self.changes.resize(bounds, NONE)?;
+        self.is_touched.resize(bounds, false)
     }
 
     fn change(&self, bound: u32) -> u32 {
@@ -86,8 +84,7 @@ impl Analysis {
             return Ok(());
         }
         mark(&mut self.is_touched, bound as usize, true);
-        self.touched.push(bound)?;
-        Ok(())
+        push(&mut self.touched, bound)
     }
 
     // Nothing is needed any longer.
@@ -124,7 +121,7 @@ impl Search {
             self.need_of(number, false)?;
         }
         let point = self.resolve()?;
-        self.analysis.learned.push(point.opposite())?;
+        push(&mut self.analysis.learned, point.opposite())?;
         for number in 0..self.analysis.touched.len() {
             let bound = index_at(&self.analysis.touched, number);
             self.keep_or_drop(bound, point)?;
@@ -146,7 +143,7 @@ impl Search {
         self.analysis.clear();
         for literal in &self.clash {
             if let Some(number) = self.trail.event_of(*literal) {
-                self.analysis.grounds.push(number)?;
+                push(&mut self.analysis.grounds, number)?;
             }
         }
         let _ = self.note_lesson()?;
@@ -165,7 +162,7 @@ impl Search {
         };
         let level = self.trail.event(number).level;
         if level == 0 {
-            return Ok(self.analysis.grounds.push(number)?);
+            return push(&mut self.analysis.grounds, number);
         }
         let old = self.analysis.change(literal.bound);
         if old != NONE {
@@ -214,7 +211,7 @@ impl Search {
                 self.clauses.note_use(clause, self.pace.conflicts);
             }
             self.explain(literal, event.why)?;
-            self.analysis.used.push(number)?;
+            push(&mut self.analysis.used, number)?;
             for place in 0..self.needs.len() {
                 self.need_of(place, true)?;
             }
@@ -232,8 +229,7 @@ impl Search {
         if self.is_dropped(literal)? {
             return Ok(());
         }
-        self.analysis.learned.push(literal.opposite())?;
-        Ok(())
+        push(&mut self.analysis.learned, literal.opposite())
     }
 
     // Whether the others imply the literal; then what shows it is noted.
@@ -261,11 +257,9 @@ impl Search {
         let below = depth - 1;
         self.analysis.left = self.analysis.left.wrapping_sub(1);
         self.explain(literal, why)?;
-        self.analysis.used.push(number)?;
+        push(&mut self.analysis.used, number)?;
         let start = self.analysis.stack.len();
-        for need in &self.needs {
-            self.analysis.stack.push(*need)?;
-        }
+        self.analysis.stack.extend_from_slice(&self.needs)?;
         let end = self.analysis.stack.len();
         let mut is_implied = true;
         for place in start..end {
@@ -287,7 +281,7 @@ impl Search {
             return Ok(true);
         };
         if self.trail.event(other).level == 0 {
-            self.analysis.grounds.push(other)?;
+            push(&mut self.analysis.grounds, other)?;
             return Ok(true);
         }
         Ok(
@@ -341,11 +335,11 @@ impl Search {
             }
             last = number;
             if let Some(deed) = self.kept_deed(event.bound, event.why)? {
-                self.analysis.deeds.push(deed)?;
+                push(&mut self.analysis.deeds, deed)?;
             }
         }
         if let Some(deed) = self.clash_deed {
-            self.analysis.deeds.push(deed)?;
+            push(&mut self.analysis.deeds, deed)?;
         }
         self.record.add(
             &self.analysis.learned,
@@ -377,14 +371,13 @@ impl Search {
     }
 
     fn add_need(&mut self, literal: Literal) -> Result<(), AllocError> {
-        self.needs.push(literal)?;
-        Ok(())
+        push(&mut self.needs, literal)
     }
 
     fn explain_clause(&mut self, literal: Literal, clause: u32) -> Result<(), AllocError> {
         for other in self.clauses.literals_of(clause) {
             if other.bound != literal.bound || other.least < literal.least {
-                self.needs.push(other.opposite())?;
+                push(&mut self.needs, other.opposite())?;
             }
         }
         Ok(())

@@ -1,7 +1,7 @@
 //! What bounds give other bounds: the arcs of orders, and the arrivals. Bounds stand in this order: the least and the greatest offset
 //! of each stream, the least and the greatest flowspan, and for each order whether its left stream goes first, and whether its right
 //! one does. Times are in nanoseconds.
-use crate::number::{NONE, index, index_at, lengthen_indices, put_index};
+use crate::number::{NONE, index, index_at, item_at, push, put_index};
 use crate::table::{Order, Table};
 use std::alloc::{AllocError, Global};
 
@@ -22,6 +22,12 @@ pub struct Reach {
     pub order: u32,
     pub weight: i64,
 }
+
+const NO_REACH: Reach = Reach {
+    to: 0,
+    order: NONE,
+    weight: 0,
+};
 
 /// The arcs, by the bound that they come from.
 #[derive(Drop)]
@@ -56,8 +62,8 @@ impl Arcs {
         let streams = table.streams();
         let bounds = table.orders.len().wrapping_mul(2);
         self.times = streams.wrapping_mul(2).wrapping_add(2);
-        lengthen_indices(&mut self.least, NONE, bounds)?;
-        lengthen_indices(&mut self.greatest, NONE, bounds)?;
+        self.least.resize(bounds, NONE)?;
+        self.greatest.resize(bounds, NONE)?;
         for stream in 0..streams {
             self.note_stream(table, stream)?;
         }
@@ -90,50 +96,37 @@ impl Arcs {
 
     /// The arc of this number.
     pub fn arc(&self, number: u32) -> Arc {
-        let from = index_at(&self.sources, number as usize);
-        match self.list.get(number as usize) {
-            Some(reach) => Arc {
-                from,
-                to: reach.to,
-                order: reach.order,
-                weight: reach.weight,
-            },
-            None => Arc {
-                from: 0,
-                to: 0,
-                order: NONE,
-                weight: 0,
-            },
+        let reach = item_at(&self.list, number as usize, NO_REACH);
+        Arc {
+            from: item_at(&self.sources, number as usize, 0),
+            to: reach.to,
+            order: reach.order,
+            weight: reach.weight,
         }
     }
 
     /// The number of the first arc from a bound.
     pub fn start(&self, bound: usize) -> usize {
-        match self.starts.get(bound) {
-            Some(start) => *start,
-            None => self.list.len(),
-        }
+        item_at(&self.starts, bound, self.list.len())
     }
 
     /// The arc of an order between least offsets.
     pub fn least_arc(&self, order: u32) -> u32 {
-        arc_at(&self.least, (order as usize).wrapping_sub(self.times))
+        index_at(&self.least, (order as usize).wrapping_sub(self.times))
     }
 
     /// The arc of an order between greatest offsets.
     pub fn greatest_arc(&self, order: u32) -> u32 {
-        arc_at(&self.greatest, (order as usize).wrapping_sub(self.times))
+        index_at(&self.greatest, (order as usize).wrapping_sub(self.times))
     }
 
     fn begin(&mut self) -> Result<(), AllocError> {
-        self.starts.push(self.list.len())?;
-        Ok(())
+        push(&mut self.starts, self.list.len())
     }
 
     fn add(&mut self, from: usize, to: u32, order: u32, weight: i64) -> Result<(), AllocError> {
-        self.sources.push(index(from))?;
-        self.list.push(Reach { to, order, weight })?;
-        Ok(())
+        push(&mut self.sources, index(from))?;
+        push(&mut self.list, Reach { to, order, weight })
     }
 
     // The arcs from the least offset of a stream.
@@ -161,13 +154,6 @@ impl Arcs {
             }
         }
         Ok(())
-    }
-}
-
-fn arc_at(list: &[u32], place: usize) -> u32 {
-    match list.get(place) {
-        Some(number) => *number,
-        None => NONE,
     }
 }
 

@@ -1,6 +1,6 @@
 //! Questions: whether there is a schedule in which some literals hold, the premises.
 use crate::literal::Literal;
-use crate::number::{lengthen_marks, mark};
+use crate::number::{mark, push};
 use crate::reason::Why;
 use crate::search::Search;
 use crate::trail::holds;
@@ -37,8 +37,7 @@ impl Search {
 
     /// One more premise.
     pub fn add_premise(&mut self, literal: Literal) -> Result<(), AllocError> {
-        self.premises.push(literal)?;
-        Ok(())
+        push(&mut self.premises, literal)
     }
 
     /// Without premises.
@@ -135,7 +134,7 @@ impl Search {
         if self.clauses.learned > self.most_kept {
             self.most_kept = self.most_kept.wrapping_add(MORE);
             let mut is_needed = Vec::new(self.alloc);
-            lengthen_marks(&mut is_needed, self.clauses.list.len())?;
+            is_needed.resize(self.clauses.list.len(), false)?;
             for event in &self.trail.events {
                 if let Why::Clause(clause) = event.why {
                     mark(&mut is_needed, clause as usize, true);
@@ -195,7 +194,7 @@ impl Search {
         self.found.clear();
         for stream in 0..self.table.streams() {
             let least = self.low(stream);
-            self.found.push(least)?;
+            push(&mut self.found, least)?;
         }
         Ok(())
     }

@@ -1,8 +1,6 @@
 //! Which order is decided next: the one that conflicts asked for most of late (Moskewicz, Madigan, Zhao, Zhang and Malik 2001), from a
 //! binary heap.
-use crate::number::{
-    NONE, index, index_at, is_marked, lengthen_indices, lengthen_marks, mark, put_index,
-};
+use crate::number::{NONE, index, index_at, is_marked, item_at, mark, push, put_index, put_item};
 use std::alloc::{AllocError, Global};
 
 /// The orders that may be decided, by their numbers.
@@ -32,10 +30,10 @@ impl Choice {
 
     /// Puts so many orders in, all equal. The error says that there was no memory.
     pub fn fill(&mut self, orders: usize) -> Result<(), AllocError> {
-        lengthen_indices(&mut self.places, NONE, orders)?;
-        lengthen_marks(&mut self.sides, orders)?;
+        self.places.resize(orders, NONE)?;
+        self.sides.resize(orders, false)?;
         for order in 0..orders {
-            self.activities.push(0.0)?;
+            push(&mut self.activities, 0.0)?;
             self.put_in(index(order))?;
         }
         Ok(())
@@ -45,7 +43,7 @@ impl Choice {
     pub fn put_in(&mut self, order: u32) -> Result<(), AllocError> {
         if (order as usize) < self.places.len() && index_at(&self.places, order as usize) == NONE {
             let place = self.heap.len();
-            self.heap.push(order)?;
+            push(&mut self.heap, order)?;
             self.rise(order, place);
         }
         Ok(())
@@ -68,9 +66,7 @@ impl Choice {
     /// A conflict asked for this order.
     pub fn ask_for(&mut self, order: u32) {
         let activity = self.activity(order) + self.step;
-        if let Some(old) = self.activities.get_mut(order as usize) {
-            *old = activity;
-        }
+        put_item(&mut self.activities, order as usize, activity);
         if activity > 1e100 {
             self.scale_down();
         }
@@ -96,10 +92,7 @@ impl Choice {
     }
 
     fn activity(&self, order: u32) -> f64 {
-        match self.activities.get(order as usize) {
-            Some(activity) => *activity,
-            None => 0.0,
-        }
+        item_at(&self.activities, order as usize, 0.0)
     }
 
     fn scale_down(&mut self) {

@@ -1,6 +1,6 @@
 //! Clauses, each watched at two of its literals (Moskewicz, Madigan, Zhao, Zhang and Malik 2001).
 use crate::literal::{Literal, exchange, literal_at};
-use crate::number::index;
+use crate::number::{index, item_at, push, put_item};
 use std::alloc::{AllocError, Global};
 use std::mem;
 
@@ -19,12 +19,27 @@ pub struct Clause {
     pub is_gone: bool,
 }
 
+const NO_CLAUSE: Clause = Clause {
+    start: 0,
+    count: 0,
+    shown: 0,
+    levels: 0,
+    used: 0,
+    is_learned: false,
+    is_gone: true,
+};
+
 /// That a clause is looked at where the bound is at least this.
 #[derive(Clone, Copy)]
 pub struct Watch {
     pub clause: u32,
     pub least: i64,
 }
+
+const NO_WATCH: Watch = Watch {
+    clause: 0,
+    least: i64::MAX,
+};
 
 /// The clauses that watch a bound.
 #[derive(Drop)]
@@ -75,17 +90,14 @@ impl Clauses {
             let none = Watches {
                 list: Vec::new(alloc),
             };
-            self.watches.push(none)?;
+            push(&mut self.watches, none)?;
         }
         Ok(())
     }
 
     /// The clause of this number.
     pub fn clause(&self, number: u32) -> Clause {
-        match self.list.get(number as usize) {
-            Some(clause) => *clause,
-            None => no_clause(),
-        }
+        item_at(&self.list, number as usize, NO_CLAUSE)
     }
 
     /// The literals of a clause.
@@ -105,13 +117,11 @@ impl Clauses {
     ) -> Result<u32, AllocError> {
         let number = index(self.list.len());
         let start = self.literals.len();
-        for literal in literals {
-            self.literals.push(*literal)?;
-        }
+        self.literals.extend_from_slice(literals)?;
         for literal in literals.iter().take(2) {
             self.watch(*literal, number)?;
         }
-        self.list.push(Clause {
+        let clause = Clause {
             start,
             count: literals.len(),
             shown,
@@ -119,7 +129,8 @@ impl Clauses {
             used,
             is_learned,
             is_gone: false,
-        })?;
+        };
+        push(&mut self.list, clause)?;
         if is_learned {
             self.learned = self.learned.wrapping_add(1);
         }
@@ -145,9 +156,7 @@ impl Clauses {
         self.open.truncate(kept);
         if let Some(watches) = self.watches.get_mut(bound as usize) {
             mem::swap(&mut watches.list, &mut self.open);
-            for watch in &self.open {
-                watches.list.push(*watch)?;
-            }
+            watches.list.extend_from_slice(&self.open)?;
         }
         self.open.clear();
         Ok(())
@@ -155,20 +164,12 @@ impl Clauses {
 
     /// Writes a watch in hand.
     pub fn keep(&mut self, place: usize, watch: Watch) {
-        if let Some(old) = self.open.get_mut(place) {
-            *old = watch;
-        }
+        put_item(&mut self.open, place, watch);
     }
 
     /// The watch in hand of this place.
     pub fn in_hand(&self, place: usize) -> Watch {
-        match self.open.get(place) {
-            Some(watch) => *watch,
-            None => Watch {
-                clause: 0,
-                least: i64::MAX,
-            },
-        }
+        item_at(&self.open, place, NO_WATCH)
     }
 
     /// Looks at a clause one of whose watched literals, this one, is contradicted by now.
@@ -223,7 +224,7 @@ impl Clauses {
             least: opposite.least,
         };
         if let Some(watches) = self.watches.get_mut(opposite.place()) {
-            watches.list.push(watch)?;
+            push(&mut watches.list, watch)?;
         }
         Ok(())
     }
@@ -253,14 +254,11 @@ impl Clauses {
         let mut uses = Vec::new(alloc);
         for (number, clause) in self.list.iter().enumerate() {
             if may_go(clause, number, is_needed) {
-                uses.push(clause.used)?;
+                push(&mut uses, clause.used)?;
             }
         }
         uses.sort_unstable();
-        match uses.get(uses.len() / 2) {
-            Some(middle) => Ok(*middle),
-            None => Ok(0),
-        }
+        Ok(item_at(&uses, uses.len() / 2, 0))
     }
 
     // Drops the watches of clauses that are gone.
@@ -287,9 +285,8 @@ impl Clauses {
                 clause.count = 0;
             }
             let start = literals.len();
-            for literal in part_of(&self.literals, clause.start, clause.count) {
-                literals.push(*literal)?;
-            }
+            let own = part_of(&self.literals, clause.start, clause.count);
+            literals.extend_from_slice(own)?;
             clause.start = start;
         }
         self.literals = literals;
@@ -300,30 +297,20 @@ impl Clauses {
 
 /// So many literals from this place on.
 pub fn part_of(literals: &[Literal], start: usize, count: usize) -> &[Literal] {
-    match literals.get(start..start.wrapping_add(count)) {
-        Some(part) => part,
-        None => &[],
-    }
-}
-
-fn no_clause() -> Clause {
-    Clause {
-        start: 0,
-        count: 0,
-        shown: 0,
-        levels: 0,
-        used: 0,
-        is_learned: false,
-        is_gone: true,
+    let end = start.wrapping_add(count);
+    if start <= end && end <= literals.len() {
+        &literals[start..end]
+    } else {
+        &[]
     }
 }
 
 fn may_go(clause: &Clause, number: usize, is_needed: &[bool]) -> bool {
-    let is_free = match is_needed.get(number) {
-        Some(needed) => !*needed,
-        None => true,
-    };
-    is_free && clause.is_learned && !clause.is_gone && clause.count > 2 && clause.levels > 2
+    !item_at(is_needed, number, false)
+        && clause.is_learned
+        && !clause.is_gone
+        && clause.count > 2
+        && clause.levels > 2
 }
 
 fn is_same(one: Literal, other: Literal) -> bool {
@@ -331,8 +318,6 @@ fn is_same(one: Literal, other: Literal) -> bool {
 }
 
 fn is_true(values: &[i64], literal: Literal) -> bool {
-    match values.get(literal.place()) {
-        Some(value) => *value >= literal.least,
-        None => false,
-    }
+    let place = literal.place();
+    place < values.len() && values[place] >= literal.least
 }

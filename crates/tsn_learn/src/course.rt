@@ -4,7 +4,7 @@ use crate::ask::Answered;
 use crate::first::first_schedule;
 use crate::learning::{Budget, Hear, News};
 use crate::literal::Literal;
-use crate::number::{at, lengthen, less, next, put, signed, signed_list, sum};
+use crate::number::{at, copy, less, next, put, signed, signed_list, sum};
 use crate::search::Search;
 use crate::turn::Turn;
 use std::alloc::{AllocError, Global};
@@ -39,25 +39,10 @@ pub enum State {
     Open,
 }
 
-/// A course from a known schedule on, where there is one that is valid. The error says that there was no memory.
-pub fn begin(
-    alloc: Global,
-    timing: &Timing,
-    known: Option<&[u64]>,
-    budget: Budget,
-) -> Result<Course, AllocError> {
-    let mut course = course_of(alloc, timing, budget)?;
-    if let Some(offsets) = known {
-        course.take_known(alloc, timing, offsets)?;
-    }
-    course.take_first(alloc)?;
-    Ok(course)
-}
-
 /// A course without a schedule. The error says that there was no memory.
 pub fn course_of(alloc: Global, timing: &Timing, budget: Budget) -> Result<Course, AllocError> {
     let mut lows = Vec::new(alloc);
-    lengthen(&mut lows, 0, timing.streams())?;
+    lows.resize(timing.streams(), 0)?;
     Ok(Course {
         search: Search::of(alloc, timing)?,
         best: Vec::new(alloc),
@@ -71,6 +56,27 @@ pub fn course_of(alloc: Global, timing: &Timing, budget: Budget) -> Result<Cours
 }
 
 impl Course {
+    /// Begins with a known schedule, where there is one that is valid, and a first one of its own.
+    pub fn begin(
+        &mut self,
+        alloc: Global,
+        timing: &Timing,
+        known: Option<&[u64]>,
+    ) -> Result<(), AllocError> {
+        if let Some(offsets) = known {
+            self.take_known(alloc, timing, offsets)?;
+        }
+        self.take_first(alloc)
+    }
+
+    /// Takes the plan of another course. The budget is one for both.
+    pub fn take_plan(&mut self, alloc: Global, other: &Course) -> Result<(), AllocError> {
+        self.search.pace = other.search.pace;
+        self.best = copy(alloc, &other.best)?;
+        self.flowspan = other.flowspan;
+        Ok(())
+    }
+
     fn take_known(
         &mut self,
         alloc: Global,

@@ -1,5 +1,5 @@
 //! Searches for the first of the optimal schedules; and once more with the plan known, for a shorter argument. Times are in nanoseconds.
-use crate::course::{Course, State, begin, course_of};
+use crate::course::{Course, State, course_of};
 use crate::number::{copy, sum, unsigned_list};
 use crate::pace::Pace;
 use crate::writing::{Aim, write_argument};
@@ -90,8 +90,8 @@ pub fn learn<H: Hear>(
     budget: Budget,
     hear: &H,
 ) -> Result<Answer, NoMemory> {
-    let mut course = begin(alloc, timing, known, budget)?;
-    let answered = course.answer(alloc, timing, budget, hear);
+    let mut course = course_of(alloc, timing, budget)?;
+    let answered = course.answer_from(alloc, timing, known, budget, hear);
     drop(course);
     Ok(answered?)
 }
@@ -108,6 +108,18 @@ impl Budget {
 }
 
 impl Course {
+    fn answer_from<H: Hear>(
+        &mut self,
+        alloc: Global,
+        timing: &Timing,
+        known: Option<&[u64]>,
+        budget: Budget,
+        hear: &H,
+    ) -> Result<Answer, AllocError> {
+        self.begin(alloc, timing, known)?;
+        self.answer(alloc, timing, budget, hear)
+    }
+
     fn answer<H: Hear>(
         &mut self,
         alloc: Global,
@@ -133,31 +145,19 @@ impl Course {
         budget: Budget,
         hear: &H,
     ) -> Result<Option<Argument>, AllocError> {
-        let mut course = self.begin_again(alloc, timing, budget)?;
-        let argument = course.argue_again(alloc, hear);
+        let mut course = course_of(alloc, timing, budget.to_end_by(&self.search.pace))?;
+        let argument = course.argue_again(alloc, self, hear);
         drop(course);
         argument
-    }
-
-    fn begin_again(
-        &self,
-        alloc: Global,
-        timing: &Timing,
-        budget: Budget,
-    ) -> Result<Course, AllocError> {
-        let mut course = course_of(alloc, timing, budget.to_end_by(&self.search.pace))?;
-        // The budget is one for both.
-        course.search.pace = self.search.pace;
-        course.best = copy(alloc, &self.best)?;
-        course.flowspan = self.flowspan;
-        Ok(course)
     }
 
     fn argue_again<H: Hear>(
         &mut self,
         alloc: Global,
+        first: &Course,
         hear: &H,
     ) -> Result<Option<Argument>, AllocError> {
+        self.take_plan(alloc, first)?;
         if !self.confirm(hear)? {
             return Ok(None);
         }

@@ -1,6 +1,6 @@
 //! When a link is busy, where each stream goes as early as it can, in as many parts as it takes (the time line of Fahimi, Ouellet and
 //! Quimper 2018). Times are in nanoseconds.
-use crate::number::{FAR, less, next, sum};
+use crate::number::{FAR, item_at, less, next, push, put_item, sum};
 use crate::set::Set;
 use std::alloc::{AllocError, Global};
 
@@ -17,6 +17,15 @@ pub struct Standing {
     /// In the order of ends: the most work of those of greater end, where it's the last one of its end; else far less than none.
     pub most: i64,
 }
+
+const NO_STANDING: Standing = Standing {
+    place: 0,
+    head: FAR,
+    end: FAR,
+    work: 0,
+    rank: 0,
+    most: 0,
+};
 
 /// When the link is busy.
 #[derive(Drop)]
@@ -62,7 +71,7 @@ impl Line {
     /// Makes it one of so many streams. The error says that there was no memory.
     pub fn size(&mut self, most: usize) -> Result<(), AllocError> {
         for _ in 0..next(next(most)) {
-            self.blocks.push(LONG_AGO)?;
+            push(&mut self.blocks, LONG_AGO)?;
         }
         Ok(())
     }
@@ -159,16 +168,11 @@ impl Line {
     }
 
     fn block(&self, place: usize) -> Block {
-        match self.blocks.get(place) {
-            Some(block) => *block,
-            None => LONG_AGO,
-        }
+        item_at(&self.blocks, place, LONG_AGO)
     }
 
     fn put(&mut self, place: usize, block: Block) {
-        if let Some(old) = self.blocks.get_mut(place) {
-            *old = block;
-        }
+        put_item(&mut self.blocks, place, block);
     }
 
     /// When those taken in are done, with one more of some streams, by their ranks in the order of heads: none has more work than the
@@ -226,15 +230,5 @@ impl Line {
 
 /// The stream of this place in a row.
 pub fn standing_at(row: &[Standing], place: usize) -> Standing {
-    match row.get(place) {
-        Some(standing) => *standing,
-        None => Standing {
-            place: 0,
-            head: FAR,
-            end: FAR,
-            work: 0,
-            rank: 0,
-            most: 0,
-        },
-    }
+    item_at(row, place, NO_STANDING)
 }

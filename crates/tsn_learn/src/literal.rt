@@ -1,6 +1,6 @@
 //! Bounds of variables as literals (lazy clause generation: Ohrimenko, Stuckey and Codish 2007). A variable has two bounds: its least
 //! value, and its greatest value with the sign turned. So each bound grows when it's narrowed.
-use crate::number::less;
+use crate::number::{item_at, less, put_item};
 
 /// That a bound is at least this.
 #[derive(Clone, Copy)]
@@ -33,20 +33,11 @@ impl Literal {
 pub fn exchange(literals: &mut [Literal], one: usize, other: usize) {
     let first = literal_at(literals, one);
     let second = literal_at(literals, other);
-    put_literal(literals, one, second);
-    put_literal(literals, other, first);
+    put_item(literals, one, second);
+    put_item(literals, other, first);
 }
 
 /// The literal of this place.
 pub fn literal_at(literals: &[Literal], place: usize) -> Literal {
-    match literals.get(place) {
-        Some(literal) => *literal,
-        None => Literal::of(0, 0),
-    }
-}
-
-fn put_literal(literals: &mut [Literal], place: usize, literal: Literal) {
-    if let Some(old) = literals.get_mut(place) {
-        *old = literal;
-    }
+    item_at(literals, place, Literal::of(0, 0))
 }

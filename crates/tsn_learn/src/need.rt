@@ -1,6 +1,6 @@
 //! What an argument needs of what a search found out: by going back from its end.
 use crate::literal::Literal;
-use crate::number::{index, is_marked, lengthen_marks, mark};
+use crate::number::{index, is_marked, mark, push};
 use crate::reason::{Deed, Why};
 use crate::search::Search;
 use std::alloc::{AllocError, Global};
@@ -30,8 +30,7 @@ impl Needed {
             return Ok(());
         }
         mark(&mut self.events, number as usize, true);
-        self.open_events.push(number)?;
-        Ok(())
+        push(&mut self.open_events, number)
     }
 
     fn meet_shown(&mut self, number: u32) -> Result<(), AllocError> {
@@ -39,8 +38,7 @@ impl Needed {
             return Ok(());
         }
         mark(&mut self.shown, number as usize, true);
-        self.open_shown.push(number)?;
-        Ok(())
+        push(&mut self.open_shown, number)
     }
 }
 
@@ -55,8 +53,8 @@ impl Search {
     }
 
     fn meet_first(&self, literals: &[Literal], needed: &mut Needed) -> Result<(), AllocError> {
-        lengthen_marks(&mut needed.events, self.trail.events.len())?;
-        lengthen_marks(&mut needed.shown, self.record.count())?;
+        needed.events.resize(self.trail.events.len(), false)?;
+        needed.shown.resize(self.record.count(), false)?;
         if !self.is_open {
             needed.meet_shown(index(self.record.count().wrapping_sub(1)))?;
         }

@@ -7,19 +7,36 @@ pub const FAR: i64 = 1_000_000_000_000;
 /// No place.
 pub const NONE: u32 = 0xFFFF_FFFF;
 
+/// The item at this place; another one where there is none.
+pub fn item_at<T: Copy>(items: &[T], place: usize, other: T) -> T {
+    if place < items.len() {
+        items[place]
+    } else {
+        other
+    }
+}
+
+/// Writes an item at this place.
+pub fn put_item<T: Copy>(items: &mut [T], place: usize, item: T) {
+    if place < items.len() {
+        items[place] = item;
+    }
+}
+
+/// Puts one more behind the others. The error says that there was no memory.
+pub fn push<T: Drop>(items: &mut Vec<T>, item: T) -> Result<(), AllocError> {
+    items.push(item)?;
+    Ok(())
+}
+
 /// The number at this place; 0 where there is none.
 pub fn at(numbers: &[i64], place: usize) -> i64 {
-    match numbers.get(place) {
-        Some(number) => *number,
-        None => 0,
-    }
+    item_at(numbers, place, 0)
 }
 
 /// Writes a number at this place.
 pub fn put(numbers: &mut [i64], place: usize, number: i64) {
-    if let Some(old) = numbers.get_mut(place) {
-        *old = number;
-    }
+    put_item(numbers, place, number);
 }
 
 /// Writes the same number at each place.
@@ -31,32 +48,22 @@ pub fn fill(numbers: &mut [i64], number: i64) {
 
 /// The index at this place; none where there is none.
 pub fn index_at(indices: &[u32], place: usize) -> u32 {
-    match indices.get(place) {
-        Some(index) => *index,
-        None => NONE,
-    }
+    item_at(indices, place, NONE)
 }
 
 /// Writes an index at this place.
 pub fn put_index(indices: &mut [u32], place: usize, index: u32) {
-    if let Some(old) = indices.get_mut(place) {
-        *old = index;
-    }
+    put_item(indices, place, index);
 }
 
 /// The mark at this place; false where there is none.
 pub fn is_marked(marks: &[bool], place: usize) -> bool {
-    match marks.get(place) {
-        Some(mark) => *mark,
-        None => false,
-    }
+    item_at(marks, place, false)
 }
 
 /// Writes a mark at this place.
 pub fn mark(marks: &mut [bool], place: usize, is_set: bool) {
-    if let Some(old) = marks.get_mut(place) {
-        *old = is_set;
-    }
+    put_item(marks, place, is_set);
 }
 
 /// The number as an index.
@@ -79,38 +86,10 @@ pub fn next(place: usize) -> usize {
     place.wrapping_add(1)
 }
 
-/// Puts the same number behind the others so many times.
-pub fn lengthen(numbers: &mut Vec<i64>, number: i64, count: usize) -> Result<(), AllocError> {
-    for _ in 0..count {
-        numbers.push(number)?;
-    }
-    Ok(())
-}
-
-/// Puts the same index behind the others so many times.
-pub fn lengthen_indices(
-    indices: &mut Vec<u32>,
-    index: u32,
-    count: usize,
-) -> Result<(), AllocError> {
-    for _ in 0..count {
-        indices.push(index)?;
-    }
-    Ok(())
-}
-
-/// Puts so many marks that aren't set behind the others.
-pub fn lengthen_marks(marks: &mut Vec<bool>, count: usize) -> Result<(), AllocError> {
-    for _ in 0..count {
-        marks.push(false)?;
-    }
-    Ok(())
-}
-
 /// Puts the numbers below this one behind the others.
 pub fn count_up(places: &mut Vec<usize>, count: usize) -> Result<(), AllocError> {
     for place in 0..count {
-        places.push(place)?;
+        push(places, place)?;
     }
     Ok(())
 }
@@ -127,7 +106,7 @@ pub fn signed(number: u64) -> i64 {
 pub fn signed_list(alloc: Global, offsets: &[u64]) -> Result<Vec<i64>, AllocError> {
     let mut list = Vec::with_capacity(alloc, offsets.len())?;
     for offset in offsets {
-        list.push(signed(*offset))?;
+        push(&mut list, signed(*offset))?;
     }
     Ok(list)
 }
@@ -136,16 +115,14 @@ pub fn signed_list(alloc: Global, offsets: &[u64]) -> Result<Vec<i64>, AllocErro
 pub fn unsigned_list(alloc: Global, offsets: &[i64]) -> Result<Vec<u64>, AllocError> {
     let mut list = Vec::with_capacity(alloc, offsets.len())?;
     for offset in offsets {
-        list.push(offset.unsigned_abs())?;
+        push(&mut list, offset.unsigned_abs())?;
     }
     Ok(list)
 }
 
 /// The same offsets.
 pub fn copy(alloc: Global, offsets: &[i64]) -> Result<Vec<i64>, AllocError> {
-    let mut list = Vec::with_capacity(alloc, offsets.len())?;
-    for offset in offsets {
-        list.push(*offset)?;
-    }
+    let mut list = Vec::new(alloc);
+    list.extend_from_slice(offsets)?;
     Ok(list)
 }

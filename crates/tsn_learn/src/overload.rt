@@ -1,6 +1,6 @@
 //! Why streams don't fit on a link: as few of them as will do, and each bound as weak as will do. Times are in nanoseconds.
 use crate::literal::Literal;
-use crate::number::{index_at, less, put_index, sum};
+use crate::number::{index_at, less, push, put_index, sum};
 use crate::propagate::{end_literal, head_literal};
 use crate::reason::Deed;
 use crate::rooms::Overload;
@@ -25,9 +25,9 @@ impl Search {
             };
             let visit = self.table.visit(packing.link as usize, place);
             let head = head_literal(visit, packing.side, begin);
-            self.clash.push(head)?;
+            push(&mut self.clash, head)?;
             let last = end_literal(visit, packing.side, end);
-            self.clash.push(last)?;
+            push(&mut self.clash, last)?;
         }
         let kept = self.record.keep_packing(packing)?;
         self.clash_deed = Some(Deed::Pack(kept));

@@ -2,7 +2,7 @@
 use crate::arcs::Arc;
 use crate::clauses::Found;
 use crate::literal::Literal;
-use crate::number::{at, index, less, next, sum};
+use crate::number::{at, index, less, next, push, sum};
 use crate::reason::Why;
 use crate::search::Search;
 use crate::table::Visit;
@@ -93,7 +93,7 @@ impl Search {
         }
         self.clash.clear();
         for other in self.clauses.literals_of(clause) {
-            self.clash.push(other.opposite())?;
+            push(&mut self.clash, other.opposite())?;
         }
         self.clash_deed = self.deed_of(literal.bound, Why::Clause(clause));
         self.clauses.note_use(clause, self.pace.conflicts);
@@ -104,7 +104,7 @@ impl Search {
     fn follow_arcs(&mut self, bound: u32) -> Result<bool, AllocError> {
         let from = self.arcs.start(bound as usize);
         let to = self.arcs.start(next(bound as usize));
-        self.pace.spend(less_place(to, from));
+        self.pace.spend(to.wrapping_sub(from));
         let value = self.trail.value(bound);
         let mut place = from;
         for _ in from..to {
@@ -231,7 +231,7 @@ impl Search {
             return Ok(true);
         }
         let why = Why::Placing(index(self.trail.placings.len()));
-        self.trail.placings.push(found.placing)?;
+        push(&mut self.trail.placings, found.placing)?;
         self.raise(literal, why)
     }
 }
@@ -259,8 +259,4 @@ pub fn head_literal(visit: Visit, side: u32, head: i64) -> Literal {
 pub fn end_literal(visit: Visit, side: u32, end: i64) -> Literal {
     let least = less(sum(lead(visit, side), visit.work), end);
     Literal::of(bound_of(visit, side) ^ 1, least)
-}
-
-fn less_place(one: usize, other: usize) -> usize {
-    one.wrapping_sub(other)
 }

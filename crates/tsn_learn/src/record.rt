@@ -1,7 +1,7 @@
 //! What was shown: the learned clauses, each with the deeds by which it follows.
 use crate::clauses::part_of;
 use crate::literal::Literal;
-use crate::number::{index, next};
+use crate::number::{index, item_at, next, push};
 use crate::reason::{Deed, Packing, Placing};
 use std::alloc::{AllocError, Global};
 
@@ -51,34 +51,25 @@ impl Record {
         grounds: &[u32],
     ) -> Result<u32, AllocError> {
         let number = index(self.list.len());
-        self.list.push(Shown {
-            literals: self.literals.len(),
-            deeds: self.deeds.len(),
-            grounds: self.grounds.len(),
-        })?;
-        for literal in literals {
-            self.literals.push(*literal)?;
-        }
-        for deed in deeds {
-            self.deeds.push(*deed)?;
-        }
-        for ground in grounds {
-            self.grounds.push(*ground)?;
-        }
+        let end = self.end();
+        push(&mut self.list, end)?;
+        self.literals.extend_from_slice(literals)?;
+        self.deeds.extend_from_slice(deeds)?;
+        self.grounds.extend_from_slice(grounds)?;
         Ok(number)
     }
 
     /// Keeps a placing, and answers its number.
     pub fn keep_placing(&mut self, placing: Placing) -> Result<u32, AllocError> {
         let number = index(self.placings.len());
-        self.placings.push(placing)?;
+        push(&mut self.placings, placing)?;
         Ok(number)
     }
 
     /// Keeps a packing, and answers its number.
     pub fn keep_packing(&mut self, packing: Packing) -> Result<u32, AllocError> {
         let number = index(self.packings.len());
-        self.packings.push(packing)?;
+        push(&mut self.packings, packing)?;
         Ok(number)
     }
 
@@ -93,9 +84,10 @@ impl Record {
     pub fn deeds(&self, number: usize) -> &[Deed] {
         let from = self.begin(number).deeds;
         let to = self.begin(next(number)).deeds;
-        match self.deeds.get(from..to) {
-            Some(part) => part,
-            None => &[],
+        if from <= to && to <= self.deeds.len() {
+            &self.deeds[from..to]
+        } else {
+            &[]
         }
     }
 
@@ -103,20 +95,23 @@ impl Record {
     pub fn grounds(&self, number: usize) -> &[u32] {
         let from = self.begin(number).grounds;
         let to = self.begin(next(number)).grounds;
-        match self.grounds.get(from..to) {
-            Some(part) => part,
-            None => &[],
+        if from <= to && to <= self.grounds.len() {
+            &self.grounds[from..to]
+        } else {
+            &[]
         }
     }
 
     fn begin(&self, number: usize) -> Shown {
-        match self.list.get(number) {
-            Some(shown) => *shown,
-            None => Shown {
-                literals: self.literals.len(),
-                deeds: self.deeds.len(),
-                grounds: self.grounds.len(),
-            },
+        item_at(&self.list, number, self.end())
+    }
+
+    // Where the next clause begins.
+    fn end(&self) -> Shown {
+        Shown {
+            literals: self.literals.len(),
+            deeds: self.deeds.len(),
+            grounds: self.grounds.len(),
         }
     }
 }

@@ -3,7 +3,7 @@
 //! the greatest at which its occupancy may end. Seen from the end of the cycle, on side 1, each number's sign is turned and heads are
 //! ends. Times are in nanoseconds.
 use crate::line::{Line, Standing, standing_at};
-use crate::number::{FAR, at, index, lengthen, lengthen_marks, less, mark, next, put, sum};
+use crate::number::{FAR, at, index, is_marked, less, mark, next, push, put, sum};
 use crate::reason::{Packing, Placing};
 use crate::rows::{Ease, Room, Rows};
 use crate::set::Set;
@@ -83,12 +83,12 @@ impl Rooms {
             most = most.max(shared.visits.len());
             self.add_room(alloc, shared)?;
         }
-        lengthen_marks(&mut self.is_waiting, table.links.len())?;
+        self.is_waiting.resize(table.links.len(), false)?;
         self.view.size(most)
     }
 
     fn add_room(&mut self, alloc: Global, shared: &Shared) -> Result<(), AllocError> {
-        self.rooms.push(Room::none(alloc))?;
+        push(&mut self.rooms, Room::none(alloc))?;
         match self.rooms.last_mut() {
             Some(room) => room.fill(&shared.visits),
             None => Ok(()),
@@ -102,13 +102,11 @@ impl Rooms {
 
     /// Notes that a link is to be looked at.
     pub fn call(&mut self, link: usize) -> Result<(), AllocError> {
-        if let Some(is_waiting) = self.is_waiting.get_mut(link) {
-            if !*is_waiting {
-                *is_waiting = true;
-                return Ok(self.waiting.push(index(link))?);
-            }
+        if link >= self.is_waiting.len() || is_marked(&self.is_waiting, link) {
+            return Ok(());
         }
-        Ok(())
+        mark(&mut self.is_waiting, link, true);
+        push(&mut self.waiting, index(link))
     }
 
     /// The link that is to be looked at next.
@@ -192,9 +190,9 @@ impl View {
     // Makes it one of so many streams.
     fn size(&mut self, most: usize) -> Result<(), AllocError> {
         self.line.size(most)?;
-        lengthen(&mut self.rest, 0, most)?;
-        lengthen(&mut self.done, 0, most)?;
-        lengthen(&mut self.source, 0, most)
+        self.rest.resize(most, 0)?;
+        self.done.resize(most, 0)?;
+        self.source.resize(most, 0)
     }
 
     // Takes the streams in one after another, a lesser end first.
@@ -296,7 +294,7 @@ impl View {
                 continue;
             }
             if at(&self.done, from) > own.head {
-                found.push(self.placing(heads, sight, own, from))?;
+                push(found, self.placing(heads, sight, own, from))?;
             }
         }
         Ok(())

@@ -5,13 +5,14 @@ use crate::arcs::Arcs;
 use crate::choice::Choice;
 use crate::clauses::Clauses;
 use crate::literal::Literal;
-use crate::number::{NONE, at, index, lengthen_indices, less, sum};
+use crate::number::{NONE, at, index, less, push, sum};
 use crate::pace::Pace;
 use crate::reason::{Deed, Why};
 use crate::record::Record;
 use crate::rooms::Rooms;
 use crate::table::Table;
 use crate::trail::Trail;
+use crate::view::is_impossible;
 use std::alloc::{AllocError, Global};
 use tsn_timing::Timing;
 
@@ -53,8 +54,13 @@ impl Search {
     /// A search with nothing given but the network. The error says that there was no memory.
     pub fn of(alloc: Global, timing: &Timing) -> Result<Search, AllocError> {
         let mut search = Search::none(alloc, timing);
-        search.fill(timing)?;
-        Ok(search)
+        match search.fill(timing) {
+            Ok(()) => Ok(search),
+            Err(error) => {
+                drop(search);
+                Err(error)
+            }
+        }
     }
 
     fn none(alloc: Global, timing: &Timing) -> Search {
@@ -101,7 +107,7 @@ impl Search {
         self.clauses.size(self.alloc, bounds)?;
         self.analysis.size(bounds)?;
         self.choice.fill(self.table.orders.len())?;
-        lengthen_indices(&mut self.late, 0, 128)
+        self.late.resize(128, 0)
     }
 
     /// The bound of the least offset of a stream.
@@ -121,13 +127,7 @@ impl Search {
 
     /// Whether some variable has no value left.
     fn is_empty(&self) -> bool {
-        for stream in 0..=self.table.streams() {
-            let least = self.trail.value(self.least(stream));
-            if least > self.trail.value(self.least(stream) ^ 1).wrapping_neg() {
-                return true;
-            }
-        }
-        false
+        is_impossible(&self.trail.values, self.times as usize)
     }
 
     // What follows before anything is given.
@@ -191,8 +191,7 @@ impl Search {
         self.clash_deed = self.kept_deed(literal.bound, why)?;
         self.explain(known.opposite(), why)?;
         std::mem::swap(&mut self.needs, &mut self.clash);
-        self.clash.push(known)?;
-        Ok(())
+        push(&mut self.clash, known)
     }
 
     // The links of a stream whose offset's bound changed are to be looked at.

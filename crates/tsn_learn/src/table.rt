@@ -2,7 +2,7 @@
 ghost use Rattle.std.specs.Prelude.{◌<◌, ◌≤◌, length};
 ghost use Rattle.tsn_model.specs.Network.{stream_count};
 
-use crate::number::{NONE, index, lengthen_indices, less, put_index, signed, sum};
+use crate::number::{NONE, index, index_at, item_at, less, push, put_index, signed, sum};
 use std::alloc::{AllocError, Global};
 use tsn_timing::Timing;
 
@@ -67,6 +67,30 @@ pub struct Order {
     pub end: usize,
 }
 
+const NO_BODY: Body = Body {
+    release: 0,
+    arrival: 0,
+    latest: 0,
+};
+
+const NO_VISIT: Visit = Visit {
+    stream: 0,
+    start: 0,
+    work: 0,
+};
+
+const NO_ORDER: Order = Order {
+    left: 0,
+    right: 0,
+    left_first: 0,
+    right_first: 0,
+    left_link: 0,
+    right_link: 0,
+    own_right_first: 0,
+    first: 0,
+    end: 0,
+};
+
 /// The numbers of a network.
 #[derive(Drop)]
 pub struct Table {
@@ -95,11 +119,11 @@ impl Table {
     /// Puts the streams in. The error says that there was no memory.
     pub fn fill(&mut self, alloc: Global, timing: &Timing) -> Result<(), AllocError> {
         let mut places = Vec::new(alloc);
-        lengthen_indices(&mut places, NONE, timing.links())?;
+        places.resize(timing.links(), NONE)?;
         self.note_links(alloc, timing, &mut places)?;
         for stream in 0..timing.streams() {
             let stays = stays_of(alloc, timing, stream, &places)?;
-            self.stays.push(stays)?;
+            push(&mut self.stays, stays)?;
         }
         self.note_bodies(timing)?;
         for left in 0..timing.streams() {
@@ -123,7 +147,7 @@ impl Table {
 
     fn note_bodies(&mut self, timing: &Timing) -> Result<(), AllocError> {
         for stream in 0..timing.streams() {
-            self.bodies.push(body_of(timing, stream))?;
+            push(&mut self.bodies, body_of(timing, stream))?;
         }
         Ok(())
     }
@@ -131,14 +155,14 @@ impl Table {
     /// Puts the bounds that there are before anything is given behind the others.
     pub fn put_values(&self, values: &mut Vec<i64>) -> Result<(), AllocError> {
         for body in &self.bodies {
-            values.push(body.release)?;
-            values.push(body.latest.wrapping_neg())?;
+            push(values, body.release)?;
+            push(values, body.latest.wrapping_neg())?;
         }
-        values.push(0)?;
-        values.push(self.cycle.wrapping_neg())?;
+        push(values, 0)?;
+        push(values, self.cycle.wrapping_neg())?;
         for _ in 0..self.orders.len() {
-            values.push(0)?;
-            values.push(-1)?;
+            push(values, 0)?;
+            push(values, -1)?;
         }
         Ok(())
     }
@@ -149,39 +173,19 @@ impl Table {
 
     /// The order of this number.
     pub fn order(&self, number: usize) -> Order {
-        match self.orders.get(number) {
-            Some(order) => *order,
-            None => Order {
-                left: 0,
-                right: 0,
-                left_first: 0,
-                right_first: 0,
-                left_link: 0,
-                right_link: 0,
-                own_right_first: 0,
-                first: 0,
-                end: 0,
-            },
-        }
+        item_at(&self.orders, number, NO_ORDER)
     }
 
     /// When the stream arrives, from its offset on.
     pub fn arrival(&self, stream: usize) -> i64 {
-        match self.bodies.get(stream) {
-            Some(body) => body.arrival,
-            None => 0,
-        }
+        item_at(&self.bodies, stream, NO_BODY).arrival
     }
 
     /// The visit of this place on a shared link.
     pub fn visit(&self, link: usize, place: usize) -> Visit {
         match self.links.get(link) {
-            Some(shared) => visit_at(&shared.visits, place),
-            None => Visit {
-                stream: 0,
-                start: 0,
-                work: 0,
-            },
+            Some(shared) => item_at(&shared.visits, place, NO_VISIT),
+            None => NO_VISIT,
         }
     }
 
@@ -240,8 +244,7 @@ impl Table {
             number: link,
             visits,
         };
-        self.links.push(shared)?;
-        Ok(())
+        push(&mut self.links, shared)
     }
 
     // The conflicts of a stream with those of greater numbers.
@@ -270,14 +273,14 @@ impl Table {
         let mut open = None;
         for conflict in conflicts {
             let number = self.conflicts.len();
-            self.conflicts.push(*conflict)?;
+            push(&mut self.conflicts, *conflict)?;
             open = match open {
                 Some(order) => Some(self.note_conflict(order, *conflict, number)?),
                 None => Some(order_of(left, right, *conflict, number)),
             };
         }
         match open {
-            Some(order) => Ok(self.orders.push(order)?),
+            Some(order) => push(&mut self.orders, order),
             None => Ok(()),
         }
     }
@@ -290,7 +293,7 @@ impl Table {
         number: usize,
     ) -> Result<Order, AllocError> {
         if conflict.right_first.wrapping_neg() >= order.left_first {
-            self.orders.push(order)?;
+            push(&mut self.orders, order)?;
             return Ok(order_of(order.left, order.right, conflict, number));
         }
         order.end = number.wrapping_add(1);
@@ -300,18 +303,6 @@ impl Table {
             order.own_right_first = conflict.right_first;
         }
         Ok(order)
-    }
-}
-
-/// The visit of this place.
-pub fn visit_at(visits: &[Visit], place: usize) -> Visit {
-    match visits.get(place) {
-        Some(visit) => *visit,
-        None => Visit {
-            stream: 0,
-            start: 0,
-            work: 0,
-        },
     }
 }
 
@@ -346,7 +337,7 @@ fn visits_of(alloc: Global, timing: &Timing, link: usize) -> Result<Vec<Visit>, 
     let mut visits = Vec::new(alloc);
     for stream in 0..timing.streams() {
         if let Some(visit) = visit_of(timing, stream, link) {
-            visits.push(visit)?;
+            push(&mut visits, visit)?;
         }
     }
     Ok(visits)
@@ -377,10 +368,9 @@ fn stays_of(
     let mut links = Vec::new(alloc);
     if stream < timing.streams() {
         for hop in 0..timing.hops(stream) {
-            if let Some(place) = places.get(timing.route_link(stream, hop)) {
-                if *place != NONE {
-                    links.push(*place)?;
-                }
+            let place = index_at(places, timing.route_link(stream, hop));
+            if place != NONE {
+                push(&mut links, place)?;
             }
         }
     }

@@ -1,10 +1,7 @@
 //! The bounds of the variables, and the changes that led to them, one after another.
 use crate::arcs::Reach;
 use crate::literal::Literal;
-use crate::number::{
-    NONE, at, index, index_at, is_marked, lengthen, lengthen_indices, lengthen_marks, mark, put,
-    put_index,
-};
+use crate::number::{NONE, at, index, index_at, is_marked, item_at, mark, push, put, put_index};
 use crate::reason::{Placing, Why};
 use std::alloc::{AllocError, Global};
 
@@ -22,6 +19,16 @@ pub struct Event {
     pub new: i64,
     pub why: Why,
 }
+
+const NO_EVENT: Event = Event {
+    bound: NONE,
+    before: NONE,
+    level: 0,
+    shown: 0,
+    old: 0,
+    new: 0,
+    why: Why::Decided,
+};
 
 // Where a level begins.
 #[derive(Clone, Copy)]
@@ -67,22 +74,14 @@ impl Trail {
 
     /// Notes that no bound was changed. The error says that there was no memory.
     pub fn size(&mut self) -> Result<(), AllocError> {
-        lengthen(&mut self.followed, i64::MIN, self.values.len())?;
-        lengthen_marks(&mut self.held, self.values.len())?;
-        lengthen_indices(&mut self.tops, NONE, self.values.len())
+        self.followed.resize(self.values.len(), i64::MIN)?;
+        self.held.resize(self.values.len(), false)?;
+        self.tops.resize(self.values.len(), NONE)
     }
 
     /// How many decisions there are.
     pub fn level(&self) -> usize {
         self.marks.len()
-    }
-
-    /// How many changes there were before the first decision.
-    pub fn grounded(&self) -> usize {
-        match self.marks.first() {
-            Some(mark) => mark.events,
-            None => self.events.len(),
-        }
     }
 
     /// Where the bound stands.
@@ -107,10 +106,7 @@ impl Trail {
 
     /// Whether the order's side of this bound holds; that of no bound always does.
     pub fn holds(&self, order: u32) -> bool {
-        match self.held.get(order as usize) {
-            Some(is_held) => *is_held,
-            None => true,
-        }
+        item_at(&self.held, order as usize, true)
     }
 
     /// Whether something follows from an arc by which its target is at least this, if the order holds: that the target is, or that the
@@ -126,18 +122,7 @@ impl Trail {
 
     /// The change of this number.
     pub fn event(&self, number: u32) -> Event {
-        match self.events.get(number as usize) {
-            Some(event) => *event,
-            None => Event {
-                bound: NONE,
-                before: NONE,
-                level: 0,
-                shown: 0,
-                old: 0,
-                new: 0,
-                why: Why::Decided,
-            },
-        }
+        item_at(&self.events, number as usize, NO_EVENT)
     }
 
     /// The number of the change by which the literal came to hold. None where it held from the start.
@@ -167,8 +152,7 @@ impl Trail {
             events: self.events.len(),
             placings: self.placings.len(),
         };
-        self.marks.push(mark)?;
-        Ok(())
+        push(&mut self.marks, mark)
     }
 
     /// Notes that it's looked at what follows from a bound. False where that was done when it stood where it stands.
@@ -193,7 +177,7 @@ impl Trail {
             new: literal.least,
             why,
         };
-        self.events.push(event)?;
+        push(&mut self.events, event)?;
         put_index(&mut self.tops, literal.place(), number);
         put(&mut self.values, literal.place(), literal.least);
         mark(&mut self.held, literal.place(), true);

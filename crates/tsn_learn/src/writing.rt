@@ -1,10 +1,7 @@
 //! Writes the argument of what a search found out.
 use crate::literal::Literal;
 use crate::need::Needed;
-use crate::number::{
-    NONE, at, index, index_at, is_marked, lengthen_indices, lengthen_marks, mark, next, put_index,
-    sum,
-};
+use crate::number::{NONE, at, index, index_at, is_marked, mark, next, push, put_index, sum};
 use crate::reason::{Deed, Placing, Why};
 use crate::search::Search;
 use crate::set::Set;
@@ -67,11 +64,11 @@ fn goals_of(alloc: Global, search: &Search, aim: Aim<'_>) -> Result<Vec<Literal>
     if !search.is_open {
         return Ok(goals);
     }
-    goals.push(Literal::of(search.span(), aim.flowspan))?;
+    push(&mut goals, Literal::of(search.span(), aim.flowspan))?;
     if aim.goal == Goal::First {
         for (stream, offset) in aim.plan.iter().enumerate() {
             let literal = Literal::of(search.least(stream), *offset);
-            goals.push(literal)?;
+            push(&mut goals, literal)?;
         }
     }
     Ok(goals)
@@ -117,10 +114,10 @@ impl Writing<'_> {
 
     fn size(&mut self) -> Result<(), AllocError> {
         let orders = self.search.table.orders.len();
-        lengthen_indices(&mut self.numbers, NONE, self.search.record.count())?;
-        lengthen_indices(&mut self.bridges, NONE, orders)?;
-        lengthen_marks(&mut self.is_ground_over, orders)?;
-        lengthen_marks(&mut self.is_over, orders)
+        self.numbers.resize(self.search.record.count(), NONE)?;
+        self.bridges.resize(orders, NONE)?;
+        self.is_ground_over.resize(orders, false)?;
+        self.is_over.resize(orders, false)
     }
 
     fn begin_ground(&mut self) -> Result<(), AllocError> {
@@ -296,8 +293,7 @@ impl Writing<'_> {
             clause: Clause::of(facts),
             moves: Moves::of(moves),
         };
-        self.steps.push(step)?;
-        Ok(())
+        push(&mut self.steps, step)
     }
 
     // A clause that was shown.
@@ -309,7 +305,7 @@ impl Writing<'_> {
             return Ok(false);
         }
         for literal in literals {
-            facts.push(self.fact(*literal))?;
+            push(&mut facts, self.fact(*literal))?;
         }
         self.push_step(facts)?;
         self.forget_bridges();
@@ -379,14 +375,8 @@ impl Writing<'_> {
     fn write_deed(&mut self, deed: Deed, is_ground: bool) -> Result<bool, AllocError> {
         let search = self.search;
         match deed {
-            Deed::Go(bound) => {
-                self.write_go(bound, is_ground)?;
-                Ok(true)
-            }
-            Deed::Turn(bound) => {
-                self.write_turn(bound, is_ground)?;
-                Ok(true)
-            }
+            Deed::Go(bound) => self.write_go(bound, is_ground),
+            Deed::Turn(bound) => self.write_turn(bound, is_ground),
             Deed::Use(shown) => match index_at(&self.numbers, shown as usize) {
                 NONE => Ok(false),
                 clause => self.push_move(Move::Use(clause as usize)),
@@ -409,23 +399,21 @@ impl Writing<'_> {
     }
 
     fn push_move(&mut self, one: Move) -> Result<bool, AllocError> {
-        self.moves.push(one)?;
+        push(&mut self.moves, one)?;
         Ok(true)
     }
 
     // The arc of an order: of the left side that of its left link, of the right side that of its right link.
-    fn write_go(&mut self, bound: u32, is_ground: bool) -> Result<(), AllocError> {
+    fn write_go(&mut self, bound: u32, is_ground: bool) -> Result<bool, AllocError> {
         let number = self.order_number(bound);
         let order = self.search.table.order(number);
         if bound & 1 == 0 {
-            let _ = self.push_move(Move::Go(left_first(&order, order.left_link)))?;
-            return Ok(());
+            return self.push_move(Move::Go(left_first(&order, order.left_link)));
         }
         if order.left_link != order.right_link && !self.is_gone_over(number) {
             self.cross(number, is_ground)?;
         }
-        let _ = self.push_move(Move::Go(right_first(&order, order.right_link)))?;
-        Ok(())
+        self.push_move(Move::Go(right_first(&order, order.right_link)))
     }
 
     // The arc of the order's left link.
@@ -447,22 +435,20 @@ impl Writing<'_> {
         sum(least, order.own_right_first) > most.wrapping_neg()
     }
 
-    fn write_turn(&mut self, bound: u32, is_ground: bool) -> Result<(), AllocError> {
+    fn write_turn(&mut self, bound: u32, is_ground: bool) -> Result<bool, AllocError> {
         let number = self.order_number(bound);
         let order = self.search.table.order(number);
-        if bound & 1 == 0 && self.is_own_out_of_reach(&order, is_ground) {
-            let _ = self.push_move(Move::Turn(left_first(&order, order.left_link)))?;
-            return Ok(());
-        }
         if bound & 1 != 0 {
-            let _ = self.push_move(Move::Turn(right_first(&order, order.left_link)))?;
-            return Ok(());
+            return self.push_move(Move::Turn(right_first(&order, order.left_link)));
         }
-        let _ = self.push_move(Move::Turn(left_first(&order, order.right_link)))?;
+        if self.is_own_out_of_reach(&order, is_ground) {
+            return self.push_move(Move::Turn(left_first(&order, order.left_link)));
+        }
+        let made = self.push_move(Move::Turn(left_first(&order, order.right_link)))?;
         if order.left_link != order.right_link {
             self.cross(number, is_ground)?;
         }
-        Ok(())
+        Ok(made)
     }
 
     fn order_number(&self, bound: u32) -> usize {
@@ -487,7 +473,7 @@ impl Writing<'_> {
             mark(&mut self.is_ground_over, number, true);
         } else {
             mark(&mut self.is_over, number, true);
-            self.over.push(index(number))?;
+            push(&mut self.over, index(number))?;
         }
         Ok(())
     }
@@ -511,7 +497,7 @@ impl Writing<'_> {
             let other = self.search.table.overlapping(&order, link);
             let _ = self.push_round(right_first(&order, link), left_first(&order, other))?;
             let clause = self.push_clause(left_first(&order, link), right_first(&order, other))?;
-            clauses.push(clause)?;
+            push(&mut clauses, clause)?;
             link = other;
         }
         let mut bridge = match clauses.first() {
@@ -537,8 +523,8 @@ impl Writing<'_> {
         other: tsn_argument::Order,
     ) -> Result<u32, AllocError> {
         let mut facts = Vec::new(self.alloc);
-        facts.push(Fact::Order(one))?;
-        facts.push(Fact::Order(other))?;
+        push(&mut facts, Fact::Order(one))?;
+        push(&mut facts, Fact::Order(other))?;
         self.push_step(facts)?;
         let clause = index(self.clauses);
         self.clauses = next(self.clauses);
@@ -596,8 +582,8 @@ impl Writing<'_> {
         other: tsn_argument::Order,
     ) -> Result<bool, AllocError> {
         let mut round = Vec::new(self.alloc);
-        round.push(one)?;
-        round.push(other)?;
+        push(&mut round, one)?;
+        push(&mut round, other)?;
         if round.is_empty() || round.len() > 128 {
             return Ok(false);
         }
@@ -612,7 +598,7 @@ impl Writing<'_> {
             let Some(place) = rest.take() else {
                 break;
             };
-            list.push(self.search.table.visit(link, place).stream)?;
+            push(&mut list, self.search.table.visit(link, place).stream)?;
         }
         if list.is_empty() || list.len() > 128 {
             return Ok(None);
