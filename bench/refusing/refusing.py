@@ -18,13 +18,13 @@ HERE = os.path.dirname(os.path.abspath(__file__))
 ROOT = os.path.dirname(os.path.dirname(HERE))
 DATA = os.path.join(ROOT, "crates", "tsn_rows", "data")
 SEEN = {
-    "learned.rt": [
+    ("tsn_worker", "learned.rt"): [
         ("        Ok(Verdict::First) => steps <= question.limit,", "        Ok(Verdict::First) => steps > question.limit,"),
         ("        Ok(Verdict::NoSchedule) => steps <= question.limit,", "        Ok(Verdict::NoSchedule) => steps > question.limit,"),
         ("        Ok(Verdict::Optimal)\n", "        Err(CheckFault::Memory)\n"),
         ("use tsn_check::Verdict;", "use tsn_check::{CheckFault, Verdict};"),
     ],
-    "proving.rt": [
+    ("tsn_proving", "proving.rt"): [
         ("        Ok(Verdict::Optimal) => Ok(steps <= task.limit),", "        Ok(Verdict::Optimal) => Ok(steps > task.limit),"),
         ("        Ok(Verdict::NoSchedule) => Ok(steps <= task.limit),", "        Ok(Verdict::NoSchedule) => Ok(steps > task.limit),"),
     ],
@@ -33,8 +33,8 @@ SEEN = {
 
 def turn(folder):
     """Turns the places of the copy in which an argument is accepted."""
-    for name, turns in SEEN.items():
-        path = os.path.join(folder, "crates", "tsn_worker", "src", name)
+    for (crate, name), turns in SEEN.items():
+        path = os.path.join(folder, "crates", crate, "src", name)
         with open(path, encoding="utf-8") as file:
             text = file.read()
         for old, new in turns:

@@ -1,6 +1,7 @@
-//! The program: its words, and the status with which it ends.
+//! The program: its words, the command that they ask for, and the status with which it ends.
 #![tactic(auto)]
 
+use std::alloc::{AllocError, Global};
 use std::fs::{File, OpenOptions};
 use std::io::ErrorKind;
 use std::os::fd::AsRawFd;
@@ -9,8 +10,8 @@ use std::rt::{Clock, Env, Files};
 use std::sync::Wait;
 use std::thread::Threads;
 use std::{env, fs, io};
-use tsn_files::{no_memory, refuse, show};
-use tsn_words::{WordsFault, words_from};
+use tsn_files::{System, doubled_in, no_memory, refuse, show};
+use tsn_words::{Words, WordsFault, words_from};
 
 fn main(rt: HostRuntime) -> ExitCode {
     // (no file that is opened later takes the place of a standard stream)
@@ -41,7 +42,7 @@ fn stand_in(rt: &HostRuntime) -> Option<File> {
     }
 }
 
-/// Runs the command that the words ask for, and says the status.
+/// Reads the words, runs the command that they ask for, and says the status.
 fn run<R: Env + Files + Input + Print + Eprint + Clock + AllocGlobal + Threads + Wait + Sync>(
     rt: &R,
 ) -> io::Result<u8> {
@@ -52,9 +53,31 @@ fn run<R: Env + Files + Input + Print + Eprint + Clock + AllocGlobal + Threads +
         words.push(arg.as_str())?;
     }
     match words_from(alloc, words.as_slice()) {
-        Ok(words) => Ok(tsn_files::run(rt, alloc, rt, rt, words)),
+        Ok(words) => Ok(run_command(rt, alloc, words)),
         Err(WordsFault::Refused(text)) => Ok(refuse(rt, text.as_str())),
         Err(WordsFault::Asked(text)) => Ok(show(alloc, rt, rt, text.as_str())),
         Err(WordsFault::Memory) => Ok(no_memory(rt)),
+    }
+}
+
+/// Runs a command over the files that its words name, standard input and standard output, and says the status. Where a file is
+/// refused, or a device fails, a line is told on why. Words that name a file twice are refused.
+fn run_command<'a, R: Files + Input + Print + Eprint + Clock + Threads + Wait + Sync>(
+    rt: &'a R,
+    alloc: Global,
+    words: Words<'a>,
+) -> u8 {
+    match doubled_in(rt, alloc, &words) {
+        Ok(Some(text)) => refuse(rt, text.as_str()),
+        Ok(None) => {
+            let mut system = System {
+                rt,
+                alloc,
+                output: rt,
+                told: rt,
+            };
+            tsn_command::run(rt, rt, alloc, &mut system, words)
+        }
+        Err(AllocError) => no_memory(rt),
     }
 }

@@ -14,8 +14,7 @@ use Rattle.tsn_model.specs.Network.{Network, stream_count}
 use Rattle.tsn_model.specs.Schedule.{IsConflict}
 use Rattle.tsn_model.specs.Timing.{arrival}
 use Rattle.tsn_model.specs.Arcs.{arc_between, arc_on, arc_of}
-use Rattle.tsn_model.specs.Argument.{Fact as ModelFact}
-use Rattle.tsn_model.specs.Argument.{from, until, done_from, IsFact, low_at, high_at, go, turn, order, apply, arrive, pack, round, shown, shown_by, refuting, unit_of, clause_at, View, LeadsBy, weight_by, contradicts, left_open, turned}
+use Rattle.tsn_model.specs.Argument.{Fact as ModelFact, from, until, done_from, IsFact, low_at, high_at, go, turn, order, apply, arrive, pack, round, shown, shown_by, refuting, unit_of, clause_at, View, LeadsBy, weight_by, contradicts, left_open, turned}
 use Rattle.tsn_model.proofs.Lists.{All-unmap}
 use Rattle.tsn_argument.specs.Meaning.{fact_of, clause_of, decision_of}
 use Rattle.tsn_argument.specs.declared.order.Order.{Order}

@@ -4,8 +4,7 @@ use Rattle.std.specs.Prelude.{Result, Ok, Err}
 use Rattle.std.proofs.lemmas.List.Elements.{All-head, All-tail, All-contains}
 use Rattle.tsn_model.specs.Network.{Network}
 use Rattle.tsn_model.specs.Timing.{UsesLink, occupancy, start_on}
-use Rattle.tsn_model.specs.Argument.{Fact as ModelFact}
-use Rattle.tsn_model.specs.Argument.{from, until, IsFact, View, AreOn, AreSome, first_head, last_end, work_on, put_last, put_first, shown}
+use Rattle.tsn_model.specs.Argument.{Fact as ModelFact, from, until, IsFact, View, AreOn, AreSome, first_head, last_end, work_on, put_last, put_first, shown}
 use Rattle.tsn_model.proofs.Routes.{UsesLink-counted}
 use Rattle.tsn_argument.specs.declared.motion.Placing.{Placing}
 use Rattle.tsn_argue.specs.Faults.{AreWrongAmong}

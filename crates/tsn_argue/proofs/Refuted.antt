@@ -1,16 +1,12 @@
 -- A plan and an argument with a first fault show nothing, and have no other first fault.
-use Rattle.std.proofs.Common.{◌≡◌, ℕ, List, [], ◌∷◌, length, take, Some, All, Contains, ℤ, pos, ◌≤ℤ◌, ◌<ℤ◌, inl, inr, refl, sym, ap, ◌∙◌}
-use Rattle.std.proofs.Common.{subst, arith}
+use Rattle.std.proofs.Common.{◌≡◌, ℕ, List, [], ◌∷◌, length, take, Some, All, Contains, ℤ, pos, ◌≤ℤ◌, ◌<ℤ◌, inl, inr, refl, sym, ap, ◌∙◌, subst, arith}
 use Rattle.std.proofs.lemmas.Int.{ints}
 use Rattle.std.specs.Prelude.{slice_get}
 use Rattle.tsn_model.specs.Network.{Network}
 use Rattle.tsn_model.specs.Timing.{UsesLink}
-use Rattle.tsn_model.specs.Argument.{from, until, order, done_from, done_until, go, turn, apply, arrive, put_last, put_first, pack, round, Goal, Fact, View}
-use Rattle.tsn_model.specs.Argument.{Move, Step, Known, IsFact, AreOn, AreSome, IsAllowed, AreAllowed, narrowed, begun, IsRight}
-use Rattle.tsn_model.specs.Argument.{Argues}
+use Rattle.tsn_model.specs.Argument.{from, until, order, done_from, done_until, go, turn, apply, arrive, put_last, put_first, pack, round, Goal, Fact, View, Move, Step, Known, IsFact, AreOn, AreSome, IsAllowed, AreAllowed, narrowed, begun, IsRight, Argues}
 use Rattle.tsn_argue.specs.First.{IsFirstWrong}
-use Rattle.tsn_argue.specs.Faults.{IsWrongFact, IsWrongStream, AreWrongOn, AreAmong, IsWrongChoice, AreWrongAmong, IsWrongPlacing, IsWrongMove, IsWrongNext}
-use Rattle.tsn_argue.specs.Faults.{IsWrongStep, known_by, AreRight, first_known, IsWrongAfter, fault_at, IsArgumentFault}
+use Rattle.tsn_argue.specs.Faults.{IsWrongFact, IsWrongStream, AreWrongOn, AreAmong, IsWrongChoice, AreWrongAmong, IsWrongPlacing, IsWrongMove, IsWrongNext, IsWrongStep, known_by, AreRight, first_known, IsWrongAfter, fault_at, IsArgumentFault}
 use Rattle.tsn_argue.specs.declared.fault.StepFault.{StepFault}
 use Rattle.tsn_check.specs.declared.fault.CheckFault.{CheckFault}
 use Rattle.tsn_check.specs.declared.fault.CheckFault.TheVariants.{PlanInvalid, FlowspanWrong}

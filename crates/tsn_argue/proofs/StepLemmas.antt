@@ -5,8 +5,7 @@
 use Rattle.std.proofs.Common.{◌≡◌, ℕ, zero, suc, List, [], ◌∷◌, ◌++◌, take, Some, refl, subst}
 use Rattle.std.specs.Prelude.{slice_get}
 use Rattle.tsn_model.specs.Network.{Network}
-use Rattle.tsn_model.specs.Argument.{Goal, Fact, View, Move, Step, Known, IsImpossible, IsAllowed, learned_all, shown, narrowed, AreAllowed, IsRight}
-use Rattle.tsn_model.specs.Argument.{known_after, IsSettled, Concludes}
+use Rattle.tsn_model.specs.Argument.{Goal, Fact, View, Move, Step, Known, IsImpossible, IsAllowed, learned_all, shown, narrowed, AreAllowed, IsRight, known_after, IsSettled, Concludes}
 use Rattle.tsn_argue.specs.Faults.{known_by, AreRight}
 
 -- ---- moves

@@ -9,7 +9,7 @@ use crate::step::Steps;
 pub const ARGUMENT_FORMAT: u64 = 3;
 
 /// What an argument shows.
-#[derive(Clone, Copy, Debug, Drop, PartialEq, Eq)]
+#[derive(Clone, Copy, Drop, PartialEq, Eq)]
 pub enum Goal {
     /// That the plan is the first of the optimal schedules.
     First,
@@ -20,7 +20,7 @@ pub enum Goal {
 }
 
 /// A certificate of format 3: steps that show the goal. The target is that of the other formats, in nanoseconds.
-#[derive(Debug, Drop)]
+#[derive(Drop)]
 pub struct Argument {
     pub goal: Goal,
     pub target: u64,

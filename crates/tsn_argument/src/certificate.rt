@@ -2,7 +2,7 @@ use crate::argument::Argument;
 use tsn_cert::Cert;
 
 /// A certificate of any format.
-#[derive(Debug, Drop)]
+#[derive(Drop)]
 pub enum Certificate {
     /// A tree of decisions: format 1 or 2.
     Tree(Cert),

@@ -4,7 +4,7 @@ use crate::order::Order;
 use std::marker::Model;
 
 /// What a clause may say of a schedule. Times are in nanoseconds.
-#[derive(Clone, Copy, Debug, Drop, PartialEq, Eq)]
+#[derive(Clone, Copy, Drop, PartialEq, Eq)]
 pub enum Fact {
     /// The offset of this stream is at least this.
     From(usize, u64),
@@ -19,7 +19,7 @@ pub enum Fact {
 }
 
 /// Facts of which one holds; without any it says nothing, and its step shows the view that its moves lead to.
-#[derive(Debug, Drop)]
+#[derive(Drop)]
 pub struct Clause {
     list: Vec<Fact>,
 }

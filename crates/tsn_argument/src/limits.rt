@@ -4,8 +4,7 @@ ghost use Rattle.std.specs.Prelude.{◌≡◌, ◌&&◌, Some};
 ghost use Rattle.std.specs.List.{list_all};
 ghost use Rattle.tsn_cert.specs.Json.{all_within};
 ghost use Rattle.tsn_cert.specs.Cert.{max_number};
-ghost use Rattle.tsn_argument.specs.Argument.{order_fits, fact_fits, placing_fits, move_fits, step_fits, argument_fits};
-ghost use Rattle.tsn_argument.specs.Argument.{streams_of, streams_value, orders_of, orders_value, placing_parts, placing_items, move_in, move_value, moves_in, moves_value, step_in, step_value, steps_in, steps_value};
+ghost use Rattle.tsn_argument.specs.Argument.{order_fits, fact_fits, placing_fits, move_fits, step_fits, argument_fits, streams_of, streams_value, orders_of, orders_value, placing_parts, placing_items, move_in, move_value, moves_in, moves_value, step_in, step_value, steps_in, steps_value};
 ghost use Rattle.tsn_argument.specs.Laws.{IsArgumentInGrammar};
 ghost use Rattle.tsn_argument.specs.declared.motion.Move.TheVariants as form;
 

@@ -5,7 +5,7 @@ use crate::step::Streams;
 use std::marker::Model;
 
 /// That a stream goes last or first on a link, of itself and others, and by which of the others its offset is bounded.
-#[derive(Debug, Drop)]
+#[derive(Drop)]
 pub struct Placing {
     pub link: usize,
     pub stream: usize,
@@ -15,7 +15,7 @@ pub struct Placing {
 }
 
 /// What narrows a view.
-#[derive(Debug, Drop)]
+#[derive(Drop)]
 pub enum Move {
     /// An order of the view bounds the offsets of its two streams.
     Go(Order),
@@ -36,7 +36,7 @@ pub enum Move {
 }
 
 /// The moves of a step, one after another.
-#[derive(Debug, Drop)]
+#[derive(Drop)]
 pub struct Moves {
     list: Vec<Move>,
 }

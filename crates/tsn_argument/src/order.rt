@@ -8,7 +8,7 @@ use tsn_model::{Decision, Side, Triple};
 pub const MAX_ORDERS: usize = 128;
 
 /// That one stream goes before another one on a link; by their numbers.
-#[derive(Clone, Copy, Debug, Drop, PartialEq, Eq)]
+#[derive(Clone, Copy, Drop, PartialEq, Eq)]
 pub struct Order {
     pub first: usize,
     pub second: usize,
@@ -43,7 +43,7 @@ impl Order {
 }
 
 /// The orders of a round, one after another: 1 to 128 of them.
-#[derive(Debug, Drop)]
+#[derive(Drop)]
 pub struct Orders {
     list: Vec<Order>,
 }

@@ -8,7 +8,7 @@ use std::marker::Model;
 pub const MAX_STREAMS: usize = 128;
 
 /// Streams of a move, by their numbers: 1 to 128 of them.
-#[derive(Debug, Drop)]
+#[derive(Drop)]
 pub struct Streams {
     list: Vec<usize>,
 }
@@ -52,14 +52,14 @@ impl Streams {
 }
 
 /// A clause, and the moves that show it.
-#[derive(Debug, Drop)]
+#[derive(Drop)]
 pub struct Step {
     pub clause: Clause,
     pub moves: Moves,
 }
 
 /// The steps of an argument, one after another.
-#[derive(Debug, Drop)]
+#[derive(Drop)]
 pub struct Steps {
     list: Vec<Step>,
 }

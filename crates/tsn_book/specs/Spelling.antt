@@ -12,8 +12,8 @@ use Rattle.tsn_search_laws.specs.Order.{Precedes, node_of}
 use Rattle.tsn_search_laws.specs.Laws.{AreAcceptedTree}
 use Rattle.tsn_search_laws.proofs.Growths.{Growth, in_order, open_in, Stands}
 use Rattle.tsn_timing.specs.Solution.{Solution}
-use Rattle.tsn_branch.specs.Outcome.{outcome_of}
-use Rattle.tsn_branch.specs.declared.outcome.Look.TheVariants.{Split}
+use Rattle.tsn_node.specs.Outcome.{outcome_of}
+use Rattle.tsn_node.specs.declared.outcome.Look.TheVariants.{Split}
 use Rattle.tsn_book.specs.Arena.{path_at}
 use Rattle.tsn_book.specs.Book.{planned, IsPlan, HasTie}
 use Rattle.tsn_book.specs.declared.log.Settled.{Settled}

@@ -1,7 +1,7 @@
 //! What a search settles.
 
-use tsn_branch::Node;
-use tsn_branch::outcome::Look;
+use tsn_node::Node;
+use tsn_node::outcome::Look;
 
 /// A node, with what a look at it found.
 #[derive(Drop)]

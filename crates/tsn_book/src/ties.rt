@@ -3,9 +3,9 @@ ghost use Rattle.std.specs.Prelude.{◌≡◌, ◌≤◌, length, All, MatchBool
 ghost use Rattle.tsn_model.specs.Schedule.{IsConflict, IsValid, comes_before};
 ghost use Rattle.tsn_model.specs.Certificate.{LeadsTo, AreChains, ShowsAfter, sum_on};
 
-use tsn_branch::Decision;
 use tsn_check::{ChainSum, arc_of};
 use tsn_diff::{Forest, Walk};
+use tsn_node::Decision;
 use tsn_timing::Timing;
 
 /// Whether the first list has the lesser number where the lists first differ.

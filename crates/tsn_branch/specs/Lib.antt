@@ -1,5 +1,3 @@
-pub mod Path
-pub mod Outcome
 pub mod Links
 pub mod Loads
 pub mod Look

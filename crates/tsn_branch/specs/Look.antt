@@ -4,7 +4,7 @@
 --     ShowsLink                             the entries of a link's streams
 --     IsTie, IsUntied                       a tie with the best schedule
 --     IsLook                                the first case that holds, and what it holds
---     HasProof, SplitsUndecided, SplitsAmong, PrunesFrom   what is right of an outcome whatever was settled before
+--     SplitsAmong, PrunesFrom, SolvesBelow   what else is right of an outcome whatever was settled before
 --     TiesWith                              what a tie says of the best schedule
 use Rattle.std.specs.Prelude.{◌≡◌, ℕ, ◌+◌, ◌≤◌, ◌<◌, ◌⊎◌, List, length, map, take, All, Contains, Option, MatchOption, IsSomeAnd, pos, ◌≤ℤ◌, ◌<ℤ◌}
 use Rattle.tsn_model.specs.declared.Decision.{Decision}
@@ -16,7 +16,7 @@ use Rattle.tsn_model.specs.Arcs.{arcs_of, HoldsAll}
 use Rattle.tsn_model.specs.Certificate.{Leaf, late, overrun, positive_cycle, load, overload, Entry, LeadsTo, sum_on, Proves, HasBound, AreChains, ShowsAfter}
 use Rattle.tsn_model.specs.Search.{Outcome, split, solved, pruned, tied, refuted, Refutes, ShowsOffsets}
 use Rattle.tsn_timing.specs.Solution.{Solution}
-use Rattle.tsn_branch.specs.Path.{IsUndecided}
+use Rattle.tsn_node.specs.Path.{IsUndecided}
 use Rattle.tsn_branch.specs.Links.{users_of, shared_links, busy_by, load_by, IsUnloaded, IsFirstLoaded}
 
 -- ---- offsets on a path
@@ -149,25 +149,7 @@ IsLook network path target best (solved offsets bound leaf chains) =
     × All (IsUnloaded network offsets target) (shared_links network)
     × ShowsOffsets network path chains offsets × IsUntied network offsets best
 
--- ---- what is right of an outcome
-
--- a leaf is right for its own bound; a solved one has a valid schedule of that flowspan, with chains that show its offsets, and a tied
--- one has chains of the path
-abbrev pub HasProof : Network → List Decision → Outcome → Type 0
-HasProof network path (split triple) = Unit {0}
-HasProof network path (solved offsets bound leaf chains) =
-    IsValid network offsets × (flowspan network offsets ≡ bound) × Proves network path bound leaf × HasBound leaf × ShowsOffsets network path chains offsets
-HasProof network path (pruned bound leaf) = Proves network path bound leaf
-HasProof network path (tied bound leaf chains) = Proves network path bound leaf × HasBound leaf × AreChains network path chains
-HasProof network path (refuted leaf) = Refutes network path leaf
-
--- a split is on a conflict that the path doesn't decide
-abbrev pub SplitsUndecided : Network → List Decision → Outcome → Type 0
-SplitsUndecided network path (split triple) = IsConflict network triple × IsUndecided path triple
-SplitsUndecided network path (solved offsets bound leaf chains) = Unit {0}
-SplitsUndecided network path (pruned bound leaf) = Unit {0}
-SplitsUndecided network path (tied bound leaf chains) = Unit {0}
-SplitsUndecided network path (refuted leaf) = Unit {0}
+-- ---- what else is right of an outcome
 
 -- a split is on one of these triples
 abbrev pub SplitsAmong : List Triple → Outcome → Type 0

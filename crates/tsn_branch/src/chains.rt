@@ -35,19 +35,6 @@ pub fn chains_to(alloc: Global, least: &Least, count: usize) -> Result<Forest, N
     least.forest(alloc, count)
 }
 
-/// Chains as a certificate has them, each whole.
-pub fn whole_chains(alloc: Global, forest: &Forest) -> Result<Chains, NoMemory>
-    ensures { IfOk result (λ chains. chains ≡ forest.now) }
-{
-    let mut list = Vec::with_capacity(alloc, forest.len())?;
-    for stream in 0..forest.len() {
-        let depths = forest.chain(alloc, stream)?;
-        let chain = Chain::of(alloc, &depths)?;
-        list.push(chain).map_err(|_| NoMemory)?;
-    }
-    Ok(Chains::of(list))
-}
-
 /// The chains that show that no schedule on the path comes before the best one: up to the first stream at which the least
 /// offsets differ from it, or else of all. None where the least offsets come before it.
 pub fn tie_chains(

@@ -9,17 +9,16 @@ ghost use Rattle.tsn_model.specs.Arcs.{arcs_of};
 ghost use Rattle.tsn_model.specs.Certificate.{decided};
 ghost use Rattle.tsn_diff.specs.Answers.{Refutes};
 ghost use Rattle.tsn_conflict.specs.Kept.{AreConflictsOf};
-ghost use Rattle.tsn_branch.specs.Outcome.{outcome_of};
-ghost use Rattle.tsn_branch.specs.Path.{Fits, IsUndecided};
-ghost use Rattle.tsn_branch.specs.Look.{HasNoOffsets, IsLook, HasProof, SplitsUndecided, SplitsAmong, PrunesFrom, SolvesBelow, TiesWith};
+ghost use Rattle.tsn_node.specs.Outcome.{outcome_of};
+ghost use Rattle.tsn_node.specs.Path.{Fits, IsUndecided};
+ghost use Rattle.tsn_branch.specs.Look.{HasNoOffsets, IsLook, SplitsAmong, PrunesFrom, SolvesBelow, TiesWith};
+ghost use Rattle.tsn_node.specs.Right.{HasProof, SplitsUndecided};
 ghost use Rattle.tsn_branch.specs.Releases.{releases_of};
 ghost use Rattle.tsn_branch.specs.Descent.{Stands, Splits, IsAfter, Leads, IsJudgement};
 
 use crate::arcs::net_of;
 use crate::judge::{judge_least, judge_raised};
 use crate::judgement::{Judgement, SplitPoint};
-use crate::node::Node;
-use crate::outcome::Look;
 use crate::tables::{Aim, Tables};
 use std::alloc::Global;
 use std::marker::Model;
@@ -27,6 +26,8 @@ use tsn_cert::{Chain, Leaf};
 use tsn_conflict::sharing::Conflicts;
 use tsn_diff::ArcStack;
 use tsn_model::{NoMemory, Side, Triple};
+use tsn_node::Node;
+use tsn_node::outcome::Look;
 use tsn_timing::Timing;
 
 /// A node with what is known of the nodes above it: the arcs of their decisions with the least offsets, when the streams are

@@ -8,7 +8,7 @@ ghost use Rattle.tsn_conflict.specs.Raised.{OnlyRaisedOverlap};
 ghost use Rattle.tsn_timing.specs.Solution.{Solution, IsSolved};
 ghost use Rattle.tsn_diff.specs.Answers.{Answers, Solves};
 ghost use Rattle.tsn_diff.specs.Offsets.{chain_of};
-ghost use Rattle.tsn_branch.specs.Outcome.{outcome_of};
+ghost use Rattle.tsn_node.specs.Outcome.{outcome_of};
 ghost use Rattle.tsn_branch.specs.Look.{IsLook, AllFit, IsFirstLast, IsUntied, ShowsLink};
 ghost use Rattle.tsn_branch.specs.Links.{shared_links, IsUnloaded};
 ghost use Rattle.tsn_branch.specs.Loads.{IsFirstLoad, IsTightest, entry_by};
@@ -22,13 +22,13 @@ use crate::chains::{chain_to, chains_to, tie_chains};
 use crate::instants::{Ends, ends_after, ends_of};
 use crate::judgement::{Judgement, SplitPoint};
 use crate::loads::{FirstLoad, Loading, User, find_loads};
-use crate::outcome::Look;
 use crate::tables::{Aim, Tables};
 use std::alloc::Global;
 use tsn_cert::{Chain, Entries, Leaf, LowerBound};
 use tsn_conflict::laws::parents_overlap_starts;
 use tsn_diff::{ArcStack, Feasibility, Least};
 use tsn_model::NoMemory;
+use tsn_node::outcome::Look;
 use tsn_timing::{Solved, Timing};
 
 /// What is known of the least offsets of a node from those of the node above.

@@ -4,9 +4,10 @@
 ghost use Rattle.std.specs.Prelude.{IfOk, IfSome, option_copied};
 ghost use Rattle.tsn_timing.specs.Solution.{IsSolved};
 ghost use Rattle.tsn_conflict.specs.Kept.{AreConflictsOf};
-ghost use Rattle.tsn_branch.specs.Outcome.{outcome_of};
-ghost use Rattle.tsn_branch.specs.Path.{Fits};
-ghost use Rattle.tsn_branch.specs.Look.{IsLook, HasProof, SplitsUndecided, SplitsAmong, PrunesFrom, TiesWith};
+ghost use Rattle.tsn_node.specs.Outcome.{outcome_of};
+ghost use Rattle.tsn_node.specs.Path.{Fits};
+ghost use Rattle.tsn_branch.specs.Look.{IsLook, SplitsAmong, PrunesFrom, TiesWith};
+ghost use Rattle.tsn_node.specs.Right.{HasProof, SplitsUndecided};
 ghost use Rattle.tsn_branch.specs.Least.{IsLeastAbove, ComesWithSplit};
 
 mod arcs;
@@ -16,23 +17,20 @@ mod instants;
 mod judge;
 mod judgement;
 mod loads;
-pub mod node;
-pub mod outcome;
 mod tables;
 
 use crate::arcs::least_at;
 use crate::judge::judge;
-use crate::outcome::Look;
 pub use arcs::fits;
-pub use chains::whole_chains;
 pub use descent::Descent;
 pub use loads::Loads;
-pub use node::Node;
 use std::alloc::Global;
 pub use tables::{Aim, Tables};
 use tsn_conflict::sharing::Conflicts;
 pub use tsn_diff::Least;
-pub use tsn_model::{Decision, NoMemory, Side, Triple};
+use tsn_model::NoMemory;
+use tsn_node::Node;
+use tsn_node::outcome::Look;
 use tsn_timing::{Solved, Timing};
 
 /// Looks at a node: the first of these cases that holds.

@@ -3,9 +3,9 @@ ghost use Rattle.tsn_conflict.specs.Kept.{AreConflictsOf};
 
 use crate::{looks, settlements, steps};
 use std::alloc::Global;
-use tsn_branch::{Node, Side, Triple};
 use tsn_conflict::sharing::Conflicts;
 use tsn_model::NoMemory;
+use tsn_node::{Node, Side, Triple};
 use tsn_timing::Timing;
 
 /// How many tellers there are, and how many nodes may be settled.

@@ -9,7 +9,7 @@ use std::marker::Model;
 use tsn_model::Triple;
 
 /// A node of a certificate.
-#[derive(Debug, Drop)]
+#[derive(Drop)]
 pub enum Node {
     /// A branch on which of two streams goes first on a link.
     Branch(Triple),
@@ -67,7 +67,7 @@ impl Node {
 }
 
 /// The nodes of a certificate in preorder, the Left child of a branch first.
-#[derive(Debug, Drop)]
+#[derive(Drop)]
 pub struct Nodes {
     list: Vec<Node>,
 }
@@ -108,7 +108,7 @@ impl Nodes {
 
 /// A certificate: a tree of decisions whose leaves show that no schedule has a flowspan below the target, in nanoseconds;
 /// in format 2 also that none of that flowspan comes before the plan.
-#[derive(Debug, Drop)]
+#[derive(Drop)]
 pub struct Cert {
     pub format: Format,
     pub target: u64,

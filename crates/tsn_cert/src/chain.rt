@@ -17,14 +17,14 @@ pub const MAX_NUMBER: usize = 4_294_967_295;
 const MAX_NARROW: usize = 65_535;
 
 /// Depths: two bytes for each, where that is enough for all, since certificates of millions of chains are held at once.
-#[derive(Debug, Drop)]
+#[derive(Drop)]
 enum Depths {
     Narrow(SmallVec<u16, 8>),
     Wide(SmallVec<usize, 2>),
 }
 
 /// Decisions of a path by their depths, the root's decision at depth 0: at most 128 of them.
-#[derive(Debug, Drop)]
+#[derive(Drop)]
 pub struct Chain {
     depths: Depths,
 }

@@ -7,7 +7,7 @@ use std::marker::Model;
 pub const MAX_CHAINS: usize = 128;
 
 /// The chains of a tie, to the first streams in order: 1 to 128 of them.
-#[derive(Debug, Drop)]
+#[derive(Drop)]
 pub struct Chains {
     list: Vec<Chain>,
 }

@@ -8,7 +8,7 @@ use std::marker::Model;
 pub const MAX_ENTRIES: usize = 128;
 
 /// The entries of a load or overload leaf, each a stream and a chain to it: 1 to 128 of them.
-#[derive(Debug, Drop)]
+#[derive(Drop)]
 pub struct Entries {
     list: Vec<(usize, Chain)>,
 }

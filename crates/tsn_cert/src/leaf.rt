@@ -4,7 +4,7 @@ use crate::chain::Chain;
 use crate::entries::Entries;
 
 /// Why no valid schedule on a path has a lesser flowspan than some bound. A chain names decisions of the path by their depths.
-#[derive(Debug, Drop)]
+#[derive(Drop)]
 pub enum LowerBound {
     /// The stream arrives too late: the chain's sum and its arrival are at least the bound.
     Late(usize, Chain),
@@ -14,7 +14,7 @@ pub enum LowerBound {
 }
 
 /// Why no valid schedule on a path has a lesser flowspan than some bound, or why there is none.
-#[derive(Debug, Drop)]
+#[derive(Drop)]
 pub enum Leaf {
     /// None has a lesser flowspan.
     Bound(LowerBound),

@@ -6,7 +6,7 @@ use std::marker::Model;
 pub const MAX_TIME: u64 = 2_000_000_000;
 
 /// The offsets of a plan in nanoseconds, in stream order.
-#[derive(Debug, Drop)]
+#[derive(Drop)]
 pub struct Offsets {
     list: Vec<u64>,
 }
@@ -44,7 +44,7 @@ impl Offsets {
 }
 
 /// What a planner found: a schedule with its flowspan in nanoseconds, or that there is none.
-#[derive(Debug, Drop)]
+#[derive(Drop)]
 pub enum Plan {
     Schedule { flowspan: u64, offsets: Offsets },
     None,

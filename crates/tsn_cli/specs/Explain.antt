@@ -5,7 +5,7 @@
 --     GoesOnOver                    a run that has a certificate left to read
 use Rattle.std.specs.Prelude.{◌≡◌, ◌⊎◌, ℕ, List, [], ◌∷◌, Result, Ok}
 use Rattle.tsn_device.specs.declared.device.ReadFault.{ReadFault}
-use Rattle.tsn_cli.specs.declared.answer.Answer.{Answer}
+use Rattle.tsn_run.specs.declared.answer.Answer.{Answer}
 use Rattle.tsn_net.specs.File.{States}
 use Rattle.tsn_net.specs.Problem.{NamedNetwork}
 use Rattle.tsn_cert.specs.declared.plan.Plan.{Plan}
@@ -17,10 +17,10 @@ use Rattle.tsn_chart.specs.declared.picture.View.{View}
 use Rattle.tsn_cli.specs.declared.showing.Showing.{Showing}
 use Rattle.tsn_cli.specs.declared.showing.Showing.TheVariants.{Verdict, Words, Picture}
 use Rattle.tsn_cli.specs.declared.table.Table.TheVariants.{Chart}
-use Rattle.tsn_cli.specs.Run.{Output, Command, IsLine, SourceRun}
-use Rattle.tsn_cli.specs.Outcome.{ComesTo, TellsFailures, output_of}
-use Rattle.tsn_cli.specs.Valid.{RefusesNetwork}
-use Rattle.tsn_cli.specs.Check.{RefusesPlan, RefusesCert, ShowsNothing, StatesNetwork, accepted_line}
+use Rattle.tsn_run.specs.Run.{Output, Command, IsLine, SourceRun}
+use Rattle.tsn_run.specs.Outcome.{ComesTo, TellsFailures, output_of}
+use Rattle.tsn_run.specs.Refusal.{RefusesNetwork, RefusesPlan}
+use Rattle.tsn_run.specs.Check.{RefusesCert, ShowsNothing, StatesNetwork, accepted_line}
 use Rattle.tsn_cli.specs.Tables.{ShowsPlan, RejectsPlan}
 
 -- the output is a text, of which nothing more is said

@@ -31,19 +31,18 @@ use Rattle.tsn_streams.specs.Shares.{stream_shares, AreSharesOfLinks}
 use Rattle.tsn_streams.specs.Table as streams
 use Rattle.tsn_streams.specs.Json as streams_json
 use Rattle.tsn_streams.specs.Csv as streams_csv
-use Rattle.tsn_format.specs.declared.GatesFormat.{GatesFormat}
-use Rattle.tsn_format.specs.declared.GatesFormat.TheVariants as lists
-use Rattle.tsn_format.specs.declared.ReplayFormat.{ReplayFormat}
-use Rattle.tsn_format.specs.declared.ReplayFormat.TheVariants as replays
-use Rattle.tsn_format.specs.declared.StreamsFormat.{StreamsFormat}
-use Rattle.tsn_format.specs.declared.StreamsFormat.TheVariants as shares
+use Rattle.tsn_options.specs.declared.GatesFormat.{GatesFormat}
+use Rattle.tsn_options.specs.declared.GatesFormat.TheVariants as lists
+use Rattle.tsn_options.specs.declared.ReplayFormat.{ReplayFormat}
+use Rattle.tsn_options.specs.declared.ReplayFormat.TheVariants as replays
+use Rattle.tsn_options.specs.declared.StreamsFormat.{StreamsFormat}
+use Rattle.tsn_options.specs.declared.StreamsFormat.TheVariants as shares
 use Rattle.tsn_cli.specs.declared.table.GatesOptions.{GatesOptions}
 use Rattle.tsn_cli.specs.declared.table.ReplayOptions.{ReplayOptions}
 use Rattle.tsn_cli.specs.declared.table.Table.{Table}
 use Rattle.tsn_cli.specs.declared.table.Table.TheVariants.{Gates, Replay, Chart, Streams}
-use Rattle.tsn_cli.specs.Run.{Output, Command, IsLine}
-use Rattle.tsn_cli.specs.Valid.{RefusesNetwork}
-use Rattle.tsn_cli.specs.Check.{RefusesPlan, cause_text}
+use Rattle.tsn_run.specs.Run.{Output, Command, IsLine}
+use Rattle.tsn_run.specs.Refusal.{RefusesNetwork, RefusesPlan, rejected_plan}
 
 -- the lists in a format, a script with the limits of a device
 abbrev pub text_in : GatesFormat → ℕ → Option ℕ → NamedNetwork → List LinkGates → List ℕ
@@ -103,10 +102,6 @@ CanShow (Streams format) = Unit {0}
 abbrev pub ShowsPlan : Table → NamedNetwork → Plan → Output → Type 0
 ShowsPlan table problem (plan.Schedule span offsets) output = IsValid problem.network offsets × (span ≡ flowspan problem.network offsets) × ShowsTable table problem offsets output
 ShowsPlan table problem plan.None output = ⊥
-
--- how a plan is rejected
-abbrev pub rejected_plan : CheckFault → List ℕ
-rejected_plan fault = codes "plan refused " ++ cause_text fault ++ codes "\n"
 
 -- it isn't, and this is the first fault
 abbrev pub RejectsPlan : Network → Plan → Output → Type 0

@@ -4,15 +4,10 @@ use Rattle.tsn_model.specs.declared.Violation.{Violation}
 use Rattle.tsn_model.specs.declared.Violation.TheVariants.{WrongCount, PastCycle, Overlap, Early, TooLate}
 use Rattle.tsn_model.specs.Network.{Network}
 use Rattle.tsn_model.specs.Schedule.{IsValid, IsFirstViolation, flowspan}
-use Rattle.tsn_net.specs.declared.fault.NetFault.{NetFault}
-use Rattle.tsn_net.specs.Fault.{fault_text}
-use Rattle.tsn_net.specs.File.{States, HasFault}
+use Rattle.tsn_net.specs.File.{States}
 use Rattle.tsn_net.specs.Problem.{NamedNetwork}
-use Rattle.tsn_cli.specs.Run.{Output, Command, IsLine}
-
--- the network file is refused
-abbrev pub RefusesNetwork : List ℕ → Output → Type 0
-RefusesNetwork file output = (fault : NetFault) × HasFault file fault × IsLine 3 (codes "refused " ++ fault_text fault ++ codes "\n") output
+use Rattle.tsn_run.specs.Run.{Output, Command, IsLine}
+use Rattle.tsn_run.specs.Refusal.{RefusesNetwork}
 
 -- why the offsets are no valid schedule
 abbrev pub violation_text : Violation → List ℕ

@@ -2,16 +2,13 @@
 ghost use Rattle.std.specs.Prelude.{◌≡◌, ◌<◌, ◌-◌, ◌^◌, ◌⊎◌, [], ◌∷◌, IfOk};
 ghost use Rattle.tsn_argue.specs.Certified.{Certifies, certificate_verdict};
 ghost use Rattle.tsn_cli.specs.declared.table.Table.TheVariants.{Chart};
-ghost use Rattle.tsn_cli.specs.Run.{source_over};
-ghost use Rattle.tsn_cli.specs.Outcome.{ComesOver, output_of};
-ghost use Rattle.tsn_cli.specs.Check.{ShowsNothing};
+ghost use Rattle.tsn_run.specs.Run.{source_over};
+ghost use Rattle.tsn_run.specs.Outcome.{ComesOver, output_of};
+ghost use Rattle.tsn_run.specs.Check.{ShowsNothing};
 ghost use Rattle.tsn_cli.specs.Explain.{CertAnswers, GoesOnOver, JudgesShown, ShowsAccepted, ShowsText};
 ghost use Rattle.tsn_cli.specs.Tables.{RejectsPlan, ShowsPlan};
 
-use crate::answer::Answer;
-use crate::check::{acceptance, file_refusal, rejection};
-use crate::inputs::{InputsRead, read_inputs};
-use crate::run::{DONE, MAX_FILE};
+use crate::check::{acceptance, rejection};
 use crate::showing::Showing;
 use crate::tables::picture_of;
 use std::alloc::Global;
@@ -25,6 +22,8 @@ use tsn_device::device::{ReadFault, Source, read_all};
 use tsn_explain::{explanation, marked_frames};
 use tsn_model::NoMemory;
 use tsn_net::Problem;
+use tsn_run::run::{DONE, MAX_FILE};
+use tsn_run::{Answer, InputsRead, file_refusal, read_inputs};
 
 /// What a run answers over a network, a plan and a certificate.
 pub(crate) fn answer_of<N: Source, P: Source, C: Source>(

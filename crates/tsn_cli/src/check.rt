@@ -1,19 +1,18 @@
 //! `check`: judges a plan and its certificate.
-ghost use Rattle.std.specs.Prelude.{◌≡◌, ◌<◌, ◌-◌, ◌^◌, [], ◌∷◌, IfOk, IsErr, Some};
-ghost use Rattle.tsn_cli.specs.Run.{IsLine, RunsOver, sink_over, source_over};
-ghost use Rattle.tsn_cli.specs.Outcome.{output_of};
-ghost use Rattle.tsn_cli.specs.Check.{CheckAnswers, accepted_line, refusal_line, rejected_line};
+ghost use Rattle.std.specs.Prelude.{◌≡◌, ◌<◌, ◌-◌, ◌^◌, [], ◌∷◌, IfOk, IsErr};
+ghost use Rattle.tsn_run.specs.Run.{IsLine, RunsOver, sink_over, source_over};
+ghost use Rattle.tsn_run.specs.Outcome.{output_of};
+ghost use Rattle.tsn_run.specs.Check.{CheckAnswers, accepted_line, rejected_line};
 
-use crate::answer::Answer;
 use crate::certified::answer_of;
-use crate::run::{DONE, REFUSED, REJECTED, respond};
 use crate::showing::Showing;
 use std::alloc::Global;
-use std::fmt;
-use tsn_cert::{FileFault, Plan};
+use tsn_cert::Plan;
 use tsn_check::{CheckFault, Verdict};
 use tsn_device::device::{Sink, Source};
 use tsn_model::NoMemory;
+use tsn_run::run::{DONE, REJECTED, respond};
+use tsn_run::{Answer, Cause};
 
 /// Reads a network file, a plan file and a certificate file of format 1, 2 or 3, each judged before the next is read, and writes a
 /// line on the first that is refused, or on what the certificate shows. The answer is the status.
@@ -71,38 +70,4 @@ pub(crate) fn rejection(alloc: Global, fault: CheckFault) -> Result<Answer, NoMe
         status: REJECTED,
         text,
     })
-}
-
-/// What is said of a file of this kind with this fault.
-pub(crate) fn file_refusal(alloc: Global, kind: &str, fault: FileFault) -> Result<Answer, NoMemory>
-    ensures line { IfOk result (λ a. IsLine REFUSED (refusal_line kind.now fault) (output_of (Ok a))) }
-    ensures memory { fault ≡ FileFault.Memory → IsErr result }
-{
-    if fault == FileFault::Memory {
-        return Err(NoMemory);
-    }
-    let number = fault.number();
-    let text = format!(in alloc; "refused {kind} C{number}\n")?;
-    Ok(Answer {
-        status: REFUSED,
-        text,
-    })
-}
-
-/// A fault of a plan or its certificate, printed with its number, and its node or step if it has one: `K1`, `K3 node 2`.
-#[derive(Clone, Copy)]
-pub(crate) struct Cause(pub(crate) CheckFault);
-
-impl fmt::Display for Cause {
-    ghost use Rattle.tsn_cli.specs.Check.{cause_text};
-
-    ghost output = { λ cause. Some (cause_text cause.0) };
-
-    fn fmt<W: fmt::Write>(&self, f: &mut fmt::Formatter<W>) -> fmt::Result {
-        let number = self.0.number();
-        match self.0.node() {
-            Some(node) => write!(f, "K{number} node {node}"),
-            None => write!(f, "K{number}"),
-        }
-    }
 }

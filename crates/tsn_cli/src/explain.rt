@@ -1,14 +1,14 @@
 //! `explain`, and `chart` with a certificate: show why no schedule is faster.
 ghost use Rattle.std.specs.Prelude.{◌<◌, ◌-◌, ◌^◌, [], ◌∷◌};
-ghost use Rattle.tsn_cli.specs.Run.{RunsOver, sink_over, source_over};
+ghost use Rattle.tsn_run.specs.Run.{RunsOver, sink_over, source_over};
 ghost use Rattle.tsn_cli.specs.Explain.{ExplainAnswers, MarkedChartAnswers};
 
 use crate::certified::answer_of;
-use crate::run::respond;
 use crate::showing::Showing;
 use std::alloc::Global;
 use tsn_chart::View;
 use tsn_device::device::{Sink, Source};
+use tsn_run::run::respond;
 
 /// Reads a network file, a plan file and a certificate file of format 1, 2 or 3, each judged before the next is read, and writes in
 /// words why no schedule is faster than the plan, or why there is none. Where a file or the certificate is refused, it writes the line

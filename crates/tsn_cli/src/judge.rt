@@ -1,14 +1,13 @@
 //! A network file that is judged alone.
 ghost use Rattle.std.specs.Prelude.{◌≡◌, ◌<◌, ◌-◌, ◌^◌, [], ◌∷◌, string_bytes};
-ghost use Rattle.tsn_cli.specs.Run.{RunsOver, sink_over, source_over};
-ghost use Rattle.tsn_cli.specs.Outcome.{ComesOver, output_of};
+ghost use Rattle.tsn_run.specs.Run.{RunsOver, sink_over, source_over};
+ghost use Rattle.tsn_run.specs.Outcome.{ComesOver, output_of};
 ghost use Rattle.tsn_cli.specs.Valid.{JudgeAnswers};
 
-use crate::answer::Answer;
-use crate::inputs::{NetworkRead, read_network};
-use crate::run::{DONE, respond};
 use std::alloc::Global;
 use tsn_device::device::{ReadFault, Sink, Source};
+use tsn_run::run::{DONE, respond};
+use tsn_run::{Answer, NetworkRead, read_network};
 
 /// Reads a network file, and writes a line on why it is refused; nothing where it is not. The answer is the status.
 pub fn judge_run<S: Source, W: Sink>(alloc: Global, source: &mut S, sink: &mut W) -> u8

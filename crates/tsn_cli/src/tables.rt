@@ -1,32 +1,30 @@
 //! `gates`, `replay`, `chart` and `streams`: print the gate control lists of a plan, a replay by them, a picture, and what each
 //! stream and each link gets.
-ghost use Rattle.std.specs.Prelude.{◌≡◌, ◌≤◌, ◌<◌, ◌-◌, ◌^◌, ◌⊎◌, [], ◌∷◌, All, IfOk, IsErr, length, string_bytes};
+ghost use Rattle.std.specs.Prelude.{◌≡◌, ◌≤◌, ◌<◌, ◌-◌, ◌^◌, ◌⊎◌, [], ◌∷◌, All, IfOk, length, string_bytes};
 ghost use Rattle.std.specs.List.{flat_map};
 ghost use Rattle.tsn_model.specs.Schedule.{IsValid};
-ghost use Rattle.tsn_cli.specs.Run.{IsLine, RunsOver, sink_over, source_over};
-ghost use Rattle.tsn_cli.specs.Outcome.{ComesOver, output_of};
+ghost use Rattle.tsn_run.specs.Run.{IsLine, RunsOver, sink_over, source_over};
+ghost use Rattle.tsn_run.specs.Outcome.{ComesOver, output_of};
 ghost use Rattle.tsn_gate.specs.Json.{json_text};
 ghost use Rattle.tsn_gate.specs.Table.{table_text};
 ghost use Rattle.tsn_replay.specs.declared.trace.Row.{Row};
 ghost use Rattle.tsn_streams.specs.declared.link.LinkShare.{LinkShare};
 ghost use Rattle.tsn_streams.specs.declared.stream.StreamShare.{StreamShare};
-ghost use Rattle.tsn_cli.specs.Tables.{CanShow, ChartAnswers, GatesAnswers, RejectsPlan, ReplayAnswers, ShowsLists, ShowsPicture, ShowsPlan, ShowsReplay, ShowsShares, ShowsTable, StreamsAnswers, TableAnswers, lists_text, rejected_plan, rows_text, shares_text};
+ghost use Rattle.tsn_cli.specs.Tables.{CanShow, ChartAnswers, GatesAnswers, RejectsPlan, ReplayAnswers, ShowsLists, ShowsPicture, ShowsPlan, ShowsReplay, ShowsShares, ShowsTable, StreamsAnswers, TableAnswers, lists_text, rows_text, shares_text};
 
-use crate::answer::Answer;
-use crate::check::Cause;
-use crate::inputs::{InputsRead, read_inputs};
-use crate::run::{DONE, REJECTED, respond};
 use crate::table::{GatesOptions, ReplayOptions, Table};
 use std::alloc::Global;
 use tsn_cert::Plan;
 use tsn_chart::{View, marked_chart};
-use tsn_check::{CheckFault, check_plan};
+use tsn_check::check_plan;
 use tsn_device::device::{ReadFault, Sink, Source};
-use tsn_format::{GatesFormat, ReplayFormat, StreamsFormat};
 use tsn_gate::{GateList, gate_lists, lists_by, to_taprio_within};
 use tsn_model::NoMemory;
 use tsn_net::Problem;
+use tsn_options::{GatesFormat, ReplayFormat, StreamsFormat};
 use tsn_replay::{Background, ReplayFault, ReplayTable, replay_rows};
+use tsn_run::run::{DONE, REJECTED, respond};
+use tsn_run::{Answer, InputsRead, read_inputs, rejection};
 use tsn_streams::{Shares, plan_shares, to_csv, to_json, to_text};
 use tsn_timing::{Timing, Valid};
 
@@ -379,20 +377,4 @@ fn shares_text(
         StreamsFormat::Json => to_json(alloc, problem, streams, links),
         StreamsFormat::Csv => to_csv(alloc, problem, streams, links),
     }
-}
-
-/// What is said of a plan with this fault.
-pub fn rejection(alloc: Global, fault: CheckFault) -> Result<Answer, NoMemory>
-    ensures line { IfOk result (λ a. IsLine REJECTED (rejected_plan fault) (output_of (Ok a))) }
-    ensures memory { fault ≡ CheckFault.Memory → IsErr result }
-{
-    if fault == CheckFault::Memory {
-        return Err(NoMemory);
-    }
-    let cause = Cause(fault);
-    let text = format!(in alloc; "plan refused {cause}\n")?;
-    Ok(Answer {
-        status: REJECTED,
-        text,
-    })
 }

@@ -1,18 +1,16 @@
 //! `valid`: judges a list of offsets.
-ghost use Rattle.std.specs.Prelude.{◌≡◌, ◌<◌, ◌-◌, ◌^◌, ◌⊎◌, [], ◌∷◌, ◌++◌, IfOk, IsErr, Some, codes};
-ghost use Rattle.tsn_cli.specs.Run.{IsLine, RunsOver, sink_over, source_over};
-ghost use Rattle.tsn_net.specs.Fault.{fault_text};
-ghost use Rattle.tsn_cli.specs.Outcome.{ComesOver, output_of};
+ghost use Rattle.std.specs.Prelude.{◌≡◌, ◌<◌, ◌-◌, ◌^◌, ◌⊎◌, [], ◌∷◌, IfOk, Some};
+ghost use Rattle.tsn_run.specs.Run.{RunsOver, sink_over, source_over};
+ghost use Rattle.tsn_run.specs.Outcome.{ComesOver, output_of};
 ghost use Rattle.tsn_cli.specs.Valid.{ValidAnswers, Accepts, Rejects};
 
-use crate::answer::Answer;
-use crate::inputs::{NetworkRead, read_network};
-use crate::run::{DONE, REFUSED, REJECTED, respond};
 use std::alloc::Global;
 use std::fmt;
 use tsn_device::device::{ReadFault, Sink, Source};
 use tsn_model::{NoMemory, Triple, Violation};
-use tsn_net::{Code, NetFault, Problem};
+use tsn_net::Problem;
+use tsn_run::run::{DONE, REJECTED, respond};
+use tsn_run::{Answer, NetworkRead, read_network};
 use tsn_timing::{Timing, Validity};
 
 /// Reads a network file, judges the offsets (nanoseconds, of any size, in the order of the file's streams), and writes
@@ -64,22 +62,6 @@ fn answer_on(alloc: Global, timing: Timing, offsets: &[u64]) -> Result<Answer, N
     let answer = judgement(alloc, &timing, offsets);
     drop(timing);
     answer
-}
-
-/// What is said of a network file with this fault.
-pub fn refusal(alloc: Global, fault: NetFault) -> Result<Answer, NoMemory>
-    ensures line { IfOk result (λ a. IsLine REFUSED (codes "refused " ++ fault_text fault ++ codes "\n")
-        (output_of (Ok a))) }
-    ensures memory { fault.code ≡ Code.Memory → IsErr result }
-{
-    if fault.code == Code::Memory {
-        return Err(NoMemory);
-    }
-    let text = format!(in alloc; "refused {fault}\n")?;
-    Ok(Answer {
-        status: REFUSED,
-        text,
-    })
 }
 
 /// What is said of the offsets.

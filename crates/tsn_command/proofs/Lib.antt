@@ -1,2 +1,1 @@
 mod FilesLemmas
-mod AskedLemmas

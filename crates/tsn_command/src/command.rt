@@ -1,8 +1,8 @@
 //! The commands, over what they are given.
 ghost use Rattle.std.specs.Prelude.{◌≡◌};
-ghost use Rattle.tsn_cli.specs.Run.{writing_of};
+ghost use Rattle.tsn_run.specs.Run.{sink_over};
 ghost use Rattle.tsn_wiring.specs.Runs.{WithSome};
-ghost use Rattle.tsn_command.specs.Asked.{RunsAsked};
+ghost use Rattle.tsn_command.specs.Asked.{RunsAsked, devices_of};
 
 use crate::planning::{plan, prove};
 use std::alloc::Global;
@@ -25,11 +25,11 @@ pub fn run<'a, T: Threads + Wait + Sync, C: Clock + Eprint + Sync, G: Given<'a>>
     given: &mut G,
     words: Words<'a>,
 ) -> u8
-    ensures { WithSome (G.is_output given.old) (λ before. WithSome (G.is_output given.new) (λ after.
-        RunsAsked G.Source.given G.Source.is_at_end G.Source.failed
+    ensures { WithSome (G.is_output given.old) (λ before. (G.Output.failed before ≡ 0) × WithSome (G.is_output given.new) (λ after.
+        RunsAsked (devices_of G.Source.given G.Source.failed G.Source.is_at_end
         (G.opens_network given.old) (G.opens_plan given.old) (G.opens_cert given.old) G.File.taken G.File.failed
-        (G.makes_plan given.old) (G.makes_cert given.old) (G.refuses_plan given.old) (G.refuses_cert given.old) words.entry
-        (writing_of (G.Output.taken before) (G.Output.taken after)) result (G.Output.failed after))) }
+        (G.makes_plan given.old) (G.makes_cert given.old) (G.refuses_plan given.old) (G.refuses_cert given.old)) words.entry
+        (sink_over G.Output.taken G.Output.failed before after) result)) }
 {
     let output = given.output();
     let Ran { status, output } = run_to(rt, console, alloc, given, output, words);
@@ -47,10 +47,10 @@ pub fn run_to<'a, T: Threads + Wait + Sync, C: Clock + Eprint + Sync, G: Given<'
     words: Words<'a>,
 ) -> Ran<W>
     requires { W.failed output ≡ 0 }
-    ensures { RunsAsked G.Source.given G.Source.is_at_end G.Source.failed
+    ensures { RunsAsked (devices_of G.Source.given G.Source.failed G.Source.is_at_end
         (G.opens_network given.old) (G.opens_plan given.old) (G.opens_cert given.old) G.File.taken G.File.failed
-        (G.makes_plan given.old) (G.makes_cert given.old) (G.refuses_plan given.old) (G.refuses_cert given.old) words.entry
-        (writing_of (W.taken output) (W.taken result.output)) result.status (W.failed result.output) }
+        (G.makes_plan given.old) (G.makes_cert given.old) (G.refuses_plan given.old) (G.refuses_cert given.old)) words.entry
+        (sink_over W.taken W.failed output result.output) result.status }
 {
     match words {
         Words::Valid(words) => valid(alloc, given, output, &words),

@@ -1,15 +1,15 @@
 //! The commands that search: a plan, and a proof of one.
-ghost use Rattle.std.specs.Prelude.{◌≡◌, ◌+◌, ◌-◌, ◌^◌, ◌<◌, ◌↔◌, ◌⊎◌, ◌++◌, [], ◌∷◌, IfOk, IfSome, OnErr, IsTrue, is_some, option_map, string_bytes, ⊤};
-ghost use Rattle.tsn_cli.specs.Run.{Ends, failed_in, reading_of, taken_in, writing_of};
+ghost use Rattle.std.specs.Prelude.{◌≡◌, ◌↔◌, ◌⊎◌, ◌++◌, [], ◌∷◌, IfOk, IfSome, OnErr, IsTrue, is_some, option_map, string_bytes};
+ghost use Rattle.tsn_run.specs.Run.{EndsOver, RunsOver, failed_in, sink_over, taken_in};
 ghost use Rattle.tsn_planner.specs.Plan.{PlanAnswers, PlanStops};
-ghost use Rattle.tsn_planner.specs.Finding.{stop_among};
-ghost use Rattle.tsn_planner.specs.Prove.{ProveAnswers, ProveFinds};
-ghost use Rattle.tsn_planner.specs.Stop.{stop_text};
-ghost use Rattle.tsn_wiring.specs.Runs.{OverNetwork, OverPlan, Runs, RunsTold, WithSome};
+ghost use Rattle.tsn_prover.specs.Finding.{stop_among};
+ghost use Rattle.tsn_prover.specs.Prove.{ProveAnswers, ProveFinds};
+ghost use Rattle.tsn_run.specs.Stop.{stop_text};
+ghost use Rattle.tsn_wiring.specs.Runs.{LeavesSource, OverNetwork, OverPlan, RunsTold};
 ghost use Rattle.tsn_command.specs.Options.{effort_of};
 ghost use Rattle.tsn_command.specs.Files.{OverFiles, OverProofFiles};
-ghost use Rattle.tsn_command.specs.Unmade.{IsUnmadeStatus, RunsUnmade};
-ghost use Rattle.tsn_command.specs.Asked.{IsUnmade, RunsPlan, RunsProve};
+ghost use Rattle.tsn_command.specs.Unmade.{IsUnmade, IsUnmadeStatus, RunsUnmade};
+ghost use Rattle.tsn_command.specs.Asked.{RunsPlan, RunsProve, devices_of};
 
 use crate::options::effort_of;
 use crate::reason::undercut_line;
@@ -18,18 +18,20 @@ use std::io::{Eprint, ErrorKind};
 use std::sync::Wait;
 use std::thread::Threads;
 use std::time::Clock;
-use tsn_cli::device::Sink;
-use tsn_cli::run::{DEVICE, DONE};
 use tsn_device::Failure;
-use tsn_planner::{PlanEnd, ProofEnd, STOPPED, Stop, plan_run, prove_run};
+use tsn_planner::{PlanEnd, plan_run};
 use tsn_progress::Progress;
+use tsn_prover::{ProofEnd, prove_run};
+use tsn_run::Stop;
+use tsn_run::device::Sink;
+use tsn_run::run::{DEVICE, DONE, STOPPED};
+use tsn_setting::{NoSupervisor, Supervisor};
 use tsn_wiring::json::{end_as_json, line_keeper, say_no_memory};
 use tsn_wiring::judged::{NetworkRun, judge_over};
 use tsn_wiring::reason::{failure_line, network_line, plan_line, source_line};
 use tsn_wiring::told::{Ended, end_at};
 use tsn_wiring::{Given, Made, Ran};
 use tsn_words::{PlanWords, ProveWords};
-use tsn_worker::{NoSupervisor, Supervisor};
 
 /// What a plan and its certificate are written to.
 #[derive(Drop)]
@@ -75,9 +77,10 @@ pub fn plan<'a, T: Threads + Wait + Sync, C: Clock + Eprint + Sync, G: Given<'a>
     words: PlanWords<'a>,
 ) -> Ran<W>
     requires { W.failed output ≡ 0 }
-    ensures { RunsPlan G.Source.given G.Source.is_at_end G.Source.failed (G.opens_network given.old) G.File.taken G.File.failed
-        (G.makes_plan given.old) (G.makes_cert given.old) (G.refuses_plan given.old) (G.refuses_cert given.old) words.entry
-        (writing_of (W.taken output) (W.taken result.output)) result.status (W.failed result.output) }
+    ensures { RunsPlan (devices_of G.Source.given G.Source.failed G.Source.is_at_end
+        (G.opens_network given.old) (G.opens_plan given.old) (G.opens_cert given.old) G.File.taken G.File.failed
+        (G.makes_plan given.old) (G.makes_cert given.old) (G.refuses_plan given.old) (G.refuses_cert given.old)) words.entry
+        (sink_over W.taken W.failed output result.output) result.status }
 {
     match plan_files(given, words) {
         Ok(files) => plan_to(rt, console, alloc, given, output, words, files),
@@ -130,8 +133,8 @@ fn unwritable<'a, G: Given<'a>, W: Made>(
     unwritten: Unwritten<'a>,
 ) -> Ran<W>
     requires { W.failed output ≡ 0 }
-    ensures { IsUnmade G.Source.given G.Source.is_at_end G.Source.failed (G.opens_network given.old unwritten.entry.network.now) ⊤
-        unwritten.entry.json (writing_of (W.taken output) (W.taken result.output)) result.status (W.failed result.output) }
+    ensures { IsUnmade G.Source.given G.Source.failed G.Source.is_at_end (G.opens_network given.old unwritten.entry.network.now)
+        unwritten.entry.json (sink_over W.taken W.failed output result.output) result.status }
 {
     if unwritten.failure.cause.kind() == ErrorKind::OutOfMemory {
         return say_no_memory(output);
@@ -153,9 +156,8 @@ fn judge_to<'a, G: Given<'a>, W: Sink>(
     sink: &mut W,
 ) -> Ended
     requires { W.failed sink.old ≡ 0 }
-    ensures { OverNetwork G.Source.given G.Source.is_at_end G.Source.failed (G.opens_network given.now unwritten.now.network.now)
-        (λ readings reads. RunsUnmade readings (writing_of (W.taken sink.old) (W.taken sink.new)) result.status reads
-        (W.failed sink.new)) }
+    ensures { OverNetwork G.Source.given G.Source.failed G.Source.is_at_end (G.opens_network given.now unwritten.now.network.now)
+        (λ sources. RunsUnmade sources (sink_over W.taken W.failed sink.old sink.new) result.status) }
 {
     let NetworkRun { status, network } = judge_over(alloc, given, unwritten.network, sink);
     let line = if status == DONE {
@@ -192,10 +194,10 @@ fn plan_to<'a, T: Threads + Wait + Sync, C: Clock + Eprint + Sync, G: Given<'a>,
     requires wanted { is_some files.cert ≡ is_some words.cert }
     requires failures { (G.File.failed files.plan ≡ 0) × (failed_in G.File.failed files.cert ≡ 0) }
     requires output { W.failed output ≡ 0 }
-    ensures { OverNetwork G.Source.given G.Source.is_at_end G.Source.failed (G.opens_network given.old words.entry.network.now)
-        (λ readings reads. OverFiles G.File.taken G.File.failed files.plan files.cert
-        (λ written writes. RunsTold words.entry.json (PlanAnswers (effort_of words.entry) (is_some words.entry.cert)) readings written
-        (writing_of (W.taken output) (W.taken result.output)) result.status reads writes (W.failed result.output))) }
+    ensures { OverNetwork G.Source.given G.Source.failed G.Source.is_at_end (G.opens_network given.old words.entry.network.now)
+        (λ sources. OverFiles G.File.taken G.File.failed files.plan files.cert
+        (λ written. RunsTold words.entry.json (PlanAnswers (effort_of words.entry) (is_some words.entry.cert)) sources written
+        (sink_over W.taken W.failed output result.output) result.status)) }
 {
     if words.json {
         let mut line = line_keeper(alloc);
@@ -221,10 +223,10 @@ fn plan_told<'a, T: Threads + Wait + Sync, C: Clock + Eprint + Sync, G: Given<'a
     requires wanted { is_some files.cert ≡ is_some words.cert }
     requires failures { (G.File.failed files.plan ≡ 0) × (failed_in G.File.failed files.cert ≡ 0) }
     requires sink { W.failed sink.old ≡ 0 }
-    ensures { OverNetwork G.Source.given G.Source.is_at_end G.Source.failed (G.opens_network given.old words.entry.network.now)
-        (λ readings reads. OverFiles G.File.taken G.File.failed files.plan files.cert
-        (λ written writes. Runs (PlanAnswers (effort_of words.entry) (is_some words.entry.cert)) readings
-        (written ++ writing_of (W.taken sink.old) (W.taken sink.new) ∷ []) result.status reads (writes + W.failed sink.new))) }
+    ensures { OverNetwork G.Source.given G.Source.failed G.Source.is_at_end (G.opens_network given.old words.entry.network.now)
+        (λ sources. OverFiles G.File.taken G.File.failed files.plan files.cert
+        (λ written. RunsOver (PlanAnswers (effort_of words.entry) (is_some words.entry.cert)) sources
+        (written ++ sink_over W.taken W.failed sink.old sink.new ∷ []) result.status)) }
 {
     if !words.progress {
         let run = plan_over(rt, alloc, given, words, files, &NoSupervisor, sink);
@@ -252,23 +254,19 @@ pub fn plan_over<'a, T: Threads + Wait + Sync, A: Supervisor + Sync, G: Given<'a
     requires wanted { is_some files.cert ≡ is_some words.cert }
     requires failures { (G.File.failed files.plan ≡ 0) × (failed_in G.File.failed files.cert ≡ 0) }
     requires sink { W.failed sink.old ≡ 0 }
-    ensures runs { WithSome (G.opens_network given.now words.entry.network.now) (λ network.
-        Runs (PlanAnswers (effort_of words.entry) (is_some words.entry.cert))
-        (reading_of (G.Source.given network) (G.Source.given result.network) (G.Source.is_at_end result.network) ∷ [])
-        (writing_of (G.File.taken files.plan) (G.File.taken result.plan)
-        ∷ writing_of (taken_in G.File.taken files.cert) (taken_in G.File.taken result.cert)
-        ∷ writing_of (W.taken sink.old) (W.taken sink.new) ∷ [])
-        result.end.status (G.Source.failed result.network)
-        (G.File.failed result.plan + failed_in G.File.failed result.cert + W.failed sink.new)) }
+    ensures runs { LeavesSource G.Source.given G.Source.failed G.Source.is_at_end (G.opens_network given.now words.entry.network.now) result.network
+        (λ network. RunsOver (PlanAnswers (effort_of words.entry) (is_some words.entry.cert)) (network ∷ [])
+        (sink_over G.File.taken G.File.failed files.plan result.plan
+        ∷ sink_over (taken_in G.File.taken) (failed_in G.File.failed) files.cert result.cert
+        ∷ sink_over W.taken W.failed sink.old sink.new ∷ []) result.end.status) }
 
     // What is known where the limit was met, and only there.
     ensures stopped { result.end.status ≡ STOPPED ↔ IsTrue (is_some result.end.stop) }
-    ensures stop { IfSome result.end.stop (λ stop. WithSome (G.opens_network given.now words.entry.network.now) (λ network.
-        Ends (PlanStops words.entry.steps stop)
-        (reading_of (G.Source.given network) (G.Source.given result.network) (G.Source.is_at_end result.network) ∷ [])
-        (writing_of (G.File.taken files.plan) (G.File.taken result.plan)
-        ∷ writing_of (taken_in G.File.taken files.cert) (taken_in G.File.taken result.cert)
-        ∷ writing_of (W.taken sink.old) (W.taken sink.new) ∷ []) STOPPED)) }
+    ensures stop { IfSome result.end.stop (λ stop. LeavesSource G.Source.given G.Source.failed G.Source.is_at_end (G.opens_network given.now words.entry.network.now) result.network
+        (λ network. EndsOver (PlanStops words.entry.steps stop) (network ∷ [])
+        (sink_over G.File.taken G.File.failed files.plan result.plan
+        ∷ sink_over (taken_in G.File.taken) (failed_in G.File.failed) files.cert result.cert
+        ∷ sink_over W.taken W.failed sink.old sink.new ∷ []) STOPPED)) }
 {
     let PlanFiles { mut plan, mut cert } = files;
     let mut network = given.network(words.network);
@@ -352,10 +350,10 @@ pub fn prove<'a, C: Clock + Eprint, G: Given<'a>, W: Made>(
     words: ProveWords<'a>,
 ) -> Ran<W>
     requires { W.failed output ≡ 0 }
-    ensures { RunsProve G.Source.given G.Source.is_at_end G.Source.failed (G.opens_network given.old) (G.opens_plan given.old)
-        G.File.taken G.File.failed (G.makes_plan given.old) (G.makes_cert given.old) (G.refuses_plan given.old)
-        (G.refuses_cert given.old) words.entry
-        (writing_of (W.taken output) (W.taken result.output)) result.status (W.failed result.output) }
+    ensures { RunsProve (devices_of G.Source.given G.Source.failed G.Source.is_at_end
+        (G.opens_network given.old) (G.opens_plan given.old) (G.opens_cert given.old) G.File.taken G.File.failed
+        (G.makes_plan given.old) (G.makes_cert given.old) (G.refuses_plan given.old) (G.refuses_cert given.old)) words.entry
+        (sink_over W.taken W.failed output result.output) result.status }
 {
     match proof_files(given, words) {
         Ok(files) => prove_to(console, alloc, given, output, words, files),
@@ -399,11 +397,11 @@ fn prove_to<'a, C: Clock + Eprint, G: Given<'a>, W: Made>(
     requires cert { G.makes_cert given.old (option_map (λ path. path.now) words.cert) files.cert }
     requires failures { (G.File.failed files.better ≡ 0) × (G.File.failed files.cert ≡ 0) }
     requires output { W.failed output ≡ 0 }
-    ensures { OverPlan G.Source.given G.Source.is_at_end G.Source.failed (G.opens_network given.old words.entry.network.now)
+    ensures { OverPlan G.Source.given G.Source.failed G.Source.is_at_end (G.opens_network given.old words.entry.network.now)
         (G.opens_plan given.old words.entry.given.now)
-        (λ readings reads. OverProofFiles G.File.taken G.File.failed files.cert files.better
-        (λ written writes. RunsTold words.entry.json (ProveAnswers words.entry.steps) readings written
-        (writing_of (W.taken output) (W.taken result.output)) result.status reads writes (W.failed result.output))) }
+        (λ sources. OverProofFiles G.File.taken G.File.failed files.cert files.better
+        (λ written. RunsTold words.entry.json (ProveAnswers words.entry.steps) sources written
+        (sink_over W.taken W.failed output result.output) result.status)) }
 {
     if words.json {
         let mut line = line_keeper(alloc);
@@ -427,11 +425,11 @@ fn prove_told<'a, C: Clock + Eprint, G: Given<'a>, W: Sink>(
     requires cert { G.makes_cert given.old (option_map (λ path. path.now) words.cert) files.cert }
     requires failures { (G.File.failed files.better ≡ 0) × (G.File.failed files.cert ≡ 0) }
     requires sink { W.failed sink.old ≡ 0 }
-    ensures { OverPlan G.Source.given G.Source.is_at_end G.Source.failed (G.opens_network given.old words.entry.network.now)
+    ensures { OverPlan G.Source.given G.Source.failed G.Source.is_at_end (G.opens_network given.old words.entry.network.now)
         (G.opens_plan given.old words.entry.given.now)
-        (λ readings reads. OverProofFiles G.File.taken G.File.failed files.cert files.better
-        (λ written writes. Runs (ProveAnswers words.entry.steps) readings
-        (written ++ writing_of (W.taken sink.old) (W.taken sink.new) ∷ []) result.status reads (writes + W.failed sink.new))) }
+        (λ sources. OverProofFiles G.File.taken G.File.failed files.cert files.better
+        (λ written. RunsOver (ProveAnswers words.entry.steps) sources
+        (written ++ sink_over W.taken W.failed sink.old sink.new ∷ []) result.status)) }
 {
     if !words.progress {
         let run = prove_over(alloc, given, words, files, &NoSupervisor, sink);
@@ -457,25 +455,21 @@ pub fn prove_over<'a, A: Supervisor, G: Given<'a>, W: Sink>(
     requires cert { G.makes_cert given.now (option_map (λ path. path.now) words.cert) files.cert }
     requires failures { (G.File.failed files.better ≡ 0) × (G.File.failed files.cert ≡ 0) }
     requires sink { W.failed sink.old ≡ 0 }
-    ensures runs { WithSome (G.opens_network given.now words.entry.network.now) (λ network.
-        WithSome (G.opens_plan given.now words.entry.given.now) (λ plan. Runs (ProveAnswers words.entry.steps)
-        (reading_of (G.Source.given network) (G.Source.given result.network) (G.Source.is_at_end result.network)
-        ∷ reading_of (G.Source.given plan) (G.Source.given result.given) (G.Source.is_at_end result.given) ∷ [])
-        (writing_of (G.File.taken files.cert) (G.File.taken result.cert)
-        ∷ writing_of (G.File.taken files.better) (G.File.taken result.better)
-        ∷ writing_of (W.taken sink.old) (W.taken sink.new) ∷ [])
-        result.end.status (G.Source.failed result.network + G.Source.failed result.given)
-        (G.File.failed result.cert + G.File.failed result.better + W.failed sink.new))) }
+    ensures runs { LeavesSource G.Source.given G.Source.failed G.Source.is_at_end (G.opens_network given.now words.entry.network.now) result.network
+        (λ network. LeavesSource G.Source.given G.Source.failed G.Source.is_at_end (G.opens_plan given.now words.entry.given.now) result.given
+        (λ plan. RunsOver (ProveAnswers words.entry.steps) (network ∷ plan ∷ [])
+        (sink_over G.File.taken G.File.failed files.cert result.cert
+        ∷ sink_over G.File.taken G.File.failed files.better result.better
+        ∷ sink_over W.taken W.failed sink.old sink.new ∷ []) result.end.status)) }
 
     // What was found of the plan, as a value.
     ensures stopped { result.end.status ≡ STOPPED ↔ IsTrue (is_some (stop_among result.end.finding)) }
-    ensures found { IfSome result.end.finding (λ finding. WithSome (G.opens_network given.now words.entry.network.now) (λ network.
-        WithSome (G.opens_plan given.now words.entry.given.now) (λ plan. Ends (ProveFinds words.entry.steps finding)
-        (reading_of (G.Source.given network) (G.Source.given result.network) (G.Source.is_at_end result.network)
-        ∷ reading_of (G.Source.given plan) (G.Source.given result.given) (G.Source.is_at_end result.given) ∷ [])
-        (writing_of (G.File.taken files.cert) (G.File.taken result.cert)
-        ∷ writing_of (G.File.taken files.better) (G.File.taken result.better)
-        ∷ writing_of (W.taken sink.old) (W.taken sink.new) ∷ []) result.end.status))) }
+    ensures found { IfSome result.end.finding (λ finding. LeavesSource G.Source.given G.Source.failed G.Source.is_at_end (G.opens_network given.now words.entry.network.now) result.network
+        (λ network. LeavesSource G.Source.given G.Source.failed G.Source.is_at_end (G.opens_plan given.now words.entry.given.now) result.given
+        (λ plan. EndsOver (ProveFinds words.entry.steps finding) (network ∷ plan ∷ [])
+        (sink_over G.File.taken G.File.failed files.cert result.cert
+        ∷ sink_over G.File.taken G.File.failed files.better result.better
+        ∷ sink_over W.taken W.failed sink.old sink.new ∷ []) result.end.status))) }
 {
     let ProofFiles {
         mut better,

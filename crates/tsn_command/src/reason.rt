@@ -2,7 +2,7 @@
 
 use std::alloc::{AllocError, Global};
 use std::fmt::Write;
-use tsn_planner::{Finding, Spans};
+use tsn_prover::{Finding, Spans};
 use tsn_reason::line_of;
 use tsn_wiring::Opened;
 

@@ -66,7 +66,7 @@ impl Source for MemorySource<'_> {
 }
 
 /// Gives spaces without end, as many as the buffer has room for.
-#[derive(Debug, Default, Drop)]
+#[derive(Default, Drop)]
 pub struct EndlessSource {
     /// How many were given.
     pub count: usize,

@@ -11,8 +11,7 @@ use Rattle.tsn_model.specs.Arcs.{arc_at, Holds, HoldsAll}
 use Rattle.tsn_model.proofs.Chains.{met_along}
 use Rattle.tsn_diff.specs.Limits.{IsArcAmong}
 use Rattle.tsn_model.specs.Arcs.{chain_sum, start_of}
-use Rattle.tsn_diff.specs.Offsets.{Shows}
-use Rattle.tsn_diff.specs.Offsets.{Meets, IsLeast, chain_of}
+use Rattle.tsn_diff.specs.Offsets.{Shows, Meets, IsLeast, chain_of}
 use Rattle.tsn_diff.specs.Forest.{Labelling, last_of, Path, IsForest, IsRaised, Settles, steps_back, indexes_of, chain_by, least_by}
 use Rattle.tsn_diff.specs.Progress.{Closes}
 use Rattle.tsn_diff.specs.Forest.Path.{here, back}

@@ -5,7 +5,7 @@ use std::alloc::{AllocError, Global};
 use std::fmt;
 use std::rt::Files;
 use tsn_device::are_one_file;
-use tsn_words::{PlanWords, ProveWords};
+use tsn_words::{PlanWords, ProveWords, Words};
 
 /// A file that a run reads or writes: the option and the word that name it, and its path.
 #[derive(Clone, Copy)]
@@ -24,15 +24,28 @@ impl fmt::Display for Named<'_> {
 
 /// The files that a run reads and those that it writes.
 #[derive(Clone, Copy)]
-pub struct NamedFiles<'a> {
+struct NamedFiles<'a> {
     network: Named<'a>,
     given: Option<Named<'a>>,
     plan: Option<Named<'a>>,
     cert: Option<Named<'a>>,
 }
 
+/// Why the words are refused, where they name a file twice.
+pub fn doubled_in<R: Files>(
+    rt: &R,
+    alloc: Global,
+    words: &Words<'_>,
+) -> Result<Option<String>, AllocError> {
+    match words {
+        Words::Plan(words) => doubled(rt, alloc, plan_files(words)),
+        Words::Prove(words) => doubled(rt, alloc, prove_files(words)),
+        _ => Ok(None),
+    }
+}
+
 /// Those of `plan`.
-pub fn plan_files<'a>(words: &PlanWords<'a>) -> NamedFiles<'a> {
+fn plan_files<'a>(words: &PlanWords<'a>) -> NamedFiles<'a> {
     NamedFiles {
         network: network_of(words.network),
         given: None,
@@ -42,7 +55,7 @@ pub fn plan_files<'a>(words: &PlanWords<'a>) -> NamedFiles<'a> {
 }
 
 /// Those of `prove`.
-pub fn prove_files<'a>(words: &ProveWords<'a>) -> NamedFiles<'a> {
+fn prove_files<'a>(words: &ProveWords<'a>) -> NamedFiles<'a> {
     NamedFiles {
         network: network_of(words.network),
         given: option_of("", Some(words.given)),
@@ -53,7 +66,7 @@ pub fn prove_files<'a>(words: &ProveWords<'a>) -> NamedFiles<'a> {
 
 /// Why the words are refused, where a file that is to be written is named twice: as plan and certificate, or as one of these and
 /// as a file that is read, or where standard output goes.
-pub fn doubled<R: Files>(
+fn doubled<R: Files>(
     rt: &R,
     alloc: Global,
     files: NamedFiles<'_>,

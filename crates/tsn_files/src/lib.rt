@@ -1,11 +1,11 @@
-//! The commands over files and standard streams.
+//! What the system gives a command: files and standard streams; and what is told where no command runs.
 #![tactic(auto)]
 
-mod command;
 mod doubled;
 mod system;
 pub mod told;
 
-pub use command::run;
+pub use doubled::doubled_in;
+pub use system::System;
 pub use told::{no_memory, refuse, show};
 pub use tsn_device::{FileSink, FileSource, WriterSink};

@@ -2,8 +2,8 @@
 
 use std::alloc::Global;
 use std::io;
-use tsn_cli::run::{DONE, MEMORY, NO_MEMORY_LINE, WORDS, finish};
 use tsn_device::WriterSink;
+use tsn_run::run::{DONE, MEMORY, NO_MEMORY_LINE, WORDS, finish};
 use tsn_wiring::failure_line;
 
 /// What standard output is called.

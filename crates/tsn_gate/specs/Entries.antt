@@ -3,8 +3,7 @@
 --     AllLast, LastsOrNone                 how long they last
 --     IsTimeline                           entries that are being made
 --     IsGateList                           what every list keeps
-use Rattle.std.specs.Prelude.{◌≡◌, ◌≢◌, ℕ, ◌+◌, ◌-◌, ◌≤◌, ◌<◌, ◌⊎◌, List, [], ◌∷◌, length, All, if◌then◌else◌}
-use Rattle.std.specs.Prelude.{nat_lt}
+use Rattle.std.specs.Prelude.{◌≡◌, ◌≢◌, ℕ, ◌+◌, ◌-◌, ◌≤◌, ◌<◌, ◌⊎◌, List, [], ◌∷◌, length, All, if◌then◌else◌, nat_lt}
 use Rattle.std.specs.List.{AllAdjacentBelow}
 use Rattle.tsn_model.specs.declared.GateEntry.{GateEntry}
 use Rattle.tsn_model.specs.Gates.{cycle_of}

@@ -8,9 +8,9 @@ use Rattle.tsn_cert.specs.declared.plan.Plan.TheVariants as plan
 use Rattle.tsn_cert.specs.Plan.{plan_text}
 use Rattle.tsn_check.specs.Plans.{IsFirstPlan}
 use Rattle.tsn_worker.specs.declared.planning.Effort.{Effort}
-use Rattle.tsn_planner.specs.declared.stop.Stop.{Stop}
+use Rattle.tsn_run.specs.declared.stop.Stop.{Stop}
 use Rattle.tsn_worker.proofs.Agreeing.{first_plan_once}
-use Rattle.tsn_cli.specs.Run.{Output}
+use Rattle.tsn_run.specs.Run.{Output}
 use Rattle.tsn_planner.specs.Plan.{PlanAnswers, TellsPlan, TellsStop}
 
 -- an output with status 0 tells of the first plan

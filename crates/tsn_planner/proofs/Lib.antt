@@ -3,6 +3,4 @@ mod TreeLemmas
 pub mod PlanLemmas
 pub mod PrintLemmas
 mod Agreeing
-mod ProveLemmas
-pub mod ProvedLemmas
 mod PlannedLemmas

@@ -11,11 +11,7 @@ use Rattle.tsn_cert.specs.Laws.{IsInGrammar, AreInGrammar}
 use Rattle.tsn_cert.specs.Text.{head_text, node_text, nodes_text, tail_text}
 use Rattle.tsn_cert_json.proofs.Parts.{cert_text_parts}
 use Rattle.tsn_planner.specs.Pieces.{IsParted}
-
--- nothing was taken
-pub Appends-nothing : (a : Option (List ℕ)) → Appends a a []
-Appends-nothing None = tt
-Appends-nothing (Some xs) = sym (append-nil xs)
+use Rattle.tsn_run.proofs.RunLemmas.{Appends-nothing}
 
 -- one piece behind another
 pub Appends-both : (a b c : Option (List ℕ)) (xs ys : List ℕ) → Appends a b xs → Appends b c ys → Appends a c (xs ++ ys)

@@ -19,14 +19,13 @@ use Rattle.tsn_worker.specs.declared.planning.Effort.{Effort}
 use Rattle.tsn_worker.specs.declared.found.Found.{Found}
 use Rattle.tsn_worker.specs.declared.found.Found.TheVariants as found
 use Rattle.tsn_worker.specs.Answer.{IsArgued, IsFinished, IsFound, IsFoundBy, IsFoundPlan, MayArgue, plan_kept}
-use Rattle.tsn_planner.specs.declared.stop.Stop.{Stop}
+use Rattle.tsn_run.specs.declared.stop.Stop.{Stop}
 use Rattle.tsn_planner.specs.declared.plan_output.PlanOutput.{PlanOutput}
 use Rattle.tsn_planner.specs.declared.plan_output.Written.{Written}
 use Rattle.tsn_planner.specs.declared.plan_output.Written.TheVariants.{Argued}
-use Rattle.tsn_cli.specs.Run.{Output, Command, Reading, GivesFile, IsOutput, RunsOver, SinkRun, SourceRun}
+use Rattle.tsn_run.specs.Run.{Output, Command, Reading, GivesFile, IsOutput, RunsOver, SinkRun, SourceRun}
 use Rattle.tsn_planner.specs.PlanOutput.{HasFormIfAny, IsCut, IsPrinted, cert_bytes, printed, stop_in, written_in}
-use Rattle.tsn_planner.specs.Plan.{IsTreeOf, IsWanted, PlanAnswers, PlanStops, ShowsIfAny, TellsPlan, TellsStop, finished_output, found_status, optimal_line, stopped_output}
-use Rattle.tsn_planner.specs.Stop.{stop_of}
+use Rattle.tsn_planner.specs.Plan.{IsTreeOf, IsWanted, PlanAnswers, PlanStops, ShowsIfAny, TellsPlan, TellsStop, finished_output, found_status, optimal_line, stopped_output, stop_of}
 use Rattle.tsn_planner.proofs.TreeLemmas.{cert_is_there}
 
 abbrev three : ℕ → List ℕ → List ℕ → List ℕ → Output
@@ -249,12 +248,3 @@ pub stop_answered : (limit : ℕ) (readings : List Reading) (outcome : Result Pl
     → IsOutput (PlanStops limit stop) readings (printed outcome)
 stop_answered limit readings (Ok output) stop is told = subst (λ (s : Option Stop). IfSome s (λ s. IsOutput (PlanStops limit s) readings (printed (Ok output)))) is told
 stop_answered limit readings (Err fault) stop is told = cc
-
-pub some_of : {X : Type 0} (found : Option X) (P : X → Type 0) → ((x : X) → found ≡ Some x → P x) → IfSome found P
-some_of None P all = tt
-some_of (Some x) P all = all x refl
-
--- the status that is told is that of the run
-pub runs_along : (command : Command) (sources : List SourceRun) (sinks : List SinkRun) (status told : ℕ) → told ≡ status → RunsOver command sources sinks status
-    → RunsOver command sources sinks told
-runs_along command sources sinks status told same runs = subst (λ s. RunsOver command sources sinks s) (sym same) runs

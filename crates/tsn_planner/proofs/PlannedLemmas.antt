@@ -24,12 +24,12 @@ use Rattle.tsn_argue.specs.Certified.{Certifies, certificate_verdict}
 use Rattle.tsn_argue.specs.Laws.{FirstFaultsRefute}
 use Rattle.tsn_worker.specs.declared.planning.Effort.{Effort}
 use Rattle.tsn_worker.specs.Answer.{Shows, whole_verdict, IsWhole}
-use Rattle.tsn_cli.specs.Run.{Output, IsLine}
-use Rattle.tsn_cli.specs.Check.{CheckAnswers, accepted_line}
+use Rattle.tsn_run.specs.Run.{Output, IsLine}
+use Rattle.tsn_run.specs.Check.{CheckAnswers, accepted_line}
 use Rattle.tsn_planner.specs.Plan.{TellsPlan}
 use Rattle.tsn_planner.specs.PlanOutput.{HasForm}
 use Rattle.tsn_planner.specs.PlanLaws.{PlannedIsAccepted}
-use Rattle.tsn_planner.proofs.ProvedLemmas.{accepted}
+use Rattle.tsn_run.proofs.Accepting.{accepted}
 
 abbrev IsDone : ℕ → Type 0
 IsDone status = (status ≡ 0) ⊎ (status ≡ 4)

@@ -5,9 +5,9 @@ use Rattle.std.proofs.lemmas.List.Elements.{All-nil, All-cons}
 use Rattle.tsn_device.specs.declared.device.ReadFault.{ReadFault}
 use Rattle.tsn_planner.specs.declared.plan_output.Written.{Written}
 use Rattle.tsn_planner.specs.declared.plan_output.PlanOutput.{PlanOutput}
-use Rattle.tsn_cli.specs.Run.{Output, IsUnwritten, writing_of}
+use Rattle.tsn_run.specs.Run.{Output, IsUnwritten, writing_of}
 use Rattle.tsn_planner.specs.PlanOutput.{HasFormIfAny, IsCut, IsPrinted, cert_bytes, printed, written_in}
-use Rattle.tsn_cli.proofs.RunLemmas.{Keeps-same}
+use Rattle.tsn_run.proofs.RunLemmas.{Keeps-same}
 
 -- the plan, so many bytes of the certificate, and the line
 abbrev pub cut : List ℕ → Option Written → ℕ → Output

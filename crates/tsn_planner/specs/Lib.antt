@@ -1,10 +1,5 @@
 pub mod Pieces
-pub mod Stop
-pub mod Finding
 pub mod PlanOutput
 pub mod Plan
 pub mod Laws
-pub mod ProofOutput
-pub mod Prove
-pub mod ProveLaws
 pub mod PlanLaws

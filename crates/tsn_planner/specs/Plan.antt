@@ -3,8 +3,9 @@
 --     finished_output, stopped_output              the texts of what was found
 --     ShowsBy, ShowsIfAny, IsTreeOf, IsWanted      a certificate, if one is written
 --     TellsPlan, TellsStop                         an output that tells of a search of the network
+--     stop_of                                      what is told of what a search knows
 --     PlanAnswers, PlanStops                       the answer to the file read
-use Rattle.std.specs.Prelude.{◌≡◌, ◌⊎◌, ℕ, Bool, List, [], ◌∷◌, ◌++◌, codes, decimal, length, MatchOption, Option, Some, None, is_some}
+use Rattle.std.specs.Prelude.{◌≡◌, ◌⊎◌, ℕ, Bool, List, [], ◌∷◌, ◌++◌, codes, decimal, length, MatchOption, Option, Some, None, is_some, option_map}
 use Rattle.tsn_model.specs.Network.{Network}
 use Rattle.tsn_timing.specs.Solution.{Solution}
 use Rattle.tsn_net.specs.File.{States}
@@ -18,11 +19,10 @@ use Rattle.tsn_book.specs.Book.{Progress}
 use Rattle.tsn_worker.specs.declared.known.Known.{Known}
 use Rattle.tsn_worker.specs.declared.planning.Effort.{Effort}
 use Rattle.tsn_worker.specs.Answer.{IsCertificateBy, IsCertOf, IsFoundPlan, IsStoppedWith, Shows}
-use Rattle.tsn_planner.specs.declared.stop.Stop.{Stop}
-use Rattle.tsn_planner.specs.Stop.{stop_of}
-use Rattle.tsn_cli.specs.Run.{Output, Command}
+use Rattle.tsn_run.specs.declared.stop.Stop.{Stop}
+use Rattle.tsn_run.specs.Run.{Output, Command}
 use Rattle.tsn_planner.specs.PlanOutput.{cert_bytes, HasFormIfAny, IsCut}
-use Rattle.tsn_cli.specs.Valid.{RefusesNetwork}
+use Rattle.tsn_run.specs.Refusal.{RefusesNetwork}
 
 -- how many nodes were settled, or steps there are, and the line's end
 abbrev pub settled_text : ℕ → List ℕ
@@ -85,6 +85,10 @@ TellsPlan network effort wanted output =
     (plan : Plan) × ((certificate : Option Certificate) × ((count : ℕ) × (is_some certificate ≡ wanted) × IsFoundPlan network plan
     × ShowsIfAny network effort plan certificate count
     × (((output ≡ finished_output plan certificate count) × HasFormIfAny certificate) ⊎ IsCut (plan_text plan) certificate output)))
+
+-- what is told of what a search knows: the flowspan of its best schedule, if any, and the bound
+abbrev pub stop_of : Known → Stop
+stop_of known = record { best = option_map (λ solution. solution.flowspan) known.best; bound = known.bound }
 
 -- it tells of a search that was stopped at its limit, where so much was known; the count is of the nodes that were settled
 abbrev pub TellsStop : Network → ℕ → Stop → Output → Type 0

@@ -5,9 +5,9 @@ use Rattle.tsn_cert.specs.Plan.{plan_in}
 use Rattle.tsn_cert.specs.declared.plan.Plan.{Plan}
 use Rattle.tsn_worker.specs.declared.planning.Effort.{Effort}
 use Rattle.tsn_worker.specs.Answer.{whole_verdict}
-use Rattle.tsn_cli.specs.Run.{Output, IsLine}
+use Rattle.tsn_run.specs.Run.{Output, IsLine}
 use Rattle.tsn_planner.specs.Plan.{PlanAnswers}
-use Rattle.tsn_cli.specs.Check.{CheckAnswers, accepted_line}
+use Rattle.tsn_run.specs.Check.{CheckAnswers, accepted_line}
 
 -- where `plan` has found a plan, or that there is none, and has written its certificate, whatever `check` answers to the network file and these two texts is
 -- that they are accepted: as the first plan, or as no schedule

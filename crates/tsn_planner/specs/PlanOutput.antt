@@ -16,8 +16,8 @@ use Rattle.tsn_argument.specs.declared.certificate.Certificate.{Certificate}
 use Rattle.tsn_argument.specs.declared.certificate.Certificate.TheVariants.{Tree, Argument}
 use Rattle.tsn_cert.specs.Laws.{AreInGrammar}
 use Rattle.tsn_argument.specs.Certificate.{certificate_text}
-use Rattle.tsn_planner.specs.declared.stop.Stop.{Stop}
-use Rattle.tsn_cli.specs.Run.{Output}
+use Rattle.tsn_run.specs.declared.stop.Stop.{Stop}
+use Rattle.tsn_run.specs.Run.{Output}
 
 -- the certificate that is to be written
 abbrev pub certificate_of : Written → Certificate

@@ -5,7 +5,7 @@ ghost use Rattle.tsn_cert.specs.Cert.{cert_text};
 ghost use Rattle.tsn_cert.specs.Laws.{IsInGrammar, AreInGrammar};
 ghost use Rattle.tsn_cert.specs.Node.{tree_node};
 ghost use Rattle.tsn_cert.specs.Text.{node_text, nodes_text};
-ghost use Rattle.tsn_cli.specs.Run.{taken_in, failed_in};
+ghost use Rattle.tsn_run.specs.Run.{taken_in, failed_in};
 ghost use Rattle.tsn_argument.specs.Argument.{argument_text};
 ghost use Rattle.tsn_argument.specs.Certificate.{certificate_text};
 ghost use Rattle.tsn_planner.specs.PlanOutput.{cert_bytes, certificate_of, written_in, HasForm, HasFormIfAny};
@@ -25,7 +25,7 @@ use tsn_model::NoMemory;
 const PIECE: usize = 65_536;
 
 /// Why a certificate wasn't written whole.
-#[derive(Clone, Copy, Debug, PartialEq, Eq)]
+#[derive(Clone, Copy)]
 pub(crate) enum CertFault {
     /// There was no memory for the text of a node, or of an argument.
     Memory,

@@ -2,18 +2,16 @@
 ghost use Rattle.std.specs.Prelude.{◌≡◌, ◌≢◌, ◌≤◌, ◌<◌, ◌-◌, ◌^◌, ◌⊎◌, ◌↔◌, ℕ, [], ◌∷◌, IfOk, IfSome, IsTrue, None, OnErr, Some, if◌then◌else◌, is_some, length, string_bytes};
 ghost use Rattle.tsn_model.specs.Network.{Network};
 ghost use Rattle.tsn_model.specs.Search.{kept_of, open_paths};
-ghost use Rattle.tsn_cli.specs.Run.{EndsOver, IsOutput, Output, RunsOver, failed_in, readings_of, reads_of, sink_over, source_over, taken_in};
-ghost use Rattle.tsn_cli.specs.Outcome.{TellsFailures};
-ghost use Rattle.tsn_planner.specs.Plan.{IsWanted, PlanAnswers, PlanStops, TellsPlan, TellsStop, best_plan_text, optimal_line, found_status, stopped_line, stopped_output};
+ghost use Rattle.tsn_run.specs.Run.{EndsOver, IsOutput, Output, RunsOver, failed_in, readings_of, reads_of, sink_over, source_over, taken_in};
+ghost use Rattle.tsn_run.specs.Outcome.{TellsFailures};
+ghost use Rattle.tsn_planner.specs.Plan.{IsWanted, PlanAnswers, PlanStops, TellsPlan, TellsStop, best_plan_text, stop_of, optimal_line, found_status, stopped_line, stopped_output};
 ghost use Rattle.tsn_planner.specs.PlanOutput.{IsPrinted, line_alone, printed, stop_in, written_in};
-ghost use Rattle.tsn_planner.specs.Stop.{stop_of};
 ghost use Rattle.tsn_cert.specs.Plan.{plan_text};
 ghost use Rattle.tsn_worker.specs.declared.planning.Effort.{Effort};
 ghost use Rattle.tsn_worker.specs.Answer.{IsArgued, IsFinished, IsFound, IsFoundBy, MayArgue, plan_kept};
 
 use crate::plan_output::{PlanOutput, Written};
 use crate::print::print;
-use crate::stop::Stop;
 use std::alloc::Global;
 use std::mem;
 use std::sync::Wait;
@@ -22,22 +20,19 @@ use tsn_argument::Argument;
 use tsn_book::Book;
 use tsn_cert::{Offsets, Plan};
 use tsn_cert_json::plan_to_json;
-use tsn_cli::run::{DONE, MAX_FILE};
-use tsn_cli::{Answer as Line, refusal};
 use tsn_device::device::{ReadFault, Sink, Source, read_all};
 use tsn_model::NoMemory;
 use tsn_net::read_problem;
+use tsn_run::run::{DONE, MAX_FILE, STOPPED};
+use tsn_run::{Answer as Line, Stop, refusal};
 use tsn_timing::Solved;
 use tsn_worker::{Effort, Found, Known, Supervisor, plan_of, search_by};
 
 /// There is no schedule.
 pub const NO_SCHEDULE: u8 = 4;
 
-/// The limit of settlements, or of conflicts, was met.
-pub const STOPPED: u8 = 5;
-
 /// How a run of `plan` ended: its status, and what is known where that is `STOPPED`.
-#[derive(Clone, Copy, Debug)]
+#[derive(Clone, Copy)]
 pub struct PlanEnd {
     pub status: u8,
     pub stop: Option<Stop>,
@@ -361,7 +356,7 @@ fn stopped(alloc: Global, count: usize, known: &Known) -> Result<PlanOutput, NoM
         plan: best_text(alloc, &known.best)?,
         cert: None,
         line: stopped_line(alloc, &known.best, count)?,
-        stop: Some(Stop::of(known)),
+        stop: Some(stop_of(known)),
     })
 }
 
@@ -392,4 +387,18 @@ fn stopped_line(alloc: Global, best: &Option<Solved>, count: usize) -> Result<St
         None => format!(in alloc; "stopped none settled {count}\n")?,
     };
     Ok(line)
+}
+
+/// What is told of what a search knows.
+fn stop_of(known: &Known) -> Stop
+    ensures { result ≡ stop_of known.now }
+{
+    let best = match &known.best {
+        Some(best) => Some(best.flowspan()),
+        None => None,
+    };
+    Stop {
+        best,
+        bound: known.bound,
+    }
 }

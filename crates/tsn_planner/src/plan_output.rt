@@ -1,9 +1,9 @@
 //! What a run of `plan` prints.
 ghost use Rattle.std.specs.Prelude.{◌<◌, ◌≡◌, is_some, nat_eq};
 
-use crate::stop::Stop;
 use tsn_argument::Argument;
 use tsn_book::Spelling;
+use tsn_run::Stop;
 
 /// A certificate that is to be written.
 #[derive(Drop)]

@@ -1,14 +1,14 @@
 //! How a run of `plan` ends: it prints a plan, its certificate, where one is wanted, and a line.
 ghost use Rattle.std.specs.Prelude.{◌<◌, ◌-◌, ◌^◌, [], ◌∷◌, IfOk, IsSome};
-ghost use Rattle.tsn_cli.specs.Run.{failed_in, sink_over, taken_in};
-ghost use Rattle.tsn_cli.specs.Outcome.{IsWrittenAs};
+ghost use Rattle.tsn_run.specs.Run.{failed_in, sink_over, taken_in};
+ghost use Rattle.tsn_run.specs.Outcome.{IsWrittenAs};
 ghost use Rattle.tsn_planner.specs.PlanOutput.{IsPrinted};
 
 use crate::certificate::{CertFault, write_wanted};
 use crate::plan_output::PlanOutput;
 use std::alloc::Global;
-use tsn_cli::run::{DEVICE, MEMORY, NO_MEMORY_LINE, REFUSED, TOO_LONG_LINE, finish};
 use tsn_device::device::{ReadFault, Sink, write_whole};
+use tsn_run::run::{DEVICE, MEMORY, NO_MEMORY_LINE, REFUSED, TOO_LONG_LINE, finish};
 
 /// Writes the texts, or the line of the fault for which there are none, and says the status.
 pub(crate) fn print<P: Sink, C: Sink, W: Sink>(

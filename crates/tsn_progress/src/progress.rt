@@ -4,7 +4,7 @@ use std::fmt;
 use std::io::Eprint;
 use std::sync::atomic::{AtomicBool, AtomicU64, Ordering};
 use std::time::{Clock, Instant};
-use tsn_worker::{LearnedNews, News, Phase, Supervisor};
+use tsn_setting::{LearnedNews, News, Phase, Supervisor};
 
 /// How many nodes are settled between two looks at the clock.
 const STRIDE: u64 = 256;

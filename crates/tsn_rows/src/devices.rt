@@ -5,7 +5,7 @@ ghost use Rattle.tsn_rows.specs.Folder.{Holds, IsFresh, IsOpened, bytes_in, inpu
 use crate::folder::Folder;
 use std::alloc::Global;
 use std::io::{Error, ErrorKind};
-use tsn_cli::memory::{MemorySink, MemorySource, NEVER};
+use tsn_run::memory::{MemorySink, MemorySource, NEVER};
 use tsn_device::device::{Broken, Sink, Source};
 use tsn_device::{Action, Failure};
 use tsn_wiring::{Given, Made, Opened};

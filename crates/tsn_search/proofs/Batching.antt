@@ -18,11 +18,11 @@ use Rattle.tsn_model.specs.Core.{IsAboveSeen}
 use Rattle.tsn_timing.specs.Solution.{Solution, IsSolved}
 use Rattle.tsn_search_laws.specs.Gathering.{tally_with}
 use Rattle.tsn_model.specs.declared.Tally.{Tally}
-use Rattle.tsn_branch.specs.Outcome.{outcome_of}
+use Rattle.tsn_node.specs.Outcome.{outcome_of}
 use Rattle.tsn_branch.specs.Look.{PrunesFrom}
-use Rattle.tsn_branch.specs.Path.{Fits}
+use Rattle.tsn_node.specs.Path.{Fits}
 use Rattle.tsn_branch.specs.Descent.{Position, Stands, IsAfter, Closes}
-use Rattle.tsn_branch.specs.declared.outcome.Look.{Look}
+use Rattle.tsn_node.specs.declared.outcome.Look.{Look}
 use Rattle.tsn_book.specs.Below.{next_path, after_leaf, path_after, events_below}
 use Rattle.tsn_book.proofs.Below.{events_below-more, path_after-more}
 use Rattle.tsn_share.specs.Teller.{IsSolvedBy, IsUnsolved, OnlyLastSolved, Known, IsEven, settled_all, tally_with_all}

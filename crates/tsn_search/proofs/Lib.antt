@@ -1,4 +1,3 @@
 mod Settling
 pub mod Batching
 pub mod Teams
-pub mod Bounds

@@ -2,4 +2,3 @@ pub mod Search
 pub mod Below
 pub mod Team
 pub mod Context
-pub mod Bound

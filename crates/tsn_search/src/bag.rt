@@ -4,8 +4,8 @@ ghost use Rattle.std.specs.Prelude.{◌≡◌, ◌≤◌, vec_len, IfOk, IfErr};
 
 use crossbeam_deque::{Steal, Stealer, Worker};
 use std::alloc::{AllocError, Global};
-use tsn_branch::Node;
 use tsn_model::NoMemory;
+use tsn_node::Node;
 
 /// How many nodes a bag has room for at first.
 const ROOM: usize = 64;

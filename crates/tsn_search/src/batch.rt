@@ -11,10 +11,10 @@ use crate::best::BestSoFar;
 use crate::context::Context;
 use crate::news::{known, splits_among};
 use crate::settler::Settler;
-use crate::supervisor::{News, Supervisor};
 use std::sync::Wait;
 use tsn_book::BookFault;
-use tsn_branch::Node;
+use tsn_node::Node;
+use tsn_setting::supervisor::{News, Supervisor};
 use tsn_share::{Named, Shared, Teller, observe_as, post_as, settle_below_as};
 use tsn_timing::{Solved, Timing};
 

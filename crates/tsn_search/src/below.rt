@@ -2,11 +2,11 @@
 ghost use Rattle.std.specs.Prelude.{◌≡◌, ◌≤◌, true, false, None, map, IfOk, IfSome, OnOk, IsTrue, ◌↔◌, MatchBool, MatchOption, option_copied};
 ghost use Rattle.tsn_timing.specs.Solution.{IsSolved};
 ghost use Rattle.tsn_conflict.specs.Kept.{AreConflictsOf};
-ghost use Rattle.tsn_branch.specs.Outcome.{outcome_of};
+ghost use Rattle.tsn_node.specs.Outcome.{outcome_of};
 ghost use Rattle.tsn_model.specs.Certificate.{beyond};
 ghost use Rattle.tsn_model.specs.Search.{split};
 ghost use Rattle.tsn_branch.specs.Look.{PrunesFrom};
-ghost use Rattle.tsn_branch.specs.Path.{IsUndecided};
+ghost use Rattle.tsn_node.specs.Path.{IsUndecided};
 ghost use Rattle.tsn_branch.specs.Descent.{Closes};
 ghost use Rattle.tsn_book.specs.Below.{next_path, path_after};
 ghost use Rattle.tsn_share.specs.Teller.{IsUnsolved};
@@ -16,9 +16,10 @@ use crate::bag::Bag;
 use crate::best::BestSoFar;
 use std::alloc::Global;
 use tsn_book::{Book, Looks};
-use tsn_branch::outcome::Look;
-use tsn_branch::{Aim, Decision, Descent, NoMemory, Node, Side, Tables, Triple, fits};
+use tsn_branch::{Aim, Descent, Tables, fits};
 use tsn_conflict::sharing::Conflicts;
+use tsn_node::outcome::Look;
+use tsn_node::{Decision, NoMemory, Node, Side, Triple};
 use tsn_timing::{Solved, Timing};
 
 /// How many nodes are settled at a time, at most.

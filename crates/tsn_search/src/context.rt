@@ -1,16 +1,7 @@
-//! What a search is given, and what its workers share.
+//! What the workers of a search share.
 use crate::board::Board;
-use std::alloc::Global;
-use tsn_branch::Tables;
+use tsn_setting::Setting;
 use tsn_share::{Named, Shared};
-
-/// What a search is given: where it takes memory, what it reads, and the supervisor that it passes.
-#[derive(Drop)]
-pub struct Setting<'a, S> {
-    pub alloc: Global,
-    pub tables: Tables<'a>,
-    pub supervisor: &'a S,
-}
 
 /// What the workers of a search share, each of them and the caller.
 #[derive(Drop)]

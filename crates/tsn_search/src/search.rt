@@ -1,8 +1,8 @@
 //! The search in a book of one's own: an open node is taken, and all that is open below it is settled, again and again.
 ghost use Rattle.std.specs.Prelude.{◌≡◌, ◌<◌, ◌≤◌, ◌+◌, ◌⊎◌, true, [], length, Contains, IfOk, OnOk, MatchBool};
 ghost use Rattle.tsn_model.specs.Search.{open_paths};
-ghost use Rattle.tsn_branch.specs.Outcome.{outcome_of};
-ghost use Rattle.tsn_branch.specs.Look.{HasProof, SplitsUndecided};
+ghost use Rattle.tsn_node.specs.Outcome.{outcome_of};
+ghost use Rattle.tsn_node.specs.Right.{HasProof, SplitsUndecided};
 ghost use Rattle.tsn_book.specs.Book.{IsMet};
 ghost use Rattle.tsn_search.specs.Search.{IsSearchBy, IsFurther};
 ghost use Rattle.tsn_search.specs.Below.{IsBelow, IsBatch, outcomes_of};
@@ -11,12 +11,13 @@ ghost use Rattle.tsn_book.specs.Below.{path_after};
 use crate::bag::Bag;
 use crate::below::{BATCH, Batch, Below, beyond, node_along};
 use crate::best::BestSoFar;
-use crate::context::Setting;
 use crate::news::{is_split, known, splits_among};
 use crate::start::OpenNodes;
-use crate::supervisor::{News, Supervisor};
 use tsn_book::{Book, BookFault, Event, EventRefusal};
-use tsn_branch::{NoMemory, Node, look};
+use tsn_branch::look;
+use tsn_node::{NoMemory, Node};
+use tsn_setting::Setting;
+use tsn_setting::supervisor::{News, Supervisor};
 
 /// One who settles nodes in a book: by which number, and until how many are settled in all.
 #[derive(Drop)]

@@ -8,10 +8,10 @@ use crate::batch::Advance;
 use crate::below::Below;
 use crate::context::Context;
 use crate::settler::Settler;
-use crate::supervisor::Supervisor;
 use std::alloc::Global;
 use std::sync::Wait;
-use tsn_branch::{NoMemory, Node};
+use tsn_node::{NoMemory, Node};
+use tsn_setting::supervisor::Supervisor;
 use tsn_share::Named;
 
 /// The nodes that are open, the first in preorder last.

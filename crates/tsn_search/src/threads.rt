@@ -7,17 +7,18 @@ ghost use Rattle.tsn_search.specs.Team.{AreBack, IsGathered};
 
 use crate::bag::Bag;
 use crate::board::Board;
-use crate::context::{Context, Setting};
+use crate::context::Context;
 use crate::settler::Settler;
 use crate::start::settle_first;
-use crate::supervisor::Supervisor;
 use crate::team::{team_of, tellers_of};
 use crate::worker::{Member, work};
 use std::sync::Wait;
 use std::thread;
 use std::thread::Threads;
 use tsn_book::Book;
-use tsn_branch::NoMemory;
+use tsn_node::NoMemory;
+use tsn_setting::Setting;
+use tsn_setting::supervisor::Supervisor;
 use tsn_share::{Named, Parts, Teller, gather};
 
 /// The caller begins, along a schedule where one is known, the workers go on, one a bag, and what all have settled is gathered.

@@ -9,10 +9,10 @@ use crate::below::{BATCH, Below};
 use crate::board::Board;
 use crate::context::Context;
 use crate::settler::Settler;
-use crate::supervisor::Supervisor;
 use std::sync::Wait;
 use std::thread;
-use tsn_branch::Node;
+use tsn_node::Node;
+use tsn_setting::supervisor::Supervisor;
 use tsn_share::Named;
 
 /// A worker ends after so many rounds in turn in which it found no node.

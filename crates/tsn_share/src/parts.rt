@@ -13,8 +13,8 @@ use std::alloc::{AllocError, Global};
 use std::marker::{Model, PhantomData};
 use std::sync::Mutex;
 use tsn_book::Book;
-use tsn_branch::NoMemory;
 use tsn_incumbent::{Half, Halves, Incumbent, Seat};
+use tsn_node::NoMemory;
 use tsn_timing::Timing;
 
 /// All that tellers share, and what is theirs. Contracts see which search and which tables these are.

@@ -5,8 +5,8 @@ ghost use Rattle.tsn_model.specs.Core.{IsAboveSeen};
 ghost use Rattle.tsn_model.specs.Search.{tally_of};
 ghost use Rattle.tsn_search_laws.specs.Gathering.{tally_with};
 ghost use Rattle.tsn_timing.specs.Solution.{IsSolved};
-ghost use Rattle.tsn_branch.specs.Outcome.{outcome_of};
-ghost use Rattle.tsn_branch.specs.Look.{HasProof};
+ghost use Rattle.tsn_node.specs.Outcome.{outcome_of};
+ghost use Rattle.tsn_node.specs.Right.{HasProof};
 ghost use Rattle.tsn_incumbent.specs.Flowspans.{IsIncumbent};
 ghost use Rattle.tsn_incumbent.specs.Halves.{half};
 ghost use Rattle.tsn_incumbent.specs.Standings.{put};
@@ -24,8 +24,8 @@ use crate::teller::Teller;
 use std::alloc::Global;
 use std::sync::Wait;
 use tsn_book::{BatchRefusal, Event, EventRefusal};
-use tsn_branch::NoMemory;
 use tsn_incumbent::{Half, Halves};
+use tsn_node::NoMemory;
 use tsn_timing::Solved;
 
 /// Settles an event, where it may be, in one critical section; else a reason why not, with the event. A refusal changes

@@ -9,7 +9,7 @@ use std::str::from_utf8;
 use std::test::Fail;
 use tsn_chart::{Shown, View};
 use tsn_cli::chart_run;
-use tsn_cli::memory::{MemorySink, MemorySource, NEVER};
+use tsn_run::memory::{MemorySink, MemorySource, NEVER};
 use tsn_networks::TWO_STREAMS;
 
 /// The bytes of a picture from 0 to an instant.

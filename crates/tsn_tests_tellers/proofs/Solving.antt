@@ -13,10 +13,10 @@ use Rattle.tsn_timing.specs.Solution.{Solution}
 use Rattle.tsn_search_laws.specs.Gathering.{tally_with}
 use Rattle.tsn_model.specs.declared.Tally.{Tally}
 use Rattle.tsn_branch.specs.Look.{IsLook}
-use Rattle.tsn_branch.specs.Look.{HasProof, SplitsUndecided}
-use Rattle.tsn_branch.specs.Outcome.{outcome_of}
-use Rattle.tsn_branch.specs.declared.outcome.Look.{Look}
-use Rattle.tsn_branch.specs.declared.outcome.Look.TheVariants.{Split}
+use Rattle.tsn_node.specs.Right.{HasProof, SplitsUndecided}
+use Rattle.tsn_node.specs.Outcome.{outcome_of}
+use Rattle.tsn_node.specs.declared.outcome.Look.{Look}
+use Rattle.tsn_node.specs.declared.outcome.Look.TheVariants.{Split}
 use Rattle.tsn_book.specs.Below.{next_path, events_below}
 use Rattle.tsn_share.specs.Teller.{Known, IsEven, IsSolvedBy, IsUnsolved, OnlyLastSolved, tally_with_all}
 use Rattle.tsn_share.specs.Gathered.{IsInOrder}

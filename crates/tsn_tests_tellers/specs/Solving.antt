@@ -4,10 +4,10 @@ use Rattle.tsn_model.specs.declared.Triple.{Triple}
 use Rattle.tsn_model.specs.declared.Decision.{Decision}
 use Rattle.tsn_model.specs.Network.{Network}
 use Rattle.tsn_model.specs.Search.{Outcome, split, solved, pruned, tied, refuted}
-use Rattle.tsn_branch.specs.Look.{HasProof, SplitsUndecided}
-use Rattle.tsn_branch.specs.Outcome.{outcome_of}
-use Rattle.tsn_branch.specs.declared.outcome.Look.{Look}
-use Rattle.tsn_branch.specs.declared.outcome.Look.TheVariants.{Split}
+use Rattle.tsn_node.specs.Right.{HasProof, SplitsUndecided}
+use Rattle.tsn_node.specs.Outcome.{outcome_of}
+use Rattle.tsn_node.specs.declared.outcome.Look.{Look}
+use Rattle.tsn_node.specs.declared.outcome.Look.TheVariants.{Split}
 use Rattle.tsn_book.specs.Below.{events_below}
 use Rattle.tsn_share.specs.Teller.{IsSolvedBy}
 

@@ -1,46 +1,37 @@
--- A run is of the command that was called, whatever its options are called by; and what is told of a run is told of it by other names of its status and
--- its output.
-use Rattle.std.proofs.Common.{◌≡◌, ◌+◌, ℕ, List, [], ◌∷◌, Bool, true, false, Option, Some, Result, Ok, Err, IfOk, subst, sym, zero-add}
-use Rattle.tsn_cli.specs.Run.{Command, Reading, Writing, writing_of}
-use Rattle.tsn_wiring.specs.Runs.{Runs, RunsInJson, RunsTold, IsTellingOf}
+-- What follows of a run over some source is so over it; and what is told of a run whose line was kept.
+use Rattle.std.proofs.Common.{◌≡◌, ℕ, List, [], ◌∷◌, ◌++◌, Bool, true, Option, Some, Result, Ok, Err, IfOk, subst, sym}
+use Rattle.tsn_run.specs.Run.{Command, RunsOver, SinkRun, SourceRun, writing_of}
+use Rattle.tsn_wiring.specs.Runs.{LeavesSource, OverSource, RunsTold, IsTellingOf}
 
-pub Runs-along : {O : Type 0} (command : O → Command) (called asked : O) (readings : List Reading) (writings : List Writing)
-    (status reads writes : ℕ) → called ≡ asked
-    → Runs (command called) readings writings status reads writes → Runs (command asked) readings writings status reads writes
-Runs-along command called asked readings writings status reads writes same runs =
-    subst (λ options. Runs (command options) readings writings status reads writes) same runs
+-- what follows of a run that left a source so
+pub leaves_over : {S : Type 0} {given : S → Option (List ℕ)} {failed : S → ℕ} {is_at_end : S → Bool} {IsAsked : S → Type 0} {left : S}
+    {P Q : SourceRun → Type 0} → LeavesSource given failed is_at_end IsAsked left P → ((source : SourceRun) → P source → Q source)
+    → OverSource given failed is_at_end IsAsked Q
+leaves_over {left = left} run follows =
+    (left, record { source = run.source; opened = run.opened; unfailing = run.unfailing; ran = follows _ run.ran })
 
--- a run whose line went to an output, which is then this one, with this status
-pub runs_ended : {W : Type 0} (taken : W → Option (List ℕ)) (failed : W → ℕ) (command : Command) (readings : List Reading) (before : Option (List ℕ))
-    (written output : W) (ended status reads : ℕ) → status ≡ ended → output ≡ written
-    → Runs command readings (writing_of before (taken written) ∷ []) ended reads (failed written)
-    → Runs command readings (writing_of before (taken output) ∷ []) status reads (failed output)
-runs_ended taken failed command readings before written output ended status reads same_status same_output runs =
-    subst (λ s. Runs command readings (writing_of before (taken output) ∷ []) s reads (failed output)) (sym same_status)
-    (subst (λ w. Runs command readings (writing_of before (taken w) ∷ []) ended reads (failed w)) (sym same_output) runs)
+pub over_along : {S : Type 0} {given : S → Option (List ℕ)} {failed : S → ℕ} {is_at_end : S → Bool} {IsAsked : S → Type 0}
+    {P Q : SourceRun → Type 0} → OverSource given failed is_at_end IsAsked P → ((source : SourceRun) → P source → Q source)
+    → OverSource given failed is_at_end IsAsked Q
+over_along run follows = leaves_over run.1 follows
 
-no_writes : (command : Command) (readings : List Reading) (writings : List Writing) (status reads writes : ℕ)
-    → Runs command readings writings status reads writes → Runs command readings writings status reads (0 + writes)
-no_writes command readings writings status reads writes runs = subst (λ n. Runs command readings writings status reads n) (sym (zero-add writes)) runs
+-- what kept a line, of which so many writes failed
+abbrev pub line_over : List ℕ → List ℕ → ℕ → ℕ → SinkRun
+line_over before written failed lost = record { writing = writing_of (Some before) (Some written); writes = record { before = failed; after = lost } }
 
--- a run over no files whose line went to the output itself
-pub told_plainly : (json : Bool) (command : Command) (readings : List Reading) (output : Writing) (status reads broken : ℕ) → json ≡ false
-    → Runs command readings (output ∷ []) status reads broken → RunsTold json command readings [] output status reads 0 broken
-told_plainly json command readings output status reads broken plain runs =
-    subst (λ b. RunsTold b command readings [] output status reads 0 broken) (sym plain) (no_writes command readings (output ∷ []) status reads broken runs)
-
--- a run over no files whose line was kept, in what was empty
-pub told_in_json : (json : Bool) (command : Command) (readings : List Reading) (before written : List ℕ) (run_status reads lost : ℕ) (output : Writing)
-    (status broken : ℕ) → json ≡ true → before ≡ [] → Runs command readings (writing_of (Some before) (Some written) ∷ []) run_status reads lost
-    → IsTellingOf run_status written lost output status broken → RunsTold json command readings [] output status reads 0 broken
-told_in_json json command readings before written run_status reads lost output status broken is_json empty runs telling =
-    subst (λ b. RunsTold b command readings [] output status reads 0 broken) (sym is_json)
+-- a run whose line was kept, in what was empty
+pub told_in_json : (json : Bool) (command : Command) (sources : List SourceRun) (files : List SinkRun) (before written : List ℕ)
+    (failed lost run_status : ℕ) (output : SinkRun) (status : ℕ) → json ≡ true → before ≡ [] → failed ≡ 0
+    → RunsOver command sources (files ++ line_over before written failed lost ∷ []) run_status
+    → IsTellingOf run_status written lost output status → RunsTold json command sources files output status
+told_in_json json command sources files before written failed lost run_status output status is_json empty unfailing runs telling =
+    subst (λ b. RunsTold b command sources files output status) (sym is_json)
     (record {
       run_status = run_status;
       written = written;
       lost = lost;
-      runs = no_writes command readings (writing_of (Some []) (Some written) ∷ []) run_status reads lost
-          (subst (λ items. Runs command readings (writing_of (Some items) (Some written) ∷ []) run_status reads lost) empty runs);
+      runs = subst (λ n. RunsOver command sources (files ++ line_over [] written n lost ∷ []) run_status) unfailing
+          (subst (λ items. RunsOver command sources (files ++ line_over items written failed lost ∷ []) run_status) empty runs);
       told = telling;
     })
 

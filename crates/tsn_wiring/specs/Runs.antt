@@ -1,69 +1,48 @@
 -- How a command ran over what it was given.
---     Runs                                 how a run ended, by what its sources gave and its sinks took
+--     WithSome                             a run with some options that words ask for
+--     LeavesSource, OverSource             a run with some source that a word names
 --     OverNetwork, OverPlan, OverCert      a run with some sources that words name
---     WithSome                             a run with some source that a word names, or some options that words ask for
 --     IsLineIn, IsObjectOf, IsSaid         what is said in JSON of a run and its line
 --     Says, IsTellingOf, RunsInJson        that it was said, and a run of which it was
 --     RunsTold                             a run of which the line, or an object in its place, goes to standard output
-use Rattle.std.specs.Prelude.{◌≡◌, ◌≢◌, ◌⊎◌, ◌+◌, ℕ, List, [], ◌∷◌, ◌++◌, Bool, true, false, All, take, codes, Option, Some, None}
+use Rattle.std.specs.Prelude.{◌≡◌, ◌≢◌, ◌⊎◌, ℕ, List, [], ◌∷◌, ◌++◌, Bool, true, false, take, codes, Option, Some}
 use Rattle.std.specs.Str.{IsUtf8}
 use Rattle.std.specs.Io.KnownBytes.{Appends}
 use Rattle.tsn_device.specs.declared.run.TheConstants.{DEVICE}
-use Rattle.tsn_cli.specs.declared.run.TheConstants.{MEMORY}
-use Rattle.tsn_cli.specs.Run.{Command, Reading, Writing, reading_of, writing_of, Ends, EndsEarly, IsUnwritten}
+use Rattle.tsn_run.specs.declared.run.TheConstants.{MEMORY}
+use Rattle.tsn_run.specs.Run.{Command, RunsOver, SinkRun, SourceRun, source_over, writing_of}
 use Rattle.tsn_report.specs.declared.told.Told.{Told}
 use Rattle.tsn_report.specs.Told.{IsTold, told_text}
-
--- how a run of a command ended over these sources and sinks, of which so many reads and so many writes failed: with the status of its answer, which the
--- sinks took whole; or with the status of a device of which a call failed, with nothing written where that was a read, and a beginning where it was a write
-pub record Runs (command : Command) (readings : List Reading) (writings : List Writing) (status reads writes : ℕ) : Type 0 where
-  pub ended : status ≢ DEVICE → Ends command readings writings status
-  pub unfailing : status ≢ DEVICE → (reads ≡ 0) × (writes ≡ 0)
-  pub failed : status ≡ DEVICE → reads + writes ≡ 1
-  pub read_failed : reads ≢ 0 → All IsUnwritten writings
-  pub write_failed : writes ≢ 0 → EndsEarly command readings writings
 
 -- it holds with some value of which this is so
 abbrev pub WithSome : {S : Type 0} → (S → Type 0) → (S → Type 0) → Type 0
 WithSome {S} IsAsked holds = (value : S) × (IsAsked value × holds value)
 
--- ---- sources: what they have given, whether they are at their end, and how many of their reads failed
+-- it holds of a run over some source of which this is so and no read had failed, and which the run left like this
+pub record LeavesSource {S : Type 0} (given : S → Option (List ℕ)) (failed : S → ℕ) (is_at_end : S → Bool) (IsAsked : S → Type 0) (left : S)
+    (holds : SourceRun → Type 0) : Type 0 where
+  pub source : S
+  pub opened : IsAsked source
+  pub unfailing : failed source ≡ 0
+  pub ran : holds (source_over given failed is_at_end source left)
 
--- a source before a run and after it
-abbrev pub reading_by : {S : Type 0} → (S → Option (List ℕ)) → (S → Bool) → S → S → Reading
-reading_by given is_at_end before after = reading_of (given before) (given after) (is_at_end after)
+-- and which it left somehow
+abbrev pub OverSource : {S : Type 0} → (S → Option (List ℕ)) → (S → ℕ) → (S → Bool) → (S → Type 0) → (SourceRun → Type 0) → Type 0
+OverSource {S} given failed is_at_end IsAsked holds = (left : S) × LeavesSource given failed is_at_end IsAsked left holds
 
--- it holds of a run over some source of a network, of what that gave and how many of its reads failed
-pub record OverNetwork {S : Type 0} (given : S → Option (List ℕ)) (is_at_end : S → Bool) (failed : S → ℕ) (opens_network : S → Type 0)
-    (holds : List Reading → ℕ → Type 0) : Type 0 where
-  pub network : S
-  pub network_read : S
-  pub opened : opens_network network
-  pub ran : holds (reading_by given is_at_end network network_read ∷ []) (failed network_read)
+-- over a network; over it and a plan; over these and a certificate
+abbrev pub OverNetwork : {S : Type 0} → (S → Option (List ℕ)) → (S → ℕ) → (S → Bool) → (S → Type 0) → (List SourceRun → Type 0) → Type 0
+OverNetwork given failed is_at_end opens_network holds = OverSource given failed is_at_end opens_network (λ network. holds (network ∷ []))
 
--- over a network and a plan
-pub record OverPlan {S : Type 0} (given : S → Option (List ℕ)) (is_at_end : S → Bool) (failed : S → ℕ) (opens_network opens_plan : S → Type 0)
-    (holds : List Reading → ℕ → Type 0) : Type 0 where
-  pub network : S
-  pub network_read : S
-  pub plan : S
-  pub plan_read : S
-  pub opened : opens_network network × opens_plan plan
-  pub ran : holds (reading_by given is_at_end network network_read ∷ reading_by given is_at_end plan plan_read ∷ [])
-      (failed network_read + failed plan_read)
+abbrev pub OverPlan : {S : Type 0} → (S → Option (List ℕ)) → (S → ℕ) → (S → Bool) → (S → Type 0) → (S → Type 0) → (List SourceRun → Type 0) → Type 0
+OverPlan given failed is_at_end opens_network opens_plan holds =
+    OverSource given failed is_at_end opens_network (λ network. OverSource given failed is_at_end opens_plan (λ plan. holds (network ∷ plan ∷ [])))
 
--- over a network, a plan and a certificate
-pub record OverCert {S : Type 0} (given : S → Option (List ℕ)) (is_at_end : S → Bool) (failed : S → ℕ) (opens_network opens_plan opens_cert : S → Type 0)
-    (holds : List Reading → ℕ → Type 0) : Type 0 where
-  pub network : S
-  pub network_read : S
-  pub plan : S
-  pub plan_read : S
-  pub cert : S
-  pub cert_read : S
-  pub opened : opens_network network × opens_plan plan × opens_cert cert
-  pub ran : holds (reading_by given is_at_end network network_read ∷ reading_by given is_at_end plan plan_read ∷ reading_by given is_at_end cert cert_read ∷ [])
-      (failed network_read + failed plan_read + failed cert_read)
+abbrev pub OverCert : {S : Type 0} → (S → Option (List ℕ)) → (S → ℕ) → (S → Bool) → (S → Type 0) → (S → Type 0) → (S → Type 0)
+    → (List SourceRun → Type 0) → Type 0
+OverCert given failed is_at_end opens_network opens_plan opens_cert holds =
+    OverSource given failed is_at_end opens_network (λ network. OverSource given failed is_at_end opens_plan
+    (λ plan. OverSource given failed is_at_end opens_cert (λ cert. holds (network ∷ plan ∷ cert ∷ []))))
 
 -- ---- what is said of a run
 
@@ -93,27 +72,31 @@ IsSaid run_status written lost said text =
     ⊎ ((lost ≡ 0) × (run_status ≡ DEVICE) × (said ≡ DEVICE) × (text ≡ [])))
 
 -- the output took this text, and the status is this one; or a write failed, the output took a beginning of the text, and the status says so
-pub record Says (said : ℕ) (text : List ℕ) (output : Writing) (status broken : ℕ) : Type 0 where
-  pub whole : broken ≡ 0 → (status ≡ said) × Appends output.before output.after text
-  pub beginning : broken ≢ 0 → (status ≡ DEVICE) × ((n : ℕ) × Appends output.before output.after (take n text))
+pub record Says (said : ℕ) (text : List ℕ) (output : SinkRun) (status : ℕ) : Type 0 where
+  pub whole : output.writes.after ≡ output.writes.before → (status ≡ said) × Appends output.writing.before output.writing.after text
+  pub beginning : output.writes.after ≢ output.writes.before
+      → (status ≡ DEVICE) × ((n : ℕ) × Appends output.writing.before output.writing.after (take n text))
 
 -- what is said of such a run was said
-pub record IsTellingOf (run_status : ℕ) (written : List ℕ) (lost : ℕ) (output : Writing) (status broken : ℕ) : Type 0 where
+pub record IsTellingOf (run_status : ℕ) (written : List ℕ) (lost : ℕ) (output : SinkRun) (status : ℕ) : Type 0 where
   pub said : ℕ
   pub text : List ℕ
   pub is_said : IsSaid run_status written lost said text
-  pub says : Says said text output status broken
+  pub says : Says said text output status
+
+-- what was empty and kept this of a run's line, of which so many writes failed
+abbrev pub kept_line : List ℕ → ℕ → SinkRun
+kept_line written lost = record { writing = writing_of (Some []) (Some written); writes = record { before = 0; after = lost } }
 
 -- a run over these files wrote its line to where it was kept, and what is said of it went to the output
-pub record RunsInJson (command : Command) (readings : List Reading) (files : List Writing) (output : Writing) (status reads writes broken : ℕ) : Type 0 where
+pub record RunsInJson (command : Command) (sources : List SourceRun) (files : List SinkRun) (output : SinkRun) (status : ℕ) : Type 0 where
   pub run_status : ℕ
   pub written : List ℕ
   pub lost : ℕ
-  pub runs : Runs command readings (files ++ writing_of (Some []) (Some written) ∷ []) run_status reads (writes + lost)
-  pub told : IsTellingOf run_status written lost output status broken
+  pub runs : RunsOver command sources (files ++ kept_line written lost ∷ []) run_status
+  pub told : IsTellingOf run_status written lost output status
 
--- how a run ended over these sources and files, of which so many reads and writes failed, and the output, of which so many writes did: the output took
--- the run's line, or with `--json` what is said of it
-abbrev pub RunsTold : Bool → Command → List Reading → List Writing → Writing → ℕ → ℕ → ℕ → ℕ → Type 0
-RunsTold false command readings files output status reads writes broken = Runs command readings (files ++ output ∷ []) status reads (writes + broken)
-RunsTold true command readings files output status reads writes broken = RunsInJson command readings files output status reads writes broken
+-- how a run ended over these sources and files, and the output: that took the run's line, or with `--json` what is said of it
+abbrev pub RunsTold : Bool → Command → List SourceRun → List SinkRun → SinkRun → ℕ → Type 0
+RunsTold false command sources files output status = RunsOver command sources (files ++ output ∷ []) status
+RunsTold true command sources files output status = RunsInJson command sources files output status

@@ -1,10 +1,10 @@
 //! The commands that show what a certificate is about: `explain` in words, and `chart` with a certificate in a picture.
-ghost use Rattle.std.specs.Prelude.{◌≡◌, ◌+◌, [], ◌∷◌, option_map};
-ghost use Rattle.tsn_cli.specs.Run.{reading_of, writing_of};
+ghost use Rattle.std.specs.Prelude.{◌≡◌, [], ◌∷◌, option_map};
+ghost use Rattle.tsn_run.specs.Run.{RunsOver, sink_over};
 ghost use Rattle.tsn_cli.specs.Explain.{ExplainAnswers, MarkedChartAnswers};
 ghost use Rattle.tsn_wiring.specs.Options.{IsViewOf};
 ghost use Rattle.tsn_wiring.specs.Charts.{RunsChart};
-ghost use Rattle.tsn_wiring.specs.Runs.{OverCert, Runs, WithSome};
+ghost use Rattle.tsn_wiring.specs.Runs.{OverCert, LeavesSource, WithSome};
 
 use crate::devices::{Given, Made};
 use crate::judged::CertRun;
@@ -13,8 +13,8 @@ use crate::reason::{cert_line, plan_line, source_line};
 use crate::tables::chart;
 use crate::told::{Ended, Ran, end_at};
 use std::alloc::Global;
-use tsn_cli::device::Sink;
 use tsn_cli::{explain_run, marked_chart_run};
+use tsn_run::device::Sink;
 use tsn_words::{ChartWords, ExplainWords};
 
 /// Says in words why no schedule is faster; the network `-` is standard input.
@@ -25,10 +25,9 @@ pub fn explain<'a, G: Given<'a>, W: Made>(
     words: ExplainWords<'a>,
 ) -> Ran<W>
     requires { W.failed output ≡ 0 }
-    ensures { OverCert G.Source.given G.Source.is_at_end G.Source.failed (G.opens_network given.old words.entry.network.now)
+    ensures { OverCert G.Source.given G.Source.failed G.Source.is_at_end (G.opens_network given.old words.entry.network.now)
         (G.opens_plan given.old words.entry.plan.now) (G.opens_cert given.old words.entry.cert.now)
-        (λ readings reads. Runs ExplainAnswers readings
-        (writing_of (W.taken output) (W.taken result.output) ∷ []) result.status reads (W.failed result.output)) }
+        (λ sources. RunsOver ExplainAnswers sources (sink_over W.taken W.failed output result.output ∷ []) result.status) }
 {
     let run = explain_over(alloc, given, words, &mut output);
     end_explained(alloc, given, run, output)
@@ -42,10 +41,10 @@ pub fn picture<'a, G: Given<'a>, W: Made>(
     words: ChartWords<'a>,
 ) -> Ran<W>
     requires { W.failed output ≡ 0 }
-    ensures { RunsChart G.Source.given G.Source.is_at_end G.Source.failed
+    ensures { RunsChart G.Source.given G.Source.failed G.Source.is_at_end
         (G.opens_network given.old) (G.opens_plan given.old) (G.opens_cert given.old) words.entry
         (option_map (λ cert. cert.now) words.entry.cert)
-        (writing_of (W.taken output) (W.taken result.output)) result.status (W.failed result.output) }
+        (sink_over W.taken W.failed output result.output) result.status }
 {
     match words.cert {
         Some(cert) => marked_chart(alloc, given, output, words, cert),
@@ -62,11 +61,10 @@ fn marked_chart<'a, G: Given<'a>, W: Made>(
     cert: &'a str,
 ) -> Ran<W>
     requires { W.failed output ≡ 0 }
-    ensures { WithSome (IsViewOf words.entry) (λ view. OverCert G.Source.given G.Source.is_at_end G.Source.failed
+    ensures { WithSome (IsViewOf words.entry) (λ view. OverCert G.Source.given G.Source.failed G.Source.is_at_end
         (G.opens_network given.old words.entry.network.now) (G.opens_plan given.old words.entry.plan.now)
         (G.opens_cert given.old cert.entry.now)
-        (λ readings reads. Runs (MarkedChartAnswers view) readings
-        (writing_of (W.taken output) (W.taken result.output) ∷ []) result.status reads (W.failed result.output))) }
+        (λ sources. RunsOver (MarkedChartAnswers view) sources (sink_over W.taken W.failed output result.output ∷ []) result.status)) }
 {
     let run = marked_chart_over(alloc, given, words, cert, &mut output);
     end_explained(alloc, given, run, output)
@@ -107,15 +105,11 @@ pub fn explain_over<'a, G: Given<'a>, W: Sink>(
     sink: &mut W,
 ) -> CertRun<G::Source>
     requires { W.failed sink.old ≡ 0 }
-    ensures { WithSome (G.opens_network given.now words.entry.network.now) (λ network.
-        WithSome (G.opens_plan given.now words.entry.plan.now) (λ plan.
-        WithSome (G.opens_cert given.now words.entry.cert.now) (λ cert. Runs ExplainAnswers
-        (reading_of (G.Source.given network) (G.Source.given result.network) (G.Source.is_at_end result.network)
-        ∷ reading_of (G.Source.given plan) (G.Source.given result.plan) (G.Source.is_at_end result.plan)
-        ∷ reading_of (G.Source.given cert) (G.Source.given result.cert) (G.Source.is_at_end result.cert) ∷ [])
-        (writing_of (W.taken sink.old) (W.taken sink.new) ∷ [])
-        result.status (G.Source.failed result.network + G.Source.failed result.plan + G.Source.failed result.cert)
-        (W.failed sink.new)))) }
+    ensures { LeavesSource G.Source.given G.Source.failed G.Source.is_at_end (G.opens_network given.now words.entry.network.now) result.network
+        (λ network. LeavesSource G.Source.given G.Source.failed G.Source.is_at_end (G.opens_plan given.now words.entry.plan.now) result.plan
+        (λ plan. LeavesSource G.Source.given G.Source.failed G.Source.is_at_end (G.opens_cert given.now words.entry.cert.now) result.cert
+        (λ cert. RunsOver ExplainAnswers (network ∷ plan ∷ cert ∷ [])
+        (sink_over W.taken W.failed sink.old sink.new ∷ []) result.status))) }
 {
     let mut network = given.network(words.network);
     let mut plan = given.plan(words.plan);
@@ -139,15 +133,11 @@ pub fn marked_chart_over<'a, G: Given<'a>, W: Sink>(
 ) -> CertRun<G::Source>
     requires { W.failed sink.old ≡ 0 }
     ensures { WithSome (IsViewOf words.entry) (λ view.
-        WithSome (G.opens_network given.now words.entry.network.now) (λ network.
-        WithSome (G.opens_plan given.now words.entry.plan.now) (λ plan.
-        WithSome (G.opens_cert given.now cert.entry.now) (λ file. Runs (MarkedChartAnswers view)
-        (reading_of (G.Source.given network) (G.Source.given result.network) (G.Source.is_at_end result.network)
-        ∷ reading_of (G.Source.given plan) (G.Source.given result.plan) (G.Source.is_at_end result.plan)
-        ∷ reading_of (G.Source.given file) (G.Source.given result.cert) (G.Source.is_at_end result.cert) ∷ [])
-        (writing_of (W.taken sink.old) (W.taken sink.new) ∷ [])
-        result.status (G.Source.failed result.network + G.Source.failed result.plan + G.Source.failed result.cert)
-        (W.failed sink.new))))) }
+        LeavesSource G.Source.given G.Source.failed G.Source.is_at_end (G.opens_network given.now words.entry.network.now) result.network
+        (λ network. LeavesSource G.Source.given G.Source.failed G.Source.is_at_end (G.opens_plan given.now words.entry.plan.now) result.plan
+        (λ plan. LeavesSource G.Source.given G.Source.failed G.Source.is_at_end (G.opens_cert given.now cert.entry.now) result.cert
+        (λ file. RunsOver (MarkedChartAnswers view) (network ∷ plan ∷ file ∷ [])
+        (sink_over W.taken W.failed sink.old sink.new ∷ []) result.status)))) }
 {
     let mut network = given.network(words.network);
     let mut plan = given.plan(words.plan);

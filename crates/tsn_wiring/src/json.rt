@@ -1,15 +1,15 @@
 //! An answer as a line of JSON, in place of its own line.
 ghost use Rattle.std.specs.Prelude.{◌≡◌, ◌≢◌, [], IfOk, codes, string_bytes};
-ghost use Rattle.tsn_cli.specs.Run.{writing_of};
+ghost use Rattle.tsn_run.specs.Run.{sink_over};
 ghost use Rattle.tsn_wiring.specs.Runs.{IsLineIn, IsObjectOf, IsTellingOf, IsWithoutFeed, Says};
 
 use crate::devices::{Given, Made};
 use crate::reason::failure_line;
 use crate::told::{Ended, Ran, say, tell};
 use std::alloc::Global;
-use tsn_cli::memory::{MemorySink, NEVER};
-use tsn_cli::run::{DEVICE, MEMORY, NO_MEMORY_LINE};
 use tsn_report::{NoMemory, Told, told_to_json};
+use tsn_run::memory::{MemorySink, NEVER};
+use tsn_run::run::{DEVICE, MEMORY, NO_MEMORY_LINE};
 
 /// The most bytes that are kept of a line at a time.
 const PIECE: usize = 4096;
@@ -33,7 +33,7 @@ pub fn end_as_json<'a, G: Given<'a>, W: Made>(
 ) -> Ran<W>
     requires { W.failed output ≡ 0 }
     ensures { IsTellingOf ended.status line.bytes.items line.failures
-        (writing_of (W.taken output) (W.taken result.output)) result.status (W.failed result.output) }
+        (sink_over W.taken W.failed output result.output) result.status }
 {
     if line.failures > 0 {
         drop(ended);
@@ -62,8 +62,7 @@ pub fn end_as_json<'a, G: Given<'a>, W: Made>(
 /// Says that memory was refused.
 pub fn say_no_memory<W: Made>(output: W) -> Ran<W>
     requires { W.failed output ≡ 0 }
-    ensures { Says MEMORY (codes "no memory\n") (writing_of (W.taken output) (W.taken result.output))
-        result.status (W.failed result.output) }
+    ensures { Says MEMORY (codes "no memory\n") (sink_over W.taken W.failed output result.output) result.status }
 {
     say(output, MEMORY, NO_MEMORY_LINE)
 }
@@ -110,8 +109,7 @@ fn end_told<'a, G: Given<'a>, W: Made>(
     object: String,
 ) -> Ran<W>
     requires { W.failed output ≡ 0 }
-    ensures { Says ended.status (string_bytes object) (writing_of (W.taken output) (W.taken result.output))
-        result.status (W.failed result.output) }
+    ensures { Says ended.status (string_bytes object) (sink_over W.taken W.failed output result.output) result.status }
 {
     let Ended { status, line } = ended;
     let ran = say(output, status, object.as_bytes());
@@ -123,7 +121,7 @@ fn end_told<'a, G: Given<'a>, W: Made>(
 /// Ends a run in which a device failed, and for whose object there is no memory.
 fn end_silently<'a, G: Given<'a>, W: Made>(given: &mut G, output: W, ended: Ended) -> Ran<W>
     requires { W.failed output ≡ 0 }
-    ensures { Says DEVICE [] (writing_of (W.taken output) (W.taken result.output)) result.status (W.failed result.output) }
+    ensures { Says DEVICE [] (sink_over W.taken W.failed output result.output) result.status }
 {
     let Ended { status: _, line } = ended;
     tell(given, line);

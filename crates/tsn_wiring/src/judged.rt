@@ -1,17 +1,17 @@
 //! The commands that judge: offsets, and certificates.
-ghost use Rattle.std.specs.Prelude.{◌≡◌, ◌≢◌, ◌+◌, ◌-◌, ◌^◌, ◌<◌, [], ◌∷◌};
-ghost use Rattle.tsn_cli.specs.Run.{reading_of, writing_of};
+ghost use Rattle.std.specs.Prelude.{◌≡◌, [], ◌∷◌};
+ghost use Rattle.tsn_run.specs.Run.{RunsOver, sink_over};
 ghost use Rattle.tsn_cli.specs.Valid.{JudgeAnswers, ValidAnswers};
-ghost use Rattle.tsn_cli.specs.Check.{CheckAnswers};
-ghost use Rattle.tsn_wiring.specs.Runs.{OverCert, OverNetwork, Runs, RunsTold, WithSome};
+ghost use Rattle.tsn_run.specs.Check.{CheckAnswers};
+ghost use Rattle.tsn_wiring.specs.Runs.{OverCert, OverNetwork, RunsTold, LeavesSource};
 
 use crate::devices::{Given, Made};
 use crate::json::{end_as_json, line_keeper};
 use crate::reason::{cert_line, offsets_line, source_line};
 use crate::told::{Ended, Ran, end_at};
 use std::alloc::Global;
-use tsn_cli::device::Sink;
 use tsn_cli::{check_run, judge_run, valid_run};
+use tsn_run::device::Sink;
 use tsn_words::{CheckWords, ValidWords};
 
 /// How a run over a network ended, and its source.
@@ -38,9 +38,9 @@ pub fn valid<'a, G: Given<'a>, W: Made>(
     words: &ValidWords<'a>,
 ) -> Ran<W>
     requires { W.failed output ≡ 0 }
-    ensures { OverNetwork G.Source.given G.Source.is_at_end G.Source.failed (G.opens_network given.old words.now.network.now)
-        (λ readings reads. RunsTold words.now.json (ValidAnswers words.now.offsets.items) readings []
-        (writing_of (W.taken output) (W.taken result.output)) result.status reads 0 (W.failed result.output)) }
+    ensures { OverNetwork G.Source.given G.Source.failed G.Source.is_at_end (G.opens_network given.old words.now.network.now)
+        (λ sources. RunsTold words.now.json (ValidAnswers words.now.offsets.items) sources []
+        (sink_over W.taken W.failed output result.output) result.status) }
 {
     if words.json {
         let mut line = line_keeper(alloc);
@@ -59,9 +59,9 @@ fn valid_to<'a, G: Given<'a>, W: Sink>(
     sink: &mut W,
 ) -> Ended
     requires { W.failed sink.old ≡ 0 }
-    ensures { OverNetwork G.Source.given G.Source.is_at_end G.Source.failed (G.opens_network given.now words.now.network.now)
-        (λ readings reads. Runs (ValidAnswers words.now.offsets.items) readings
-        (writing_of (W.taken sink.old) (W.taken sink.new) ∷ []) result.status reads (W.failed sink.new)) }
+    ensures { OverNetwork G.Source.given G.Source.failed G.Source.is_at_end (G.opens_network given.now words.now.network.now)
+        (λ sources. RunsOver (ValidAnswers words.now.offsets.items) sources
+        (sink_over W.taken W.failed sink.old sink.new ∷ []) result.status) }
 {
     let NetworkRun { status, network } = valid_over(alloc, given, words, sink);
     let line = source_line(alloc, status, &network).or(offsets_line(
@@ -82,11 +82,9 @@ pub fn valid_over<'a, G: Given<'a>, W: Sink>(
     sink: &mut W,
 ) -> NetworkRun<G::Source>
     requires { W.failed sink.old ≡ 0 }
-    ensures { WithSome (G.opens_network given.now words.now.network.now) (λ network.
-        Runs (ValidAnswers words.now.offsets.items)
-        (reading_of (G.Source.given network) (G.Source.given result.network) (G.Source.is_at_end result.network) ∷ [])
-        (writing_of (W.taken sink.old) (W.taken sink.new) ∷ [])
-        result.status (G.Source.failed result.network) (W.failed sink.new)) }
+    ensures { LeavesSource G.Source.given G.Source.failed G.Source.is_at_end (G.opens_network given.now words.now.network.now) result.network
+        (λ network. RunsOver (ValidAnswers words.now.offsets.items) (network ∷ [])
+        (sink_over W.taken W.failed sink.old sink.new ∷ []) result.status) }
 {
     let mut network = given.network(words.network);
     let status = valid_run(alloc, &mut network, &words.offsets, sink);
@@ -101,10 +99,8 @@ pub fn judge_over<'a, G: Given<'a>, W: Sink>(
     sink: &mut W,
 ) -> NetworkRun<G::Source>
     requires { W.failed sink.old ≡ 0 }
-    ensures { WithSome (G.opens_network given.now word.entry.now) (λ network. Runs JudgeAnswers
-        (reading_of (G.Source.given network) (G.Source.given result.network) (G.Source.is_at_end result.network) ∷ [])
-        (writing_of (W.taken sink.old) (W.taken sink.new) ∷ [])
-        result.status (G.Source.failed result.network) (W.failed sink.new)) }
+    ensures { LeavesSource G.Source.given G.Source.failed G.Source.is_at_end (G.opens_network given.now word.entry.now) result.network
+        (λ network. RunsOver JudgeAnswers (network ∷ []) (sink_over W.taken W.failed sink.old sink.new ∷ []) result.status) }
 {
     let mut network = given.network(word);
     let status = judge_run(alloc, &mut network, sink);
@@ -119,10 +115,10 @@ pub fn check<'a, G: Given<'a>, W: Made>(
     words: CheckWords<'a>,
 ) -> Ran<W>
     requires { W.failed output ≡ 0 }
-    ensures { OverCert G.Source.given G.Source.is_at_end G.Source.failed (G.opens_network given.old words.entry.network.now)
+    ensures { OverCert G.Source.given G.Source.failed G.Source.is_at_end (G.opens_network given.old words.entry.network.now)
         (G.opens_plan given.old words.entry.plan.now) (G.opens_cert given.old words.entry.cert.now)
-        (λ readings reads. RunsTold words.entry.json CheckAnswers readings []
-        (writing_of (W.taken output) (W.taken result.output)) result.status reads 0 (W.failed result.output)) }
+        (λ sources. RunsTold words.entry.json CheckAnswers sources []
+        (sink_over W.taken W.failed output result.output) result.status) }
 {
     if words.json {
         let mut line = line_keeper(alloc);
@@ -141,10 +137,9 @@ fn check_to<'a, G: Given<'a>, W: Sink>(
     sink: &mut W,
 ) -> Ended
     requires { W.failed sink.old ≡ 0 }
-    ensures { OverCert G.Source.given G.Source.is_at_end G.Source.failed (G.opens_network given.now words.entry.network.now)
+    ensures { OverCert G.Source.given G.Source.failed G.Source.is_at_end (G.opens_network given.now words.entry.network.now)
         (G.opens_plan given.now words.entry.plan.now) (G.opens_cert given.now words.entry.cert.now)
-        (λ readings reads. Runs CheckAnswers readings
-        (writing_of (W.taken sink.old) (W.taken sink.new) ∷ []) result.status reads (W.failed sink.new)) }
+        (λ sources. RunsOver CheckAnswers sources (sink_over W.taken W.failed sink.old sink.new ∷ []) result.status) }
 {
     let CertRun {
         status,
@@ -170,15 +165,10 @@ pub fn check_over<'a, G: Given<'a>, W: Sink>(
     sink: &mut W,
 ) -> CertRun<G::Source>
     requires { W.failed sink.old ≡ 0 }
-    ensures { WithSome (G.opens_network given.now words.entry.network.now) (λ network.
-        WithSome (G.opens_plan given.now words.entry.plan.now) (λ plan.
-        WithSome (G.opens_cert given.now words.entry.cert.now) (λ cert. Runs CheckAnswers
-        (reading_of (G.Source.given network) (G.Source.given result.network) (G.Source.is_at_end result.network)
-        ∷ reading_of (G.Source.given plan) (G.Source.given result.plan) (G.Source.is_at_end result.plan)
-        ∷ reading_of (G.Source.given cert) (G.Source.given result.cert) (G.Source.is_at_end result.cert) ∷ [])
-        (writing_of (W.taken sink.old) (W.taken sink.new) ∷ [])
-        result.status (G.Source.failed result.network + G.Source.failed result.plan + G.Source.failed result.cert)
-        (W.failed sink.new)))) }
+    ensures { LeavesSource G.Source.given G.Source.failed G.Source.is_at_end (G.opens_network given.now words.entry.network.now) result.network
+        (λ network. LeavesSource G.Source.given G.Source.failed G.Source.is_at_end (G.opens_plan given.now words.entry.plan.now) result.plan
+        (λ plan. LeavesSource G.Source.given G.Source.failed G.Source.is_at_end (G.opens_cert given.now words.entry.cert.now) result.cert
+        (λ cert. RunsOver CheckAnswers (network ∷ plan ∷ cert ∷ []) (sink_over W.taken W.failed sink.old sink.new ∷ []) result.status))) }
 {
     let mut network = given.network(words.network);
     let mut plan = given.plan(words.plan);

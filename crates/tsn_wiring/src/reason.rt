@@ -3,13 +3,13 @@
 use crate::devices::Opened;
 use std::alloc::{AllocError, Global};
 use std::fmt::Write;
-use tsn_cli::run::{DEVICE, DONE, MAX_FILE, REFUSED, REJECTED};
 use tsn_cli::{GatesFormat, GatesOptions};
 use tsn_device::{Action, Failure};
 use tsn_reason::{
     File, cert_reason, device_reason, line_of, network_reason, offsets_reason, plan_reason,
     unused_reason,
 };
+use tsn_run::run::{DEVICE, DONE, MAX_FILE, REFUSED, REJECTED};
 
 /// The line on a source, where it ended a run of this status.
 pub fn source_line<S: Opened>(alloc: Global, status: u8, source: &S) -> Option<String> {

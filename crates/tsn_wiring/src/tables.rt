@@ -1,17 +1,17 @@
 //! The commands that show a plan: its gate control lists, a replay, a picture, what each stream and link gets.
-ghost use Rattle.std.specs.Prelude.{◌≡◌, ◌+◌, [], ◌∷◌};
-ghost use Rattle.tsn_cli.specs.Run.{reading_of, writing_of};
+ghost use Rattle.std.specs.Prelude.{◌≡◌, [], ◌∷◌};
+ghost use Rattle.tsn_run.specs.Run.{RunsOver, sink_over};
 ghost use Rattle.tsn_cli.specs.Tables.{ChartAnswers, GatesAnswers, ReplayAnswers, StreamsAnswers};
 ghost use Rattle.tsn_wiring.specs.Options.{gates_options, replay_options, IsViewOf};
-ghost use Rattle.tsn_wiring.specs.Runs.{OverPlan, Runs, WithSome};
+ghost use Rattle.tsn_wiring.specs.Runs.{OverPlan, LeavesSource, WithSome};
 
 use crate::devices::{Given, Made};
 use crate::options::{gates_options, replay_options, view_of};
 use crate::reason::{plan_line, source_line, untaken, unused_line};
 use crate::told::{Ended, Ran, end_at, tell, tell_all};
 use std::alloc::Global;
-use tsn_cli::device::Sink;
 use tsn_cli::{chart_run, gates_run, replay_run, streams_run};
+use tsn_run::device::Sink;
 use tsn_words::{ChartWords, GatesWords, ReplayWords, StreamsWords};
 
 /// How a run over a network and a plan ended, and its sources.
@@ -31,10 +31,10 @@ pub fn gates<'a, G: Given<'a>, W: Made>(
     words: GatesWords<'a>,
 ) -> Ran<W>
     requires { W.failed output ≡ 0 }
-    ensures { OverPlan G.Source.given G.Source.is_at_end G.Source.failed
+    ensures { OverPlan G.Source.given G.Source.failed G.Source.is_at_end
         (G.opens_network given.old words.entry.network.now) (G.opens_plan given.old words.entry.plan.now)
-        (λ readings reads. Runs (GatesAnswers (gates_options words.entry)) readings
-        (writing_of (W.taken output) (W.taken result.output) ∷ []) result.status reads (W.failed result.output)) }
+        (λ sources. RunsOver (GatesAnswers (gates_options words.entry)) sources
+        (sink_over W.taken W.failed output result.output ∷ []) result.status) }
 {
     let shown = gates_over(alloc, given, words, &mut output);
     let options = gates_options(words);
@@ -52,10 +52,10 @@ pub fn replay<'a, G: Given<'a>, W: Made>(
     words: ReplayWords<'a>,
 ) -> Ran<W>
     requires { W.failed output ≡ 0 }
-    ensures { OverPlan G.Source.given G.Source.is_at_end G.Source.failed
+    ensures { OverPlan G.Source.given G.Source.failed G.Source.is_at_end
         (G.opens_network given.old words.entry.network.now) (G.opens_plan given.old words.entry.plan.now)
-        (λ readings reads. Runs (ReplayAnswers (replay_options words.entry)) readings
-        (writing_of (W.taken output) (W.taken result.output) ∷ []) result.status reads (W.failed result.output)) }
+        (λ sources. RunsOver (ReplayAnswers (replay_options words.entry)) sources
+        (sink_over W.taken W.failed output result.output ∷ []) result.status) }
 {
     let shown = replay_over(alloc, given, words, &mut output);
     end_shown(alloc, given, shown, output)
@@ -69,10 +69,9 @@ pub fn chart<'a, G: Given<'a>, W: Made>(
     words: ChartWords<'a>,
 ) -> Ran<W>
     requires { W.failed output ≡ 0 }
-    ensures { WithSome (IsViewOf words.entry) (λ view. OverPlan G.Source.given G.Source.is_at_end G.Source.failed
+    ensures { WithSome (IsViewOf words.entry) (λ view. OverPlan G.Source.given G.Source.failed G.Source.is_at_end
         (G.opens_network given.old words.entry.network.now) (G.opens_plan given.old words.entry.plan.now)
-        (λ readings reads. Runs (ChartAnswers view) readings
-        (writing_of (W.taken output) (W.taken result.output) ∷ []) result.status reads (W.failed result.output))) }
+        (λ sources. RunsOver (ChartAnswers view) sources (sink_over W.taken W.failed output result.output ∷ []) result.status)) }
 {
     let shown = chart_over(alloc, given, words, &mut output);
     let unused = unused_line(alloc, shown.status, words.link, &shown.network);
@@ -89,10 +88,10 @@ pub fn streams<'a, G: Given<'a>, W: Made>(
     words: StreamsWords<'a>,
 ) -> Ran<W>
     requires { W.failed output ≡ 0 }
-    ensures { OverPlan G.Source.given G.Source.is_at_end G.Source.failed
+    ensures { OverPlan G.Source.given G.Source.failed G.Source.is_at_end
         (G.opens_network given.old words.entry.network.now) (G.opens_plan given.old words.entry.plan.now)
-        (λ readings reads. Runs (StreamsAnswers words.entry.format) readings
-        (writing_of (W.taken output) (W.taken result.output) ∷ []) result.status reads (W.failed result.output)) }
+        (λ sources. RunsOver (StreamsAnswers words.entry.format) sources
+        (sink_over W.taken W.failed output result.output ∷ []) result.status) }
 {
     let shown = streams_over(alloc, given, words, &mut output);
     end_shown(alloc, given, shown, output)
@@ -130,12 +129,10 @@ pub fn gates_over<'a, G: Given<'a>, W: Sink>(
     sink: &mut W,
 ) -> PlanShown<G::Source>
     requires { W.failed sink.old ≡ 0 }
-    ensures { WithSome (G.opens_network given.now words.entry.network.now) (λ network.
-        WithSome (G.opens_plan given.now words.entry.plan.now) (λ plan. Runs (GatesAnswers (gates_options words.entry))
-        (reading_of (G.Source.given network) (G.Source.given result.network) (G.Source.is_at_end result.network)
-        ∷ reading_of (G.Source.given plan) (G.Source.given result.plan) (G.Source.is_at_end result.plan) ∷ [])
-        (writing_of (W.taken sink.old) (W.taken sink.new) ∷ [])
-        result.status (G.Source.failed result.network + G.Source.failed result.plan) (W.failed sink.new))) }
+    ensures { LeavesSource G.Source.given G.Source.failed G.Source.is_at_end (G.opens_network given.now words.entry.network.now) result.network
+        (λ network. LeavesSource G.Source.given G.Source.failed G.Source.is_at_end (G.opens_plan given.now words.entry.plan.now) result.plan
+        (λ plan. RunsOver (GatesAnswers (gates_options words.entry)) (network ∷ plan ∷ [])
+        (sink_over W.taken W.failed sink.old sink.new ∷ []) result.status)) }
 {
     let mut network = given.network(words.network);
     let mut plan = given.plan(words.plan);
@@ -156,12 +153,10 @@ pub fn replay_over<'a, G: Given<'a>, W: Sink>(
     sink: &mut W,
 ) -> PlanShown<G::Source>
     requires { W.failed sink.old ≡ 0 }
-    ensures { WithSome (G.opens_network given.now words.entry.network.now) (λ network.
-        WithSome (G.opens_plan given.now words.entry.plan.now) (λ plan. Runs (ReplayAnswers (replay_options words.entry))
-        (reading_of (G.Source.given network) (G.Source.given result.network) (G.Source.is_at_end result.network)
-        ∷ reading_of (G.Source.given plan) (G.Source.given result.plan) (G.Source.is_at_end result.plan) ∷ [])
-        (writing_of (W.taken sink.old) (W.taken sink.new) ∷ [])
-        result.status (G.Source.failed result.network + G.Source.failed result.plan) (W.failed sink.new))) }
+    ensures { LeavesSource G.Source.given G.Source.failed G.Source.is_at_end (G.opens_network given.now words.entry.network.now) result.network
+        (λ network. LeavesSource G.Source.given G.Source.failed G.Source.is_at_end (G.opens_plan given.now words.entry.plan.now) result.plan
+        (λ plan. RunsOver (ReplayAnswers (replay_options words.entry)) (network ∷ plan ∷ [])
+        (sink_over W.taken W.failed sink.old sink.new ∷ []) result.status)) }
 {
     let mut network = given.network(words.network);
     let mut plan = given.plan(words.plan);
@@ -183,12 +178,9 @@ pub fn chart_over<'a, G: Given<'a>, W: Sink>(
 ) -> PlanShown<G::Source>
     requires { W.failed sink.old ≡ 0 }
     ensures { WithSome (IsViewOf words.entry) (λ view.
-        WithSome (G.opens_network given.now words.entry.network.now) (λ network.
-        WithSome (G.opens_plan given.now words.entry.plan.now) (λ plan. Runs (ChartAnswers view)
-        (reading_of (G.Source.given network) (G.Source.given result.network) (G.Source.is_at_end result.network)
-        ∷ reading_of (G.Source.given plan) (G.Source.given result.plan) (G.Source.is_at_end result.plan) ∷ [])
-        (writing_of (W.taken sink.old) (W.taken sink.new) ∷ [])
-        result.status (G.Source.failed result.network + G.Source.failed result.plan) (W.failed sink.new)))) }
+        LeavesSource G.Source.given G.Source.failed G.Source.is_at_end (G.opens_network given.now words.entry.network.now) result.network
+        (λ network. LeavesSource G.Source.given G.Source.failed G.Source.is_at_end (G.opens_plan given.now words.entry.plan.now) result.plan
+        (λ plan. RunsOver (ChartAnswers view) (network ∷ plan ∷ []) (sink_over W.taken W.failed sink.old sink.new ∷ []) result.status))) }
 {
     let mut network = given.network(words.network);
     let mut plan = given.plan(words.plan);
@@ -209,12 +201,10 @@ pub fn streams_over<'a, G: Given<'a>, W: Sink>(
     sink: &mut W,
 ) -> PlanShown<G::Source>
     requires { W.failed sink.old ≡ 0 }
-    ensures { WithSome (G.opens_network given.now words.entry.network.now) (λ network.
-        WithSome (G.opens_plan given.now words.entry.plan.now) (λ plan. Runs (StreamsAnswers words.entry.format)
-        (reading_of (G.Source.given network) (G.Source.given result.network) (G.Source.is_at_end result.network)
-        ∷ reading_of (G.Source.given plan) (G.Source.given result.plan) (G.Source.is_at_end result.plan) ∷ [])
-        (writing_of (W.taken sink.old) (W.taken sink.new) ∷ [])
-        result.status (G.Source.failed result.network + G.Source.failed result.plan) (W.failed sink.new))) }
+    ensures { LeavesSource G.Source.given G.Source.failed G.Source.is_at_end (G.opens_network given.now words.entry.network.now) result.network
+        (λ network. LeavesSource G.Source.given G.Source.failed G.Source.is_at_end (G.opens_plan given.now words.entry.plan.now) result.plan
+        (λ plan. RunsOver (StreamsAnswers words.entry.format) (network ∷ plan ∷ [])
+        (sink_over W.taken W.failed sink.old sink.new ∷ []) result.status)) }
 {
     let mut network = given.network(words.network);
     let mut plan = given.plan(words.plan);

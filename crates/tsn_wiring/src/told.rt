@@ -1,13 +1,13 @@
 //! How a run ends: what is told, and its status.
 ghost use Rattle.std.specs.Prelude.{◌≡◌};
-ghost use Rattle.tsn_cli.specs.Run.{writing_of};
+ghost use Rattle.tsn_run.specs.Run.{sink_over};
 ghost use Rattle.tsn_wiring.specs.Runs.{Says};
 
 use crate::devices::{Given, Made};
 use crate::reason::failure_line;
 use std::alloc::Global;
-use tsn_cli::run::DEVICE;
 use tsn_device::device::write_all;
+use tsn_run::run::DEVICE;
 
 /// How a command ended: its status, and standard output as the command left it.
 #[derive(Drop)]
@@ -42,7 +42,7 @@ pub fn end_at<'a, G: Given<'a>, W: Made>(
 /// Writes a text to standard output.
 pub(crate) fn say<W: Made>(mut output: W, status: u8, text: &[u8]) -> Ran<W>
     requires { W.failed output ≡ 0 }
-    ensures { Says status text.now (writing_of (W.taken output) (W.taken result.output)) result.status (W.failed result.output) }
+    ensures { Says status text.now (sink_over W.taken W.failed output result.output) result.status }
 {
     match write_all(&mut output, text) {
         Ok(()) => Ran { status, output },

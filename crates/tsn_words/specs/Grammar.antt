@@ -22,14 +22,14 @@ use Rattle.tsn_words.specs.declared.words.GatesWords.{GatesWords}
 use Rattle.tsn_words.specs.declared.words.ReplayWords.{ReplayWords}
 use Rattle.tsn_words.specs.declared.words.ChartWords.{ChartWords}
 use Rattle.tsn_words.specs.declared.words.StreamsWords.{StreamsWords}
-use Rattle.tsn_format.specs.declared.GatesFormat.{GatesFormat}
-use Rattle.tsn_format.specs.declared.GatesFormat.TheVariants as lists
-use Rattle.tsn_format.specs.declared.ReplayFormat.{ReplayFormat}
-use Rattle.tsn_format.specs.declared.ReplayFormat.TheVariants as replays
-use Rattle.tsn_format.specs.declared.StreamsFormat.{StreamsFormat}
-use Rattle.tsn_format.specs.declared.StreamsFormat.TheVariants as shares
-use Rattle.tsn_words.specs.declared.words.Search.{Search}
-use Rattle.tsn_words.specs.declared.words.Search.TheVariants as searches
+use Rattle.tsn_options.specs.declared.GatesFormat.{GatesFormat}
+use Rattle.tsn_options.specs.declared.GatesFormat.TheVariants as lists
+use Rattle.tsn_options.specs.declared.ReplayFormat.{ReplayFormat}
+use Rattle.tsn_options.specs.declared.ReplayFormat.TheVariants as replays
+use Rattle.tsn_options.specs.declared.StreamsFormat.{StreamsFormat}
+use Rattle.tsn_options.specs.declared.StreamsFormat.TheVariants as shares
+use Rattle.tsn_options.specs.declared.Method.{Method}
+use Rattle.tsn_options.specs.declared.Method.TheVariants as method
 use Rattle.tsn_words.specs.declared.words.WordsFault.{WordsFault}
 use Rattle.tsn_words.specs.declared.words.WordsFault.TheVariants.{Refused, Asked}
 
@@ -180,11 +180,11 @@ streams_format (Some word) =
     else if bytes_eq word (codes "json") then Some shares.Json else if bytes_eq word (codes "csv") then Some shares.Csv else None
 
 -- the search of `plan` that a word names; `auto` where there is none
-abbrev pub plan_search : Option Text → Option Search
-plan_search None = Some searches.Auto
+abbrev pub plan_search : Option Text → Option Method
+plan_search None = Some method.Auto
 plan_search (Some word) =
-    if bytes_eq word (codes "auto") then Some searches.Auto
-    else if bytes_eq word (codes "file") then Some searches.File else if bytes_eq word (codes "learn") then Some searches.Learn else None
+    if bytes_eq word (codes "auto") then Some method.Auto
+    else if bytes_eq word (codes "file") then Some method.FileOrder else if bytes_eq word (codes "learn") then Some method.Learn else None
 
 -- the file, the numbers, the files to write, the flags and the search of `plan`
 abbrev pub IsPlanOf : List Row → PlanWords → Type 0

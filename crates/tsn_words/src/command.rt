@@ -12,7 +12,7 @@ use crate::table::{Argument, FORMS, Form, Takes};
 use crate::words::{
     ChartWords, CheckWords, DEFAULT_ENTRIES, DEFAULT_STEPS, ExplainWords, GatesFormat, GatesWords,
     MAX_CYCLES, MAX_ENTRIES, MAX_LINK, MAX_OFFSET, MAX_STEPS, MAX_TIME, MAX_UNTIL, MAX_WORKERS,
-    PlanWords, ProveWords, ReplayFormat, ReplayWords, Search, StreamsFormat, StreamsWords, VERSION,
+    Method, PlanWords, ProveWords, ReplayFormat, ReplayWords, StreamsFormat, StreamsWords, VERSION,
     ValidWords, Words, WordsFault,
 };
 use clap::builder::ValueParser;
@@ -311,14 +311,14 @@ fn streams_words<'a>(alloc: Global, words: &ArgMatches<'a>) -> Result<Words<'a>,
     }))
 }
 
-/// The search that a word names, if it names one.
-fn plan_search(word: Option<&str>) -> Option<Search>
+/// How a plan is searched for, where a word names that, or none does.
+fn plan_search(word: Option<&str>) -> Option<Method>
     ensures { result ≡ plan_search (option_map (λ word. word.now) word.entry) }
 {
     match word {
-        None | Some("auto") => Some(Search::Auto),
-        Some("file") => Some(Search::File),
-        Some("learn") => Some(Search::Learn),
+        None | Some("auto") => Some(Method::Auto),
+        Some("file") => Some(Method::FileOrder),
+        Some("learn") => Some(Method::Learn),
         Some(_) => None,
     }
 }

@@ -7,6 +7,6 @@ pub mod words;
 
 pub use command::words_from;
 pub use words::{
-    ChartWords, CheckWords, ExplainWords, GatesFormat, GatesWords, PlanWords, ProveWords,
-    ReplayFormat, ReplayWords, Search, StreamsFormat, StreamsWords, ValidWords, Words, WordsFault,
+    ChartWords, CheckWords, ExplainWords, GatesFormat, GatesWords, Method, PlanWords, ProveWords,
+    ReplayFormat, ReplayWords, StreamsFormat, StreamsWords, ValidWords, Words, WordsFault,
 };

@@ -5,7 +5,7 @@ ghost use Rattle.tsn_words.specs.declared.words.TheConstants.{MAX_WORKERS};
 
 use std::alloc::AllocError;
 use thiserror::Error;
-pub use tsn_format::{GatesFormat, ReplayFormat, StreamsFormat};
+pub use tsn_options::{GatesFormat, Method, ReplayFormat, StreamsFormat};
 
 /// The greatest offset, in nanoseconds.
 pub const MAX_OFFSET: u64 = 2_000_000_000;
@@ -118,18 +118,6 @@ pub struct ChartWords<'a> {
     pub ghost link_small: { ForSome link (λ number. number ≤ 1023) },
 }
 
-/// How a plan is searched for.
-#[derive(Clone, Copy, Debug, PartialEq, Eq)]
-pub enum Search {
-    /// `auto`, which goes where the words name none: in the order of the file up to 100,000 settled nodes, and by the search that
-    /// learns where that leaves nodes open and more may be settled.
-    Auto,
-    /// `file`: nodes are split on the first violated conflict, in the order of the file.
-    File,
-    /// `learn`: by the search that learns from each contradiction, and in the order of the file where that gives up.
-    Learn,
-}
-
 /// `plan NET`: plan a network.
 #[derive(Clone, Copy)]
 pub struct PlanWords<'a> {
@@ -147,7 +135,7 @@ pub struct PlanWords<'a> {
     /// Whether it is told on standard error how far the plan has got.
     pub progress: bool,
     /// How the plan is searched for.
-    pub search: Search,
+    pub search: Method,
     /// Whether the answer is printed as a line of JSON.
     pub json: bool,
     pub ghost some_workers: { 1 ≤ workers },

@@ -1,4 +1,3 @@
 mod Deciding
 mod KnownLemmas
-mod ShownPlans
 pub mod Agreeing

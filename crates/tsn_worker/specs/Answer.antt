@@ -30,8 +30,8 @@ use Rattle.tsn_argue.specs.Certified.{Certifies, argument_verdict}
 use Rattle.tsn_book.specs.Book.{Progress, IsLawful, SpellsAccepted}
 use Rattle.tsn_worker.specs.declared.known.Known.{Known}
 use Rattle.tsn_worker.specs.declared.planning.Effort.{Effort}
-use Rattle.tsn_worker.specs.declared.planning.Method.{Method}
-use Rattle.tsn_worker.specs.declared.planning.Method.TheVariants as method
+use Rattle.tsn_options.specs.declared.Method.{Method}
+use Rattle.tsn_options.specs.declared.Method.TheVariants as method
 use Rattle.tsn_worker.specs.declared.planning.TheConstants.{FILE_ORDER_LIMIT}
 use Rattle.tsn_worker.specs.Known.{IsKnown, HoldsKept, LosesNothing}
 use Rattle.tsn_worker.specs.declared.answer.Answer.{Answer}

@@ -1,5 +1,4 @@
 pub mod Known
 pub mod Answer
 pub mod Learned
-pub mod Proof
 pub mod Laws

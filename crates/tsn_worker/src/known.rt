@@ -3,7 +3,7 @@ ghost use Rattle.std.specs.Prelude.{◌≡◌, ◌≤◌, ℕ, IfOk, IfSome};
 ghost use Rattle.tsn_model.specs.Network.{Network};
 ghost use Rattle.tsn_model.specs.Schedule.{IsValid};
 ghost use Rattle.tsn_timing.specs.Solution.{IsSolved};
-ghost use Rattle.tsn_search.specs.Bound.{IsLowerBound};
+ghost use Rattle.tsn_setting.specs.Bound.{IsLowerBound};
 ghost use Rattle.tsn_worker.specs.Known.{HoldsKept, IsKnown, IsOneOf, KnowsWithin, LosesNothing};
 
 use tsn_book::Book;

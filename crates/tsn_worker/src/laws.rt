@@ -1,13 +1,8 @@
-//! The laws of answers. Each function does nothing: its contract is the law.
+//! The law of answers. The function does nothing: its contract is the law.
 
-ghost use Rattle.tsn_worker.specs.Laws.{OptimalPlansAreOne, ProvedIsNotUndercut};
+ghost use Rattle.tsn_worker.specs.Laws.{OptimalPlansAreOne};
 
 /// Two optimal answers to one network have the same plan, whatever their limits, certificates and counts.
 pub fn optimal_plans_are_one()
     ensures { OptimalPlansAreOne }
-{}
-
-/// A plan that one search proves is undercut by no other, whatever their limits.
-pub fn proved_is_not_undercut()
-    ensures { ProvedIsNotUndercut }
 {}

@@ -1,7 +1,7 @@
 //! What the search that learns shows, once its argument is checked.
 ghost use Rattle.std.specs.Prelude.{◌≡◌, ◌≤◌, true};
 ghost use Rattle.tsn_check.specs.Plans.{IsOptimalPlan, span_in};
-ghost use Rattle.tsn_search.specs.Bound.{IsLowerBound};
+ghost use Rattle.tsn_setting.specs.Bound.{IsLowerBound};
 ghost use Rattle.tsn_worker.specs.Answer.{IsArgued};
 ghost use Rattle.tsn_worker.specs.Known.{IsKnown};
 ghost use Rattle.tsn_worker.specs.Learned.{IsLearned};
@@ -12,17 +12,11 @@ use tsn_argue::check_argument;
 use tsn_argument::Argument;
 use tsn_cert::{Offsets, Plan};
 use tsn_check::Verdict;
-use tsn_learn::{Answer, BestSoFar, Budget, Hear, News, learn};
+use tsn_learn::{Answer, BestSoFar, learn};
 use tsn_net::Problem;
-use tsn_search::{LearnedNews, Phase, Supervisor};
+use tsn_proving::{Hearer, budget_of};
+use tsn_setting::{Phase, Supervisor};
 use tsn_timing::Timing;
-
-/// How often the search that learns may look at arcs, clauses and streams of links for each node that a run may settle: with a
-/// million nodes it takes about a minute.
-const WORK: u64 = 5_000;
-
-/// How often it may do so at the least.
-const LEAST_WORK: u64 = 100_000_000;
 
 /// What a search that learns comes to.
 #[derive(Drop)]
@@ -31,42 +25,6 @@ pub enum Learned {
     Shown(Plan, Argument),
     /// Nothing that is shown; and what is known.
     Open(Known),
-}
-
-/// Hands what a search that learns tells to a supervisor.
-#[derive(Clone, Copy)]
-pub struct Hearer<'a, S> {
-    pub supervisor: &'a S,
-    pub streams: usize,
-}
-
-impl<'a, S: Supervisor> Hear for Hearer<'a, S> {
-    fn hear(&self, news: News) {
-        let News {
-            flowspan,
-            bound,
-            stream,
-            conflicts,
-            work: _,
-        } = news;
-        self.supervisor.hear_learned(LearnedNews {
-            flowspan,
-            bound,
-            stream,
-            streams: self.streams,
-            conflicts,
-        });
-    }
-}
-
-/// What may be done where so many nodes may be settled, and so many steps a certificate may have.
-pub fn budget_of(limit: usize) -> Budget {
-    let most = limit as u64;
-    Budget {
-        conflicts: most,
-        work: most.saturating_mul(WORK).max(LEAST_WORK),
-        steps: limit,
-    }
 }
 
 /// What is asked: of what network, and with how many steps at most.

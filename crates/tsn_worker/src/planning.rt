@@ -17,10 +17,11 @@ use std::thread::Threads;
 use tsn_book::Book;
 use tsn_model::NoMemory;
 use tsn_net::Problem;
-use tsn_search::bound::lower_bound;
+use tsn_options::Method;
 use tsn_search::search::settle_open;
 use tsn_search::threads::search;
-use tsn_search::{Bag, DequeBag, Phase, Prepared, Setting, Supervisor};
+use tsn_search::{Bag, DequeBag};
+use tsn_setting::{Phase, Prepared, Setting, Supervisor, lower_bound};
 use tsn_share::Parts;
 use tsn_timing::Timing;
 
@@ -37,23 +38,8 @@ pub const FILE_ORDER_LIMIT: usize = 100_000;
 /// be left for the way along the best schedule that is known.
 const GOES_ON_FROM: usize = 2 * FILE_ORDER_LIMIT;
 
-/// How the search goes.
-#[derive(Clone, Copy, Debug, PartialEq, Eq)]
-pub enum Method {
-    /// In the order of the file, up to 100,000 settled nodes; where that leaves nodes open and more may be settled, by the search
-    /// that learns; where that gives up, in the order of the file again, along the best schedule known. One worker goes on in the
-    /// book that is there, from a limit of 200,000 on; else, and with several workers, it begins anew, with the whole limit for its
-    /// own count.
-    Auto,
-    /// A node is split on its first violated conflict in the order of the file, and closed by whole links.
-    FileOrder,
-    /// By the search that learns; where it gives up, in the order of the file, the nodes on the way of the best schedule known
-    /// first. It may have as many conflicts as nodes may be settled, and some work for each.
-    Learn,
-}
-
 /// How much is to be done: by 1 to 16 workers, with at most so many nodes settled, 1 to 1,000,000,000.
-#[derive(Clone, Copy, Debug)]
+#[derive(Clone, Copy)]
 pub struct Effort {
     pub method: Method,
     pub workers: usize,

@@ -1,8 +1,8 @@
 use Rattle.std.proofs.lemmas.Result.{IfOk-weaker}
 use Rattle.std.specs.Prelude.{Option, option_copied}
 use Rattle.tsn_diff.specs.Offsets.{LeastOffsets}
-use Rattle.tsn_branch.specs.declared.outcome.Look.{Look}
-use Rattle.tsn_branch.specs.Outcome.{outcome_of}
+use Rattle.tsn_node.specs.declared.outcome.Look.{Look}
+use Rattle.tsn_node.specs.Outcome.{outcome_of}
 use Rattle.tsn_branch.proofs.Rights.{HasProof-from, SplitsUndecided-from, SplitsAmong-from, PrunesFrom-from, TiesWith-from}
 use Rattle.tsn_branch.proofs.look_from.Goals as goal
 

@@ -2,18 +2,19 @@
 ghost use Rattle.std.specs.Prelude.{◌≡◌, ◌-◌, IfSome, length, option_copied, take};
 ghost use Rattle.tsn_conflict.specs.Kept.{AreConflictsOf};
 ghost use Rattle.tsn_branch.specs.Least.{ComesWithSplit, IsLeastAbove};
-ghost use Rattle.tsn_branch.specs.Look.{SplitsUndecided};
-ghost use Rattle.tsn_branch.specs.Outcome.{outcome_of};
-ghost use Rattle.tsn_branch.specs.Path.{IsUndecided};
+ghost use Rattle.tsn_node.specs.Right.{SplitsUndecided};
+ghost use Rattle.tsn_node.specs.Outcome.{outcome_of};
+ghost use Rattle.tsn_node.specs.Path.{IsUndecided};
 
 use crate::nodes::branch::look_text;
 use crate::nodes::networks::{TEN, timing_of};
 use crate::nodes::rows::expect_text;
 use std::process::Abort;
-use tsn_branch::outcome::Look;
-use tsn_branch::{Least, Node, Side, Triple, fits, look_from};
+use tsn_branch::{Least, fits, look_from};
 use tsn_conflict::conflicts;
 use tsn_conflict::sharing::Conflicts;
+use tsn_node::outcome::Look;
+use tsn_node::{Node, Side, Triple};
 use tsn_timing::Timing;
 
 /// What a look finds, and what the children of its node are looked at from.

@@ -1,7 +1,7 @@
 //! The book of a search on the two streams that share link 4.
 ghost use Rattle.std.specs.Prelude.{◌≡◌, ◌<◌};
-ghost use Rattle.tsn_branch.specs.Outcome.{outcome_of};
-ghost use Rattle.tsn_branch.specs.Look.{HasProof};
+ghost use Rattle.tsn_node.specs.Outcome.{outcome_of};
+ghost use Rattle.tsn_node.specs.Right.{HasProof};
 
 use crate::nodes::networks::{TWO, timing_of};
 use crate::nodes::nodes::{event_of, node_at};
@@ -9,10 +9,10 @@ use crate::nodes::rows::{cut, expect_text};
 use std::process::Abort;
 use std::test::*;
 use tsn_book::{Book, BookFault, Event, EventRefusal};
-use tsn_branch::Node;
 use tsn_cert::Cert;
 use tsn_cert_json::cert_to_json;
 use tsn_model::Tally;
+use tsn_node::Node;
 use tsn_timing::Timing;
 
 /// A book with one teller.

@@ -6,11 +6,12 @@ use crate::nodes::nodes::{looked, node_at};
 use crate::nodes::rows::cut;
 use std::process::Abort;
 use std::test::*;
-use tsn_branch::outcome::Look;
-use tsn_branch::{Node, Triple, fits, whole_chains};
-use tsn_cert::{Leaf, LowerBound};
+use tsn_branch::fits;
+use tsn_cert::{Chain, Entries, Leaf, LowerBound};
 use tsn_conflict::conflicts;
 use tsn_diff::Forest;
+use tsn_node::outcome::Look;
+use tsn_node::{Node, Triple, whole_chains};
 use tsn_timing::{Solved, Timing};
 
 pub fn look_text<R: Abort + AllocGlobal>(rt: &R, look: &Look) -> String {
@@ -42,9 +43,9 @@ fn solved_text<R: Abort + AllocGlobal>(
     leaf: &LowerBound,
     chains: &Forest,
 ) -> String {
-    let chains = whole_chains(rt.alloc(), chains).expect(rt, "memory");
+    let (leaf, chains) = (bound_text(rt, leaf), forest_text(rt, chains));
     let (offsets, bound) = (solved.valid().offsets(), solved.flowspan());
-    format!(in rt.alloc(); "solved {offsets:?} {bound} {leaf:?} {chains:?}").expect(rt, "memory")
+    format!(in rt.alloc(); "solved {offsets:?} {bound} {leaf} {chains}").expect(rt, "memory")
 }
 
 fn tied_text<R: Abort + AllocGlobal>(
@@ -53,16 +54,69 @@ fn tied_text<R: Abort + AllocGlobal>(
     leaf: &LowerBound,
     chains: &Forest,
 ) -> String {
-    let chains = whole_chains(rt.alloc(), chains).expect(rt, "memory");
-    format!(in rt.alloc(); "tied {bound} {leaf:?} {chains:?}").expect(rt, "memory")
+    let (leaf, chains) = (bound_text(rt, leaf), forest_text(rt, chains));
+    format!(in rt.alloc(); "tied {bound} {leaf} {chains}").expect(rt, "memory")
 }
 
 fn pruned_text<R: Abort + AllocGlobal>(rt: &R, bound: u64, leaf: &LowerBound) -> String {
-    format!(in rt.alloc(); "pruned {bound} {leaf:?}").expect(rt, "memory")
+    let leaf = bound_text(rt, leaf);
+    format!(in rt.alloc(); "pruned {bound} {leaf}").expect(rt, "memory")
 }
 
 fn refuted_text<R: Abort + AllocGlobal>(rt: &R, leaf: &Leaf) -> String {
-    format!(in rt.alloc(); "refuted {leaf:?}").expect(rt, "memory")
+    let leaf = leaf_text(rt, leaf);
+    format!(in rt.alloc(); "refuted {leaf}").expect(rt, "memory")
+}
+
+fn leaf_text<R: Abort + AllocGlobal>(rt: &R, leaf: &Leaf) -> String {
+    match leaf {
+        Leaf::Bound(bound) => bound_text(rt, bound),
+        Leaf::Overrun(stream, chain) => chain_leaf(rt, "Overrun", *stream, chain),
+        Leaf::Cycle(chain) => {
+            let depths = depths(rt, chain);
+            format!(in rt.alloc(); "Cycle {depths:?}").expect(rt, "memory")
+        }
+        Leaf::Overload(link, entries) => entries_leaf(rt, "Overload", *link, entries),
+    }
+}
+
+fn bound_text<R: Abort + AllocGlobal>(rt: &R, leaf: &LowerBound) -> String {
+    match leaf {
+        LowerBound::Late(stream, chain) => chain_leaf(rt, "Late", *stream, chain),
+        LowerBound::Load(link, entries) => entries_leaf(rt, "Load", *link, entries),
+    }
+}
+
+fn chain_leaf<R: Abort + AllocGlobal>(rt: &R, word: &str, stream: usize, chain: &Chain) -> String {
+    let depths = depths(rt, chain);
+    format!(in rt.alloc(); "{word} {stream} {depths:?}").expect(rt, "memory")
+}
+
+fn entries_leaf<R: Abort + AllocGlobal>(
+    rt: &R,
+    word: &str,
+    link: usize,
+    entries: &Entries,
+) -> String {
+    let mut all = Vec::new(rt.alloc());
+    for (stream, chain) in entries.list() {
+        all.push((*stream, depths(rt, chain))).expect(rt, "memory");
+    }
+    format!(in rt.alloc(); "{word} {link} {all:?}").expect(rt, "memory")
+}
+
+fn forest_text<R: Abort + AllocGlobal>(rt: &R, forest: &Forest) -> String {
+    let chains = whole_chains(rt.alloc(), forest).expect(rt, "memory");
+    let mut all = Vec::new(rt.alloc());
+    for chain in chains.list() {
+        all.push(depths(rt, chain)).expect(rt, "memory");
+    }
+    drop(chains);
+    format!(in rt.alloc(); "{all:?}").expect(rt, "memory")
+}
+
+fn depths<R: Abort + AllocGlobal>(rt: &R, chain: &Chain) -> Vec<usize> {
+    chain.to_vec(rt.alloc()).expect(rt, "memory")
 }
 
 /// What a look finds, as at `Left 4: 2925 beside 0 672`.
@@ -91,11 +145,11 @@ pub fn print_fitting<R: Abort + AllocGlobal>(rt: &R, timing: &Timing, path: &str
 
 const FIRST_LOOKS: &str = "\
 1000000, look root: 1000001 = split 0 1 4
-1000000, look root: 2252 = pruned 2252 Late(0, Chain { depths: Narrow([]) })
-1000000, look Left 4: 1000001 = solved [0, 672] 2924 Late(1, Chain { depths: Narrow([0]) }) Chains { list: [Chain { depths: Narrow([]) }, Chain { depths: Narrow([0]) }] }
-1000000, look Left 4: 2925 = solved [0, 672] 2924 Late(1, Chain { depths: Narrow([0]) }) Chains { list: [Chain { depths: Narrow([]) }, Chain { depths: Narrow([0]) }] }
-1000000, look Left 4: 2924 = pruned 2924 Late(1, Chain { depths: Narrow([0]) })
-1000000, look Right 4: 2924 = pruned 2924 Late(0, Chain { depths: Narrow([0]) })";
+1000000, look root: 2252 = pruned 2252 Late 0 []
+1000000, look Left 4: 1000001 = solved [0, 672] 2924 Late 1 [0] [[], [0]]
+1000000, look Left 4: 2925 = solved [0, 672] 2924 Late 1 [0] [[], [0]]
+1000000, look Left 4: 2924 = pruned 2924 Late 1 [0]
+1000000, look Right 4: 2924 = pruned 2924 Late 0 [0]";
 
 #[test]
 fn splits_solves_and_prunes(rt: HostRuntime) {
@@ -105,9 +159,9 @@ fn splits_solves_and_prunes(rt: HostRuntime) {
 /// The chains of a tie go up to the first stream at which the lists differ, and else to the last stream.
 const TIES: &str = "\
 1000000, look root: 2925 beside 0 672 = split 0 1 4
-1000000, look Right 4: 2925 beside 0 672 = tied 2924 Late(0, Chain { depths: Narrow([0]) }) Chains { list: [Chain { depths: Narrow([0]) }] }
-1000000, look Left 4: 2925 beside 0 672 = tied 2924 Late(1, Chain { depths: Narrow([0]) }) Chains { list: [Chain { depths: Narrow([]) }, Chain { depths: Narrow([0]) }] }
-1000000, look Left 4: 2925 beside 672 0 = solved [0, 672] 2924 Late(1, Chain { depths: Narrow([0]) }) Chains { list: [Chain { depths: Narrow([]) }, Chain { depths: Narrow([0]) }] }";
+1000000, look Right 4: 2925 beside 0 672 = tied 2924 Late 0 [0] [[0]]
+1000000, look Left 4: 2925 beside 0 672 = tied 2924 Late 1 [0] [[], [0]]
+1000000, look Left 4: 2925 beside 672 0 = solved [0, 672] 2924 Late 1 [0] [[], [0]]";
 
 #[test]
 fn ties_with_the_best_schedule(rt: HostRuntime) {
@@ -118,13 +172,13 @@ fn ties_with_the_best_schedule(rt: HostRuntime) {
 /// goes before a load, and a flowspan that is the target before both.
 const LOADS: &str = "\
 1000000, look root: 2925 = split 0 1 4
-1000000, look root: 2924 = pruned 2924 Load(4, Entries { list: [(0, Chain { depths: Narrow([]) }), (1, Chain { depths: Narrow([]) })] })
-1000000, look root: 2253 = pruned 2924 Load(4, Entries { list: [(0, Chain { depths: Narrow([]) }), (1, Chain { depths: Narrow([]) })] })
+1000000, look root: 2924 = pruned 2924 Load 4 [(0, []), (1, [])]
+1000000, look root: 2253 = pruned 2924 Load 4 [(0, []), (1, [])]
 2970, look root: 2971 = split 0 1 4
-2970, look root: 2924 = pruned 2924 Load(4, Entries { list: [(0, Chain { depths: Narrow([]) }), (1, Chain { depths: Narrow([]) })] })
-2969, look root: 2970 = refuted Overload(4, Entries { list: [(0, Chain { depths: Narrow([]) }), (1, Chain { depths: Narrow([]) })] })
-2969, look root: 2924 = refuted Overload(4, Entries { list: [(0, Chain { depths: Narrow([]) }), (1, Chain { depths: Narrow([]) })] })
-2969, look root: 2252 = pruned 2252 Late(0, Chain { depths: Narrow([]) })";
+2970, look root: 2924 = pruned 2924 Load 4 [(0, []), (1, [])]
+2969, look root: 2970 = refuted Overload 4 [(0, []), (1, [])]
+2969, look root: 2924 = refuted Overload 4 [(0, []), (1, [])]
+2969, look root: 2252 = pruned 2252 Late 0 []";
 
 #[test]
 fn loads_of_shared_links_prune_and_refute(rt: HostRuntime) {
@@ -134,11 +188,11 @@ fn loads_of_shared_links_prune_and_refute(rt: HostRuntime) {
 /// On link 4 both streams are busy from 576 to 1920, and on link 6 from 1152 to 2496; either asks for a flowspan of 2400. A load
 /// of the first link goes before an overload of the second one.
 const LOADED_LINKS: &str = "\
-2496, look root: 2400 = pruned 2400 Load(4, Entries { list: [(0, Chain { depths: Narrow([]) }), (1, Chain { depths: Narrow([]) })] })
+2496, look root: 2400 = pruned 2400 Load 4 [(0, []), (1, [])]
 2496, look root: 2401 = split 0 1 4
-2495, look root: 2401 = refuted Overload(6, Entries { list: [(0, Chain { depths: Narrow([]) }), (1, Chain { depths: Narrow([]) })] })
-2495, look root: 2400 = pruned 2400 Load(4, Entries { list: [(0, Chain { depths: Narrow([]) }), (1, Chain { depths: Narrow([]) })] })
-1919, look root: 2400 = refuted Overload(4, Entries { list: [(0, Chain { depths: Narrow([]) }), (1, Chain { depths: Narrow([]) })] })";
+2495, look root: 2401 = refuted Overload 6 [(0, []), (1, [])]
+2495, look root: 2400 = pruned 2400 Load 4 [(0, []), (1, [])]
+1919, look root: 2400 = refuted Overload 4 [(0, []), (1, [])]";
 
 #[test]
 fn the_first_loaded_link_is_taken(rt: HostRuntime) {
@@ -147,9 +201,9 @@ fn the_first_loaded_link_is_taken(rt: HostRuntime) {
 
 /// An overrun goes before a flowspan that is the target.
 const SPANS: &str = "\
-2297, look root: 2298 = refuted Overrun(0, Chain { depths: Narrow([]) })
-2297, look root: 2252 = refuted Overrun(0, Chain { depths: Narrow([]) })
-2298, look root: 2299 = solved [0] 2252 Late(0, Chain { depths: Narrow([]) }) Chains { list: [Chain { depths: Narrow([]) }] }";
+2297, look root: 2298 = refuted Overrun 0 []
+2297, look root: 2252 = refuted Overrun 0 []
+2298, look root: 2299 = solved [0] 2252 Late 0 [] [[]]";
 
 #[test]
 fn spans_end_within_the_cycle(rt: HostRuntime) {
@@ -159,9 +213,9 @@ fn spans_end_within_the_cycle(rt: HostRuntime) {
 /// Of the first node the arcs weigh 672 and 2016: from stream 1 to 0, and back. Of the second they weigh 672 and -672, and a sum of 0
 /// refutes nothing.
 const CYCLES: &str = "\
-1000000, look Right 4;Left 12: 1000001 = refuted Cycle(Chain { depths: Narrow([0, 1]) })
-1000000, look Left 4;Right 12: 1000001 = solved [0, 672] 3648 Late(0, Chain { depths: Narrow([]) }) Chains { list: [Chain { depths: Narrow([]) }, Chain { depths: Narrow([0]) }] }
-1000000, look Left 4;Right 12: 3648 = pruned 3648 Late(0, Chain { depths: Narrow([]) })";
+1000000, look Right 4;Left 12: 1000001 = refuted Cycle [0, 1]
+1000000, look Left 4;Right 12: 1000001 = solved [0, 672] 3648 Late 0 [] [[], [0]]
+1000000, look Left 4;Right 12: 3648 = pruned 3648 Late 0 []";
 
 #[test]
 fn cycles_of_positive_sum_refute(rt: HostRuntime) {

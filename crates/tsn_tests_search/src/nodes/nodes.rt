@@ -3,15 +3,16 @@
 //! how it is let go is no part of a test's own proof.
 ghost use Rattle.std.specs.Prelude.{IfSome, option_copied};
 ghost use Rattle.tsn_timing.specs.Solution.{IsSolved};
-ghost use Rattle.tsn_branch.specs.Outcome.{outcome_of};
-ghost use Rattle.tsn_branch.specs.Look.{HasProof};
+ghost use Rattle.tsn_node.specs.Outcome.{outcome_of};
+ghost use Rattle.tsn_node.specs.Right.{HasProof};
 
 use crate::nodes::rows::{cut, number, numbers, place};
 use std::process::Abort;
 use tsn_book::Event;
-use tsn_branch::outcome::Look;
-use tsn_branch::{Node, Side, Triple, fits, look};
+use tsn_branch::{fits, look};
 use tsn_conflict::conflicts;
+use tsn_node::outcome::Look;
+use tsn_node::{Node, Side, Triple};
 use tsn_timing::{Solved, Timing};
 
 /// Which of the first two streams goes first on a link.

@@ -3,7 +3,7 @@
 use std::alloc::Global;
 use std::sync::atomic::{AtomicU64, Ordering};
 use std::test::Fail;
-use tsn_branch::{NoMemory, Node, Side, Triple};
+use tsn_node::{NoMemory, Node, Side, Triple};
 use tsn_worker::{Bag, DequeBag};
 
 /// A bag that pops the node pushed last, and steals none.

@@ -7,8 +7,8 @@ use crate::workers::supervisors::{CountingSupervisor, MeetingSupervisor};
 use std::alloc::Global;
 use std::sync::atomic::{AtomicU64, Ordering};
 use std::test::*;
-use tsn_branch::{NoMemory, Node, Side, Triple};
 use tsn_networks::TWO_STREAMS;
+use tsn_node::{NoMemory, Node, Side, Triple};
 use tsn_worker::{Bag, DequeBag, NoSupervisor};
 
 /// A worker that waits for the other one meets it only where each has a thread of its own.

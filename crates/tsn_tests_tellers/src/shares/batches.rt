@@ -6,9 +6,9 @@ ghost use Rattle.tsn_model.specs.Search.{split};
 ghost use Rattle.tsn_model.specs.Core.{IsAboveSeen};
 ghost use Rattle.tsn_timing.specs.Solution.{IsSolved};
 ghost use Rattle.tsn_search_laws.specs.Gathering.{tally_with};
-ghost use Rattle.tsn_branch.specs.declared.outcome.Look.TheVariants.{Split};
-ghost use Rattle.tsn_branch.specs.Outcome.{outcome_of};
-ghost use Rattle.tsn_branch.specs.Look.{HasProof, SplitsUndecided};
+ghost use Rattle.tsn_node.specs.declared.outcome.Look.TheVariants.{Split};
+ghost use Rattle.tsn_node.specs.Outcome.{outcome_of};
+ghost use Rattle.tsn_node.specs.Right.{HasProof, SplitsUndecided};
 ghost use Rattle.tsn_share.specs.Teller.{IsEven, IsSolvedBy};
 ghost use Rattle.tsn_tests_tellers.specs.Solving.{the_conflict, IsWalk};
 
@@ -23,8 +23,8 @@ use std::process::Abort;
 use std::sync::Wait;
 use std::test::*;
 use tsn_book::{BatchRefusal, Event, Looks};
-use tsn_branch::outcome::Look;
-use tsn_branch::{Node, Side, Triple};
+use tsn_node::outcome::Look;
+use tsn_node::{Node, Side, Triple};
 use tsn_share::{Named, Parts, Shared, Teller, post_as, settle_all_as, settle_below_as};
 use tsn_timing::{Solved, Timing};
 

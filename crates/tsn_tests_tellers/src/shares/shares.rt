@@ -15,7 +15,7 @@ use std::process::Abort;
 use std::sync::Wait;
 use std::test::*;
 use tsn_book::{Book, Event, EventRefusal};
-use tsn_branch::{Node, Side};
+use tsn_node::{Node, Side};
 use tsn_share::{
     Counts, Named, Parts, Shared, Teller, gather, post_as, settle_and_post, settle_as, with_book,
 };

@@ -2,8 +2,9 @@
 ghost use Rattle.std.specs.Prelude.{◌≡◌, ◌+◌, ◌<◌, ◌≤◌, ◌++◌, ◌∷◌, [], IfSome, option_copied};
 ghost use Rattle.tsn_model.specs.Search.{split};
 ghost use Rattle.tsn_timing.specs.Solution.{IsSolved};
-ghost use Rattle.tsn_branch.specs.Outcome.{outcome_of};
-ghost use Rattle.tsn_branch.specs.Look.{HasProof, IsLook, SplitsUndecided};
+ghost use Rattle.tsn_node.specs.Outcome.{outcome_of};
+ghost use Rattle.tsn_node.specs.Right.{HasProof, SplitsUndecided};
+ghost use Rattle.tsn_branch.specs.Look.{IsLook};
 ghost use Rattle.tsn_share.specs.Teller.{IsEven, IsSolvedBy, fresh_teller};
 ghost use Rattle.tsn_tests_tellers.specs.Solving.{IsTied, the_conflict};
 
@@ -11,9 +12,10 @@ use std::alloc::Global;
 use std::process::Abort;
 use std::sync::Wait;
 use tsn_book::{Book, BookFault, Event};
-use tsn_branch::outcome::Look;
-use tsn_branch::{Node, Side, Triple, fits, look};
+use tsn_branch::{fits, look};
 use tsn_conflict::conflicts;
+use tsn_node::outcome::Look;
+use tsn_node::{Node, Side, Triple};
 use tsn_share::{Named, Parts, Shared, Teller, best_as, gather, observe_as};
 use tsn_timing::{Solved, Timing};
 

@@ -1,8 +1,7 @@
 use Rattle.std.proofs.Common.{◌≡◌, ◌<◌, [], ◌∷◌, length, Ok, Some, None, sym, ap, subst, ◌∙◌, All, arith}
 use Rattle.std.proofs.lemmas.List.{length-map}
 use Rattle.std.proofs.lemmas.List.Elements.{All-contains}
-use Rattle.tsn_model.specs.Argument.{Fact as ModelFact}
-use Rattle.tsn_model.specs.Argument.{IsFact, left_open, clause_at}
+use Rattle.tsn_model.specs.Argument.{Fact as ModelFact, IsFact, left_open, clause_at}
 use Rattle.tsn_argument.specs.Meaning.{clause_of, fact_of}
 use Rattle.tsn_argue.specs.Motion.{facts_of, clauses_of, FindsUnit}
 use Rattle.tsn_argue.specs.State.{view_of}

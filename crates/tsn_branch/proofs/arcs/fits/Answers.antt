@@ -6,7 +6,7 @@ use Rattle.std.proofs.lemmas.Iterator.Search.{true_from_All}
 use Rattle.std.proofs.lemmas.List.Elements.{All-from_all_within}
 use borrow.Author.Tests.{tests}
 use Rattle.tsn_model.specs.declared.Decision.{Decision}
-use Rattle.tsn_branch.specs.Path.{Fits}
+use Rattle.tsn_node.specs.Path.{Fits}
 use Rattle.tsn_branch.proofs.arcs.fits.Goals as goal
 
 pub returns : goal.returns

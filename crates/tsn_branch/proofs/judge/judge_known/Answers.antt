@@ -9,7 +9,7 @@ use Rattle.tsn_branch.specs.Loads.{IsFirstLoad, IsTightest}
 use Rattle.tsn_branch.specs.Ends.{AreEnds}
 use Rattle.tsn_branch.specs.Look.{IsFirstOverrun, IsShownBy, IsUntied}
 use Rattle.tsn_branch.proofs.Leasts.{count, AreLeast-from, IsShownBy-from, small_offsets, least_same}
-use Rattle.tsn_branch.specs.Outcome.{outcome_of}
+use Rattle.tsn_node.specs.Outcome.{outcome_of}
 use Rattle.tsn_branch.specs.Descent.{IsSplitPointBy, IsSolution, IsTieBy}
 use Rattle.tsn_branch.proofs.Judgements.{solution_found}
 use Rattle.tsn_branch.proofs.Tied.{tightest_for}

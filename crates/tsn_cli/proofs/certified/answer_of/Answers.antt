@@ -1,7 +1,8 @@
 use Rattle.std.proofs.Common.{refl}
 use Rattle.tsn_cli.specs.Explain.{CertAnswers}
-use Rattle.tsn_cli.proofs.RunLemmas.{Keeps-same}
-use Rattle.tsn_cli.proofs.InputLemmas.{cert_inputs, comes_after, comes_unread, comes_without}
+use Rattle.tsn_run.proofs.RunLemmas.{Keeps-same}
+use Rattle.tsn_cli.proofs.CommandLemmas.{cert_inputs}
+use Rattle.tsn_run.proofs.InputLemmas.{comes_after, comes_unread, comes_without}
 use Rattle.tsn_cli.proofs.certified.answer_of.Goals as goal
 
 pub returns-in-Ok-Taken : goal.returns-in-Ok-Taken

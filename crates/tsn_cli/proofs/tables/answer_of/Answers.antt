@@ -1,8 +1,9 @@
 use Rattle.std.proofs.Common.{inl, inr}
-use Rattle.tsn_cli.specs.Outcome.{output_of}
+use Rattle.tsn_run.specs.Outcome.{output_of}
 use Rattle.tsn_cli.specs.Tables.{TableAnswers}
-use Rattle.tsn_cli.proofs.RunLemmas.{line_faults, tells_ok}
-use Rattle.tsn_cli.proofs.InputLemmas.{comes_failed, comes_refused, comes_taken, table_inputs}
+use Rattle.tsn_run.proofs.RunLemmas.{line_faults, tells_ok}
+use Rattle.tsn_run.proofs.InputLemmas.{comes_failed, comes_refused, comes_taken}
+use Rattle.tsn_cli.proofs.CommandLemmas.{table_inputs}
 use Rattle.tsn_cli.proofs.tables.answer_of.Goals as goal
 
 pub returns-in_ok-answer_to-in-Ok-Taken : goal.returns-in_ok-answer_to-in-Ok-Taken

@@ -1,6 +1,6 @@
-use Rattle.tsn_cli.specs.Outcome.{output_of}
+use Rattle.tsn_run.specs.Outcome.{output_of}
 use Rattle.tsn_cli.specs.Tables.{ChartAnswers}
-use Rattle.tsn_cli.proofs.RunLemmas.{runs_with}
+use Rattle.tsn_run.proofs.RunLemmas.{runs_with}
 use Rattle.tsn_cli.proofs.tables.chart_run.Goals as goal
 
 pub returns : goal.returns

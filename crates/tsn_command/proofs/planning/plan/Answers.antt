@@ -1,21 +1,19 @@
 use Rattle.std.proofs.Common.{inl, inr}
+use Rattle.tsn_wiring.proofs.RunsLemmas.{over_along}
 use Rattle.tsn_command.proofs.planning.plan.Goals as goal
 
 pub returns-in-Ok : goal.returns-in-Ok
 returns-in-Ok g c =
-    let e = c.plan_to.ensures in
+    let e = c.in-Ok.ensures in
     inl
-    (record {
-      network = e.network;
-      network_read = e.network_read;
-      opened = e.opened;
-      ran = record {
-        plan = c.in-Ok.files.plan;
-        cert = c.in-Ok.files.cert;
-        made = (c.in-Ok.ensures.plan, c.in-Ok.ensures.cert, c.in-Ok.ensures.wanted);
-        over = e.ran;
-      };
-    })
+    (over_along c.plan_to.ensures
+    (λ network files. record {
+      plan = c.in-Ok.files.plan;
+      cert = c.in-Ok.files.cert;
+      made = (e.plan, e.cert, e.wanted);
+      unfailing = e.failures;
+      over = files;
+    }))
 
 pub returns-in-Err : goal.returns-in-Err
-returns-in-Err g c = inr (c.in-Err.ensures.refused, c.unwritable.ensures.1)
+returns-in-Err g c = inr (c.in-Err.ensures.refused, c.unwritable.ensures)

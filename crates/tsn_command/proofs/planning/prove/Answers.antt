@@ -1,23 +1,20 @@
 use Rattle.std.proofs.Common.{inl, inr}
+use Rattle.tsn_wiring.proofs.RunsLemmas.{over_along}
 use Rattle.tsn_command.proofs.planning.prove.Goals as goal
 
 pub returns-in-Ok : goal.returns-in-Ok
 returns-in-Ok g c =
-    let e = c.prove_to.ensures in
+    let e = c.in-Ok.ensures in
     inl
-    (record {
-      network = e.network;
-      network_read = e.network_read;
-      plan = e.plan;
-      plan_read = e.plan_read;
-      opened = e.opened;
-      ran = record {
-        cert = c.in-Ok.files.cert;
-        better = c.in-Ok.files.better;
-        made = (c.in-Ok.ensures.cert, c.in-Ok.ensures.better);
-        over = e.ran;
-      };
-    })
+    (over_along c.prove_to.ensures
+    (λ network over. over_along over
+    (λ plan files. record {
+      cert = c.in-Ok.files.cert;
+      better = c.in-Ok.files.better;
+      made = (e.cert, e.better);
+      unfailing = (e.failures.1, e.failures.0);
+      over = files;
+    })))
 
 pub returns-in-Err : goal.returns-in-Err
-returns-in-Err g c = inr (c.in-Err.ensures.refused, c.unwritable.ensures.1)
+returns-in-Err g c = inr (c.in-Err.ensures.refused, c.unwritable.ensures)

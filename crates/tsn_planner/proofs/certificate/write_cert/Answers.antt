@@ -1,5 +1,6 @@
 use Rattle.std.proofs.Common.{rules, ◌≡◌, ◌++◌, string_bytes}
-use Rattle.tsn_planner.proofs.PieceLemmas.{Appends-nothing, err_beginning, err_cert, err_last, last_whole, parted_cert}
+use Rattle.tsn_run.proofs.RunLemmas.{Appends-nothing}
+use Rattle.tsn_planner.proofs.PieceLemmas.{err_beginning, err_cert, err_last, last_whole, parted_cert}
 use Rattle.tsn_planner.proofs.certificate.write_cert.Goals as goal
 
 pub returns-in_err-head-clause-beginning : goal.returns-in_err-head-clause-beginning

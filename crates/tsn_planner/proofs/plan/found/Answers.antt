@@ -1,4 +1,4 @@
-use Rattle.tsn_cli.specs.Run.{reading_of}
+use Rattle.tsn_run.specs.Run.{reading_of}
 use Rattle.tsn_planner.proofs.PlanLemmas.{took_stop}
 use Rattle.tsn_planner.proofs.plan.found.Goals as goal
 

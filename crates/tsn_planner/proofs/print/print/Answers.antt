@@ -2,10 +2,10 @@ use Rattle.std.proofs.Common.{rules, Err, inl, inr, codes}
 use Rattle.std.proofs.lemmas.List.Elements.{All-nil}
 use Rattle.tsn_device.specs.declared.device.ReadFault.TheVariants.{TooLong, Memory}
 use Rattle.tsn_planner.specs.PlanOutput.{printed}
-use Rattle.tsn_cli.specs.Run.{IsUnwritten}
-use Rattle.tsn_planner.proofs.PieceLemmas.{Appends-nothing}
+use Rattle.tsn_run.specs.Run.{IsUnwritten}
+use Rattle.tsn_run.proofs.RunLemmas.{Appends-nothing}
 use Rattle.tsn_planner.proofs.PrintLemmas.{printed_fault}
-use Rattle.tsn_cli.proofs.RunLemmas.{text_beginning, text_whole}
+use Rattle.tsn_run.proofs.RunLemmas.{text_beginning, text_whole}
 use Rattle.tsn_planner.proofs.print.print.Goals as goal
 
 pub returns-in-Err-TooLong : goal.returns-in-Err-TooLong

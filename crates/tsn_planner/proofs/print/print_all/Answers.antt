@@ -2,9 +2,8 @@ use Rattle.std.proofs.Common.{rules, Ok, inl, inr, refl, codes, string_bytes}
 use Rattle.std.proofs.lemmas.List.Elements.{All-nil}
 use Rattle.tsn_planner.specs.PlanOutput.{printed}
 use Rattle.tsn_planner.proofs.PrintLemmas.{cut, early, is_cut, is_early, of_err, of_ok, two_unwritten}
-use Rattle.tsn_planner.proofs.PieceLemmas.{Appends-nothing}
-use Rattle.tsn_cli.proofs.RunLemmas.{never_both, text_beginning, text_whole}
-use Rattle.tsn_cli.specs.Run.{IsUnwritten}
+use Rattle.tsn_run.proofs.RunLemmas.{Appends-nothing, never_both, text_beginning, text_whole}
+use Rattle.tsn_run.specs.Run.{IsUnwritten}
 use Rattle.tsn_planner.proofs.print.print_all.Goals as goal
 
 pub returns-then-is_err : goal.returns-then-is_err

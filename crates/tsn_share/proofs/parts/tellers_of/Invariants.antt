@@ -1,7 +1,6 @@
 use Rattle.std.proofs.Common.{◌≡◌, ◌-◌, ◌<◌, ◌≤◌, Some}
 use Rattle.tsn_incumbent.specs.Halves.{halves_from}
-use Rattle.tsn_share.specs.Teller.{no_event}
-use Rattle.tsn_share.specs.Teller.{rest_of, tellers_from}
+use Rattle.tsn_share.specs.Teller.{no_event, rest_of, tellers_from}
 use Rattle.tsn_share.specs.Desk.{others_from}
 use Rattle.tsn_share.proofs.parts.tellers_of.Given as goal
 

@@ -3,7 +3,7 @@ use Rattle.std.specs.Prelude.{All}
 use Rattle.std.proofs.lemmas.List.Elements.{All-map}
 use Rattle.tsn_model.specs.Search.{tally_of}
 use Rattle.tsn_model.specs.Core.{IsAboveSeen}
-use Rattle.tsn_branch.specs.Outcome.{outcome_of}
+use Rattle.tsn_node.specs.Outcome.{outcome_of}
 use Rattle.tsn_book.specs.declared.refusal.BatchRefusal.{BatchRefusal}
 use Rattle.tsn_book.specs.declared.event.Event.{Event}
 use Rattle.tsn_book.specs.Event.{event_of}

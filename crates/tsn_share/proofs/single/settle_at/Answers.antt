@@ -1,7 +1,7 @@
 use Rattle.std.proofs.Common.{ap, sym, subst, ◌∙◌}
 use Rattle.tsn_model.specs.Search.{tally_of}
 use Rattle.tsn_model.specs.Core.{IsAboveSeen}
-use Rattle.tsn_branch.specs.Outcome.{outcome_of}
+use Rattle.tsn_node.specs.Outcome.{outcome_of}
 use Rattle.tsn_book.specs.declared.refusal.EventRefusal.{EventRefusal}
 use Rattle.tsn_book.specs.Event.{event_of}
 use Rattle.tsn_share.specs.Teller.{Known, head_of}

@@ -1,23 +1,14 @@
-use Rattle.tsn_wiring.proofs.RunsLemmas.{runs_ended}
+use Rattle.tsn_wiring.proofs.RunsLemmas.{leaves_over}
 use Rattle.tsn_wiring.proofs.explained.marked_chart.Goals as goal
 
 pub returns : goal.returns
-returns g c =
-    let v = c.marked_chart_over-run.ensures in
-    let e = v.1.1 in (
-      v.0,
-      (
-        v.1.0,
-        record {
-          network = e.0;
-          network_read = c.marked_chart_over-run.result.network;
-          plan = e.1.1.0;
-          plan_read = c.marked_chart_over-run.result.plan;
-          cert = e.1.1.1.1.0;
-          cert_read = c.marked_chart_over-run.result.cert;
-          opened = (e.1.0, e.1.1.1.0, e.1.1.1.1.1.0);
-          ran = runs_ended g.W.Sink.taken g.W.Sink.failed _ _ _ _ _ _ _ _ c.end_explained.ensures.status c.end_explained.ensures.output
-              e.1.1.1.1.1.1;
-        },
-      ),
-    )
+returns g c = (
+  c.marked_chart_over-run.ensures.0,
+  (
+    c.marked_chart_over-run.ensures.1.0,
+    leaves_over c.marked_chart_over-run.ensures.1.1
+        (λ network left. leaves_over left
+        (λ plan left. leaves_over left
+        (λ cert runs. rw (c.end_explained.ensures.status, c.end_explained.ensures.output) runs))),
+  ),
+)

@@ -1,4 +1,4 @@
-use Rattle.std.proofs.Common.{◌≡◌, ℕ, List, Result, Ok, Err, IfOk, Option, option_map, string_bytes, subst}
+use Rattle.std.proofs.Common.{◌≡◌, ℕ, List, string_bytes, subst}
 use Rattle.tsn_report.specs.Told.{told_text}
 use Rattle.tsn_wiring.specs.Runs.{IsLineIn, IsObjectOf}
 use Rattle.tsn_wiring.proofs.RunsLemmas.{ok_along}

@@ -1,31 +1,17 @@
-use Rattle.tsn_wiring.proofs.RunsLemmas.{told_in_json, told_plainly, runs_ended}
+use Rattle.tsn_wiring.proofs.RunsLemmas.{over_along, told_in_json}
 use Rattle.tsn_wiring.proofs.judged.check.Goals as goal
 
 pub returns-then-words : goal.returns-then-words
 returns-then-words g c =
-    let e = c.check_to-ended.ensures in
-    record {
-      network = e.network;
-      network_read = e.network_read;
-      plan = e.plan;
-      plan_read = e.plan_read;
-      cert = e.cert;
-      cert_read = e.cert_read;
-      opened = e.opened;
-      ran = told_in_json _ _ _ _ _ _ _ _ _ _ _ c.if-words.true c.line_keeper-line.ensures.bytes e.ran c.end_as_json.ensures;
-    }
+    over_along c.check_to-ended.ensures
+    (λ network over. over_along over
+    (λ plan over. over_along over
+    (λ cert runs. told_in_json _ _ _ _ _ _ _ _ _ _ _ c.if-words.true c.line_keeper-line.ensures.bytes c.line_keeper-line.ensures.failures runs
+    c.end_as_json.ensures)))
 
 pub returns : goal.returns
 returns g c =
-    let e = c.check_to-ended-2.ensures in
-    record {
-      network = e.network;
-      network_read = e.network_read;
-      plan = e.plan;
-      plan_read = e.plan_read;
-      cert = e.cert;
-      cert_read = e.cert_read;
-      opened = e.opened;
-      ran = told_plainly _ _ _ _ _ _ _ c.if-words.false
-          (runs_ended g.W.Sink.taken g.W.Sink.failed _ _ _ _ _ _ _ _ c.end_at.ensures.status c.end_at.ensures.output e.ran);
-    }
+    over_along c.check_to-ended-2.ensures
+    (λ network over. over_along over
+    (λ plan over. over_along over
+    (λ cert runs. rw (c.if-words.false, c.end_at.ensures.status, c.end_at.ensures.output) runs)))

@@ -1,29 +1,19 @@
-use Rattle.std.proofs.Common.{rules, arith}
 use Rattle.tsn_wiring.proofs.judged.check_over.Goals as goal
 
 pub returns : goal.returns
-returns g c = (
-  c.network-network.result,
-  (
-    c.network-network.ensures.opened,
-    (
-      c.plan-plan.result,
-      (
-        c.plan-plan.ensures.opened,
-        (
-          c.cert-cert.result,
-          (
-            c.cert-cert.ensures.opened,
-            record {
-              ended = c.check_run-status.ensures.ended;
-              unfailing = λ done. search rules;
-              failed = λ broken. search rules;
-              read_failed = λ broken. search rules;
-              write_failed = λ broken. c.check_run-status.ensures.write_failed (λ same. broken (omega (arith, same, c.requires)));
-            },
-          ),
-        ),
-      ),
-    ),
-  ),
-)
+returns g c = record {
+  source = c.network-network.result;
+  opened = c.network-network.ensures.opened;
+  unfailing = c.network-network.ensures.failures;
+  ran = record {
+    source = c.plan-plan.result;
+    opened = c.plan-plan.ensures.opened;
+    unfailing = c.plan-plan.ensures.failures;
+    ran = record {
+      source = c.cert-cert.result;
+      opened = c.cert-cert.ensures.opened;
+      unfailing = c.cert-cert.ensures.failures;
+      ran = c.check_run-status.ensures;
+    };
+  };
+}

@@ -1,19 +1,13 @@
-use Rattle.tsn_wiring.proofs.RunsLemmas.{runs_ended}
+use Rattle.tsn_wiring.proofs.RunsLemmas.{leaves_over}
 use Rattle.tsn_wiring.proofs.tables.chart.Goals as goal
 
 pub returns : goal.returns
-returns g c =
-    let e = c.chart_over-shown.ensures in (
-      e.0,
-      (
-        e.1.0,
-        record {
-          network = e.1.1.0;
-          network_read = c.chart_over-shown.result.network;
-          plan = e.1.1.1.1.0;
-          plan_read = c.chart_over-shown.result.plan;
-          opened = (e.1.1.1.0, e.1.1.1.1.1.0);
-          ran = runs_ended g.W.Sink.taken g.W.Sink.failed _ _ _ _ _ _ _ _ c.end_shown-ran.ensures.status c.end_shown-ran.ensures.output e.1.1.1.1.1.1;
-        },
-      ),
-    )
+returns g c = (
+  c.chart_over-shown.ensures.0,
+  (
+    c.chart_over-shown.ensures.1.0,
+    leaves_over c.chart_over-shown.ensures.1.1
+        (λ network left. leaves_over left
+        (λ plan runs. rw (c.end_shown-ran.ensures.status, c.end_shown-ran.ensures.output) runs)),
+  ),
+)

@@ -1,11 +1,8 @@
-use Rattle.std.proofs.Common.{rules, ◌∙◌, refl, arith}
+use Rattle.std.proofs.Common.{refl, arith}
 use Rattle.tsn_wiring.proofs.told.say.Goals as goal
 
 pub returns-in-Ok : goal.returns-in-Ok
-returns-in-Ok g c = record {
-  whole = λ none. (refl, c.in-Ok.ensures.whole);
-  beginning = λ some. absurd (some (c.in-Ok.ensures.ok ∙ c.requires));
-}
+returns-in-Ok g c = record { whole = λ none. (refl, c.in-Ok.ensures.whole); beginning = λ some. absurd (some c.in-Ok.ensures.ok) }
 
 pub returns-in-Err : goal.returns-in-Err
 returns-in-Err g c = record {

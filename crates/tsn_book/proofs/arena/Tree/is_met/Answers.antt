@@ -2,7 +2,7 @@ use Rattle.std.proofs.Common.{◌≡◌, MatchBool, min, sym, ap, ◌∙◌, sub
 use Rattle.std.specs.Prelude.{nat_lt}
 use Rattle.tsn_model.specs.Search.{best_bound}
 use Rattle.tsn_search_laws.specs.Replies.{IsUnmet}
-use Rattle.tsn_branch.specs.Outcome.{outcome_of}
+use Rattle.tsn_node.specs.Outcome.{outcome_of}
 use Rattle.tsn_book.specs.Arena.{history_of}
 use Rattle.tsn_book.specs.Book.{IsMet}
 use Rattle.tsn_book.proofs.Asking.{met_by_bound}

@@ -4,9 +4,9 @@ use Rattle.tsn_model.specs.declared.Side.TheVariants.{Left}
 use Rattle.tsn_model.specs.Search.{split}
 use Rattle.tsn_model.proofs.Decisions.{length-decided, take-decided}
 use Rattle.tsn_search_laws.specs.Walk.{IsPlaceOf}
-use Rattle.tsn_branch.specs.Look.{SplitsUndecided}
-use Rattle.tsn_branch.specs.declared.outcome.Look.{Look}
-use Rattle.tsn_branch.specs.Outcome.{outcome_of}
+use Rattle.tsn_node.specs.Right.{SplitsUndecided}
+use Rattle.tsn_node.specs.declared.outcome.Look.{Look}
+use Rattle.tsn_node.specs.Outcome.{outcome_of}
 use Rattle.tsn_book.specs.Arena.{settled_in}
 use Rattle.tsn_book.specs.Book.{Progress, IsFault}
 use Rattle.tsn_book.specs.Ledger.{progress_of, next_outcome, with_one}

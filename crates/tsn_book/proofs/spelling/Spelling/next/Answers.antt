@@ -3,7 +3,7 @@ use Rattle.std.specs.List.{slice_index_or}
 use Rattle.tsn_cert.specs.Node.{tree_node}
 use Rattle.tsn_cert.specs.declared.cert.Cert.{Cert}
 use Rattle.tsn_search_laws.specs.Order.{node_of}
-use Rattle.tsn_branch.specs.Outcome.{outcome_of}
+use Rattle.tsn_node.specs.Outcome.{outcome_of}
 use Rattle.tsn_book.specs.Book.{planned}
 use Rattle.tsn_book.proofs.Answering.{where_err}
 use Rattle.tsn_book.proofs.Giving.{next_known, next_nodes, next_left}

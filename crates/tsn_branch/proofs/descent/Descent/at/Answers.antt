@@ -6,7 +6,7 @@ use Rattle.tsn_model.specs.declared.Decision.{Decision}
 use Rattle.tsn_model.specs.declared.Side.TheVariants.{Left}
 use Rattle.tsn_model.specs.Arcs.{arcs_of}
 use Rattle.tsn_diff.specs.Answers.{Refutes}
-use Rattle.tsn_branch.specs.Path.{Fits}
+use Rattle.tsn_node.specs.Path.{Fits}
 use Rattle.tsn_branch.specs.Look.{HasNoOffsets}
 use Rattle.tsn_branch.specs.Descent.{Stands}
 use Rattle.tsn_branch.proofs.Descents.{arcs-nil}

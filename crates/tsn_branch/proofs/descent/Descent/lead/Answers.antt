@@ -9,7 +9,7 @@ use Rattle.tsn_diff.specs.Stack.{Stack, RisesAt}
 use Rattle.std.specs.Prelude.{IfNone, IfSome, OnSome}
 use Rattle.tsn_branch.specs.Releases.{releases_of}
 use Rattle.tsn_branch.specs.Descent.{Position, Stands}
-use Rattle.tsn_branch.proofs.Descents.{by_last}
+use Rattle.tsn_node.proofs.Paths.{by_last}
 use Rattle.tsn_branch.proofs.Positions.{Puts, leads_down, refutes_down}
 use Rattle.tsn_branch.proofs.descent.Descent.lead.Goals as goal
 

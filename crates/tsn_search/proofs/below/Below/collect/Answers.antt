@@ -1,6 +1,6 @@
 use Rattle.std.proofs.Common.{◌<◌, ◌+◌, ◌∷◌, [], List, MatchBool, map, length, refl, sym, ap, ◌∙◌, subst, arith, length-append}
-use Rattle.tsn_branch.specs.Outcome.{outcome_of}
-use Rattle.tsn_branch.specs.declared.outcome.Look.{Look}
+use Rattle.tsn_node.specs.Outcome.{outcome_of}
+use Rattle.tsn_node.specs.declared.outcome.Look.{Look}
 use Rattle.tsn_book.specs.Below.{path_after}
 use Rattle.tsn_search.specs.Below.{StandsAt}
 use Rattle.tsn_search.proofs.Batching.{IsCollecting, collected_none, collected, collected_on, collected_longer}

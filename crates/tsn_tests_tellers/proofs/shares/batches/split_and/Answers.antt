@@ -1,5 +1,5 @@
 use Rattle.std.proofs.Common.{List, map, sym, subst}
-use Rattle.tsn_branch.specs.Outcome.{outcome_of}
+use Rattle.tsn_node.specs.Outcome.{outcome_of}
 use Rattle.tsn_book.specs.declared.event.Event.{Event}
 use Rattle.tsn_share.specs.Teller.{OnlyLastSolved}
 use Rattle.tsn_tests_tellers.specs.Solving.{the_conflict}

@@ -1,7 +1,7 @@
 use Rattle.std.proofs.Common.{subst}
 use Rattle.tsn_model.specs.Network.{Network}
-use Rattle.tsn_branch.specs.Look.{HasProof, SplitsUndecided}
-use Rattle.tsn_branch.specs.Outcome.{outcome_of}
+use Rattle.tsn_node.specs.Right.{HasProof, SplitsUndecided}
+use Rattle.tsn_node.specs.Outcome.{outcome_of}
 use Rattle.tsn_tests_tellers.proofs.Solving.{leaf_alone}
 use Rattle.tsn_tests_tellers.proofs.shares.batches.walk_right.Goals as goal
 

@@ -1,0 +1,24 @@
+-- The commands over a plan, and over a plan and a certificate, refuse these as they are read, and else go on.
+use Rattle.std.proofs.Common.{inl}
+use Rattle.tsn_cli.specs.declared.showing.Showing.{Showing}
+use Rattle.tsn_cli.specs.declared.table.Table.{Table}
+use Rattle.tsn_cli.specs.Explain.{CertAnswers}
+use Rattle.tsn_cli.specs.Tables.{TableAnswers}
+use Rattle.tsn_run.proofs.CheckLemmas.{goes_on_after_network}
+use Rattle.tsn_run.proofs.InputLemmas.{TakesInputs}
+
+pub table_inputs : (table : Table) → TakesInputs (TableAnswers table)
+table_inputs table = record {
+  nothing = λ output answers. answers;
+  network = λ file output refused. refused;
+  goes_on = λ file problem states. goes_on_after_network file problem states;
+  plan = λ file plan_file problem output states refused. (problem, states, inl refused);
+}
+
+pub cert_inputs : (showing : Showing) → TakesInputs (CertAnswers showing)
+cert_inputs showing = record {
+  nothing = λ output answers. answers;
+  network = λ file output refused. refused;
+  goes_on = λ file problem states. goes_on_after_network file problem states;
+  plan = λ file plan_file problem output states refused. ((problem, states), refused);
+}

@@ -1,0 +1,2 @@
+mod ProveLemmas
+mod ProvedLemmas

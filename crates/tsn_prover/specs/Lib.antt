@@ -1,0 +1,4 @@
+pub mod Finding
+pub mod ProofOutput
+pub mod Prove
+pub mod ProveLaws

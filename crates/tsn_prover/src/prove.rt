@@ -1,0 +1,347 @@
+//! `prove`: shows that no valid schedule undercuts a plan, whoever made it, or finds one that does.
+ghost use Rattle.std.specs.Prelude.{◌≡◌, ◌≢◌, ◌<◌, ◌-◌, ◌^◌, ◌⊎◌, ◌↔◌, [], ◌∷◌, IfOk, IfErr, IfSome, IsTrue, None, OnOk, Some, is_some, string_bytes};
+ghost use Rattle.tsn_cert.specs.declared.plan.Plan.{Plan};
+ghost use Rattle.tsn_check.specs.Plans.{IsPlanRight, span_in};
+ghost use Rattle.tsn_check.specs.Faults.{IsClaimFault};
+ghost use Rattle.tsn_proving.specs.declared.proof.Proof.TheVariants.{Proved, Stopped, Undercut};
+ghost use Rattle.tsn_run.specs.Run.{EndsOver, RunsOver, readings_of, sink_over, source_over};
+ghost use Rattle.tsn_run.specs.Outcome.{ComesOver};
+ghost use Rattle.tsn_prover.specs.Finding.{stop_among};
+ghost use Rattle.tsn_prover.specs.ProofOutput.{Finds, finding_in, line_after, shown};
+ghost use Rattle.tsn_prover.specs.Prove.{FindsAs, FindsOf, ProveAnswers, ProveFinds, RejectsClaim, finding_of, output_of, proved_line, span_if_any, stopped_line, undercut_line};
+
+use crate::finding::{Finding, Spans};
+use crate::print_proof::print_proof;
+use crate::proof_output::ProofOutput;
+use std::alloc::Global;
+use tsn_argument::Argument;
+use tsn_argument_json::argument_to_json;
+use tsn_cert::Plan;
+use tsn_cert_json::plan_to_json;
+use tsn_check::{CheckFault, check_plan};
+use tsn_device::device::{ReadFault, Sink, Source};
+use tsn_model::NoMemory;
+use tsn_net::Problem;
+use tsn_proving::{Proof, prove};
+use tsn_run::run::{DEVICE, DONE, REJECTED, STOPPED};
+use tsn_run::{Answer as Line, InputsRead, Stop, read_inputs, rejection};
+use tsn_setting::Supervisor;
+use tsn_timing::Timing;
+
+/// How a run of `prove` ended: its status, and what was found of the plan, where one was taken and all was written.
+#[derive(Clone, Copy)]
+pub struct ProofEnd {
+    pub status: u8,
+    pub finding: Option<Finding>,
+}
+
+impl ProofEnd {
+    // What was found is told only where no device failed.
+    fn of(status: u8, finding: Option<Finding>) -> ProofEnd
+        ensures status { result.status ≡ status }
+        ensures found { status ≢ DEVICE → result.finding ≡ finding }
+        ensures only { IsTrue (is_some result.finding) → status ≢ DEVICE }
+    {
+        ProofEnd {
+            status,
+            finding: if status == DEVICE { None } else { finding },
+        }
+    }
+
+    /// What is known where the limit was met.
+    pub fn stop(&self) -> Option<Stop>
+        ensures { result ≡ stop_among self.now.finding }
+    {
+        match self.finding {
+            Some(Finding::Stopped(stop)) => Some(stop),
+            Some(Finding::Proved) => None,
+            Some(Finding::Undercut(_)) => None,
+            None => None,
+        }
+    }
+}
+
+/// Reads a network file and a plan file, the first judged before the second is read, and seeks a valid schedule that undercuts the
+/// plan, by at most so many conflicts. Where there is none it writes a certificate of format 3, an argument of at most so many
+/// steps, that `check` accepts; where one is found it writes that; and then a line on what was found, or on what is refused. The
+/// line tells the steps of the argument, or else the conflicts. Where the limit is met it writes a line alone. The supervisor hears of the
+/// conflicts. The answer is the status, and what was found of the plan: where the limit was met, its flowspan, if it is a schedule, and
+/// what no valid schedule's flowspan is below.
+pub fn prove_run<N: Source, P: Source, S: Supervisor, C: Sink, B: Sink, W: Sink>(
+    alloc: Global,
+    network: &mut N,
+    plan: &mut P,
+    limit: usize,
+    supervisor: &S,
+    cert: &mut C,
+    better: &mut B,
+    sink: &mut W,
+) -> ProofEnd
+    requires network_reads { N.failed network.old < 2 ^ 64 - 1 }
+    requires plan_reads { P.failed plan.old < 2 ^ 64 - 1 }
+    requires cert_writes { C.failed cert.old < 2 ^ 64 - 1 }
+    requires plan_writes { B.failed better.old < 2 ^ 64 - 1 }
+    requires writes { W.failed sink.old < 2 ^ 64 - 1 }
+
+    ensures runs { RunsOver (ProveAnswers limit)
+        (source_over N.given N.failed N.is_at_end network.old network.new
+        ∷ source_over P.given P.failed P.is_at_end plan.old plan.new ∷ [])
+        (sink_over C.taken C.failed cert.old cert.new ∷ sink_over B.taken B.failed better.old better.new
+        ∷ sink_over W.taken W.failed sink.old sink.new ∷ []) result.status }
+
+    // What was found of the plan, as a value.
+    ensures stopped { result.status ≡ STOPPED ↔ IsTrue (is_some (stop_among result.finding)) }
+    ensures found { IfSome result.finding (λ finding. EndsOver (ProveFinds limit finding)
+        (source_over N.given N.failed N.is_at_end network.old network.new
+        ∷ source_over P.given P.failed P.is_at_end plan.old plan.new ∷ [])
+        (sink_over C.taken C.failed cert.old cert.new ∷ sink_over B.taken B.failed better.old better.new
+        ∷ sink_over W.taken W.failed sink.old sink.new ∷ []) result.status) }
+{
+    let outcome = answer_of(alloc, network, plan, limit, supervisor);
+    let finding = finding_in(&outcome);
+    let status = print_proof(cert, better, sink, outcome);
+    ProofEnd::of(status, finding)
+}
+
+/// What was found of the plan, where one was judged.
+fn finding_in(outcome: &Result<ProofOutput, ReadFault>) -> Option<Finding>
+    ensures { result ≡ finding_in outcome.now }
+{
+    match outcome {
+        Ok(output) => output.finding,
+        Err(_) => None,
+    }
+}
+
+/// What the run prints.
+fn answer_of<N: Source, P: Source, S: Supervisor>(
+    alloc: Global,
+    network: &mut N,
+    plan: &mut P,
+    limit: usize,
+    supervisor: &S,
+) -> Result<ProofOutput, ReadFault>
+    requires network_reads { N.failed network.old < 2 ^ 64 - 1 }
+    requires plan_reads { P.failed plan.old < 2 ^ 64 - 1 }
+    ensures comes { ComesOver shown (ProveAnswers limit)
+        (source_over N.given N.failed N.is_at_end network.old network.new
+        ∷ source_over P.given P.failed P.is_at_end plan.old plan.new ∷ []) result }
+    ensures finds { Finds (ProveFinds limit) [] (readings_of
+        (source_over N.given N.failed N.is_at_end network.old network.new
+        ∷ source_over P.given P.failed P.is_at_end plan.old plan.new ∷ [])) result }
+{
+    match read_inputs(alloc, network, plan) {
+        Ok(InputsRead::Taken(problem, plan)) => {
+            Ok(answer_to(alloc, problem, plan, limit, supervisor)?)
+        }
+        Ok(InputsRead::Refused(answer)) => Ok(alone(alloc, answer)),
+        Err(fault) => Err(fault),
+    }
+}
+
+/// What the run prints to a network and a plan.
+fn answer_to<S: Supervisor>(
+    alloc: Global,
+    problem: Problem,
+    plan: Plan,
+    limit: usize,
+    supervisor: &S,
+) -> Result<ProofOutput, NoMemory>
+    ensures judges { IfOk result (λ output. FindsOf limit problem.network plan (shown (Ok output))
+        ⊎ RejectsClaim problem.network plan (shown (Ok output))) }
+    ensures finds { IfOk result (λ output. IfSome output.finding (λ finding.
+        FindsAs limit problem.network plan finding (shown (Ok output)))) }
+{
+    let output = judgement(alloc, &problem, &plan, limit, supervisor);
+    drop(problem);
+    drop(plan);
+    output
+}
+
+/// What is printed of a plan.
+fn judgement<S: Supervisor>(
+    alloc: Global,
+    problem: &Problem,
+    plan: &Plan,
+    limit: usize,
+    supervisor: &S,
+) -> Result<ProofOutput, NoMemory>
+    ensures judges { IfOk result (λ output. FindsOf limit problem.now.network plan.now (shown (Ok output))
+        ⊎ RejectsClaim problem.now.network plan.now (shown (Ok output))) }
+    ensures finds { IfOk result (λ output. IfSome output.finding (λ finding.
+        FindsAs limit problem.now.network plan.now finding (shown (Ok output)))) }
+{
+    let timing = Timing::of(alloc, problem)?;
+    let judged = judge_claim(alloc, &timing, plan);
+    drop(timing);
+    match judged {
+        Ok(()) => output_for(alloc, plan, prove(alloc, problem, plan, limit, supervisor)?),
+        Err(fault) => Ok(alone(alloc, rejection(alloc, fault)?)),
+    }
+}
+
+/// Whether the plan is a valid schedule with its own flowspan, or that there is none; else its first fault.
+fn judge_claim(alloc: Global, timing: &Timing, plan: &Plan) -> Result<(), CheckFault>
+    ensures right { OnOk result (IsPlanRight timing.now plan.now) }
+    ensures fault { IfErr result (λ fault. (fault ≡ CheckFault.Memory) ⊎ IsClaimFault timing.now plan.now fault) }
+{
+    match plan {
+        Plan::Schedule { .. } => {
+            let valid = check_plan(alloc, timing, plan)?;
+            drop(valid);
+            Ok(())
+        }
+        Plan::None => Ok(()),
+    }
+}
+
+/// An output that is a line alone.
+fn alone(alloc: Global, answer: Line) -> ProofOutput
+    requires { answer.status ≢ STOPPED }
+    ensures line { shown (Ok result) ≡ line_after answer.status (string_bytes answer.text) }
+    ensures none { result.finding ≡ None }
+{
+    let Line { status, text } = answer;
+    ProofOutput {
+        status,
+        cert: String::new(alloc),
+        plan: String::new(alloc),
+        line: text,
+        finding: None,
+    }
+}
+
+/// What is printed of what was found of a plan.
+fn output_for(alloc: Global, plan: &Plan, proof: Proof) -> Result<ProofOutput, NoMemory>
+    ensures output { IfOk result (λ output. shown (Ok output) ≡ output_of plan.now proof) }
+    ensures finding { IfOk result (λ output. output.finding ≡ Some (finding_of plan.now proof)) }
+{
+    match proof {
+        Proof::Proved(argument, count) => {
+            let output = proved(alloc, plan, &argument, count);
+            drop(argument);
+            output
+        }
+        Proof::Undercut(better, count) => {
+            let output = undercut(alloc, plan, &better, count);
+            drop(better);
+            output
+        }
+        Proof::Stopped(bound, count) => stopped(alloc, plan, bound, count),
+    }
+}
+
+/// What is printed of a plan that no valid schedule undercuts.
+fn proved(
+    alloc: Global,
+    plan: &Plan,
+    argument: &Argument,
+    count: usize,
+) -> Result<ProofOutput, NoMemory>
+    ensures output { IfOk result (λ output. shown (Ok output) ≡ output_of plan.now (Proved argument.now count)) }
+    ensures finding { IfOk result (λ output. output.finding ≡ Some (finding_of plan.now (Proved argument.now count))) }
+{
+    Ok(ProofOutput {
+        status: DONE,
+        cert: argument_to_json(alloc, argument)?,
+        plan: String::new(alloc),
+        line: proved_line(alloc, plan, count)?,
+        finding: Some(Finding::Proved),
+    })
+}
+
+/// What is printed of a plan that a better one undercuts.
+fn undercut(
+    alloc: Global,
+    plan: &Plan,
+    better: &Plan,
+    count: usize,
+) -> Result<ProofOutput, NoMemory>
+    ensures output { IfOk result (λ output. shown (Ok output) ≡ output_of plan.now (Undercut better.now count)) }
+    ensures finding { IfOk result (λ output. output.finding ≡ Some (finding_of plan.now (Undercut better.now count))) }
+{
+    Ok(ProofOutput {
+        status: REJECTED,
+        cert: String::new(alloc),
+        plan: plan_to_json(alloc, better)?,
+        line: undercut_line(alloc, plan, span_of(better), count)?,
+        finding: Some(Finding::Undercut(Spans {
+            stated: span_if_any(plan),
+            better: span_of(better),
+        })),
+    })
+}
+
+/// What is printed of a plan where the limit was met.
+fn stopped(alloc: Global, plan: &Plan, bound: u64, count: usize) -> Result<ProofOutput, NoMemory>
+    ensures output { IfOk result (λ output. shown (Ok output) ≡ output_of plan.now (Stopped bound count)) }
+    ensures finding { IfOk result (λ output. output.finding ≡ Some (finding_of plan.now (Stopped bound count))) }
+{
+    Ok(ProofOutput {
+        status: STOPPED,
+        cert: String::new(alloc),
+        plan: String::new(alloc),
+        line: stopped_line(alloc, plan, count)?,
+        finding: Some(Finding::Stopped(Stop {
+            best: span_if_any(plan),
+            bound,
+        })),
+    })
+}
+
+/// The flowspan of a plan in nanoseconds, if it is a schedule.
+fn span_if_any(plan: &Plan) -> Option<u64>
+    ensures { result ≡ span_if_any plan.now }
+{
+    match plan {
+        Plan::Schedule { flowspan, .. } => Some(*flowspan),
+        Plan::None => None,
+    }
+}
+
+/// The flowspan of a plan in nanoseconds, 0 where it is that there is none.
+fn span_of(plan: &Plan) -> u64
+    ensures { result ≡ span_in plan.now }
+{
+    match plan {
+        Plan::Schedule { flowspan, .. } => *flowspan,
+        Plan::None => 0,
+    }
+}
+
+fn proved_line(alloc: Global, plan: &Plan, count: usize) -> Result<String, NoMemory>
+    ensures { IfOk result (λ line. string_bytes line ≡ proved_line plan.now count) }
+{
+    let line = match plan {
+        Plan::Schedule { flowspan, .. } => format!(in alloc;
+            "proved {flowspan} settled {count}\n"
+        )?,
+        Plan::None => format!(in alloc; "proved no schedule settled {count}\n")?,
+    };
+    Ok(line)
+}
+
+fn undercut_line(alloc: Global, plan: &Plan, span: u64, count: usize) -> Result<String, NoMemory>
+    ensures { IfOk result (λ line. (better : Plan) → span ≡ span_in better
+        → string_bytes line ≡ undercut_line plan.now better count) }
+{
+    let line = match plan {
+        Plan::Schedule { flowspan, .. } => format!(in alloc;
+            "undercut {flowspan} by {span} settled {count}\n"
+        )?,
+        Plan::None => format!(in alloc; "undercut none by {span} settled {count}\n")?,
+    };
+    Ok(line)
+}
+
+fn stopped_line(alloc: Global, plan: &Plan, count: usize) -> Result<String, NoMemory>
+    ensures { IfOk result (λ line. string_bytes line ≡ stopped_line plan.now count) }
+{
+    let line = match plan {
+        Plan::Schedule { flowspan, .. } => format!(in alloc;
+            "stopped {flowspan} settled {count}\n"
+        )?,
+        Plan::None => format!(in alloc; "stopped none settled {count}\n")?,
+    };
+    Ok(line)
+}

@@ -1,0 +1,4 @@
+pub mod RunLemmas
+pub mod InputLemmas
+pub mod CheckLemmas
+pub mod Accepting

@@ -1,0 +1,6 @@
+pub mod Run
+pub mod Refusal
+pub mod Check
+pub mod Outcome
+pub mod Inputs
+pub mod Stop

@@ -1,0 +1,13 @@
+//! What a search of any kind is given: the tables that it reads and the supervisor that it passes; and a flowspan that no schedule
+//! undercuts.
+#![tactic(auto)]
+
+pub mod bound;
+pub mod prepared;
+pub mod setting;
+pub mod supervisor;
+
+pub use bound::lower_bound;
+pub use prepared::Prepared;
+pub use setting::Setting;
+pub use supervisor::{LearnedNews, News, NoSupervisor, Phase, Supervisor};
