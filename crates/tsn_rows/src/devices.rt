@@ -5,9 +5,9 @@ ghost use Rattle.tsn_rows.specs.Folder.{Holds, IsFresh, IsOpened, bytes_in, inpu
 use crate::folder::Folder;
 use std::alloc::Global;
 use std::io::{Error, ErrorKind};
-use tsn_run::memory::{MemorySink, MemorySource, NEVER};
 use tsn_device::device::{Broken, Sink, Source};
 use tsn_device::{Action, Failure};
+use tsn_run::memory::{MemorySink, MemorySource, NEVER};
 use tsn_wiring::{Given, Made, Opened};
 
 /// The file that stands for standard input, which the network `-` is read from.
