@@ -21,7 +21,7 @@ pub enum Node {
 }
 
 /// The format of a certificate.
-#[derive(Clone, Copy, Debug, PartialEq, Eq)]
+#[derive(Clone, Copy, PartialEq, Eq)]
 pub enum Format {
     /// It shows that no schedule has a flowspan below the target.
     One,

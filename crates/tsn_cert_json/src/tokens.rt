@@ -14,7 +14,7 @@ use std::alloc::{AllocError, AllocFailed};
 use tsn_model::NoMemory;
 
 /// Why the quick reading gives up.
-#[derive(Clone, Copy, Debug, Drop)]
+#[derive(Clone, Copy, Drop)]
 pub enum Unread {
     /// The text isn't written as certificates are.
     OtherForm,

@@ -2,7 +2,7 @@
 use crate::picture::Sheet;
 
 /// How a frame's bar is drawn.
-#[derive(Clone, Copy, Debug, PartialEq, Eq)]
+#[derive(Clone, Copy)]
 pub enum Look {
     /// In the stream's colour: no frame is marked.
     Plain,

@@ -14,7 +14,7 @@ use tsn_conflict::conflicts;
 use tsn_timing::Timing;
 
 /// What a leaf comes to, in nanoseconds.
-#[derive(Clone, Copy, Debug, PartialEq, Eq)]
+#[derive(Clone, Copy)]
 pub enum Bound {
     /// The soonest arrival of a stream, or of the last of some streams on a link.
     Arrival(i64),

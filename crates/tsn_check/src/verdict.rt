@@ -20,7 +20,7 @@ use tsn_net::Problem;
 use tsn_timing::Timing;
 
 /// What an accepted certificate shows.
-#[derive(Clone, Copy, Debug, PartialEq, Eq)]
+#[derive(Clone, Copy, PartialEq, Eq)]
 pub enum Verdict {
     /// No valid schedule has a lesser flowspan than the plan.
     Optimal,

@@ -3,7 +3,7 @@
 use std::io::Error;
 
 /// What is done with a device.
-#[derive(Clone, Copy, Debug, PartialEq, Eq)]
+#[derive(Clone, Copy)]
 pub enum Action {
     Read,
     Write,

@@ -10,7 +10,7 @@ use std::alloc::{AllocError, Global};
 use tsn_timing::Timing;
 
 /// An interval of the cycle in which scheduled frames occupy a link.
-#[derive(Clone, Copy, Debug, PartialEq, Eq)]
+#[derive(Clone, Copy)]
 pub struct Window {
     pub start: u64,
     pub end: u64,

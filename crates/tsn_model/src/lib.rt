@@ -31,7 +31,7 @@ pub struct Link {
 }
 
 /// Two streams, `left` below `right`, and a link that both use.
-#[derive(Clone, Copy, Debug, PartialEq, Eq)]
+#[derive(Clone, Copy, PartialEq, Eq)]
 pub struct Triple {
     pub left: usize,
     pub right: usize,
@@ -50,21 +50,21 @@ pub struct Tally {
 }
 
 /// Which stream of a triple goes first on its link.
-#[derive(Clone, Copy, Debug, PartialEq, Eq)]
+#[derive(Clone, Copy, PartialEq, Eq)]
 pub enum Side {
     Left,
     Right,
 }
 
 /// A triple, and which of its streams goes first.
-#[derive(Clone, Copy, Debug, PartialEq, Eq)]
+#[derive(Clone, Copy, PartialEq, Eq)]
 pub struct Decision {
     pub triple: Triple,
     pub side: Side,
 }
 
 /// The offset of stream `to` is at least that of stream `from` plus `weight`.
-#[derive(Clone, Copy, Debug, PartialEq, Eq)]
+#[derive(Clone, Copy, PartialEq, Eq)]
 pub struct Arc {
     pub from: usize,
     pub to: usize,
@@ -72,7 +72,7 @@ pub struct Arc {
 }
 
 /// Why a list of offsets isn't a valid schedule.
-#[derive(Clone, Copy, Debug, PartialEq, Eq)]
+#[derive(Clone, Copy, PartialEq, Eq)]
 pub enum Violation {
     WrongCount,
     PastCycle(usize),
@@ -84,7 +84,7 @@ pub enum Violation {
 }
 
 /// An entry of a gate control list: bit i of the octet opens (1) or closes (0) the gate of traffic class i, for so many nanoseconds.
-#[derive(Clone, Copy, Debug, PartialEq, Eq)]
+#[derive(Clone, Copy, PartialEq, Eq)]
 pub struct GateEntry {
     pub interval: u64,
     pub octet: u8,

@@ -11,7 +11,7 @@ use std::marker::Model;
 use tsn_model::{Decision, NoMemory, Side, Triple};
 
 /// A path of decisions from the root, on which no triple is decided twice.
-#[derive(Debug, Drop)]
+#[derive(Drop)]
 pub struct Node {
     path: Vec<Decision>,
 }

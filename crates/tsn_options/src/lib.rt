@@ -2,7 +2,7 @@
 #![tactic(auto)]
 
 /// How a plan is searched for.
-#[derive(Clone, Copy, Debug, PartialEq, Eq)]
+#[derive(Clone, Copy)]
 pub enum Method {
     /// `auto`, which goes where the words name none: in the order of the file, up to 100,000 settled nodes; where that leaves nodes
     /// open and more may be settled, by the search that learns; where that gives up, in the order of the file again, along the best
@@ -17,7 +17,7 @@ pub enum Method {
 }
 
 /// How gate control lists are printed.
-#[derive(Clone, Copy, Debug, PartialEq, Eq)]
+#[derive(Clone, Copy)]
 pub enum GatesFormat {
     /// A table for each list.
     Table,
@@ -28,7 +28,7 @@ pub enum GatesFormat {
 }
 
 /// How a replay is printed.
-#[derive(Clone, Copy, Debug, PartialEq, Eq)]
+#[derive(Clone, Copy)]
 pub enum ReplayFormat {
     /// A table, with the number of late frames in its last line.
     Table,
@@ -37,7 +37,7 @@ pub enum ReplayFormat {
 }
 
 /// How the shares of streams and links are printed.
-#[derive(Clone, Copy, Debug, PartialEq, Eq)]
+#[derive(Clone, Copy)]
 pub enum StreamsFormat {
     /// A line for each stream and each link.
     Table,

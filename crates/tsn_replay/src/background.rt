@@ -4,7 +4,7 @@ use std::marker::Model;
 
 /// A background frame that waits on a directed link from its wanted start (nanoseconds) on. Its octets count from the
 /// destination address to the check sequence.
-#[derive(Clone, Copy, Debug, PartialEq, Eq)]
+#[derive(Clone, Copy, PartialEq, Eq)]
 pub struct BackgroundFrame {
     pub link: usize,
     pub wanted: u64,

@@ -12,7 +12,7 @@ use tsn_net::Problem;
 
 /// A stream's frame on a hop, in a cycle, each counted from 0: when it was planned to start there, and when it did, in
 /// nanoseconds from the replay's beginning. A frame that hadn't started by the end has no actual start.
-#[derive(Clone, Copy, Debug, PartialEq, Eq)]
+#[derive(Clone, Copy, PartialEq, Eq)]
 pub struct Row {
     pub stream: usize,
     pub cycle: usize,

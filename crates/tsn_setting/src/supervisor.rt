@@ -29,7 +29,7 @@ pub trait Supervisor {
 }
 
 /// What a planner is at.
-#[derive(Clone, Copy, Debug, PartialEq, Eq)]
+#[derive(Clone, Copy, PartialEq, Eq)]
 pub enum Phase {
     /// The search in the order of the file.
     File,

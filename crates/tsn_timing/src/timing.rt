@@ -11,7 +11,7 @@ use tsn_model::{Link, NoMemory, Triple, Violation};
 use tsn_net::Problem;
 
 /// Whether offsets are a valid schedule.
-#[derive(Clone, Copy, Debug, PartialEq, Eq)]
+#[derive(Clone, Copy, PartialEq, Eq)]
 pub enum Validity {
     /// They are.
     Valid,

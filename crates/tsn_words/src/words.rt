@@ -38,7 +38,7 @@ pub const MAX_LINK: u64 = 1023;
 pub const DEFAULT_STEPS: usize = 1_000_000;
 
 /// The version, and on its second line the toolchain that proved the program, as `rt version` says it.
-pub const VERSION: &str = "1.0.0\nproved with rattle-kit-13b logic dac8208d650f15bf";
+pub const VERSION: &str = "1.0.0\nproved with rattle-kit-13f logic dac8208d650f15bf";
 
 /// `valid NET OFFSET..`: judge some offsets.
 #[derive(Drop)]
