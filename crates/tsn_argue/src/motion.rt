@@ -15,8 +15,8 @@ use crate::link::{
 use crate::news::{News, turned};
 use crate::view::View;
 use tsn_argument::{Clause, Fact, Move, Order, Placing};
-use tsn_check::arc_of;
 use tsn_model::{Arc, Decision};
+use tsn_timing::arc_of;
 
 /// What a move shows: one fact, or two.
 #[derive(Clone, Copy)]

@@ -61,7 +61,7 @@ pub fn check_argument(
     ensures fault { IfErr result (λ fault. (fault ≡ CheckFault.Memory)
         ⊎ IsShowFault problem.now.network plan.now argument.now fault) }
 {
-    let timing = Timing::of(alloc, problem)?;
+    let timing = problem.timing(alloc)?;
     let _cycle = timing.cycle();
     judge_plan(alloc, &timing, plan)?;
     let aim = aim_of(&timing, plan, argument)?;

@@ -2,4 +2,3 @@ pub mod Printed
 pub mod Spelled
 pub mod Shape
 pub mod TextParts
-pub mod Plain

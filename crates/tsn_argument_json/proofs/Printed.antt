@@ -7,7 +7,7 @@ use Rattle.serde_json.specs.View.{view}
 use Rattle.serde_json.specs.declared.value.Value.{Value, Array}
 use Rattle.tsn_cert.specs.Json.{array_value}
 use Rattle.tsn_cert.proofs.JsonLemmas.{taken_all}
-use Rattle.tsn_cert_json.proofs.JsonLemmas.{view-printed}
+use Rattle.tsn_values.proofs.JsonLemmas.{view-printed}
 
 -- the element at i was printed
 pub shown_at : {X V : Type 0} (seen : V → Data) (g : X → Data) (old new : List V) (v : V) (xs : List X) (i : ℕ) (x : X)

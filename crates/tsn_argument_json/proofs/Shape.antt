@@ -3,7 +3,7 @@ use Rattle.std.proofs.Common.{◌≡◌, ℕ, List, true, false, Some, Ok, refl,
 use Rattle.serde_json.specs.Written.{has_float}
 use Rattle.tsn_cert.specs.Json.{number_value, value_of}
 use Rattle.tsn_cert.specs.Fault.{shaped, answer}
-use Rattle.tsn_cert_json.proofs.JsonLemmas.{no_float-items}
+use Rattle.tsn_values.proofs.JsonLemmas.{no_float-items}
 use Rattle.tsn_argument.specs.Argument.{order_value, orders_value, streams_value, fact_value, clause_value, move_value, moves_value, step_value, argument_of, argument_fits, argument_in, argument_value}
 use Rattle.tsn_argument.specs.declared.order.Order.{Order}
 use Rattle.tsn_argument.specs.declared.fact.Fact.{Fact}

@@ -9,7 +9,7 @@ use Rattle.json.proofs.Grammar.{members_end, members_more, read_key-shorter}
 use Rattle.serde_json.specs.Data.{Data, Members, string, object, member, no_members, put}
 use Rattle.serde_json.specs.Read.{of_json, of_members, converted}
 use Rattle.tsn_cert.specs.Spelled.{Spells, SpellsEach}
-use Rattle.tsn_cert_json.proofs.SpelledLemmas.{array_spelled, string_spelled, spelled-shorter}
+use Rattle.tsn_values.proofs.SpelledLemmas.{array_spelled, string_spelled, spelled-shorter}
 use Rattle.tsn_argument.specs.Spelled.{SpellsBehind}
 use Rattle.tsn_argument.specs.Argument.{worded_value}
 

@@ -1,15 +1,12 @@
-//! The files that hold arguments, and certificates of either kind: how they are read and printed.
+//! The files that hold arguments: how they are read and printed.
 #![tactic(auto)]
 
-pub mod certificate;
-pub mod laws;
+pub mod argument;
 mod print;
 mod quick;
 mod read;
 pub mod text;
 
-pub use certificate::{
-    argument_from_json, argument_to_json, certificate_from_json, certificate_to_json,
-};
-pub use laws::certificate_text_is_read;
+pub use argument::{argument_from_any, argument_from_json, argument_to_json, limited};
+pub use quick::argument_from_written;
 pub use text::{argument_text_has_parts, head_to_json, step_to_json, tail_to_json};

@@ -8,7 +8,7 @@ use serde_json::{Value, json};
 use std::alloc::{AllocError, Global};
 use tsn_argument::argument::ARGUMENT_FORMAT;
 use tsn_argument::{Argument, Fact, Goal, Move, Order, Orders, Placing, Step, Streams};
-use tsn_cert_json::document;
+use tsn_values::document;
 
 fn streams_value(alloc: Global, streams: &Streams) -> Result<Value, AllocError>
     ensures value { IfOk result (λ v. view v ≡ streams_value streams.now) }

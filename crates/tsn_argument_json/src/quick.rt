@@ -17,7 +17,7 @@ use tsn_argument::step::MAX_STREAMS;
 use tsn_argument::{
     Argument, Clause, Fact, Goal, Move, Moves, Order, Orders, Placing, Step, Steps, Streams,
 };
-use tsn_cert_json::tokens::{
+use tsn_values::tokens::{
     self, Unread, close_array, close_object, index, key, number, open_array, open_object, word,
 };
 

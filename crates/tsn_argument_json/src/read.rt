@@ -1,5 +1,5 @@
 //! The argument that a value is, in any layout.
-ghost use Rattle.std.specs.Prelude.{◌≡◌, map, option_map};
+ghost use Rattle.std.specs.Prelude.{map, option_map};
 ghost use Rattle.serde_json.specs.View.{view};
 ghost use Rattle.tsn_cert.specs.Fault.{Reads};
 ghost use Rattle.tsn_argument.specs.declared.fact.Fact.TheVariants as fact;
@@ -15,7 +15,7 @@ use tsn_argument::{
     Argument, Clause, Fact, Goal, Move, Moves, Order, Orders, Placing, Step, Steps, Streams,
 };
 use tsn_cert::FileFault;
-use tsn_cert_json::document;
+use tsn_values::document;
 
 // ---- facts
 

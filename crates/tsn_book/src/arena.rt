@@ -1,5 +1,5 @@
 //! The tree of a search, in an arena. A place is known by its number, and the root has number 0.
-ghost use Rattle.std.specs.Prelude.{◌≡◌, ◌<◌, ◌≤◌, ◌+◌, ◌^◌, ◌++◌, false, ◌∷◌, [], ◌↔◌, IsTrue, MatchBool, List, length, IfOk, MatchResult, OnOk, MatchOption, None, Some, All, Any, Contains, drop, vec_len, vec_capacity};
+ghost use Rattle.std.specs.Prelude.{◌≡◌, ◌<◌, ◌≤◌, ◌+◌, ◌^◌, ◌++◌, false, ◌∷◌, [], ◌↔◌, IsTrue, MatchBool, length, IfOk, MatchResult, OnOk, MatchOption, None, Some, All, Any, Contains, drop, vec_len, vec_capacity};
 ghost use Rattle.tsn_model.specs.declared.Decision.{Decision};
 ghost use Rattle.tsn_model.specs.Schedule.{IsConflict};
 ghost use Rattle.tsn_timing.specs.Solution.{IsSolved};
@@ -21,7 +21,7 @@ use crate::log::Log;
 use crate::statuses::{Origin, Places, Status};
 use crate::ties::{comes_before, shows_after};
 use std::alloc::{AllocError, Global};
-use tsn_diff::Forest;
+use tsn_forest::Forest;
 use tsn_node::outcome::Look;
 use tsn_node::{Decision, NoMemory, Node, Side, Triple};
 use tsn_timing::{Solved, Timing};

@@ -1,5 +1,5 @@
 //! The certificate of a finished tree, whose nodes are given one at a time.
-ghost use Rattle.std.specs.Prelude.{◌≡◌, ◌≢◌, ◌<◌, ◌≤◌, ◌^◌, ◌∷◌, [], take, drop, ℕ, List, length, Ok, None, Option, map, IfOk, OnErr, MatchOption, option_copied, slice_index_or};
+ghost use Rattle.std.specs.Prelude.{◌≡◌, ◌≢◌, ◌<◌, ◌^◌, ◌∷◌, [], take, drop, ℕ, length, Ok, None, Option, map, IfOk, OnErr, MatchOption, option_copied, slice_index_or};
 ghost use Rattle.tsn_cert.specs.Node.{tree_node};
 ghost use Rattle.tsn_model.specs.Search.{open_paths};
 ghost use Rattle.tsn_search_laws.specs.Order.{node_of};
@@ -19,7 +19,7 @@ use crate::statuses::Status;
 use std::alloc::{AllocError, Global};
 use std::marker::Model;
 use tsn_cert::{Cert, Format, Leaf, LowerBound, Node, Nodes};
-use tsn_diff::Forest;
+use tsn_forest::Forest;
 use tsn_node::outcome::Look;
 use tsn_node::{NoMemory, whole_chains};
 use tsn_timing::{Solved, Timing};

@@ -3,10 +3,9 @@ ghost use Rattle.std.specs.Prelude.{◌≡◌, ◌≤◌, length, All, MatchBool
 ghost use Rattle.tsn_model.specs.Schedule.{IsConflict, IsValid, comes_before};
 ghost use Rattle.tsn_model.specs.Certificate.{LeadsTo, AreChains, ShowsAfter, sum_on};
 
-use tsn_check::{ChainSum, arc_of};
-use tsn_diff::{Forest, Walk};
+use tsn_forest::{Forest, Walk};
 use tsn_node::Decision;
-use tsn_timing::Timing;
+use tsn_timing::{ChainSum, Timing, arc_of};
 
 /// Whether the first list has the lesser number where the lists first differ.
 pub fn comes_before(offsets: &[u64], others: &[u64]) -> bool

@@ -72,7 +72,7 @@ fn call_all<R: Print + AllocGlobal>(rt: &R, name: &str, text: &str) -> Result<()
 
 fn timing_of(alloc: Global, text: &str) -> Result<Timing, NoMemory> {
     match read_problem(alloc, text.as_bytes()) {
-        Ok(problem) => Timing::of(alloc, &problem),
+        Ok(problem) => problem.timing(alloc),
         Err(_) => Err(NoMemory),
     }
 }

@@ -17,7 +17,7 @@ use Rattle.tsn_cert.specs.declared.cert.Cert.{Cert}
 use Rattle.tsn_cert.specs.declared.cert.Format.{Format}
 use Rattle.tsn_cert.specs.declared.cert.Format.TheVariants.{One, Two}
 use Rattle.tsn_cert.proofs.JsonLemmas.{listed-items_of_list, each_push, taken_all, numbers-array_value, items_depth-le}
-use Rattle.tsn_cert_json.proofs.JsonLemmas.{view-printed, no_float-items}
+use Rattle.tsn_values.proofs.JsonLemmas.{view-printed, no_float-items}
 
 -- ---- lists that are read again
 
@@ -231,7 +231,3 @@ back_of_two (Err e) first second P Q h back back₂ made = tt
 back_of_two (Ok v) (Err e) second P Q h back back₂ made = absurd made
 back_of_two (Ok v) (Ok p) (Err e) P Q h back back₂ made = absurd made
 back_of_two (Ok v) (Ok p) (Ok q) P Q h back back₂ made = h p back back₂
-
-pub back : {A E R : Type 0} (r : Result A E) → R → OnOk r R
-back (Err e) x = tt
-back (Ok v) x = x

@@ -1,7 +1,5 @@
-pub mod JsonLemmas
 pub mod Plain
 pub mod PlanLemmas
 pub mod CertLemmas
 pub mod Parts
-pub mod SpelledLemmas
 pub mod LimitLemmas

@@ -4,7 +4,7 @@ use Rattle.std.specs.Prelude.{option_and_then, Result}
 use Rattle.tsn_cert.specs.Fault.{named, shaped, answer, FaultGiven, Gives, Reads}
 use Rattle.tsn_cert.specs.declared.fault.FileFault.{FileFault}
 use Rattle.tsn_cert.specs.declared.fault.FileFault.TheVariants.{NotJson, WrongShape, NumberTooLarge, Memory}
-use Rattle.tsn_cert_json.proofs.JsonLemmas.{answer_ok, answer_fault}
+use Rattle.tsn_values.proofs.JsonLemmas.{answer_ok, answer_fault}
 
 abbrev pub unlimited : {A : Type 0} → A → Bool
 unlimited x = true

@@ -10,7 +10,7 @@ use Rattle.tsn_cert.specs.Plan.{plan_of, plan_fits, plan_in, plan_value}
 use Rattle.tsn_cert.specs.declared.plan.Plan.{Plan}
 use Rattle.tsn_cert.specs.declared.plan.Plan.TheVariants as plan
 use Rattle.tsn_cert.proofs.JsonLemmas.{numbers-array_value, items_depth-le}
-use Rattle.tsn_cert_json.proofs.JsonLemmas.{no_float-items}
+use Rattle.tsn_values.proofs.JsonLemmas.{no_float-items}
 
 plan_of-plan_value : (p : Plan) → plan_of (plan_value p) ≡ Some p
 plan_of-plan_value plan.None = refl

@@ -11,8 +11,7 @@ ghost use Rattle.tsn_cert.specs.Node.{tree_node};
 ghost use Rattle.tsn_cert.specs.Spelled.{unlimited_cert_in};
 ghost use Rattle.tsn_cert.specs.Cert.{chain_list, chains_of, tie_parts, tie_load_parts, chains_value, are_of, format_of, chain_of, reason_parts, triple_parts, cycle_parts, entry_of, entry_list, entries_of, load_parts, entry_fits, leaf_fits, entry_value, entries_value, node_parts, other_node_parts, node_of, nodes_of, cert_of_values, cert_of, cert_in, node_fits, max_number, cert_fits, chain_value, leaf_value, tie_value, node_value, nodes_value, cert_text};
 
-use crate::tokens::Unread;
-use crate::{document, quick};
+use crate::quick;
 use serde_json::{ToValue, Value, json};
 use std::alloc::{AllocError, Global};
 use tsn_cert::chain::{Chain, MAX_CHAIN, MAX_NUMBER};
@@ -21,6 +20,8 @@ use tsn_cert::entries::{Entries, MAX_ENTRIES};
 use tsn_cert::plan::MAX_TIME;
 use tsn_cert::{Cert, FileFault, Format, Leaf, LowerBound, Node, Nodes};
 use tsn_model::{NoMemory, Triple};
+use tsn_values::document;
+use tsn_values::tokens::Unread;
 
 // ---- reading
 

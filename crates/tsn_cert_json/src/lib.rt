@@ -2,12 +2,10 @@
 #![tactic(auto)]
 
 pub mod cert;
-pub mod document;
 pub mod laws;
 pub mod plan;
 mod quick;
 pub mod text;
-pub mod tokens;
 
 pub use cert::{cert_from_json, cert_to_json};
 pub use laws::{cert_text_is_read, plan_text_is_read};

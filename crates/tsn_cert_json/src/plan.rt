@@ -3,12 +3,12 @@ ghost use Rattle.serde_json.specs.View.{view};
 ghost use Rattle.tsn_cert.specs.Fault.{Gives, Reads};
 ghost use Rattle.tsn_cert.specs.Plan.{plan_of, plan_of_values, plan_fits, plan_in, plan_value, plan_text};
 
-use crate::document;
 use serde_json::{Value, json};
 use std::alloc::{AllocError, Global};
 use tsn_cert::plan::MAX_TIME;
 use tsn_cert::{FileFault, Offsets, Plan};
 use tsn_model::NoMemory;
+use tsn_values::document;
 
 /// Reads a plan file.
 pub fn plan_from_json(alloc: Global, bytes: &[u8]) -> Result<Plan, FileFault>

@@ -1,21 +1,16 @@
 //! A quick reading of a certificate in the form in which it is written, with no value of the text in between. Where the
 //! text is written otherwise it gives up, and says nothing of the text.
-ghost use Rattle.std.specs.Prelude.{◌≡◌, ◌≤◌, ◌<◌, ℕ, List, suc, length, map, codes, [], ◌∷◌, Some, None, IfOk, IfSome, OnOk, option_and_then};
-ghost use Rattle.json.specs.Token.{begin_object, begin_array, string};
+ghost use Rattle.std.specs.Prelude.{◌≡◌, ◌≤◌, ◌<◌, ℕ, suc, length, map, codes, [], ◌∷◌, Some, IfOk, OnOk, option_and_then};
+ghost use Rattle.json.specs.Token.{begin_array};
 ghost use Rattle.json.specs.Token as token;
-ghost use Rattle.json.specs.Json.{after_end_array, read_key};
-ghost use Rattle.serde_json.specs.Data.{unsigned};
-ghost use Rattle.serde_json.specs.Read.{number_of, read};
-ghost use Rattle.tsn_model.specs.Certificate.{split_node, leaf_node, tie_node, late, overrun, positive_cycle, load, overload};
-ghost use Rattle.tsn_cert.specs.Json.{number_value, value_of, each};
+ghost use Rattle.serde_json.specs.Read.{read};
+ghost use Rattle.tsn_model.specs.Certificate.{late, overrun, load, overload};
+ghost use Rattle.tsn_cert.specs.Json.{number_value, value_of};
 ghost use Rattle.tsn_cert.specs.Entry.{tree_entry};
 ghost use Rattle.tsn_cert.specs.Node.{tree_node};
-ghost use Rattle.tsn_cert.specs.Cert.{chain_list, chains_of, chains_value, chain_of, chain_value, entry_list, entries_of, entries_value, entry_value, entry_of, node_of, node_value, nodes_of, nodes_value, format_number, cert_of, cert_value};
+ghost use Rattle.tsn_cert.specs.Cert.{chain_list, chains_of, chains_value, chain_value, entry_list, entries_of, entries_value, entry_value, entry_of, node_of, node_value, nodes_of, nodes_value, format_number, cert_of, cert_value};
 ghost use Rattle.tsn_cert.specs.Spelled.{Spells, SpellsEach, SpellsNode};
 
-use crate::tokens::{
-    self, Unread, close_array, close_object, index, key, number, open_array, open_object, word,
-};
 use json::{Reader, Scratch};
 use std::alloc::Global;
 use tsn_cert::chain::{Chain, MAX_CHAIN};
@@ -23,6 +18,9 @@ use tsn_cert::chains::{Chains, MAX_CHAINS};
 use tsn_cert::entries::{Entries, MAX_ENTRIES};
 use tsn_cert::{Cert, Format, Leaf, LowerBound, Node, Nodes};
 use tsn_model::Triple;
+use tsn_values::tokens::{
+    self, Unread, close_array, close_object, index, key, number, open_array, open_object, word,
+};
 
 // ---- chains
 

@@ -117,7 +117,7 @@ pub fn marked_chart(
     requires valid { IsValid problem.now.network valid.now }
     requires exist { All (λ list. list.link < length problem.now.network.links) lists.now }
 {
-    let timing = Timing::of(alloc, problem)?;
+    let timing = problem.timing(alloc)?;
     let rows = rows_shown(&timing, lists, view.shown);
     let scale = Scale::new(view.until.min(timing.cycle()), rows);
     let sheet = Sheet {

@@ -6,5 +6,4 @@ mod Chains
 mod Firsts
 mod Kept
 mod Ties
-mod DecidedArcs
 mod Fitting

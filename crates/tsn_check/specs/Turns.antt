@@ -11,12 +11,8 @@ use Rattle.tsn_model.specs.Arcs.{arc_of, IsChainTo, start_of, chain_sum}
 use Rattle.tsn_model.specs.Places.{pending}
 use Rattle.tsn_conflict.specs.Kept.{Kept, AreConflictsOf}
 use Rattle.tsn_check.specs.declared.path.Turn.{Turn}
-use Rattle.tsn_check.specs.declared.chain.ChainSum.{ChainSum}
-
--- an arc's weight is far within what a sum of 128 of them may be
-pub record IsSmall (arc : Arc) : Type 0 where
-  pub low : pos 0 ≤ℤ (arc.weight +ℤ pos 100000000)
-  pub high : arc.weight ≤ℤ pos 100000000
+use Rattle.tsn_timing.specs.declared.arc.ChainSum.{ChainSum}
+use Rattle.tsn_timing.specs.Arcs.{IsSmall}
 
 abbrev pub IsSmallTurn : Turn → Type 0
 IsSmallTurn turn = IsSmall turn.arc

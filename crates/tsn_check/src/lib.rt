@@ -15,7 +15,6 @@ mod tree;
 pub mod verdict;
 
 pub use bound::{Bound, bound_at};
-pub use chain::{ChainSum, arc_of};
 pub use fault::CheckFault;
 pub use plan::check_plan;
 pub use verdict::{Verdict, check};

@@ -51,7 +51,7 @@ pub fn check(
     ensures fault { IfErr result (λ fault. (fault ≡ CheckFault.Memory)
         ⊎ IsFirstFault problem.now.network plan.now cert.now fault) }
 {
-    let timing = Timing::of(alloc, problem)?;
+    let timing = problem.timing(alloc)?;
     let target = judge_claim(&timing, plan)?;
     if cert.target != target {
         return Err(CheckFault::FlowspanWrong);

@@ -26,7 +26,7 @@ use tsn_replay::{Background, ReplayFault, ReplayTable, replay_rows};
 use tsn_run::run::{DONE, REJECTED, respond};
 use tsn_run::{Answer, InputsRead, read_inputs, rejection};
 use tsn_streams::{Shares, plan_shares, to_csv, to_json, to_text};
-use tsn_timing::{Timing, Valid};
+use tsn_timing::Valid;
 
 /// Reads a network file and a plan file, the first judged before the second is read, and writes the plan's gate control
 /// lists, merged where that is asked for, in a format, or a line on what is refused. The answer is the status.
@@ -166,7 +166,7 @@ fn judgement(
     ensures { IfOk result (λ a. ShowsPlan table problem.now plan.now (output_of (Ok a))
         ⊎ RejectsPlan problem.now.network plan.now (output_of (Ok a))) }
 {
-    let timing = Timing::of(alloc, problem)?;
+    let timing = problem.timing(alloc)?;
     let checked = check_plan(alloc, &timing, plan);
     drop(timing);
     match checked {
@@ -313,7 +313,7 @@ pub(crate) fn picture_of(
     ensures { IfOk result (λ a. ShowsPlan (Table.Chart view) problem.now plan.now (output_of (Ok a))
         ⊎ RejectsPlan problem.now.network plan.now (output_of (Ok a))) }
 {
-    let timing = Timing::of(alloc, problem)?;
+    let timing = problem.timing(alloc)?;
     let checked = check_plan(alloc, &timing, plan);
     drop(timing);
     match checked {

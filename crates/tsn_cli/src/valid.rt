@@ -49,7 +49,7 @@ fn answer_to(alloc: Global, problem: Problem, offsets: &[u64]) -> Result<Answer,
     ensures { IfOk result (λ a. Accepts problem.network offsets.now (output_of (Ok a))
         ⊎ Rejects problem.network offsets.now (output_of (Ok a))) }
 {
-    let timing = Timing::of(alloc, &problem);
+    let timing = problem.timing(alloc);
     drop(problem);
     answer_on(alloc, timing?, offsets)
 }

@@ -1,4 +1,2 @@
 pub mod Options
-pub mod Files
-pub mod Unmade
 pub mod Asked

@@ -1,19 +1,21 @@
 //! The commands, over what they are given.
 ghost use Rattle.std.specs.Prelude.{◌≡◌};
 ghost use Rattle.tsn_run.specs.Run.{sink_over};
-ghost use Rattle.tsn_wiring.specs.Runs.{WithSome};
-ghost use Rattle.tsn_command.specs.Asked.{RunsAsked, devices_of};
+ghost use Rattle.tsn_given.specs.Runs.{WithSome};
+ghost use Rattle.tsn_proof_wiring.specs.Devices.{devices_of};
+ghost use Rattle.tsn_command.specs.Asked.{RunsAsked};
 
-use crate::planning::{plan, prove};
+use crate::planning::plan;
 use std::alloc::Global;
 use std::io::Eprint;
 use std::sync::Wait;
 use std::thread::Threads;
 use std::time::Clock;
+use tsn_given::{Given, Made, Ran};
+use tsn_proof_wiring::prove;
 use tsn_wiring::explained::{explain, picture};
 use tsn_wiring::judged::{check, valid};
 use tsn_wiring::tables::{gates, replay, streams};
-use tsn_wiring::{Given, Made, Ran};
 use tsn_words::Words;
 
 /// Runs a command over what its words name, and says the status. Where a file is refused, or a device fails, a line is told on why.

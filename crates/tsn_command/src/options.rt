@@ -2,8 +2,8 @@
 ghost use Rattle.std.specs.Prelude.{◌≡◌};
 ghost use Rattle.tsn_command.specs.Options.{effort_of};
 
+use tsn_answer::Effort;
 use tsn_words::PlanWords;
-use tsn_worker::Effort;
 
 /// How a plan is searched for.
 pub fn effort_of(words: PlanWords<'_>) -> Effort

@@ -1,22 +1,15 @@
-use Rattle.std.proofs.Common.{◌≡◌, ℕ, ◌*◌, ◌<◌, pos, ◌+ℤ◌, ◌≤ℤ◌, List, [], ◌∷◌, ◌++◌, length, map, All, slice_index, Option, Some, refl, sym, ◌∙◌, subst, arith}
+use Rattle.std.proofs.Common.{◌≡◌, ℕ, ◌*◌, ◌<◌, pos, ◌+ℤ◌, ◌≤ℤ◌, List, [], ◌∷◌, ◌++◌, length, All, slice_index, Option, Some, refl, sym, ◌∙◌, subst, arith}
 use Rattle.std.proofs.lemmas.Int.{ints}
-use Rattle.std.proofs.lemmas.List.{length-map, length-reverse}
 use Rattle.std.proofs.lemmas.List.Elements.{All-nil, All-head, All-tail, All-push}
-use Rattle.std.proofs.lemmas.Grind.{reverse_onto}
 use Rattle.tsn_model.specs.declared.Arc.{Arc}
-use Rattle.tsn_diff.specs.declared.labels.Step.{Step}
+use Rattle.tsn_forest.specs.declared.forest.Step.{Step}
 use Rattle.tsn_model.specs.Arcs.{arc_at}
 use Rattle.tsn_diff.specs.Limits.{IsArcAmong}
 use Rattle.tsn_model.specs.Arcs.{Leads, chain_sum, start_of}
-use Rattle.tsn_diff.specs.Forest.{last_of, Path, IsStep, indexes_of}
-use Rattle.tsn_diff.specs.Forest.Path.{here, back}
-
--- the indexes of one more step back come after it
-pub indexes_of-cons : (s : Step) (ss : List Step) → indexes_of (s ∷ ss) ≡ indexes_of ss ++ s.index ∷ []
-indexes_of-cons s ss = reverse_onto (map (λ (t : Step). t.index) ss) s.index []
-
-pub length-indexes_of : (ss : List Step) → length (indexes_of ss) ≡ length ss
-length-indexes_of ss = length-reverse (map (λ (t : Step). t.index) ss) ∙ length-map ss (λ (t : Step). t.index)
+use Rattle.tsn_diff.specs.Forest.{IsStep}
+use Rattle.tsn_forest.specs.Forest.{last_of, Path, indexes_of}
+use Rattle.tsn_forest.specs.Forest.Path.{here, back}
+use Rattle.tsn_forest.proofs.Steps.{indexes_of-cons}
 
 pub Leads-push : (arcs : List Arc) (start : ℕ) (chain : List ℕ) (middle index : ℕ) → Leads arcs start chain middle → (arc_at arcs index).from ≡ middle → Leads arcs start (chain ++ index ∷ []) (arc_at arcs index).to
 Leads-push arcs start [] middle index l e = (e ∙ sym l, refl)

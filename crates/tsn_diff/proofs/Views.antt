@@ -1,5 +1,5 @@
 -- Least offsets as they are seen, and the labels behind them.
-use Rattle.std.proofs.Common.{◌≡◌, ℕ, zero, suc, ◌-◌, ◌<◌, List, [], ◌∷◌, ◌++◌, length, map, Option, Some, None, refl, sym, ap, ◌∙◌, arith}
+use Rattle.std.proofs.Common.{◌≡◌, ℕ, ◌-◌, ◌<◌, List, [], ◌∷◌, ◌++◌, length, map, Some, None, refl, sym, ap, ◌∙◌, arith}
 use Rattle.std.specs.List.{range_with_len}
 use Rattle.std.specs.Prelude.{slice_get}
 use Rattle.std.proofs.lemmas.List.{ext_get_or, get_or-map, get_or_push, length-map, length_push}
@@ -7,23 +7,16 @@ use Rattle.std.proofs.lemmas.List.FromFn.{get_or-map-range_with_len, length-map-
 use Rattle.std.proofs.lemmas.Option.{slice_get-get_or}
 use Rattle.tsn_model.specs.declared.Arc.{Arc}
 use Rattle.tsn_model.specs.Arcs.{arc_at}
-use Rattle.tsn_diff.specs.declared.labels.Step.{Step}
+use Rattle.tsn_forest.specs.declared.forest.Step.{Step}
 use Rattle.tsn_diff.specs.Offsets.{chain_of}
-use Rattle.tsn_diff.specs.Forest.{Labelling, IsForest, last_of, steps_back, indexes_of, chain_by, least_by, step_of, labelling_by}
+use Rattle.tsn_diff.specs.Forest.{Labelling, IsForest, chain_by, least_by, step_of, labelling_by}
+use Rattle.tsn_forest.specs.Forest.{last_of, steps_back, indexes_of}
 use Rattle.tsn_diff.proofs.Cases.{by_option}
-use Rattle.tsn_diff.proofs.Sums.{indexes_of-cons}
+use Rattle.tsn_forest.proofs.Steps.{indexes_of-cons, steps_none, steps_some}
 
 -- a stream's chain is the one that its steps make
 pub chain_of-least_by : (releases : List ℕ) (arcs : List Arc) (labels : Labelling) (i : ℕ) → i < length labels.last → chain_of (least_by releases arcs labels) i ≡ chain_by labels i
 chain_of-least_by releases arcs labels i l = get_or-map-range_with_len (chain_by labels) 0 (length labels.last) i i [] l (omega arith)
-
-pub steps_none : (n : ℕ) (last : List (Option Step)) (i : ℕ) → last_of last i ≡ None → steps_back n last None i ≡ []
-steps_none zero last i none = refl
-steps_none (suc n) last i none = rw none refl
-
-pub steps_some : (n : ℕ) (last : List (Option Step)) (i : ℕ) (step : Step) → 0 < n → last_of last i ≡ Some step → steps_back n last None i ≡ step ∷ steps_back (n - 1) last None step.from
-steps_some zero last i step some is = absurd (omega arith)
-steps_some (suc n) last i step some is = let e : suc n - 1 ≡ n = omega arith in rw (is, e) refl
 
 -- a chain ends with the index that was put last
 end_of : (chain : List ℕ) (index : ℕ) → slice_get (chain ++ index ∷ []) (length (chain ++ index ∷ []) - 1) ≡ Some index

@@ -1,9 +1,11 @@
-use Rattle.std.specs.Prelude.{◌≡◌, ℕ, zero, suc, ◌-◌, ◌<◌, ◌≤◌, ◌==◌, pos, ◌+ℤ◌, ◌≤ℤ◌, Bool, false, cond, List, [], ◌∷◌, length, slice_index, slice_index_or, slice_get, All, Option, Some, None, map, reverse}
+use Rattle.std.specs.Prelude.{◌≡◌, ℕ, ◌-◌, ◌<◌, ◌≤◌, pos, ◌+ℤ◌, ◌≤ℤ◌, List, length, slice_index, slice_get, All, Option, Some, None, map}
 use Rattle.std.specs.List.{range_with_len}
 use Rattle.std.specs.Option.{option_map_or}
+use Rattle.tsn_forest.specs.Forest.{last_of, Rooted, steps_back, indexes_of}
 use Rattle.tsn_model.specs.declared.Arc.{Arc}
-use Rattle.tsn_diff.specs.declared.labels.Step.{Step}
-use Rattle.tsn_diff.specs.declared.solve.TheConstants.{MAX_STREAMS, MAX_RELEASE}
+use Rattle.tsn_forest.specs.declared.forest.Step.{Step}
+use Rattle.tsn_diff.specs.declared.solve.TheConstants.{MAX_RELEASE}
+use Rattle.tsn_forest.specs.declared.forest.TheConstants.{MAX_STREAMS}
 use Rattle.tsn_model.specs.Arcs.{arc_at, HoldsAll}
 use Rattle.tsn_diff.specs.Limits.{IsArcAmong}
 use Rattle.tsn_diff.specs.Offsets.{LeastOffsets}
@@ -12,22 +14,6 @@ use Rattle.tsn_diff.specs.Offsets.{LeastOffsets}
 pub record Labelling : Type 0 where
   pub offsets : List ℕ
   pub last : List (Option Step)
-
--- the last step of a stream's chain
-abbrev pub last_of : List (Option Step) → ℕ → Option Step
-last_of last stream = slice_index_or last stream None
-
--- the steps from a stream back to another
-pub data Path (last : List (Option Step)) : ℕ → List Step → ℕ → Type 0 where
-  here : {stream : ℕ} → Path last stream [] stream
-  back : {stream top : ℕ} {step : Step} {steps : List Step} → last_of last stream ≡ Some step → Path last step.from steps top → Path last stream (step ∷ steps) top
-
--- the steps from a stream back to one where no step is left
-pub record Rooted (last : List (Option Step)) (stream : ℕ) : Type 0 where
-  pub steps : List Step
-  pub root : ℕ
-  pub path : Path last stream steps root
-  pub ends : last_of last root ≡ None
 
 -- the step is an arc to the stream, by which the stream's offset is no more than explained
 pub record IsStep (arcs : List Arc) (offsets : List ℕ) (stream : ℕ) (step : Step) : Type 0 where
@@ -50,21 +36,6 @@ pub record IsRaised (releases : List ℕ) (labels : Labelling) : Type 0 where
   pub count : length labels.offsets ≡ length releases
   pub kept : (stream : ℕ) → last_of labels.last stream ≡ None → slice_index labels.offsets stream ≡ slice_index releases stream
   pub raised : (stream : ℕ) (step : Step) → last_of labels.last stream ≡ Some step → slice_index releases stream < slice_index labels.offsets stream
-
--- whether the way back ends at a stream
-abbrev pub is_top : Option ℕ → ℕ → Bool
-is_top None stream = false
-is_top (Some top) stream = stream == top
-
--- the first n steps back from a stream, as far as `top`
-abbrev pub steps_back : ℕ → List (Option Step) → Option ℕ → ℕ → List Step
-steps_back zero last top stream = []
-steps_back (suc n) last top stream =
-    cond (is_top top stream) [] (option_map_or (λ step. step ∷ steps_back n last top step.from) (last_of last stream) [])
-
--- the indexes of steps back, as a chain
-abbrev pub indexes_of : List Step → List ℕ
-indexes_of steps = reverse (map (λ step. step.index) steps)
 
 -- the chain that a stream's steps make
 abbrev pub chain_by : Labelling → ℕ → List ℕ

@@ -1,7 +1,6 @@
 pub mod Limits
 pub mod Offsets
 pub mod Forest
-pub mod Chains
 pub mod Labels
 pub mod Progress
 pub mod Releases

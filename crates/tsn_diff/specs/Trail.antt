@@ -1,7 +1,8 @@
 use Rattle.std.specs.Prelude.{◌≡◌, ℕ, ◌<◌, List, [], ◌∷◌, map, slice_index, slice_set, All}
 use Rattle.tsn_diff.specs.declared.trail.Former.{Former}
 use Rattle.tsn_diff.specs.declared.trail.Trail.{Trail}
-use Rattle.tsn_diff.specs.Forest.{Labelling, last_of}
+use Rattle.tsn_diff.specs.Forest.{Labelling}
+use Rattle.tsn_forest.specs.Forest.{last_of}
 
 -- the label that a stream has
 abbrev pub former_of : Labelling → ℕ → Former

@@ -1,19 +1,14 @@
 ghost use Rattle.std.specs.Prelude.{◌≡◌, ◌++◌, ◌<◌, ◌≤◌, [], ◌∷◌, All, IfOk, MatchOption, length, slice_set};
 ghost use Rattle.tsn_model.specs.Arcs.{Holds};
 ghost use Rattle.tsn_diff.specs.Limits.{IsArcAmong};
-ghost use Rattle.tsn_diff.specs.Forest.{HasSteps, IsForest, steps_back, indexes_of};
+ghost use Rattle.tsn_diff.specs.Forest.{HasSteps, IsForest};
+ghost use Rattle.tsn_forest.specs.Forest.{steps_back, indexes_of};
 ghost use Rattle.tsn_diff.specs.Progress.{KeepsRaised, IsAsked, passes_within, Corrects, CorrectsAll};
 ghost use Rattle.tsn_diff.specs.Labels.{labelling_of};
 
 use std::alloc::{AllocError, Global};
+use tsn_forest::Step;
 use tsn_model::Arc;
-
-/// The last arc of a stream's chain: its index in the list of arcs, and the stream where it begins.
-#[derive(Clone, Copy, PartialEq, Eq)]
-pub struct Step {
-    pub index: usize,
-    pub from: usize,
-}
 
 /// For each stream the offset that it was raised to, and the last arc of the chain that raised it.
 #[derive(Drop)]

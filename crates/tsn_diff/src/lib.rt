@@ -2,7 +2,6 @@
 //! after another: a system of difference constraints, solved by label correcting.
 #![tactic(auto)]
 
-mod forest;
 mod labels;
 mod listing;
 mod solve;
@@ -10,6 +9,6 @@ mod spread;
 mod stack;
 mod trail;
 
-pub use forest::{Forest, Walk};
-pub use solve::{Feasibility, Least, MAX_RELEASE, MAX_STREAMS, MAX_WEIGHT, Net};
+pub use solve::{Feasibility, Least, MAX_RELEASE, MAX_WEIGHT, Net};
 pub use stack::ArcStack;
+pub use tsn_forest::{Forest, MAX_STREAMS, Walk};

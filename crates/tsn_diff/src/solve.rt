@@ -7,14 +7,11 @@ ghost use Rattle.tsn_diff.specs.Offsets.{chain_of};
 ghost use Rattle.tsn_diff.specs.Labels.{labelling_of};
 ghost use Rattle.tsn_diff.specs.Releases.{releases_of};
 
-use crate::forest::Forest;
 use crate::labels::{Labels, Progress};
 use std::alloc::{AllocError, Global};
 use std::marker::Model;
+use tsn_forest::{Forest, MAX_STREAMS};
 use tsn_model::{Arc, NoMemory};
-
-/// The greatest number of streams.
-pub const MAX_STREAMS: usize = 128;
 
 /// The greatest weight of an arc, in either direction, in nanoseconds.
 pub const MAX_WEIGHT: i64 = 100_000_000;
@@ -54,7 +51,8 @@ pub struct Least {
 impl Model for Net {
     ghost use Rattle.std.specs.Prelude.{List, ℕ, All, length, ◌≤◌};
     ghost use Rattle.tsn_diff.specs.Releases.{releases_of};
-    ghost use Rattle.tsn_diff.specs.declared.solve.TheConstants.{MAX_STREAMS, MAX_RELEASE};
+    ghost use Rattle.tsn_diff.specs.declared.solve.TheConstants.{MAX_RELEASE};
+    ghost use Rattle.tsn_forest.specs.declared.forest.TheConstants.{MAX_STREAMS};
 
     ghost Value = { List ℕ };
 

@@ -1,4 +1,4 @@
-ghost use Rattle.std.specs.Prelude.{◌≡◌, ◌++◌, ℕ, ◌<◌, List, [], ◌∷◌, All, IfOk, IfNone, IfSome, IsTrue, ◌↔◌, OnErr, OnSome, length};
+ghost use Rattle.std.specs.Prelude.{◌≡◌, ◌++◌, ◌<◌, List, [], ◌∷◌, All, IfOk, IfNone, IfSome, IsTrue, ◌↔◌, OnErr, OnSome, length};
 ghost use Rattle.tsn_model.specs.declared.Arc.{Arc};
 ghost use Rattle.tsn_diff.specs.Limits.{IsArcAmong};
 ghost use Rattle.tsn_diff.specs.Answers.{Solves, Refutes};

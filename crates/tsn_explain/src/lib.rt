@@ -28,7 +28,6 @@ use tsn_argument::Certificate;
 use tsn_cert::Plan;
 use tsn_model::NoMemory;
 use tsn_net::Problem;
-use tsn_timing::Timing;
 
 /// Why no schedule is done before the plan is, or why there is none: lines that each end in a line feed. Instants are in
 /// nanoseconds from the cycle's start. The steps of an argument are numbered from 0, as they stand in its file. The certificate is
@@ -39,7 +38,7 @@ pub fn explanation(
     plan: &Plan,
     certificate: &Certificate,
 ) -> Result<String, NoMemory> {
-    let timing = Timing::of(alloc, problem)?;
+    let timing = problem.timing(alloc)?;
     let network = Network {
         problem,
         timing: &timing,
@@ -58,7 +57,7 @@ pub fn marked_frames(
     problem: &Problem,
     certificate: &Certificate,
 ) -> Result<Vec<(usize, usize)>, NoMemory> {
-    let timing = Timing::of(alloc, problem)?;
+    let timing = problem.timing(alloc)?;
     let network = Network {
         problem,
         timing: &timing,

@@ -8,7 +8,7 @@ use std::io;
 use std::io::Printer;
 use std::rt::Files;
 use tsn_device::{Failure, FileSink, FileSource, WriterSink};
-use tsn_wiring::Given;
+use tsn_given::Given;
 
 /// The files of a runtime, standard input, an output and whom to tell.
 #[derive(Clone, Copy)]

@@ -3,8 +3,8 @@
 use std::alloc::Global;
 use std::io;
 use tsn_device::WriterSink;
+use tsn_given::failure_line;
 use tsn_run::run::{DONE, MEMORY, NO_MEMORY_LINE, WORDS, finish};
-use tsn_wiring::failure_line;
 
 /// What standard output is called.
 pub(crate) const STANDARD_OUTPUT: &str = "standard output";

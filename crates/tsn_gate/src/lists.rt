@@ -33,7 +33,7 @@ pub fn gate_lists(
     ensures gates { IfOk result (λ lists. HasWantedGates problem.now.network valid.now lists.items) }
     ensures exist { IfOk result (λ lists. All (λ list. list.link < length problem.now.network.links) lists.items) }
 {
-    let timing = Timing::of(alloc, problem)?;
+    let timing = problem.timing(alloc)?;
     Ok(lists_of(alloc, &timing, valid.offsets())?)
 }
 

@@ -1,13 +1,14 @@
 //! The order of the questions: a first schedule, then the flowspan, then stream after stream in list order. A stream whose question
 //! takes too long is left, and come back to with what is left of the budget. Times are in nanoseconds.
-use crate::ask::Answered;
-use crate::first::first_schedule;
 use crate::learning::{Budget, Hear, News};
-use crate::literal::Literal;
-use crate::number::{at, copy, less, next, put, signed, signed_list, sum};
-use crate::search::Search;
 use crate::turn::Turn;
 use std::alloc::{AllocError, Global};
+use tsn_bounds::literal::Literal;
+use tsn_bounds::number::{at, copy, less, next, put, signed, signed_list, sum};
+use tsn_solver::ask::Answered;
+use tsn_solver::search::Search;
+use tsn_start::first::first_schedule;
+use tsn_start::table::{fill_table, table_without_streams};
 use tsn_timing::Timing;
 
 /// A search for the first of the optimal schedules.
@@ -44,7 +45,7 @@ pub fn course_of(alloc: Global, timing: &Timing, budget: Budget) -> Result<Cours
     let mut lows = Vec::new(alloc);
     lows.resize(timing.streams(), 0)?;
     Ok(Course {
-        search: Search::of(alloc, timing)?,
+        search: search_of(alloc, timing)?,
         best: Vec::new(alloc),
         flowspan: sum(signed(timing.cycle()), 1),
         last_conflict: budget.conflicts,
@@ -53,6 +54,23 @@ pub fn course_of(alloc: Global, timing: &Timing, budget: Budget) -> Result<Cours
         shown: 0,
         lows,
     })
+}
+
+/// A search with nothing given but the network. The error says that there was no memory.
+pub fn search_of(alloc: Global, timing: &Timing) -> Result<Search, AllocError> {
+    let mut search = Search::none(alloc, table_without_streams(alloc, timing));
+    match fill(&mut search, alloc, timing) {
+        Ok(()) => Ok(search),
+        Err(error) => {
+            drop(search);
+            Err(error)
+        }
+    }
+}
+
+fn fill(search: &mut Search, alloc: Global, timing: &Timing) -> Result<(), AllocError> {
+    fill_table(&mut search.known.table, alloc, timing)?;
+    search.fill()
 }
 
 impl Course {
@@ -90,10 +108,10 @@ impl Course {
     }
 
     fn take_first(&mut self, alloc: Global) -> Result<(), AllocError> {
-        let streams = self.search.table.streams();
-        let least = self.search.low(streams);
-        if self.search.is_open && self.flowspan > least {
-            let first = first_schedule(alloc, &self.search.table, least)?;
+        let streams = self.search.known.table.streams();
+        let least = self.search.known.low(streams);
+        if self.search.known.is_open && self.flowspan > least {
+            let first = first_schedule(alloc, &self.search.known.table, least)?;
             if let Some(best) = first {
                 self.take(best);
             }
@@ -103,7 +121,7 @@ impl Course {
 
     // A schedule that was found: it's kept where its flowspan is less.
     fn take(&mut self, offsets: Vec<i64>) {
-        let flowspan = self.search.table.flowspan(&offsets);
+        let flowspan = self.search.known.table.flowspan(&offsets);
         if flowspan < self.flowspan {
             self.flowspan = flowspan;
             self.best = offsets;
@@ -119,7 +137,7 @@ impl Course {
         self.give_flowspan()?;
         for parts in [8, 4, 2, 1] {
             self.lower_offsets(parts, hear)?;
-            if self.shown >= self.search.table.streams() {
+            if self.shown >= self.search.known.table.streams() {
                 return Ok(State::Decided);
             }
         }
@@ -129,22 +147,22 @@ impl Course {
     /// Gives that no later schedule is in question.
     pub fn give_flowspan(&mut self) -> Result<(), AllocError> {
         let most = self.flowspan.wrapping_neg();
-        let span = self.search.span();
+        let span = self.search.known.span();
         let _ = self.search.give(Literal::of(span ^ 1, most))?;
         Ok(())
     }
 
     // Finds the least flowspan, from both ends.
     fn lower_flowspan<H: Hear>(&mut self, hear: &H) -> Result<State, AllocError> {
-        let streams = self.search.table.streams();
+        let streams = self.search.known.table.streams();
         let mut turn = Turn::first();
         self.take_part(1);
         for _ in 0..u64::MAX {
             self.tell(hear, None);
-            if !self.search.is_open {
+            if !self.search.known.is_open {
                 return Ok(self.state_of_end());
             }
-            let least = self.search.low(streams);
+            let least = self.search.known.low(streams);
             if least >= self.flowspan {
                 return Ok(State::Decided);
             }
@@ -174,7 +192,7 @@ impl Course {
     fn lower_offsets<H: Hear>(&mut self, parts: u64, hear: &H) -> Result<(), AllocError> {
         let mut is_exact = true;
         self.search.drop_premises()?;
-        for stream in self.shown..self.search.table.streams() {
+        for stream in self.shown..self.search.known.table.streams() {
             self.take_part(parts);
             let is_least = self.lower_offset(stream, hear)?;
             is_exact = self.settle(stream, is_least, is_exact)?;
@@ -189,7 +207,7 @@ impl Course {
             self.tell(hear, Some(stream));
             let least = self.known_low(stream);
             let own = at(&self.best, stream);
-            if least >= own || !self.search.is_open {
+            if least >= own || !self.search.known.is_open {
                 return Ok(true);
             }
             if self.is_part_over() {
@@ -210,7 +228,7 @@ impl Course {
 
     // What the stream's offset is no less than, by the premises.
     fn known_low(&self, stream: usize) -> i64 {
-        let low = self.search.low(stream);
+        let low = self.search.known.low(stream);
         if self.search.premises.is_empty() {
             low
         } else {
@@ -227,7 +245,7 @@ impl Course {
         is_exact: bool,
     ) -> Result<bool, AllocError> {
         let own = at(&self.best, stream);
-        let least = self.search.least(stream);
+        let least = self.search.known.least(stream);
         let no_greater = Literal::of(least ^ 1, own.wrapping_neg());
         if is_exact {
             let _ = self.search.give(no_greater)?;
@@ -245,7 +263,7 @@ impl Course {
     // Asks for a schedule in which a stream's offset, or the flowspan behind all streams, is at most this; it's the best so far where
     // there is one.
     fn ask(&mut self, stream: usize, most: i64, share: u64) -> Result<Answered, AllocError> {
-        let literal = Literal::of(self.search.least(stream) ^ 1, most.wrapping_neg());
+        let literal = Literal::of(self.search.known.least(stream) ^ 1, most.wrapping_neg());
         let left = self
             .part_conflict
             .saturating_sub(self.search.pace.conflicts);
@@ -269,12 +287,14 @@ impl Course {
             is_changed |= at(&self.search.found, stream) != at(&self.best, stream);
         }
         std::mem::swap(&mut self.best, &mut self.search.found);
-        self.flowspan = self.flowspan.min(self.search.table.flowspan(&self.best));
+        self.flowspan = self
+            .flowspan
+            .min(self.search.known.table.flowspan(&self.best));
     }
 
     /// Asks for one less than the plan's flowspan, and than each of its offsets. Whether there is none.
     pub fn confirm<H: Hear>(&mut self, hear: &H) -> Result<bool, AllocError> {
-        let streams = self.search.table.streams();
+        let streams = self.search.known.table.streams();
         self.take_part(1);
         self.give_flowspan()?;
         if !self.is_none_below(streams, self.flowspan)? {
@@ -286,14 +306,14 @@ impl Course {
             if !self.is_none_below(stream, own)? {
                 return Ok(false);
             }
-            let greatest = self.search.least(stream) ^ 1;
+            let greatest = self.search.known.least(stream) ^ 1;
             let _ = self.search.give(Literal::of(greatest, own.wrapping_neg()))?;
         }
         Ok(true)
     }
 
     fn is_none_below(&mut self, stream: usize, most: i64) -> Result<bool, AllocError> {
-        if self.search.low(stream) >= most {
+        if self.search.known.low(stream) >= most {
             return Ok(true);
         }
         Ok(self.ask(stream, less(most, 1), u64::MAX)? == Answered::No)
@@ -328,8 +348,8 @@ impl Course {
 
     /// No valid schedule has a lesser flowspan.
     pub fn bound(&self) -> u64 {
-        let streams = self.search.table.streams();
-        self.search.low(streams).unsigned_abs()
+        let streams = self.search.known.table.streams();
+        self.search.known.low(streams).unsigned_abs()
     }
 }
 

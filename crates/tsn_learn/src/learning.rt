@@ -1,12 +1,13 @@
 //! Searches for the first of the optimal schedules; and once more with the plan known, for a shorter argument. Times are in nanoseconds.
 use crate::course::{Course, State, course_of};
-use crate::number::{copy, sum, unsigned_list};
-use crate::pace::Pace;
-use crate::writing::{Aim, write_argument};
 use std::alloc::{AllocError, Global};
 use tsn_argument::{Argument, Goal};
+use tsn_bounds::number::{copy, sum, unsigned_list};
 use tsn_model::NoMemory;
+use tsn_rules::pace::Pace;
+use tsn_solver::search::Search;
 use tsn_timing::Timing;
+use tsn_writing::writing::{Aim, write_argument};
 
 /// How many more conflicts the second time may take than the first.
 const MORE: u64 = 1000;
@@ -171,7 +172,7 @@ impl Course {
             plan: &plan,
             flowspan: self.flowspan,
         };
-        write_argument(alloc, &mut self.search, aim)
+        argue(alloc, &mut self.search, aim)
     }
 
     fn answer_first(
@@ -201,9 +202,9 @@ impl Course {
         let aim = Aim {
             goal: Goal::None,
             plan: &[],
-            flowspan: sum(self.search.table.cycle, 1),
+            flowspan: sum(self.search.known.table.cycle, 1),
         };
-        let argument = write_argument(alloc, &mut self.search, aim)?;
+        let argument = argue(alloc, &mut self.search, aim)?;
         Ok(Answer::None {
             argument: within(argument, budget),
             conflicts: self.search.pace.conflicts,
@@ -240,8 +241,18 @@ impl Course {
             plan: &[],
             flowspan: self.flowspan,
         };
-        write_argument(alloc, &mut self.search, aim)
+        argue(alloc, &mut self.search, aim)
     }
+}
+
+/// The argument for an aim. None where what the search found out doesn't show it. The error says that there was no memory.
+pub fn argue(
+    alloc: Global,
+    search: &mut Search,
+    aim: Aim<'_>,
+) -> Result<Option<Argument>, AllocError> {
+    search.go_back(0)?;
+    write_argument(alloc, &mut search.known, aim)
 }
 
 // The argument of fewer steps.

@@ -1,14 +1,15 @@
 //! Shows that no schedule has a lesser flowspan than one that is known. Times are in nanoseconds.
-use crate::ask::Answered;
-use crate::learning::{Budget, Hear, News, within};
-use crate::literal::Literal;
-use crate::number::{less, signed_list, unsigned_list};
-use crate::search::Search;
-use crate::writing::{Aim, write_argument};
+use crate::course::search_of;
+use crate::learning::{Budget, Hear, News, argue, within};
 use std::alloc::{AllocError, Global};
 use tsn_argument::{Argument, Goal};
+use tsn_bounds::literal::Literal;
+use tsn_bounds::number::{less, signed_list, unsigned_list};
 use tsn_model::NoMemory;
+use tsn_solver::ask::Answered;
+use tsn_solver::search::Search;
 use tsn_timing::Timing;
+use tsn_writing::writing::Aim;
 
 /// After how many conflicts it is told how far a proof has got.
 const ROUND: u64 = 2000;
@@ -37,85 +38,87 @@ pub fn show_least<H: Hear>(
         return Ok(LeastAnswer::GaveUp { conflicts: 0 });
     }
     let best = signed_list(alloc, plan)?;
-    let mut search = Search::of(alloc, timing)?;
-    let answered = search.show_least(&best, budget, hear);
+    let mut search = search_of(alloc, timing)?;
+    let answered = show_below(&mut search, &best, budget, hear);
     drop(search);
     Ok(answered?)
 }
 
-impl Search {
-    fn show_least<H: Hear>(
-        &mut self,
-        best: &[i64],
-        budget: Budget,
-        hear: &H,
-    ) -> Result<LeastAnswer, AllocError> {
-        let flowspan = self.table.flowspan(best);
-        let below = Literal::of(self.span() ^ 1, less(1, flowspan));
-        self.pace.last_work = budget.work;
-        self.set_sides(best);
-        let _ = self.give(below)?;
-        match self.ask_on(flowspan, budget, hear)? {
-            Answered::Yes => self.answer_better(),
-            Answered::No => self.answer_least(flowspan, budget),
-            Answered::Unknown => Ok(self.answer_nothing()),
+fn show_below<H: Hear>(
+    search: &mut Search,
+    best: &[i64],
+    budget: Budget,
+    hear: &H,
+) -> Result<LeastAnswer, AllocError> {
+    let flowspan = search.known.table.flowspan(best);
+    let below = Literal::of(search.known.span() ^ 1, less(1, flowspan));
+    search.pace.last_work = budget.work;
+    search.set_sides(best);
+    let _ = search.give(below)?;
+    match ask_on(search, flowspan, budget, hear)? {
+        Answered::Yes => answer_better(search),
+        Answered::No => answer_least(search, flowspan, budget),
+        Answered::Unknown => Ok(answer_nothing(search)),
+    }
+}
+
+// Asks for a schedule, and tells how far it has got each time that it is asked again.
+fn ask_on<H: Hear>(
+    search: &mut Search,
+    flowspan: i64,
+    budget: Budget,
+    hear: &H,
+) -> Result<Answered, AllocError> {
+    for _ in 0..u64::MAX {
+        hear.hear(news(search, flowspan));
+        let left = budget.conflicts.saturating_sub(search.pace.conflicts);
+        let answered = search.ask(left.min(ROUND))?;
+        if answered != Answered::Unknown || search.pace.is_used_up(budget.conflicts) {
+            return Ok(answered);
         }
     }
+    Ok(Answered::Unknown)
+}
 
-    // Asks for a schedule, and tells how far it has got each time that it is asked again.
-    fn ask_on<H: Hear>(
-        &mut self,
-        flowspan: i64,
-        budget: Budget,
-        hear: &H,
-    ) -> Result<Answered, AllocError> {
-        for _ in 0..u64::MAX {
-            hear.hear(self.news(flowspan));
-            let left = budget.conflicts.saturating_sub(self.pace.conflicts);
-            let answered = self.ask(left.min(ROUND))?;
-            if answered != Answered::Unknown || self.pace.is_used_up(budget.conflicts) {
-                return Ok(answered);
-            }
-        }
-        Ok(Answered::Unknown)
+fn news(search: &Search, flowspan: i64) -> News {
+    let streams = search.known.table.streams();
+    News {
+        flowspan: Some(flowspan.unsigned_abs()),
+        bound: search.known.low(streams).unsigned_abs(),
+        stream: None,
+        conflicts: search.pace.conflicts,
+        work: search.pace.work,
     }
+}
 
-    fn news(&self, flowspan: i64) -> News {
-        let streams = self.table.streams();
-        News {
-            flowspan: Some(flowspan.unsigned_abs()),
-            bound: self.low(streams).unsigned_abs(),
-            stream: None,
-            conflicts: self.pace.conflicts,
-            work: self.pace.work,
-        }
-    }
+fn answer_better(search: &Search) -> Result<LeastAnswer, AllocError> {
+    let offsets = unsigned_list(search.alloc, &search.found)?;
+    let conflicts = search.pace.conflicts;
+    Ok(LeastAnswer::Better { offsets, conflicts })
+}
 
-    fn answer_better(&self) -> Result<LeastAnswer, AllocError> {
-        let offsets = unsigned_list(self.alloc, &self.found)?;
-        let conflicts = self.pace.conflicts;
-        Ok(LeastAnswer::Better { offsets, conflicts })
-    }
+fn answer_least(
+    search: &mut Search,
+    flowspan: i64,
+    budget: Budget,
+) -> Result<LeastAnswer, AllocError> {
+    let aim = Aim {
+        goal: Goal::Least,
+        plan: &[],
+        flowspan,
+    };
+    let argument = argue(search.alloc, search, aim)?;
+    Ok(match within(argument, budget) {
+        Some(argument) => LeastAnswer::Least {
+            argument,
+            conflicts: search.pace.conflicts,
+        },
+        None => answer_nothing(search),
+    })
+}
 
-    fn answer_least(&mut self, flowspan: i64, budget: Budget) -> Result<LeastAnswer, AllocError> {
-        let aim = Aim {
-            goal: Goal::Least,
-            plan: &[],
-            flowspan,
-        };
-        let argument = write_argument(self.alloc, self, aim)?;
-        Ok(match within(argument, budget) {
-            Some(argument) => LeastAnswer::Least {
-                argument,
-                conflicts: self.pace.conflicts,
-            },
-            None => self.answer_nothing(),
-        })
-    }
-
-    fn answer_nothing(&self) -> LeastAnswer {
-        LeastAnswer::GaveUp {
-            conflicts: self.pace.conflicts,
-        }
+fn answer_nothing(search: &Search) -> LeastAnswer {
+    LeastAnswer::GaveUp {
+        conflicts: search.pace.conflicts,
     }
 }

@@ -1,7 +1,7 @@
 -- What is right of what a look finds, whatever was settled before.
 --     HasProof             a leaf is right for its own bound
 --     SplitsUndecided      a split is on a conflict that the path doesn't decide
-use Rattle.std.specs.Prelude.{◌≡◌, ℕ, List}
+use Rattle.std.specs.Prelude.{◌≡◌, List}
 use Rattle.tsn_model.specs.declared.Decision.{Decision}
 use Rattle.tsn_model.specs.Network.{Network}
 use Rattle.tsn_model.specs.Schedule.{IsValid, flowspan, IsConflict}

@@ -171,7 +171,7 @@ fn judgement<S: Supervisor>(
     ensures finds { IfOk result (λ output. IfSome output.finding (λ finding.
         FindsAs limit problem.now.network plan.now finding (shown (Ok output)))) }
 {
-    let timing = Timing::of(alloc, problem)?;
+    let timing = problem.timing(alloc)?;
     let judged = judge_claim(alloc, &timing, plan);
     drop(timing);
     match judged {

@@ -37,7 +37,7 @@ pub fn prove<S: Supervisor>(
     supervisor.hear_bound(bound);
     supervisor.begin(Phase::Learning);
     tell_plan(plan, supervisor);
-    let timing = Timing::of(alloc, problem)?;
+    let timing = problem.timing(alloc)?;
     let task = Task {
         problem,
         plan,

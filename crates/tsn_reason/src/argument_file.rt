@@ -1,12 +1,12 @@
 //! What is wrong with the value of a certificate file of format 3.
 
-use crate::json::{elements_at, number_at, push_wrong_keys};
 use serde_json::Value;
 use std::alloc::{AllocError, Global};
 use std::fmt::Write;
 use tsn_argument_json::argument_from_json;
 use tsn_cert::FileFault;
 use tsn_cert::plan::MAX_TIME;
+use tsn_check_reason::{elements_at, number_at, push_wrong_keys};
 use tsn_model::NoMemory;
 
 /// Writes what is wrong with the value.

@@ -1,20 +1,16 @@
-//! Why a certificate file, or the certificate that it has, is refused.
+//! Why a certificate file is refused.
 
 use crate::argument_file::push_argument_value;
-use crate::bound::{Shown, push_low_bound};
-use crate::json::{elements_at, number_at, push_not_json, push_wrong_keys};
-use crate::text::line_of;
-use crate::{File, Reason};
 use serde_json::Value;
-use std::alloc::{AllocError, Global};
+use std::alloc::Global;
 use std::fmt::Write;
 use tsn_argument::argument::ARGUMENT_FORMAT;
+use tsn_cert::FileFault;
 use tsn_cert::plan::MAX_TIME;
-use tsn_cert::{FileFault, Plan};
 use tsn_cert_json::cert_from_json;
-use tsn_check::CheckFault;
+use tsn_check_reason::{elements_at, number_at, push_not_json, push_wrong_keys};
 use tsn_model::NoMemory;
-use tsn_timing::Timing;
+use tsn_network_reason::{File, Reason, line_of};
 
 /// Why a certificate file with this fault is refused.
 pub fn cert_file_line(alloc: Global, cert: File<'_>, fault: FileFault) -> Reason {
@@ -118,38 +114,4 @@ fn push_node(
         write!(text, "has none of the forms of format {format}")?;
     }
     Ok(())
-}
-
-/// Why a tree with this fault is refused, where its plan is right.
-pub fn tree_line(alloc: Global, file: File<'_>, shown: Shown<'_>, fault: CheckFault) -> Reason {
-    let mut text = line_of(alloc, file.name)?;
-    match fault {
-        CheckFault::Memory => return Err(NoMemory),
-        CheckFault::FlowspanWrong => {
-            push_wrong_target(&mut text, shown.timing, shown.plan, shown.cert.target)?
-        }
-        CheckFault::BoundTooLow(node) => push_low_bound(alloc, &mut text, shown, node)?,
-        _ => write!(text, "{fault}")?,
-    }
-    Ok(Some(text))
-}
-
-/// Writes what the target is, and has to be.
-pub fn push_wrong_target(
-    text: &mut String,
-    timing: &Timing,
-    plan: &Plan,
-    target: u64,
-) -> Result<(), AllocError> {
-    write!(text, "target is {target}, and has to be ")?;
-    match plan {
-        Plan::Schedule { flowspan, .. } => write!(text, "{flowspan}, the flowspan of the plan"),
-        Plan::None => {
-            let past_cycle = timing.cycle().saturating_add(1);
-            write!(
-                text,
-                "{past_cycle}, one more than the cycle, since the plan is that there is no schedule"
-            )
-        }
-    }
 }

@@ -8,7 +8,7 @@ use tsn_check::check_plan;
 use tsn_gate::{DeviceLimits, GateList, closed_lines, device_lines, lists_by};
 use tsn_model::NoMemory;
 use tsn_net::{Problem, read_problem};
-use tsn_timing::{Timing, Valid};
+use tsn_timing::Valid;
 
 /// A line for each merged list that leaves others no time, and for each list that has more entries than a device takes, or a
 /// shorter one than it takes; the lists are those of a plan, merged where that is asked for. Nothing where a file or the plan is
@@ -40,7 +40,7 @@ fn lines_of_file(
     let Ok(plan) = plan_from_json(alloc, file.bytes) else {
         return Ok(None);
     };
-    let timing = Timing::of(alloc, problem)?;
+    let timing = problem.timing(alloc)?;
     match check_plan(alloc, &timing, &plan) {
         Ok(valid) => Ok(Some(lines_of(alloc, problem, &valid, merge, limits)?)),
         Err(_) => Ok(None),

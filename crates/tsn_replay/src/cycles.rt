@@ -19,7 +19,7 @@ use crate::trace::{Row, Trace};
 use std::alloc::{AllocError, Global};
 use tsn_gate::GateList;
 use tsn_net::Problem;
-use tsn_timing::{Timing, Valid};
+use tsn_timing::Valid;
 
 /// Replays so many cycles, 1 to 16, of a valid schedule by gate control lists, from instant 0 on. The bridges' clocks are
 /// without error.
@@ -116,7 +116,7 @@ fn replayed(
     }
     // The network is within its limits, and each stream has a name.
     let _limits = problem.cycle();
-    let timing = Timing::of(alloc, problem)?;
+    let timing = problem.timing(alloc)?;
     let gates = openings_of(alloc, lists)?;
     let replay = Replay {
         network: timing.plain(),

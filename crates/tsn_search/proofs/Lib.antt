@@ -1,3 +1,2 @@
-mod Settling
 pub mod Batching
 pub mod Teams

@@ -1,27 +1,14 @@
-//! The bags from which workers take nodes. A bag that takes no node gives back the one that it was handed. Nothing is claimed of
-//! what it hands out: a node that is lost stays open in the book, and one that comes twice is refused there.
-ghost use Rattle.std.specs.Prelude.{◌≡◌, ◌≤◌, vec_len, IfOk, IfErr};
+//! Bags for workers in threads of their own.
+ghost use Rattle.std.specs.Prelude.{◌≡◌, vec_len, IfOk};
 
 use crossbeam_deque::{Steal, Stealer, Worker};
 use std::alloc::{AllocError, Global};
 use tsn_model::NoMemory;
 use tsn_node::Node;
+use tsn_walk::Bag;
 
 /// How many nodes a bag has room for at first.
 const ROOM: usize = 64;
-
-/// The nodes of one worker.
-pub trait Bag: Drop {
-    /// Puts a node into the bag; the error gives that node back.
-    fn push(&mut self, node: Node) -> Result<(), Node>
-        ensures { IfErr result (λ refused. refused ≡ node) };
-
-    /// Takes a node out of the bag.
-    fn pop(&mut self) -> Option<Node>;
-
-    /// Takes a node out of another worker's bag.
-    fn steal(&mut self) -> Option<Node>;
-}
 
 /// A bag that pops the node pushed last, and steals the one that was pushed first.
 #[derive(Drop)]

@@ -3,13 +3,11 @@ ghost use Rattle.std.specs.Prelude.{◌≡◌, ◌≤◌, true, MatchOption};
 ghost use Rattle.tsn_timing.specs.Solution.{IsSolved};
 ghost use Rattle.tsn_book.specs.Below.{path_after};
 ghost use Rattle.tsn_share.specs.Teller.{IsEven};
-ghost use Rattle.tsn_search.specs.Below.{IsBelow, IsBatch, IsGoingOn, outcomes_of};
-ghost use Rattle.tsn_search.specs.Context.{AreTablesOf};
+ghost use Rattle.tsn_search.specs.Batch.{IsGoingOn};
+ghost use Rattle.tsn_walk.specs.Below.{IsBelow, IsBatch, outcomes_of};
+ghost use Rattle.tsn_walk.specs.Search.{AreTablesOf};
 
-use crate::below::{BATCH, Batch, Below};
-use crate::best::BestSoFar;
 use crate::context::Context;
-use crate::news::{known, splits_among};
 use crate::settler::Settler;
 use std::sync::Wait;
 use tsn_book::BookFault;
@@ -17,6 +15,8 @@ use tsn_node::Node;
 use tsn_setting::supervisor::{News, Supervisor};
 use tsn_share::{Named, Shared, Teller, observe_as, post_as, settle_below_as};
 use tsn_timing::{Solved, Timing};
+use tsn_walk::news::{known, splits_among};
+use tsn_walk::{BATCH, Batch, Below, BestSoFar};
 
 /// How a worker goes on below a node.
 #[derive(Clone, Copy)]
@@ -31,57 +31,48 @@ pub enum Advance {
     Ends,
 }
 
-impl Below {
-    /// Looks at up to so many nodes, settles them behind one pass of the supervisor, and posts what was solved. The teller is left
-    /// even.
-    pub fn settle_next<K: Named, S: Supervisor>(
-        &mut self,
-        rt: &impl Wait,
-        context: &Context<'_, K, S>,
-        settler: &mut Settler<K>,
-        most: usize,
-    ) -> Advance
-        requires tables { AreTablesOf K.names.race.network context.now.setting.now.tables }
-        requires below { IsBelow context.now.setting.now.tables.timing.now context.now.setting.now.tables.conflicts.now.triples self.old }
-        requires most { (1 ≤ most) × (most ≤ BATCH) }
-        requires even { IsEven settler.old.teller }
-        ensures even { IsEven settler.new.teller }
-        ensures number { settler.new.teller.standing.number ≡ settler.old.teller.standing.number }
-        ensures below { IsGoingOn result → IsBelow context.now.setting.now.tables.timing.now context.now.setting.now.tables.conflicts.now.triples self.new }
-    {
-        let setting = context.setting;
-        let shared = context.shared;
-        let tables = setting.tables;
-        let seen = observe_as(shared, &mut settler.teller);
-        let refreshed = settler
-            .best
-            .refresh(rt, shared, &mut settler.teller, context.board);
-        if refreshed.is_err() {
-            return Advance::Ends;
-        }
-        let best = settler.best.lent(self.untied);
-        self.untied = false;
-        let incumbent = BestSoFar { seen, best };
-        let Ok(batch) = self.collect(setting.alloc, tables, incumbent, most) else {
-            return Advance::Ends;
-        };
-        let summary = Summary::of(&batch, seen);
-        setting.supervisor.pass(settler.number);
-        let (advance, accepted) = settle_batch(
-            rt,
-            shared,
-            &mut settler.teller,
-            &mut self.from,
-            batch,
-        );
-        summary.tell(context, settler.number, accepted);
-        match advance {
-            Advance::LooksAgain
-                if self.begin_again(setting.alloc, tables.timing, tables.conflicts) =>
-                Advance::GoesOn,
-            Advance::LooksAgain => Advance::Ends,
-            advance => advance,
-        }
+/// Looks at up to so many nodes, settles them behind one pass of the supervisor, and posts what was solved. The teller is left
+/// even.
+pub fn settle_next<K: Named, S: Supervisor>(
+    rt: &impl Wait,
+    context: &Context<'_, K, S>,
+    settler: &mut Settler<K>,
+    below: &mut Below,
+    most: usize,
+) -> Advance
+    requires tables { AreTablesOf K.names.race.network context.now.setting.now.tables }
+    requires below { IsBelow context.now.setting.now.tables.timing.now context.now.setting.now.tables.conflicts.now.triples below.old }
+    requires most { (1 ≤ most) × (most ≤ BATCH) }
+    requires even { IsEven settler.old.teller }
+    ensures even { IsEven settler.new.teller }
+    ensures number { settler.new.teller.standing.number ≡ settler.old.teller.standing.number }
+    ensures below { IsGoingOn result → IsBelow context.now.setting.now.tables.timing.now context.now.setting.now.tables.conflicts.now.triples below.new }
+{
+    let setting = context.setting;
+    let shared = context.shared;
+    let tables = setting.tables;
+    let seen = observe_as(shared, &mut settler.teller);
+    let refreshed = settler
+        .best
+        .refresh(rt, shared, &mut settler.teller, context.board);
+    if refreshed.is_err() {
+        return Advance::Ends;
+    }
+    let best = settler.best.lent(below.untied);
+    below.untied = false;
+    let incumbent = BestSoFar { seen, best };
+    let Ok(batch) = below.collect(setting.alloc, tables, incumbent, most) else {
+        return Advance::Ends;
+    };
+    let summary = Summary::of(&batch, seen);
+    setting.supervisor.pass(settler.number);
+    let (advance, accepted) = settle_batch(rt, shared, &mut settler.teller, &mut below.from, batch);
+    summary.tell(context, settler.number, accepted);
+    match advance {
+        Advance::LooksAgain if below.begin_again(setting.alloc, tables.timing, tables.conflicts) =>
+            Advance::GoesOn,
+        Advance::LooksAgain => Advance::Ends,
+        advance => advance,
     }
 }
 

@@ -9,15 +9,6 @@ use tsn_model::NoMemory;
 use tsn_share::{Named, Shared, Teller, best_as};
 use tsn_timing::Solved;
 
-/// The best schedule so far as a settler knows it: the least flowspan that it has observed, and its copy of the schedule, which
-/// may be an older one.
-#[derive(Clone, Copy)]
-pub struct BestSoFar<'a> {
-    /// In nanoseconds.
-    pub seen: u64,
-    pub best: Option<&'a Solved>,
-}
-
 /// A copy of the best schedule so far, as it was when the worker last asked for it.
 #[derive(Drop)]
 pub struct Best<K: Named> {

@@ -1,62 +1,16 @@
 //! What the caller settles before the workers start.
-ghost use Rattle.std.specs.Prelude.{◌≡◌, ◌<◌, ◌≤◌, length};
+ghost use Rattle.std.specs.Prelude.{◌≡◌};
 ghost use Rattle.tsn_share.specs.Teller.{IsEven};
-ghost use Rattle.tsn_search.specs.Context.{AreTablesOf};
+ghost use Rattle.tsn_walk.specs.Search.{AreTablesOf};
 
-use crate::bag::Bag;
-use crate::batch::Advance;
-use crate::below::Below;
+use crate::batch::{Advance, settle_next};
 use crate::context::Context;
 use crate::settler::Settler;
-use std::alloc::Global;
 use std::sync::Wait;
-use tsn_node::{NoMemory, Node};
+use tsn_node::NoMemory;
 use tsn_setting::supervisor::Supervisor;
 use tsn_share::Named;
-
-/// The nodes that are open, the first in preorder last.
-#[derive(Drop)]
-pub struct OpenNodes {
-    nodes: Vec<Node>,
-}
-
-impl OpenNodes {
-    /// None.
-    pub fn none(alloc: Global) -> OpenNodes {
-        OpenNodes {
-            nodes: Vec::new(alloc),
-        }
-    }
-
-    /// Gives node n in preorder to the bag n mod the number of bags, the first one last.
-    pub fn deal<B: Bag>(self, bags: &mut [B])
-        requires { 0 < length bags.old }
-    {
-        let mut number = self.nodes.len();
-        for node in self.nodes {
-            number -= 1;
-            let bag = number % bags.len();
-            let _ = bags[bag].push(node);
-        }
-    }
-}
-
-impl Bag for OpenNodes {
-    fn push(&mut self, node: Node) -> Result<(), Node> {
-        match self.nodes.push(node) {
-            Ok(()) => Ok(()),
-            Err(refused) => Err(refused.value),
-        }
-    }
-
-    fn pop(&mut self) -> Option<Node> {
-        self.nodes.pop()
-    }
-
-    fn steal(&mut self) -> Option<Node> {
-        None
-    }
-}
+use tsn_walk::{Below, OpenNodes};
 
 /// Settles nodes, each by itself: those on the way that a known schedule keeps to, where there is one, or else first open ones until
 /// so many are open; then tells which are open. The error says that there was no memory to begin.
@@ -96,7 +50,7 @@ fn dive<K: Named, S: Supervisor>(
     let mut open_nodes = OpenNodes::none(setting.alloc);
     for _ in 0..u64::MAX {
         let depth = below.from.path().len();
-        match below.settle_next(rt, context, caller, 1) {
+        match settle_next(rt, context, caller, &mut below, 1) {
             Advance::GoesOn => {}
             Advance::Ends | Advance::Finished | Advance::LooksAgain => break,
         }
@@ -130,7 +84,7 @@ fn settle_until<K: Named, S: Supervisor>(
         if below.has_open(enough) {
             break;
         }
-        match below.settle_next(rt, context, caller, 1) {
+        match settle_next(rt, context, caller, &mut below, 1) {
             Advance::GoesOn => {}
             Advance::Ends => break,
             Advance::Finished | Advance::LooksAgain => {

@@ -1,11 +1,9 @@
 //! One worker.
 ghost use Rattle.std.specs.Prelude.{◌≡◌};
 ghost use Rattle.tsn_share.specs.Teller.{IsEven};
-ghost use Rattle.tsn_search.specs.Context.{AreTablesOf};
+ghost use Rattle.tsn_walk.specs.Search.{AreTablesOf};
 
-use crate::bag::Bag;
-use crate::batch::Advance;
-use crate::below::{BATCH, Below};
+use crate::batch::{Advance, settle_next};
 use crate::board::Board;
 use crate::context::Context;
 use crate::settler::Settler;
@@ -14,6 +12,7 @@ use std::thread;
 use tsn_node::Node;
 use tsn_setting::supervisor::Supervisor;
 use tsn_share::Named;
+use tsn_walk::{BATCH, Bag, Below};
 
 /// A worker ends after so many rounds in turn in which it found no node.
 const ROUNDS: usize = 1000;
@@ -132,7 +131,7 @@ fn work_below<K: Named, B: Bag, S: Supervisor>(
         }
     };
     for _ in 0..u64::MAX {
-        match below.settle_next(rt, context, &mut member.settler, BATCH) {
+        match settle_next(rt, context, &mut member.settler, &mut below, BATCH) {
             Advance::GoesOn => {}
             Advance::Ends => break,
             Advance::Finished | Advance::LooksAgain => {

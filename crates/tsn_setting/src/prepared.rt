@@ -34,7 +34,7 @@ impl Prepared {
         ensures conflicts { IfOk result (λ prepared. AreConflictsOf prepared.timing prepared.conflicts) }
         ensures loads { IfOk result (λ prepared. AreLoadsOf prepared.timing prepared.loads) }
     {
-        let timing = Timing::of(alloc, problem)?;
+        let timing = problem.timing(alloc)?;
         let conflicts = match conflicts(alloc, &timing) {
             Ok(conflicts) => conflicts,
             Err(fault) => {

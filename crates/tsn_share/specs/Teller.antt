@@ -1,5 +1,5 @@
 -- What a teller knows.
---     Known, IsEven, IsSolvedBy     what it has seen, posted and settled
+--     Known, IsEven                 what it has seen, posted and settled
 --     Keeps                         what every teller keeps to
 --     settled, settled_all          one more event, and several
 --     OnlyLastSolved                outcomes of which at most the last is solved
@@ -7,7 +7,8 @@
 use Rattle.std.specs.Prelude.{◌≡◌, ℕ, zero, suc, ◌<◌, ◌≤◌, false, List, [], ◌∷◌, ◌++◌, All}
 use Rattle.tsn_model.specs.Network.{Network}
 use Rattle.tsn_model.specs.Certificate.{beyond}
-use Rattle.tsn_model.specs.Search.{Outcome, split, solved, pruned, tied, refuted, tally_as}
+use Rattle.tsn_model.specs.Search.{Outcome, tally_as}
+use Rattle.tsn_node.specs.Outcome.{IsUnsolved}
 use Rattle.tsn_search_laws.specs.Gathering.{tally_with}
 use Rattle.tsn_incumbent.specs.Flowspans.{no_flowspan}
 use Rattle.tsn_incumbent.specs.Standings.{Seated, fresh, fresh_from}
@@ -42,14 +43,6 @@ pub record Keeps (names : Names) (number : ℕ) (seat : Seated) (share : Half) :
 abbrev pub IsEven : Known → Type 0
 IsEven known = known.tally.solved ≡ known.standing.posted
 
--- the outcome is solved, with this flowspan
-abbrev pub IsSolvedBy : ℕ → Outcome → Type 0
-IsSolvedBy flowspan (split triple) = ⊥
-IsSolvedBy flowspan (solved offsets bound leaf chains) = flowspan ≡ bound
-IsSolvedBy flowspan (pruned bound leaf) = ⊥
-IsSolvedBy flowspan (tied bound leaf chains) = ⊥
-IsSolvedBy flowspan (refuted leaf) = ⊥
-
 -- its share takes an event
 abbrev pub settled : Outcome → Known → Known
 settled outcome known = record { standing = known.standing; tally = tally_with known.tally outcome }
@@ -62,13 +55,6 @@ tally_with_all tally (outcome ∷ outcomes) = tally_with_all (tally_with tally o
 -- its share takes several events, one after another
 abbrev pub settled_all : List Outcome → Known → Known
 settled_all outcomes known = record { standing = known.standing; tally = tally_with_all known.tally outcomes }
-
-abbrev pub IsUnsolved : Outcome → Type 0
-IsUnsolved (split triple) = Unit {0}
-IsUnsolved (solved offsets bound leaf chains) = ⊥
-IsUnsolved (pruned bound leaf) = Unit {0}
-IsUnsolved (tied bound leaf chains) = Unit {0}
-IsUnsolved (refuted leaf) = Unit {0}
 
 -- there is a last outcome, and none before it is solved
 pub record OnlyLastSolved (outcomes : List Outcome) : Type 0 where

@@ -14,7 +14,8 @@ ghost use Rattle.tsn_book.specs.Event.{event_of};
 ghost use Rattle.tsn_book.specs.Book.{IsLawful, IsFault};
 ghost use Rattle.tsn_book.specs.Below.{settlements_by, IsFaultAt};
 ghost use Rattle.tsn_share.specs.Names.{IsBookOf};
-ghost use Rattle.tsn_share.specs.Teller.{IsEven, IsSolvedBy, settled, settled_all, tally_with_all, OnlyLastSolved};
+ghost use Rattle.tsn_share.specs.Teller.{IsEven, settled, settled_all, tally_with_all, OnlyLastSolved};
+ghost use Rattle.tsn_node.specs.Outcome.{IsSolvedBy};
 ghost use Rattle.tsn_share.specs.Desk.{IsReading, IsRefused, IsRefusedAt};
 
 use crate::desk::{Counts, Desk, Owner};

@@ -9,7 +9,7 @@ use std::alloc::Global;
 use tsn_gate::gate_lists;
 use tsn_model::NoMemory;
 use tsn_net::Problem;
-use tsn_timing::{Timing, Valid};
+use tsn_timing::Valid;
 
 /// What each stream gets by a schedule, in stream order, and each directed link that a stream uses, by link number.
 #[derive(Drop)]
@@ -44,7 +44,7 @@ fn of_streams(alloc: Global, problem: &Problem, valid: &Valid) -> Result<Vec<Str
 {
     // Each stream has a name.
     let _streams = problem.streams();
-    let timing = Timing::of(alloc, problem)?;
+    let timing = problem.timing(alloc)?;
     let shares = stream_shares(alloc, &timing, valid);
     drop(timing);
     shares

@@ -18,7 +18,8 @@ use Rattle.tsn_node.specs.Outcome.{outcome_of}
 use Rattle.tsn_node.specs.declared.outcome.Look.{Look}
 use Rattle.tsn_node.specs.declared.outcome.Look.TheVariants.{Split}
 use Rattle.tsn_book.specs.Below.{next_path, events_below}
-use Rattle.tsn_share.specs.Teller.{Known, IsEven, IsSolvedBy, IsUnsolved, OnlyLastSolved, tally_with_all}
+use Rattle.tsn_share.specs.Teller.{Known, IsEven, OnlyLastSolved, tally_with_all}
+use Rattle.tsn_node.specs.Outcome.{IsSolvedBy, IsUnsolved}
 use Rattle.tsn_share.specs.Gathered.{IsInOrder}
 use Rattle.tsn_share.proofs.Tellers.{above_solved}
 use Rattle.tsn_tests_tellers.specs.Solving.{IsTied, IsWalk}

@@ -9,7 +9,7 @@ use Rattle.tsn_node.specs.Outcome.{outcome_of}
 use Rattle.tsn_node.specs.declared.outcome.Look.{Look}
 use Rattle.tsn_node.specs.declared.outcome.Look.TheVariants.{Split}
 use Rattle.tsn_book.specs.Below.{events_below}
-use Rattle.tsn_share.specs.Teller.{IsSolvedBy}
+use Rattle.tsn_node.specs.Outcome.{IsSolvedBy}
 
 -- the outcome is tied
 abbrev pub IsTied : Outcome → Type 0

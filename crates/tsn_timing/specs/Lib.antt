@@ -1,3 +1,4 @@
+pub mod Arcs
 pub mod Judgement
 pub mod Tables
 pub mod Solution

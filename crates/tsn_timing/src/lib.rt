@@ -1,11 +1,13 @@
 //! When the frames of a problem's streams are where, and whether offsets are a no-wait schedule.
 #![tactic(auto)]
 
+pub mod arc;
 pub mod solved;
 mod tables;
 pub mod timing;
 pub mod valid;
 
+pub use arc::{ChainSum, arc_of};
 pub use solved::Solved;
 pub use timing::{Timing, Validity};
 pub use tsn_model::{NoMemory, Triple, Violation};

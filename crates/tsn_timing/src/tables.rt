@@ -1,5 +1,5 @@
 //! The numbers of each stream, worked out once.
-ghost use Rattle.std.specs.Prelude.{◌≡◌, ◌<◌, IfOk};
+ghost use Rattle.std.specs.Prelude.{◌<◌, IfOk};
 ghost use Rattle.tsn_model.specs.Network.{stream_count, hop_count};
 ghost use Rattle.tsn_timing.specs.Tables.{AreRight, IsHop, IsTable};
 

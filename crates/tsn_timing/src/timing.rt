@@ -1,4 +1,4 @@
-//! The timing of a problem, and the judgement of offsets.
+//! The timing of a network, and the judgement of offsets.
 ghost use Rattle.std.specs.Prelude.{◌≡◌, ◌+◌, ◌≤◌, ◌<◌, ◌↔◌, ℕ, IsTrue, length, All, IfOk, IfErr, MatchOption, min};
 
 use crate::tables::{StreamTable, tables_of};
@@ -8,7 +8,6 @@ use std::marker::Model;
 use tsn_model::bounds::{MAX_OCCUPANCY, MAX_SPAN, MAX_START};
 use tsn_model::plain::PlainNetwork;
 use tsn_model::{Link, NoMemory, Triple, Violation};
-use tsn_net::Problem;
 
 /// Whether offsets are a valid schedule.
 #[derive(Clone, Copy, PartialEq, Eq)]
@@ -19,8 +18,7 @@ pub enum Validity {
     Refused(Violation),
 }
 
-/// A network with the times of its streams, in nanoseconds: what a `Problem` says but for the names. Directed links and streams
-/// are numbered from 0, as in the problem. The readings of the network are those of `plain`, at hand here for callers that ask
+/// A network with the times of its streams, in nanoseconds. Directed links and streams are numbered from 0. The readings of the network are those of `plain`, at hand here for callers that ask
 /// for them often.
 #[derive(Drop)]
 pub struct Timing {
@@ -47,11 +45,11 @@ impl Timing {
     ghost use Rattle.tsn_model.specs.PlainWords.{IsOverlap};
     ghost use Rattle.tsn_timing.specs.Judgement.{Judges, IsFirstPastCycle, IsFirstEarly, IsFirstTooLate, HasNoOverlap, IsFirstOverlapOf, ArePairApart, IsLeastOverlap};
 
-    /// The timing of a problem, which it keeps a copy of. The error says that there was no memory.
-    pub fn of(alloc: Global, problem: &Problem) -> Result<Timing, NoMemory>
-        ensures { IfOk result (λ timing. timing ≡ problem.now.network) }
+    /// The timing of a network, which it keeps a copy of. The error says that there was no memory.
+    pub fn of(alloc: Global, network: &PlainNetwork) -> Result<Timing, NoMemory>
+        ensures { IfOk result (λ timing. timing ≡ network.now) }
     {
-        let network = PlainNetwork::copy(problem, alloc)?;
+        let network = network.copy(alloc)?;
         let tables = tables_of(alloc, &network)?;
         Ok(Timing { network, tables })
     }

@@ -6,7 +6,7 @@ use Rattle.tsn_run.specs.Run.{RunsOver, SinkRun}
 use Rattle.tsn_cli.specs.Explain.{MarkedChartAnswers}
 use Rattle.tsn_cli.specs.Tables.{ChartAnswers}
 use Rattle.tsn_wiring.specs.Options.{IsViewOf}
-use Rattle.tsn_wiring.specs.Runs.{OverCert, OverPlan, WithSome}
+use Rattle.tsn_given.specs.Runs.{OverCert, OverPlan, WithSome}
 
 -- with marks, where the words name a certificate
 abbrev pub RunsChart : {S : Type 0} → (S → Option (List ℕ)) → (S → ℕ) → (S → Bool) → (List ℕ → S → Type 0) → (List ℕ → S → Type 0) → (List ℕ → S → Type 0)

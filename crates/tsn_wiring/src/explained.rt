@@ -4,16 +4,16 @@ ghost use Rattle.tsn_run.specs.Run.{RunsOver, sink_over};
 ghost use Rattle.tsn_cli.specs.Explain.{ExplainAnswers, MarkedChartAnswers};
 ghost use Rattle.tsn_wiring.specs.Options.{IsViewOf};
 ghost use Rattle.tsn_wiring.specs.Charts.{RunsChart};
-ghost use Rattle.tsn_wiring.specs.Runs.{OverCert, LeavesSource, WithSome};
+ghost use Rattle.tsn_given.specs.Runs.{OverCert, LeavesSource, WithSome};
 
-use crate::devices::{Given, Made};
 use crate::judged::CertRun;
 use crate::options::view_of;
-use crate::reason::{cert_line, plan_line, source_line};
 use crate::tables::chart;
-use crate::told::{Ended, Ran, end_at};
 use std::alloc::Global;
 use tsn_cli::{explain_run, marked_chart_run};
+use tsn_given::reason::{cert_line, plan_line, source_line};
+use tsn_given::told::{Ended, Ran, end_at};
+use tsn_given::{Given, Made};
 use tsn_run::device::Sink;
 use tsn_words::{ChartWords, ExplainWords};
 

@@ -1,25 +1,18 @@
 //! The commands that judge: offsets, and certificates.
 ghost use Rattle.std.specs.Prelude.{◌≡◌, [], ◌∷◌};
 ghost use Rattle.tsn_run.specs.Run.{RunsOver, sink_over};
-ghost use Rattle.tsn_cli.specs.Valid.{JudgeAnswers, ValidAnswers};
+ghost use Rattle.tsn_cli.specs.Valid.{ValidAnswers};
 ghost use Rattle.tsn_run.specs.Check.{CheckAnswers};
-ghost use Rattle.tsn_wiring.specs.Runs.{OverCert, OverNetwork, RunsTold, LeavesSource};
+ghost use Rattle.tsn_given.specs.Runs.{OverCert, OverNetwork, RunsTold, LeavesSource};
 
-use crate::devices::{Given, Made};
-use crate::json::{end_as_json, line_keeper};
-use crate::reason::{cert_line, offsets_line, source_line};
-use crate::told::{Ended, Ran, end_at};
 use std::alloc::Global;
-use tsn_cli::{check_run, judge_run, valid_run};
+use tsn_cli::{check_run, valid_run};
+use tsn_given::json::{end_as_json, line_keeper};
+use tsn_given::reason::{cert_line, offsets_line, source_line};
+use tsn_given::told::{Ended, NetworkRun, Ran, end_at};
+use tsn_given::{Given, Made};
 use tsn_run::device::Sink;
 use tsn_words::{CheckWords, ValidWords};
-
-/// How a run over a network ended, and its source.
-#[derive(Drop)]
-pub struct NetworkRun<S> {
-    pub status: u8,
-    pub network: S,
-}
 
 /// How a run over a network, a plan and a certificate ended, and its sources.
 #[derive(Drop)]
@@ -88,22 +81,6 @@ pub fn valid_over<'a, G: Given<'a>, W: Sink>(
 {
     let mut network = given.network(words.network);
     let status = valid_run(alloc, &mut network, &words.offsets, sink);
-    NetworkRun { status, network }
-}
-
-/// Judges the network of a word alone, and writes why it is refused to a sink.
-pub fn judge_over<'a, G: Given<'a>, W: Sink>(
-    alloc: Global,
-    given: &G,
-    word: &'a str,
-    sink: &mut W,
-) -> NetworkRun<G::Source>
-    requires { W.failed sink.old ≡ 0 }
-    ensures { LeavesSource G.Source.given G.Source.failed G.Source.is_at_end (G.opens_network given.now word.entry.now) result.network
-        (λ network. RunsOver JudgeAnswers (network ∷ []) (sink_over W.taken W.failed sink.old sink.new ∷ []) result.status) }
-{
-    let mut network = given.network(word);
-    let status = judge_run(alloc, &mut network, sink);
     NetworkRun { status, network }
 }
 

@@ -3,14 +3,15 @@ ghost use Rattle.std.specs.Prelude.{◌≡◌, [], ◌∷◌};
 ghost use Rattle.tsn_run.specs.Run.{RunsOver, sink_over};
 ghost use Rattle.tsn_cli.specs.Tables.{ChartAnswers, GatesAnswers, ReplayAnswers, StreamsAnswers};
 ghost use Rattle.tsn_wiring.specs.Options.{gates_options, replay_options, IsViewOf};
-ghost use Rattle.tsn_wiring.specs.Runs.{OverPlan, LeavesSource, WithSome};
+ghost use Rattle.tsn_given.specs.Runs.{OverPlan, LeavesSource, WithSome};
 
-use crate::devices::{Given, Made};
 use crate::options::{gates_options, replay_options, view_of};
-use crate::reason::{plan_line, source_line, untaken, unused_line};
-use crate::told::{Ended, Ran, end_at, tell, tell_all};
+use crate::unshown::{untaken, unused_line};
 use std::alloc::Global;
 use tsn_cli::{chart_run, gates_run, replay_run, streams_run};
+use tsn_given::reason::{plan_line, source_line};
+use tsn_given::told::{Ended, Ran, end_at, tell, tell_all};
+use tsn_given::{Given, Made};
 use tsn_run::device::Sink;
 use tsn_words::{ChartWords, GatesWords, ReplayWords, StreamsWords};
 

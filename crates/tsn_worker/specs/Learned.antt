@@ -2,11 +2,11 @@
 --     IsLearned     what is shown of the network, or known of it
 use Rattle.std.specs.Prelude.{ℕ}
 use Rattle.tsn_model.specs.Network.{Network}
-use Rattle.tsn_worker.specs.declared.known.Known.{Known}
+use Rattle.tsn_answer.specs.declared.known.Known.{Known}
 use Rattle.tsn_worker.specs.declared.learned.Learned.{Learned}
 use Rattle.tsn_worker.specs.declared.learned.Learned.TheVariants.{Shown, Open}
-use Rattle.tsn_worker.specs.Known.{IsKnown, LosesNothing}
-use Rattle.tsn_worker.specs.Answer.{IsArgued}
+use Rattle.tsn_answer.specs.Known.{IsKnown, LosesNothing}
+use Rattle.tsn_answer.specs.Answer.{IsArgued}
 
 -- what is shown is so, by at most so many steps; where nothing is shown, nothing is lost of what was known before
 abbrev pub IsLearned : Network → ℕ → Known → Learned → Type 0

@@ -1,4 +1,1 @@
-pub mod Known
-pub mod Answer
 pub mod Learned
-pub mod Laws

@@ -2,12 +2,12 @@
 ghost use Rattle.std.specs.Prelude.{◌≡◌, ◌≤◌, true};
 ghost use Rattle.tsn_check.specs.Plans.{IsOptimalPlan, span_in};
 ghost use Rattle.tsn_setting.specs.Bound.{IsLowerBound};
-ghost use Rattle.tsn_worker.specs.Answer.{IsArgued};
-ghost use Rattle.tsn_worker.specs.Known.{IsKnown};
+ghost use Rattle.tsn_answer.specs.Answer.{IsArgued};
+ghost use Rattle.tsn_answer.specs.Known.{IsKnown};
 ghost use Rattle.tsn_worker.specs.Learned.{IsLearned};
 
-use crate::known::Known;
 use std::alloc::Global;
+use tsn_answer::Known;
 use tsn_argue::check_argument;
 use tsn_argument::Argument;
 use tsn_cert::{Offsets, Plan};

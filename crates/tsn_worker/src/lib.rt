@@ -2,19 +2,13 @@
 //! hands out the book, or the schedule with its certificate.
 #![tactic(auto)]
 
-pub mod answer;
-pub mod found;
-pub mod known;
-pub mod laws;
 mod learned;
 pub mod planning;
 
-pub use answer::Answer;
-pub use found::{Found, plan_of};
-pub use known::Known;
-pub use planning::{
-    Effort, FILE_ORDER_LIMIT, MAX_LIMIT, MAX_WORKERS, plan, plan_by, plan_over, search_by,
+pub use planning::{plan, plan_by, plan_over, search_by};
+pub use tsn_answer::{
+    Answer, Effort, FILE_ORDER_LIMIT, Found, Known, MAX_LIMIT, MAX_WORKERS, Method, plan_of,
 };
-pub use tsn_options::Method;
-pub use tsn_search::{Bag, DequeBag};
+pub use tsn_search::DequeBag;
 pub use tsn_setting::{LearnedNews, News, NoSupervisor, Phase, Supervisor};
+pub use tsn_walk::Bag;

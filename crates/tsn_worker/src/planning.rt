@@ -1,50 +1,29 @@
 //! Plans a network.
-ghost use Rattle.std.specs.Prelude.{◌≡◌, ◌≤◌, ◌<◌, ◌⊎◌, [], length, IfOk};
-ghost use Rattle.tsn_model.specs.Network.{IsWellFormed};
-ghost use Rattle.tsn_model.specs.Search.{open_paths};
-ghost use Rattle.tsn_worker.specs.Answer.{IsAnswer, IsAnswerBy, IsFound, IsFoundBy, HasNoArgument, KeepsFound, KeepsKept, KeepsKnown};
-ghost use Rattle.tsn_worker.specs.Known.{IsKnown};
-ghost use Rattle.tsn_search.specs.Search.{IsSearchBy, IsSearchOf};
+ghost use Rattle.std.specs.Prelude.{◌≡◌, ◌≤◌, ◌<◌, length, IfOk};
+ghost use Rattle.tsn_answer.specs.Answer.{IsAnswer, IsAnswerBy, IsFound, IsFoundBy, HasNoArgument, KeepsFound, KeepsKept, KeepsKnown};
+ghost use Rattle.tsn_answer.specs.Known.{IsKnown};
+ghost use Rattle.tsn_walk.specs.Search.{IsSearchBy};
 
-use crate::answer::Answer;
-use crate::found::Found;
-use crate::known::Known;
 use crate::learned::{Learned, Question, find_by_learning};
 use std::alloc::Global;
 use std::marker::Brand;
 use std::sync::Wait;
 use std::thread::Threads;
+use tsn_answer::{Answer, Effort, FILE_ORDER_LIMIT, Found, Known, MAX_LIMIT, MAX_WORKERS};
 use tsn_book::Book;
 use tsn_model::NoMemory;
 use tsn_net::Problem;
 use tsn_options::Method;
-use tsn_search::search::settle_open;
+use tsn_search::DequeBag;
 use tsn_search::threads::search;
-use tsn_search::{Bag, DequeBag};
 use tsn_setting::{Phase, Prepared, Setting, Supervisor, lower_bound};
 use tsn_share::Parts;
-use tsn_timing::Timing;
-
-/// The most nodes that a run may settle.
-pub const MAX_LIMIT: usize = 1_000_000_000;
-
-/// The most workers that a run may have.
-pub const MAX_WORKERS: usize = 16;
-
-/// How many nodes are settled in the order of the file, at most, before a search by itself turns to the one that learns.
-pub const FILE_ORDER_LIMIT: usize = 100_000;
+use tsn_walk::Bag;
+use tsn_walk::search::settle_open;
 
 /// From this limit on one worker goes on in the book that is there, where the search that learns gave up. Below it too few nodes may
 /// be left for the way along the best schedule that is known.
 const GOES_ON_FROM: usize = 2 * FILE_ORDER_LIMIT;
-
-/// How much is to be done: by 1 to 16 workers, with at most so many nodes settled, 1 to 1,000,000,000.
-#[derive(Clone, Copy)]
-pub struct Effort {
-    pub method: Method,
-    pub workers: usize,
-    pub limit: usize,
-}
 
 /// The schedule of least flowspan for the problem that is first in list order, or that there is none, each with a
 /// certificate that shows it; or, where `limit` nodes (1 to 1,000,000,000) were settled and one is still open, the book with the best schedule so far, if any.
@@ -284,7 +263,7 @@ fn search_auto_alone<S: Supervisor>(
     let book = Book::new(setting.alloc, timing, 1, limit)?;
     let book = settle_open(setting, 0, FILE_ORDER_LIMIT, None, book)?;
     if book.open_count() == 0 {
-        return conclude(timing, known, limit, book);
+        return Found::of(timing, known, limit, book);
     }
     search_after(problem, setting, known, limit, book)
 }
@@ -453,7 +432,7 @@ fn search_over<R: Threads + Wait + Sync, S: Supervisor + Sync, B: Bag + Send>(
     let parts = Parts::new(setting.alloc, timing, workers + 1, limit)?;
     let book = search::<Brand, R, S, B>(rt, setting, bags, parts, known.offsets())?;
     let book = settle_open(setting, workers, limit, None, book)?;
-    conclude(timing, known, limit, book)
+    Found::of(timing, known, limit, book)
 }
 
 // What the caller finds alone.
@@ -488,28 +467,5 @@ fn search_from<S: Supervisor>(
     ensures book { IfOk result HasNoArgument }
 {
     let book = settle_open(setting, 0, limit, known.offsets(), book)?;
-    conclude(setting.tables.timing, known, limit, book)
-}
-
-// What is found in the book of a search that left nothing open, or met its limit, where this was known before.
-fn conclude(timing: &Timing, known: Known, limit: usize, book: Book) -> Result<Found, NoMemory>
-    requires formed { IsWellFormed timing.now }
-    requires search { IsSearchOf timing.now limit book }
-    requires done { (open_paths book.history ≡ []) ⊎ (limit ≤ length book.history) }
-    requires known { IsKnown timing.now known }
-    ensures found { IfOk result (IsFound timing.now limit) }
-    ensures kept { IfOk result (KeepsKnown known) }
-    ensures book { IfOk result HasNoArgument }
-{
-    if book.open_count() == 0 {
-        drop(known);
-        return Ok(Found::Finished(book));
-    }
-    match known.with_kept(&book) {
-        Ok(known) => Ok(Found::Stopped(book, known)),
-        Err(fault) => {
-            drop(book);
-            Err(fault)
-        }
-    }
+    Found::of(setting.tables.timing, known, limit, book)
 }

@@ -40,7 +40,7 @@ fn faults_of_the_check_have_numbers(rt: HostRuntime) {
 /// The network of the two streams.
 fn two_streams(alloc: Global) -> Result<Timing, Fail> {
     let problem = read_problem(alloc, TWO_STREAMS.as_bytes())?;
-    let timing = Timing::of(alloc, &problem);
+    let timing = problem.timing(alloc);
     drop(problem);
     Ok(timing?)
 }

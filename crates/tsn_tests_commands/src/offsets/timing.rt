@@ -86,7 +86,7 @@ const TIMED_FAST: Parts = [CYCLE, NODES, CABLES, TIMED];
 const ROUND: Parts = [LOOP, "", "", ""];
 
 fn timing_by(alloc: Global, problem: &Problem) -> Result<Timing, NoMemory> {
-    Timing::of(alloc, problem)
+    problem.timing(alloc)
 }
 
 /// The timing of the network in these parts.

@@ -12,7 +12,7 @@ use std::test::Fail;
 use tsn_gate::{GateEntry, GateList, gate_lists};
 use tsn_net::Problem;
 use tsn_replay::{Background, BackgroundFrame, Sent, Trace, replay};
-use tsn_timing::{Timing, Valid};
+use tsn_timing::Valid;
 
 /// The parts of a network's file, with the offsets of its streams and the lists of its gates.
 #[derive(Clone, Copy)]
@@ -61,7 +61,7 @@ pub fn whole(cycles: usize, background: &str) -> Play<'_> {
 fn valid_of(alloc: Global, problem: &Problem, offsets: &[u64]) -> Option<Valid>
     ensures { IfSome result (λ valid. IsValid problem.now.network valid) }
 {
-    let timing = Timing::of(alloc, problem).ok()?;
+    let timing = problem.timing(alloc).ok()?;
     timing.valid(Vec::from_slice(alloc, offsets).ok()?).ok()
 }
 

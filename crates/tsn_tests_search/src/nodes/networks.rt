@@ -27,7 +27,7 @@ fn file_of<R: Abort + AllocGlobal>(rt: &R, network: Network, cycle: &str) -> Str
 
 pub fn timing_of<R: Abort + AllocGlobal>(rt: &R, network: Network, cycle: &str) -> Timing {
     let problem = problem_of(rt, network, cycle);
-    let timing = Timing::of(rt.alloc(), &problem).expect(rt, "memory");
+    let timing = problem.timing(rt.alloc()).expect(rt, "memory");
     drop(problem);
     timing
 }

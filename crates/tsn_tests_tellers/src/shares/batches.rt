@@ -9,7 +9,8 @@ ghost use Rattle.tsn_search_laws.specs.Gathering.{tally_with};
 ghost use Rattle.tsn_node.specs.declared.outcome.Look.TheVariants.{Split};
 ghost use Rattle.tsn_node.specs.Outcome.{outcome_of};
 ghost use Rattle.tsn_node.specs.Right.{HasProof, SplitsUndecided};
-ghost use Rattle.tsn_share.specs.Teller.{IsEven, IsSolvedBy};
+ghost use Rattle.tsn_share.specs.Teller.{IsEven};
+ghost use Rattle.tsn_node.specs.Outcome.{IsSolvedBy};
 ghost use Rattle.tsn_tests_tellers.specs.Solving.{the_conflict, IsWalk};
 
 use crate::shares::networks::two_streams;

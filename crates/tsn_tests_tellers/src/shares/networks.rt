@@ -16,7 +16,7 @@ fn problem<R: Abort + AllocGlobal>(rt: &R) -> Problem {
 
 pub fn two_streams<R: Abort + AllocGlobal>(rt: &R) -> Timing {
     let problem = problem(rt);
-    let timing = Timing::of(rt.alloc(), &problem).expect(rt, "memory");
+    let timing = problem.timing(rt.alloc()).expect(rt, "memory");
     drop(problem);
     timing
 }

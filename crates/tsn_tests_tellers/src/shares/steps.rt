@@ -5,7 +5,8 @@ ghost use Rattle.tsn_timing.specs.Solution.{IsSolved};
 ghost use Rattle.tsn_node.specs.Outcome.{outcome_of};
 ghost use Rattle.tsn_node.specs.Right.{HasProof, SplitsUndecided};
 ghost use Rattle.tsn_branch.specs.Look.{IsLook};
-ghost use Rattle.tsn_share.specs.Teller.{IsEven, IsSolvedBy, fresh_teller};
+ghost use Rattle.tsn_share.specs.Teller.{IsEven, fresh_teller};
+ghost use Rattle.tsn_node.specs.Outcome.{IsSolvedBy};
 ghost use Rattle.tsn_tests_tellers.specs.Solving.{IsTied, the_conflict};
 
 use std::alloc::Global;

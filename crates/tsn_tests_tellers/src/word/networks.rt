@@ -12,7 +12,7 @@ pub fn two_streams(alloc: Global) -> Result<Timing, Fail> {
     let problem = read_problem(alloc, TWO_STREAMS.as_bytes()).map_err(
         |_| "the network is refused",
     )?;
-    Ok(Timing::of(alloc, &problem)?)
+    Ok(problem.timing(alloc)?)
 }
 
 /// A schedule, which has to be valid, with its flowspan.

@@ -1,4 +1,4 @@
-use Rattle.tsn_cert_json.proofs.CertLemmas.{back}
+use Rattle.tsn_values.proofs.JsonLemmas.{back}
 use Rattle.tsn_argument.proofs.Parts.{orders_back}
 use Rattle.tsn_argument_json.proofs.print.orders_value.Goals as goal
 

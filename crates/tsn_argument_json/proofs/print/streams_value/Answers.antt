@@ -1,4 +1,4 @@
-use Rattle.tsn_cert_json.proofs.CertLemmas.{back}
+use Rattle.tsn_values.proofs.JsonLemmas.{back}
 use Rattle.tsn_argument.proofs.Parts.{streams_back}
 use Rattle.tsn_argument_json.proofs.print.streams_value.Goals as goal
 

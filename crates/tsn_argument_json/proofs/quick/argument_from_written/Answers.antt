@@ -2,7 +2,7 @@ use Rattle.std.proofs.Common.{◌≡◌, ℕ, List, Some, Result, Ok, Err, IfOk,
 use Rattle.std.specs.Str.{IsUtf8}
 use Rattle.serde_json.specs.Read.{read}
 use Rattle.tsn_cert.specs.Json.{value_of}
-use Rattle.tsn_cert_json.specs.declared.tokens.Unread.{Unread}
+use Rattle.tsn_values.specs.declared.tokens.Unread.{Unread}
 use Rattle.tsn_cert.proofs.JsonLemmas.{value_of-read}
 use Rattle.tsn_argument.specs.Argument.{argument_value}
 use Rattle.tsn_argument.specs.declared.argument.Argument.{Argument}

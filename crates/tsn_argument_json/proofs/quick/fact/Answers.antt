@@ -1,6 +1,6 @@
 use Rattle.std.proofs.Common.{◌∷◌, ap, ◌∙◌}
 use Rattle.json.specs.Token.{begin_array}
-use Rattle.tsn_cert_json.proofs.SpelledLemmas.{spelled-shorter, spelled_at}
+use Rattle.tsn_values.proofs.SpelledLemmas.{spelled-shorter, spelled_at}
 use Rattle.tsn_argument_json.proofs.quick.fact.Goals as goal
 
 pub returns-clause-text : goal.returns-clause-text

@@ -1,7 +1,7 @@
 use Rattle.std.proofs.Common.{◌∷◌, codes, sym, ap, ◌∙◌}
 use Rattle.std.proofs.lemmas.Slice.Eq.{bytes_eq-Decides}
 use Rattle.json.specs.Token as token
-use Rattle.tsn_cert_json.proofs.SpelledLemmas.{spelled_at, string_spelled}
+use Rattle.tsn_values.proofs.SpelledLemmas.{spelled_at, string_spelled}
 use Rattle.tsn_argument_json.proofs.quick.goal.Goals as goal
 
 pub returns-then-eq : goal.returns-then-eq

@@ -1,4 +1,4 @@
-use Rattle.tsn_cert_json.proofs.SpelledLemmas.{spelled-shorter, array_opened}
+use Rattle.tsn_values.proofs.SpelledLemmas.{spelled-shorter, array_opened}
 use Rattle.tsn_argument.specs.Argument.{order_items}
 use Rattle.tsn_argument_json.proofs.quick.listed_order.Goals as goal
 

@@ -1,5 +1,5 @@
 use Rattle.std.proofs.Common.{suc, [], ◌∷◌, refl}
-use Rattle.tsn_cert_json.proofs.SpelledLemmas.{spelled-shorter, array_opened}
+use Rattle.tsn_values.proofs.SpelledLemmas.{spelled-shorter, array_opened}
 use Rattle.tsn_argument.specs.Argument.{clause_value, moves_value}
 use Rattle.tsn_argument.proofs.Parts.{step_back}
 use Rattle.tsn_argument_json.proofs.quick.step.Goals as goal

@@ -2,7 +2,7 @@ use Rattle.std.proofs.Common.{◌≡◌, suc, map, Some, refl, sym, subst, arith
 use Rattle.json.specs.Json.{after_end_array}
 use Rattle.tsn_cert.specs.Json.{each}
 use Rattle.tsn_cert.specs.Spelled.{SpellsEach}
-use Rattle.tsn_cert_json.proofs.SpelledLemmas.{array_spelled, more_spelled, more_read, list_back}
+use Rattle.tsn_values.proofs.SpelledLemmas.{array_spelled, more_spelled, more_read, list_back}
 use Rattle.tsn_argument.specs.Argument.{step_in, step_value}
 use Rattle.tsn_argument_json.proofs.quick.step_list.Goals as goal
 

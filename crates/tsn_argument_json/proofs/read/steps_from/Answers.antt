@@ -1,6 +1,6 @@
 use Rattle.std.proofs.lemmas.Result.{err_from_is_err_and}
 use Rattle.serde_json.specs.View.{view}
-use Rattle.tsn_cert_json.proofs.JsonLemmas.{each_start, each_read, each_fault, each_done}
+use Rattle.tsn_values.proofs.JsonLemmas.{each_start, each_read, each_fault, each_done}
 use Rattle.tsn_argument.specs.Argument.{step_in}
 use Rattle.tsn_argument_json.proofs.read.steps_from.Goals as goal
 

@@ -1,7 +1,7 @@
 use Rattle.std.proofs.Common.{◌≡◌, drop, map}
 use Rattle.serde_json.specs.View.{view}
 use Rattle.tsn_cert.specs.Json.{each}
-use Rattle.tsn_cert_json.proofs.JsonLemmas.{prefixed}
+use Rattle.tsn_values.proofs.JsonLemmas.{prefixed}
 use Rattle.tsn_argument.specs.Argument.{step_in, steps_in}
 use Rattle.tsn_argument_json.proofs.read.steps_from.Given as goal
 

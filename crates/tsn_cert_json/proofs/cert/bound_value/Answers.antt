@@ -2,7 +2,8 @@ use Rattle.std.proofs.Common.{codes, [], ◌∷◌}
 use Rattle.serde_json.specs.Data.{string}
 use Rattle.serde_json.specs.View.{view}
 use Rattle.tsn_cert.specs.Json.{number_value, array_value}
-use Rattle.tsn_cert_json.proofs.CertLemmas.{made_of, back, back_of, late_back, load_back}
+use Rattle.tsn_cert_json.proofs.CertLemmas.{made_of, back_of, late_back, load_back}
+use Rattle.tsn_values.proofs.JsonLemmas.{back}
 use Rattle.tsn_cert_json.proofs.cert.bound_value.Goals as goal
 
 pub returns-in-Late-clause-value : goal.returns-in-Late-clause-value

@@ -4,7 +4,7 @@ use Rattle.std.proofs.lemmas.Result.{err_from_is_err_and}
 use Rattle.serde_json.specs.View.{view}
 use Rattle.tsn_cert.specs.Entry.{tree_entry}
 use Rattle.tsn_cert.specs.Cert.{entry_of}
-use Rattle.tsn_cert_json.proofs.JsonLemmas.{each_start, each_read, each_fault, each_done}
+use Rattle.tsn_values.proofs.JsonLemmas.{each_start, each_read, each_fault, each_done}
 use Rattle.tsn_cert_json.proofs.cert.entry_list_from.Goals as goal
 
 pub returns : goal.returns

@@ -2,7 +2,8 @@ use Rattle.std.proofs.Common.{codes, [], ◌∷◌}
 use Rattle.serde_json.specs.Data.{string}
 use Rattle.serde_json.specs.View.{view}
 use Rattle.tsn_cert.specs.Json.{number_value, array_value}
-use Rattle.tsn_cert_json.proofs.CertLemmas.{made_of, back, back_of, overrun_back, cycle_back, overload_back}
+use Rattle.tsn_cert_json.proofs.CertLemmas.{made_of, back_of, overrun_back, cycle_back, overload_back}
+use Rattle.tsn_values.proofs.JsonLemmas.{back}
 use Rattle.tsn_cert_json.proofs.cert.leaf_value.Goals as goal
 
 pub returns-in-Overrun-clause-value : goal.returns-in-Overrun-clause-value

@@ -4,7 +4,7 @@ use Rattle.std.proofs.lemmas.Result.{err_from_is_err_and}
 use Rattle.serde_json.specs.View.{view}
 use Rattle.tsn_cert.specs.Node.{tree_node}
 use Rattle.tsn_cert.specs.Cert.{node_of}
-use Rattle.tsn_cert_json.proofs.JsonLemmas.{each_start, each_read, each_fault, each_done}
+use Rattle.tsn_values.proofs.JsonLemmas.{each_start, each_read, each_fault, each_done}
 use Rattle.tsn_cert_json.proofs.cert.nodes_from.Goals as goal
 
 pub returns : goal.returns

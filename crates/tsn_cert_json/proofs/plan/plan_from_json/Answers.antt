@@ -1,7 +1,7 @@
 use Rattle.std.proofs.lemmas.Result.{err_from_is_err_and}
 use Rattle.tsn_cert.specs.Json.{value_of}
 use Rattle.tsn_cert.specs.Plan.{plan_of, plan_fits}
-use Rattle.tsn_cert_json.proofs.JsonLemmas.{answer_ok, answer_large, answer_fault}
+use Rattle.tsn_values.proofs.JsonLemmas.{answer_ok, answer_large, answer_fault}
 use Rattle.tsn_cert_json.proofs.plan.plan_from_json.Goals as goal
 
 pub returns-then-fits : goal.returns-then-fits

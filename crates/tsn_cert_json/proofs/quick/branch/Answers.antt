@@ -1,6 +1,6 @@
 use Rattle.std.proofs.Common.{suc, [], ◌∷◌, refl}
 use Rattle.tsn_cert.specs.Json.{number_value}
-use Rattle.tsn_cert_json.proofs.SpelledLemmas.{node_spelled}
+use Rattle.tsn_values.proofs.SpelledLemmas.{node_spelled}
 use Rattle.tsn_cert_json.proofs.quick.branch.Goals as goal
 
 pub returns-clause-text : goal.returns-clause-text

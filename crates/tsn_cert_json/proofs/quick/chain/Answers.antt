@@ -1,5 +1,5 @@
 use Rattle.std.proofs.Common.{◌≡◌, arith}
-use Rattle.tsn_cert_json.proofs.SpelledLemmas.{spelled-shorter, spelled_at}
+use Rattle.tsn_values.proofs.SpelledLemmas.{spelled-shorter, spelled_at}
 use Rattle.tsn_cert_json.proofs.quick.chain.Goals as goal
 
 pub returns-clause-text : goal.returns-clause-text

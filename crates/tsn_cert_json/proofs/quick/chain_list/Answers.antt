@@ -4,7 +4,7 @@ use Rattle.tsn_cert.specs.Json.{each}
 use Rattle.tsn_cert.specs.Cert.{chain_of, chain_value}
 use Rattle.tsn_cert.specs.Spelled.{SpellsEach}
 use Rattle.tsn_cert_json.proofs.CertLemmas.{chain_back}
-use Rattle.tsn_cert_json.proofs.SpelledLemmas.{array_spelled, more_spelled, more_read, list_back}
+use Rattle.tsn_values.proofs.SpelledLemmas.{array_spelled, more_spelled, more_read, list_back}
 use Rattle.tsn_cert_json.proofs.quick.chain_list.Goals as goal
 
 pub chains-init : goal.chains-init

@@ -1,7 +1,7 @@
 use Rattle.std.proofs.Common.{suc, [], ◌∷◌, refl}
 use Rattle.tsn_cert.specs.Cert.{chain_value}
 use Rattle.tsn_cert_json.proofs.CertLemmas.{cycle_back}
-use Rattle.tsn_cert_json.proofs.SpelledLemmas.{node_spelled}
+use Rattle.tsn_values.proofs.SpelledLemmas.{node_spelled}
 use Rattle.tsn_cert_json.proofs.quick.cycle_node.Goals as goal
 
 pub returns-clause-text : goal.returns-clause-text

@@ -1,4 +1,4 @@
-use Rattle.tsn_cert_json.proofs.SpelledLemmas.{spelled_at}
+use Rattle.tsn_values.proofs.SpelledLemmas.{spelled_at}
 use Rattle.tsn_cert_json.proofs.quick.entries.Goals as goal
 
 pub returns-clause-text : goal.returns-clause-text

@@ -3,7 +3,7 @@ use Rattle.tsn_cert.specs.Json.{number_value}
 use Rattle.tsn_cert.specs.Entry.{tree_entry}
 use Rattle.tsn_cert.specs.Cert.{chain_value}
 use Rattle.tsn_cert_json.proofs.CertLemmas.{entry_back}
-use Rattle.tsn_cert_json.proofs.SpelledLemmas.{spelled-shorter, array_opened}
+use Rattle.tsn_values.proofs.SpelledLemmas.{spelled-shorter, array_opened}
 use Rattle.tsn_cert_json.proofs.quick.entry.Goals as goal
 
 pub returns-clause-text : goal.returns-clause-text

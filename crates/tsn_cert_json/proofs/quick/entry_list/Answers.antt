@@ -4,7 +4,7 @@ use Rattle.tsn_cert.specs.Json.{each}
 use Rattle.tsn_cert.specs.Entry.{tree_entry}
 use Rattle.tsn_cert.specs.Cert.{entry_of, entry_value}
 use Rattle.tsn_cert.specs.Spelled.{SpellsEach}
-use Rattle.tsn_cert_json.proofs.SpelledLemmas.{array_spelled, more_seen_spelled, more_seen_read, list_back}
+use Rattle.tsn_values.proofs.SpelledLemmas.{array_spelled, more_seen_spelled, more_seen_read, list_back}
 use Rattle.tsn_cert_json.proofs.quick.entry_list.Goals as goal
 
 pub entries-init : goal.entries-init

@@ -2,7 +2,7 @@ use Rattle.std.proofs.Common.{[], ◌∷◌}
 use Rattle.tsn_cert.specs.Json.{number_value}
 use Rattle.tsn_cert.specs.Cert.{entries_value}
 use Rattle.tsn_cert_json.proofs.CertLemmas.{load_back}
-use Rattle.tsn_cert_json.proofs.SpelledLemmas.{node_spelled}
+use Rattle.tsn_values.proofs.SpelledLemmas.{node_spelled}
 use Rattle.tsn_cert_json.proofs.quick.load_node.Goals as goal
 
 pub returns-clause-text : goal.returns-clause-text

@@ -1,5 +1,5 @@
 use Rattle.std.proofs.Common.{suc}
-use Rattle.tsn_cert_json.proofs.SpelledLemmas.{object_spelled}
+use Rattle.tsn_values.proofs.SpelledLemmas.{object_spelled}
 use Rattle.tsn_cert_json.proofs.quick.members.Goals as goal
 
 pub returns-clause-text : goal.returns-clause-text

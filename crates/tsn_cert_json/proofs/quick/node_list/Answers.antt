@@ -4,7 +4,7 @@ use Rattle.tsn_cert.specs.Json.{each}
 use Rattle.tsn_cert.specs.Node.{tree_node}
 use Rattle.tsn_cert.specs.Cert.{node_of, node_value}
 use Rattle.tsn_cert.specs.Spelled.{SpellsEach}
-use Rattle.tsn_cert_json.proofs.SpelledLemmas.{array_spelled, more_seen_spelled, more_seen_read, list_back}
+use Rattle.tsn_values.proofs.SpelledLemmas.{array_spelled, more_seen_spelled, more_seen_read, list_back}
 use Rattle.tsn_cert_json.proofs.quick.node_list.Goals as goal
 
 pub nodes-init : goal.nodes-init

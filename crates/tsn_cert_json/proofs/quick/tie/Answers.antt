@@ -2,7 +2,7 @@ use Rattle.std.proofs.Common.{suc, [], ◌∷◌}
 use Rattle.tsn_cert.specs.Json.{number_value}
 use Rattle.tsn_cert.specs.Cert.{chain_value, chains_value}
 use Rattle.tsn_cert_json.proofs.CertLemmas.{tie_back}
-use Rattle.tsn_cert_json.proofs.SpelledLemmas.{each_spelled-more, node_spelled}
+use Rattle.tsn_values.proofs.SpelledLemmas.{each_spelled-more, node_spelled}
 use Rattle.tsn_cert_json.proofs.quick.tie.Goals as goal
 
 pub returns-clause-text : goal.returns-clause-text

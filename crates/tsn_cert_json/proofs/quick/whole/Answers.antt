@@ -2,7 +2,7 @@ use Rattle.std.proofs.Common.{rules, ◌≡◌, [], sym, subst}
 use Rattle.json.specs.Lex.{tokens}
 use Rattle.tsn_cert.specs.Cert.{cert_value}
 use Rattle.tsn_cert.specs.Spelled.{Spells}
-use Rattle.tsn_cert_json.proofs.SpelledLemmas.{text_spelled, spelled_at}
+use Rattle.tsn_values.proofs.SpelledLemmas.{text_spelled, spelled_at}
 use Rattle.tsn_cert_json.proofs.quick.whole.Goals as goal
 
 pub returns-clause-text : goal.returns-clause-text

@@ -1,4 +1,4 @@
-use Rattle.tsn_wiring.proofs.RunsLemmas.{leaves_over}
+use Rattle.tsn_given.proofs.RunsLemmas.{leaves_over}
 use Rattle.tsn_command.proofs.planning.plan_told.Goals as goal
 
 pub returns-then-not-words : goal.returns-then-not-words

@@ -1,5 +1,5 @@
 use Rattle.tsn_run.specs.Run.{reading_of}
-use Rattle.tsn_planner.proofs.PlanLemmas.{took_stop}
+use Rattle.tsn_plan_output.proofs.PlanLemmas.{took_stop}
 use Rattle.tsn_planner.proofs.plan.found.Goals as goal
 
 pub returns-in-Ok-clause-stops : goal.returns-in-Ok-clause-stops

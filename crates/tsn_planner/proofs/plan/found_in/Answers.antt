@@ -1,4 +1,4 @@
-use Rattle.tsn_planner.proofs.PlanLemmas.{stops_found, told_found}
+use Rattle.tsn_plan_output.proofs.PlanLemmas.{stops_found, told_found}
 use Rattle.tsn_planner.proofs.plan.found_in.Goals as goal
 
 pub output_for-requires : goal.output_for-requires

@@ -1,10 +1,10 @@
 use Rattle.std.proofs.Common.{rules, ◌≡◌, inl, IsTrue, List, [], ◌∷◌, is_some, ap, sym, ◌∙◌, subst, arith}
 use Rattle.std.proofs.lemmas.List.Elements.{All-nil}
 use Rattle.tsn_run.specs.Run.{IsOutput, IsUnread, Reading, SourceRun, reading_of, readings_of, source_over}
-use Rattle.tsn_planner.specs.Plan.{PlanAnswers, PlanStops}
-use Rattle.tsn_planner.specs.PlanOutput.{IsPrinted}
+use Rattle.tsn_plan_output.specs.Plan.{PlanAnswers, PlanStops}
+use Rattle.tsn_plan_output.specs.PlanOutput.{IsPrinted}
 use Rattle.tsn_run.proofs.RunLemmas.{runs_over}
-use Rattle.tsn_planner.proofs.PlanLemmas.{plan_shown, stop_answered, stop_printed}
+use Rattle.tsn_plan_output.proofs.PlanLemmas.{plan_shown, stop_answered, stop_printed}
 use Rattle.tsn_run.proofs.RunLemmas.{runs_along, some_of}
 use Rattle.tsn_planner.proofs.plan.plan_run.Goals as goal
 

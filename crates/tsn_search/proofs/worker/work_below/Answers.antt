@@ -1,5 +1,5 @@
 use Rattle.std.proofs.Common.{sym, ◌∙◌, subst}
-use Rattle.tsn_search.specs.Below.{StandsAt}
+use Rattle.tsn_walk.specs.Below.{StandsAt}
 use Rattle.tsn_search.proofs.worker.work_below.Goals as goal
 
 pub loop-preserved : goal.loop-preserved
@@ -11,5 +11,5 @@ loop-preserved g c =
       even = c.settle_next.ensures.even;
       number = c.settle_next.ensures.number ∙ c.loop.invariant.number;
       below = subst (λ way. StandsAt network triples c.share_if_awaited.new.below.from way) (sym same.0)
-          (subst (λ path. StandsAt network triples path c.settle_next.new.self.descent) (sym same.1) (c.in-GoesOn.ensures.below tt));
+          (subst (λ path. StandsAt network triples path c.settle_next.new.below.descent) (sym same.1) (c.in-GoesOn.ensures.below tt));
     }

@@ -1,4 +1,4 @@
-use Rattle.tsn_wiring.proofs.RunsLemmas.{over_along, told_in_json}
+use Rattle.tsn_given.proofs.RunsLemmas.{over_along, told_in_json}
 use Rattle.tsn_wiring.proofs.judged.valid.Goals as goal
 
 pub returns-then-words : goal.returns-then-words

@@ -1,4 +1,4 @@
-use Rattle.tsn_wiring.proofs.RunsLemmas.{leaves_over}
+use Rattle.tsn_given.proofs.RunsLemmas.{leaves_over}
 use Rattle.tsn_wiring.proofs.tables.replay.Goals as goal
 
 pub returns : goal.returns

@@ -1,6 +1,6 @@
 use Rattle.std.proofs.Common.{sym, subst}
-use Rattle.tsn_worker.specs.Known.{IsKnown}
-use Rattle.tsn_worker.proofs.KnownLemmas.{LosesNothing-through}
+use Rattle.tsn_answer.specs.Known.{IsKnown}
+use Rattle.tsn_answer.proofs.KnownLemmas.{LosesNothing-through}
 use Rattle.tsn_worker.proofs.learned.given_up.Goals as goal
 
 pub with_plan-requires : goal.with_plan-requires

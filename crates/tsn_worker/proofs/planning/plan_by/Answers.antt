@@ -1,5 +1,5 @@
 use Rattle.std.proofs.lemmas.Result.{IfOk-weaker}
-use Rattle.tsn_worker.proofs.Deciding.{none_open}
+use Rattle.tsn_answer.proofs.Deciding.{none_open}
 use Rattle.tsn_worker.proofs.planning.plan_by.Goals as goal
 
 pub into_answer-requires : goal.into_answer-requires

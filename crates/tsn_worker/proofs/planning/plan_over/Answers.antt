@@ -1,7 +1,7 @@
 use Rattle.std.proofs.Common.{◌∙◌, subst}
 use Rattle.std.proofs.lemmas.Result.{IfOk-weaker}
-use Rattle.tsn_worker.specs.Answer.{IsAnswer}
-use Rattle.tsn_worker.proofs.Deciding.{none_open}
+use Rattle.tsn_answer.specs.Answer.{IsAnswer}
+use Rattle.tsn_answer.proofs.Deciding.{none_open}
 use Rattle.tsn_worker.proofs.planning.plan_over.Goals as goal
 
 pub into_answer-requires : goal.into_answer-requires

@@ -1,7 +1,7 @@
 use Rattle.std.proofs.Common.{sym, subst, ◌∙◌}
 use Rattle.std.proofs.lemmas.Result.{IfOk-weaker}
-use Rattle.tsn_worker.specs.Known.{HoldsKept, IsKnown}
-use Rattle.tsn_worker.proofs.KnownLemmas.{HoldsKept-through, KeepsKept-through, KeepsKnown-through, LosesNothing-through}
+use Rattle.tsn_answer.specs.Known.{HoldsKept, IsKnown}
+use Rattle.tsn_answer.proofs.KnownLemmas.{HoldsKept-through, KeepsKept-through, KeepsKnown-through, LosesNothing-through}
 use Rattle.tsn_worker.proofs.planning.search_after.Goals as goal
 
 pub with_kept-requires : goal.with_kept-requires

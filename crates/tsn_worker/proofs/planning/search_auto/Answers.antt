@@ -1,5 +1,5 @@
 use Rattle.std.proofs.lemmas.Result.{IfOk-weaker}
-use Rattle.tsn_worker.proofs.KnownLemmas.{KeepsFound-through}
+use Rattle.tsn_answer.proofs.KnownLemmas.{KeepsFound-through}
 use Rattle.tsn_worker.proofs.planning.search_auto.Goals as goal
 
 pub returns-clause-kept : goal.returns-clause-kept

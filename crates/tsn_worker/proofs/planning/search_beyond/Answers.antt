@@ -1,6 +1,6 @@
 use Rattle.std.proofs.Common.{IfOk, sym, subst, arith}
-use Rattle.tsn_worker.specs.Answer.{IsFound, KeepsFound}
-use Rattle.tsn_worker.proofs.Deciding.{argued_within, finished_within}
+use Rattle.tsn_answer.specs.Answer.{IsFound, KeepsFound}
+use Rattle.tsn_answer.proofs.Deciding.{argued_within, finished_within}
 use Rattle.tsn_worker.proofs.planning.search_beyond.Goals as goal
 
 pub search_learning-requires-clause-known : goal.search_learning-requires-clause-known

@@ -1,7 +1,7 @@
 use Rattle.std.proofs.Common.{sym, subst}
 use Rattle.std.proofs.lemmas.Result.{IfOk-weaker}
-use Rattle.tsn_worker.specs.Known.{IsKnown}
-use Rattle.tsn_worker.proofs.KnownLemmas.{KeepsKnown-through}
+use Rattle.tsn_answer.specs.Known.{IsKnown}
+use Rattle.tsn_answer.proofs.KnownLemmas.{KeepsKnown-through}
 use Rattle.tsn_worker.proofs.planning.search_learning.Goals as goal
 
 pub find_by_learning-requires-clause-known : goal.find_by_learning-requires-clause-known

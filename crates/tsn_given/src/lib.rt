@@ -1,0 +1,12 @@
+//! What a command is given, and how any command ends: what is told, on which output, and with which status.
+#![tactic(auto)]
+
+pub mod devices;
+mod files;
+pub mod json;
+pub mod reason;
+pub mod told;
+
+pub use devices::{Given, Made, Opened};
+pub use reason::failure_line;
+pub use told::Ran;

@@ -1,0 +1,77 @@
+//! How a run ends: what is told, and its status.
+ghost use Rattle.std.specs.Prelude.{◌≡◌};
+ghost use Rattle.tsn_run.specs.Run.{sink_over};
+ghost use Rattle.tsn_given.specs.Runs.{Says};
+
+use crate::devices::{Given, Made};
+use crate::reason::failure_line;
+use std::alloc::Global;
+use tsn_device::device::write_all;
+use tsn_run::run::DEVICE;
+
+/// How a command ended: its status, and standard output as the command left it.
+#[derive(Drop)]
+pub struct Ran<W> {
+    pub status: u8,
+    pub output: W,
+}
+
+/// How a run ended: its status, and the line on standard error that says why.
+#[derive(Drop)]
+pub struct Ended {
+    pub status: u8,
+    pub line: Option<String>,
+}
+
+/// How a run over a network ended, and its source.
+#[derive(Drop)]
+pub struct NetworkRun<S> {
+    pub status: u8,
+    pub network: S,
+}
+
+/// Tells why a run ended that wrote to standard output, which may have failed.
+pub fn end_at<'a, G: Given<'a>, W: Made>(
+    alloc: Global,
+    given: &mut G,
+    ended: Ended,
+    output: W,
+) -> Ran<W>
+    ensures status { result.status ≡ ended.status }
+    ensures output { result.output ≡ output }
+{
+    let Ended { status, line } = ended;
+    let failed = failure_line(alloc, status, output.failure());
+    tell(given, line.or(failed));
+    Ran { status, output }
+}
+
+/// Writes a text to standard output.
+pub fn say<W: Made>(mut output: W, status: u8, text: &[u8]) -> Ran<W>
+    requires { W.failed output ≡ 0 }
+    ensures { Says status text.now (sink_over W.taken W.failed output result.output) result.status }
+{
+    match write_all(&mut output, text) {
+        Ok(()) => Ran { status, output },
+        Err(_) => Ran {
+            status: DEVICE,
+            output,
+        },
+    }
+}
+
+/// Tells a line, if there is one.
+pub fn tell<'a, G: Given<'a>>(given: &mut G, line: Option<String>) {
+    if let Some(line) = line {
+        given.tell(line.as_str());
+    }
+}
+
+/// Tells each line of a text, if there is one.
+pub fn tell_all<'a, G: Given<'a>>(given: &mut G, text: Option<String>) {
+    if let Some(text) = text {
+        for line in text.as_str().lines() {
+            given.tell(line);
+        }
+    }
+}

@@ -1,5 +1,0 @@
-use Rattle.tsn_learn.proofs.search.Search.+is_implied.Given as goal
-
--- it looks less deep each time
-abbrev pub decreases-is_implied : goal.decreases-is_implied
-decreases-is_implied l = l.depth

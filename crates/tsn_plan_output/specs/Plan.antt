@@ -1,0 +1,110 @@
+-- What `plan` answers.
+--     optimal_line, settled_line, stopped_line     its lines
+--     finished_output, stopped_output              the texts of what was found
+--     ShowsBy, ShowsIfAny, IsTreeOf, IsWanted      a certificate, if one is written
+--     TellsPlan, TellsStop                         an output that tells of a search of the network
+--     stop_of                                      what is told of what a search knows
+--     PlanAnswers, PlanStops                       the answer to the file read
+use Rattle.std.specs.Prelude.{◌≡◌, ◌⊎◌, ℕ, Bool, List, [], ◌∷◌, ◌++◌, codes, decimal, length, MatchOption, Option, Some, None, is_some, option_map}
+use Rattle.tsn_model.specs.Network.{Network}
+use Rattle.tsn_timing.specs.Solution.{Solution}
+use Rattle.tsn_net.specs.File.{States}
+use Rattle.tsn_net.specs.Problem.{NamedNetwork}
+use Rattle.tsn_cert.specs.declared.plan.Plan.{Plan}
+use Rattle.tsn_cert.specs.declared.plan.Plan.TheVariants as plan
+use Rattle.tsn_cert.specs.Plan.{plan_text}
+use Rattle.tsn_argument.specs.declared.certificate.Certificate.{Certificate}
+use Rattle.tsn_argument.specs.declared.certificate.Certificate.TheVariants.{Tree, Argument}
+use Rattle.tsn_book.specs.Book.{Progress}
+use Rattle.tsn_answer.specs.declared.known.Known.{Known}
+use Rattle.tsn_answer.specs.declared.effort.Effort.{Effort}
+use Rattle.tsn_answer.specs.Answer.{IsCertificateBy, IsCertOf, IsFoundPlan, IsStoppedWith, Shows}
+use Rattle.tsn_run.specs.declared.stop.Stop.{Stop}
+use Rattle.tsn_run.specs.Run.{Output, Command}
+use Rattle.tsn_plan_output.specs.PlanOutput.{cert_bytes, HasFormIfAny, IsCut}
+use Rattle.tsn_run.specs.Refusal.{RefusesNetwork}
+
+-- how many nodes were settled, or steps there are, and the line's end
+abbrev pub settled_text : ℕ → List ℕ
+settled_text count = codes " settled " ++ decimal count ++ codes "\n"
+
+-- what is said of a plan that was found; of a plan that there is none, as of no schedule
+abbrev pub optimal_line : Plan → ℕ → List ℕ
+optimal_line (plan.Schedule span offsets) count = codes "optimal " ++ decimal span ++ settled_text count
+optimal_line plan.None count = codes "no schedule" ++ settled_text count
+
+-- the status of a plan that was found
+abbrev pub found_status : Plan → ℕ
+found_status (plan.Schedule span offsets) = 0
+found_status plan.None = 4
+
+-- the best plan of a search that was stopped, if it has one
+abbrev pub best_plan_text : Option Solution → List ℕ
+best_plan_text None = []
+best_plan_text (Some best) = plan_text (plan.Schedule best.flowspan best.offsets)
+
+abbrev pub best_text : Option Solution → List ℕ
+best_text None = codes "none"
+best_text (Some best) = decimal best.flowspan
+
+-- what a finished search is told by: the plan file, the certificate file, if one is written, and the line
+abbrev pub finished_output : Plan → Option Certificate → ℕ → Output
+finished_output plan certificate count =
+    record { status = found_status plan; texts = plan_text plan ∷ cert_bytes certificate ∷ optimal_line plan count ∷ [] }
+
+-- what is said of a search that was stopped
+abbrev pub stopped_line : Option Solution → ℕ → List ℕ
+stopped_line best count = codes "stopped " ++ best_text best ++ settled_text count
+
+-- what it is told by: its best schedule, and how many nodes were settled
+abbrev pub stopped_output : Option Solution → ℕ → Output
+stopped_output best count = record { status = 5; texts = best_plan_text best ∷ [] ∷ stopped_line best count ∷ [] }
+
+-- the certificate is of the kind that was asked for, and shows what the plan says, by so many nodes or steps, at most the limit
+abbrev pub ShowsBy : Network → Effort → Plan → Certificate → ℕ → Type 0
+ShowsBy network effort plan certificate count = Shows network effort.limit plan certificate count × IsCertificateBy effort certificate
+
+-- it does; or, where none is written, there is one that does
+abbrev pub ShowsIfAny : Network → Effort → Plan → Option Certificate → ℕ → Type 0
+ShowsIfAny network effort plan None count = (certificate : Certificate) × ShowsBy network effort plan certificate count
+ShowsIfAny network effort plan (Some certificate) count = ShowsBy network effort plan certificate count
+
+-- the certificate of a finished search is a tree
+abbrev pub IsTreeOf : Progress → Certificate → Type 0
+IsTreeOf book (Tree cert) = IsCertOf book cert
+IsTreeOf book (Argument argument) = ⊥
+
+-- the certificate of a finished search, where one is wanted, and else none
+abbrev pub IsWanted : Bool → Progress → Option Certificate → Type 0
+IsWanted wanted book certificate = (is_some certificate ≡ wanted) × MatchOption certificate (Unit {0}) (IsTreeOf book)
+
+-- It tells of a search that has found what it was for: the first schedule of least flowspan, or that there is none, and a certificate that shows it
+-- exactly where one is wanted, and which has a form in a file; or as much of that as there is memory for.
+abbrev pub TellsPlan : Network → Effort → Bool → Output → Type 0
+TellsPlan network effort wanted output =
+    (plan : Plan) × ((certificate : Option Certificate) × ((count : ℕ) × (is_some certificate ≡ wanted) × IsFoundPlan network plan
+    × ShowsIfAny network effort plan certificate count
+    × (((output ≡ finished_output plan certificate count) × HasFormIfAny certificate) ⊎ IsCut (plan_text plan) certificate output)))
+
+-- what is told of what a search knows: the flowspan of its best schedule, if any, and the bound
+abbrev pub stop_of : Known → Stop
+stop_of known = record { best = option_map (λ solution. solution.flowspan) known.best; bound = known.bound }
+
+-- it tells of a search that was stopped at its limit, where so much was known; the count is of the nodes that were settled
+abbrev pub TellsStop : Network → ℕ → Stop → Output → Type 0
+TellsStop network limit stop output =
+    (book : Progress) × ((known : Known) × IsStoppedWith network limit book known × (stop ≡ stop_of known)
+    × (output ≡ stopped_output known.best (length book.history)))
+
+-- the answer to a network file, where so much is to be done and a certificate is wanted or not
+abbrev pub PlanAnswers : Effort → Bool → Command
+PlanAnswers effort wanted (file ∷ []) output =
+    RefusesNetwork file output
+    ⊎ ((problem : NamedNetwork) × States file problem
+    × (TellsPlan problem.network effort wanted output ⊎ ((stop : Stop) × TellsStop problem.network effort.limit stop output)))
+PlanAnswers effort wanted _ output = ⊥
+
+-- the answer to a network file, where at most so many nodes are settled and the search is stopped, with so much known
+abbrev pub PlanStops : ℕ → Stop → Command
+PlanStops limit stop (file ∷ []) output = (problem : NamedNetwork) × States file problem × TellsStop problem.network limit stop output
+PlanStops limit stop _ output = ⊥

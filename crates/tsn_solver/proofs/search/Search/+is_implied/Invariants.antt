@@ -1,0 +1,5 @@
+use Rattle.tsn_solver.proofs.search.Search.+is_implied.Given as goal
+
+-- it looks less deep each time
+abbrev pub decreases-is_implied : goal.decreases-is_implied
+decreases-is_implied l = l.depth

@@ -1,0 +1,2 @@
+mod Settling
+pub mod Batching

@@ -1,3 +1,0 @@
-mod Deciding
-mod KnownLemmas
-pub mod Agreeing
