@@ -40,6 +40,7 @@ impl<T: Drop> From<AllocFailed<T>> for Unread {
     }
 }
 
+/// Passes the beginning of an array.
 pub fn open_array(reader: &mut Reader<'_>) -> Result<(), Unread>
     ensures { OnOk result (reader.old ≡ begin_array ∷ reader.new) }
 {
@@ -49,6 +50,7 @@ pub fn open_array(reader: &mut Reader<'_>) -> Result<(), Unread>
     }
 }
 
+/// Passes the end of an array.
 pub fn close_array(reader: &mut Reader<'_>) -> Result<(), Unread>
     ensures { OnOk result (after_end_array reader.old ≡ Some reader.new) }
 {
@@ -59,6 +61,7 @@ pub fn close_array(reader: &mut Reader<'_>) -> Result<(), Unread>
     }
 }
 
+/// Passes the beginning of an object.
 pub fn open_object(reader: &mut Reader<'_>) -> Result<(), Unread>
     ensures { OnOk result (reader.old ≡ begin_object ∷ reader.new) }
 {
@@ -68,6 +71,7 @@ pub fn open_object(reader: &mut Reader<'_>) -> Result<(), Unread>
     }
 }
 
+/// Passes the end of an object.
 pub fn close_object(reader: &mut Reader<'_>) -> Result<(), Unread>
     ensures { OnOk result (read_key reader.old ≡ Some (None, reader.new)) }
 {
@@ -91,6 +95,7 @@ pub fn key(reader: &mut Reader<'_>, name: &str) -> Result<(), Unread>
     }
 }
 
+/// Passes a text, and gives it.
 pub fn word<'a>(reader: &mut Reader<'a>) -> Result<&'a str, Unread>
     ensures { IfOk result (λ word. reader.old ≡ string word.now ∷ reader.new) }
 {
@@ -121,6 +126,7 @@ pub fn plain_number(text: &str) -> Result<u64, Unread>
     Numeral::scan(bytes).to_u64().ok_or(Unread::OtherForm)
 }
 
+/// Passes a number without a sign, a point or an exponent, and gives it.
 pub fn number(reader: &mut Reader<'_>) -> Result<u64, Unread>
     ensures text { IfOk result (λ n. (depth : ℕ)
         → Spells depth reader.old (number_value n) reader.new) }
@@ -131,6 +137,7 @@ pub fn number(reader: &mut Reader<'_>) -> Result<u64, Unread>
     Ok(found)
 }
 
+/// The same, as an index.
 pub fn index(reader: &mut Reader<'_>) -> Result<usize, Unread>
     ensures text { IfOk result (λ n. (depth : ℕ)
         → Spells depth reader.old (number_value n) reader.new) }
