@@ -281,6 +281,8 @@ def prove_in(free, pool, names, used, kept, keep):
             lane = free.pop()
             jobs = max(1, lanes // max(1, len(ready) + len(running)))
             running[pool.submit(prove, name, lane, used, jobs, name in kept)] = name, lane
+        at_work = sorted(name for name, _ in running.values())
+        say(f"at work: {' '.join(at_work)}; behind them: {len(names) - len(done) - len(at_work)}")
         for it in wait(running, return_when=FIRST_COMPLETED).done:
             name, lane = running.pop(it)
             failed, seconds = it.result()
@@ -291,7 +293,5 @@ def prove_in(free, pool, names, used, kept, keep):
             done.add(name)
             free.append(lane)
             spent += seconds
-            left = sorted(names - done)
-            say(f"{name} is proved in {told(seconds)} of a processor; {len(done)} of {len(names)} after {told(time.monotonic() - begin)}"
-                + (f"; left: {' '.join(left)}" if left else ""))
+            say(f"{name} is proved in {told(seconds)} of a processor; {len(done)} of {len(names)} after {told(time.monotonic() - begin)}")
     return spent

@@ -6,13 +6,13 @@ use crate::times::signed;
 use crate::view::{News, View};
 use crate::wrong::{Wrong, push_wrong};
 use std::alloc::{AllocError, Global};
-use std::fmt::Write;
 use tsn_argument::{Argument, Clause, Fact, Goal, Move, Step};
 use tsn_cert::Plan;
 use tsn_check::CheckFault;
 use tsn_model::NoMemory;
 use tsn_net::Problem;
 use tsn_network_reason::{File, Reason, line_of, push_stream};
+use tsn_text::Words;
 use tsn_timing::Timing;
 
 /// An argument, and what it is to show of a problem with these times: that the plan is right.
@@ -44,17 +44,17 @@ pub fn argument_line(
     argued: Argued<'_>,
     fault: CheckFault,
 ) -> Reason {
-    let mut text = line_of(alloc, file.name)?;
+    let mut text = line_of(alloc, file.name);
     match fault {
         CheckFault::Memory => return Err(NoMemory),
-        CheckFault::FlowspanWrong => push_wrong_aim(&mut text, argued)?,
+        CheckFault::FlowspanWrong => push_wrong_aim(&mut text, argued),
         _ => push_first_wrong(alloc, &mut text, argued)?,
     }
-    Ok(Some(text))
+    Ok(Some(text.finish()?))
 }
 
 /// Writes what the target is, or else the goal, and has to be.
-fn push_wrong_aim(text: &mut String, argued: Argued<'_>) -> Result<(), AllocError> {
+fn push_wrong_aim(text: &mut Words, argued: Argued<'_>) {
     let Argued {
         timing,
         plan,
@@ -77,72 +77,78 @@ fn push_wrong_aim(text: &mut String, argued: Argued<'_>) -> Result<(), AllocErro
     }
 }
 
-fn push_wrong_goal(text: &mut String, goal: &str) -> Result<(), AllocError> {
-    write!(
-        text,
-        "goal is \"{goal}\", and has to be \"none\", since the plan is that there is no schedule"
-    )
+fn push_wrong_goal(text: &mut Words, goal: &str) {
+    text.push_str("goal is \"");
+    text.push_str(goal);
+    text.push_str("\", and has to be \"none\", since the plan is that there is no schedule");
 }
 
 /// Writes which step is the first that is wrong, or what is left in question behind all of them.
-fn push_first_wrong(alloc: Global, text: &mut String, argued: Argued<'_>) -> Result<(), NoMemory> {
+fn push_first_wrong(alloc: Global, text: &mut Words, argued: Argued<'_>) -> Result<(), NoMemory> {
     let mut known = Known::first(alloc, argued)?;
     let steps = argued.argument.steps.list();
     for (number, step) in steps.iter().enumerate() {
         if let Some(found) = known.take(argued, step)? {
-            return Ok(push_found(text, argued.problem, number, found)?);
+            push_found(text, argued.problem, number, found);
+            return Ok(());
         }
     }
     let count = steps.len();
-    write!(text, "the argument is unfinished after {count} steps")?;
-    Ok(push_open(text, argued, &known.view)?)
+    text.push_str("the argument is unfinished after ");
+    text.push_count(count);
+    text.push_str(" steps");
+    push_open(text, argued, &known.view);
+    Ok(())
 }
 
 /// Writes what is wrong with a step of this number.
-fn push_found(
-    text: &mut String,
-    problem: &Problem,
-    number: usize,
-    found: Found,
-) -> Result<(), AllocError> {
-    write!(text, "step {number}")?;
+fn push_found(text: &mut Words, problem: &Problem, number: usize, found: Found) {
+    text.push_str("step ");
+    text.push_count(number);
     match found {
         Found::Settled => {
             text.push_str(" stands after the argument's end: nothing is in question any more")
         }
         Found::Unshown => text.push_str(": its moves end without a contradiction"),
         Found::Fact(fact, wrong) => {
-            write!(text, ", fact {fact}: ")?;
+            text.push_str(", fact ");
+            text.push_count(fact);
+            text.push_str(": ");
             push_wrong(text, problem, wrong)
         }
         Found::Move(motion, wrong) => {
-            write!(text, ", move {motion}: ")?;
+            text.push_str(", move ");
+            text.push_count(motion);
+            text.push_str(": ");
             push_wrong(text, problem, wrong)
         }
     }
 }
 
 /// Writes what is left in question.
-fn push_open(text: &mut String, argued: Argued<'_>, view: &View<'_>) -> Result<(), AllocError> {
+fn push_open(text: &mut Words, argued: Argued<'_>, view: &View<'_>) {
     let least = view.done_low();
     let Plan::Schedule { flowspan, offsets } = argued.plan else {
-        return write!(text, ": the flowspan may still be {least}");
+        text.push_str(": the flowspan may still be ");
+        return text.push_signed(least);
     };
     if argued.argument.goal != Goal::First || least < signed(*flowspan) {
-        return write!(
-            text,
-            ": the flowspan may still be {least}, and the plan's is {flowspan}"
-        );
+        text.push_str(": the flowspan may still be ");
+        text.push_signed(least);
+        text.push_str(", and the plan's is ");
+        return text.push_number(*flowspan);
     }
     for (stream, offset) in offsets.list().iter().enumerate() {
         let low = view.low(stream);
         if low < signed(*offset) {
-            text.push_str(": the offset of ")?;
-            push_stream(text, argued.problem, stream)?;
-            return write!(text, " may still be {low}, and the plan's is {offset}");
+            text.push_str(": the offset of ");
+            push_stream(text, argued.problem, stream);
+            text.push_str(" may still be ");
+            text.push_signed(low);
+            text.push_str(", and the plan's is ");
+            return text.push_number(*offset);
         }
     }
-    Ok(())
 }
 
 // ---- the steps

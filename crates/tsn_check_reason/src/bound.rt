@@ -1,10 +1,10 @@
 //! By how much a leaf of a certificate misses what it has to show.
 
-use std::alloc::{AllocError, Global};
-use std::fmt::Write;
+use std::alloc::Global;
 use tsn_cert::{Cert, Format, Leaf, Node, Plan};
 use tsn_check::{Bound, bound_at};
 use tsn_model::NoMemory;
+use tsn_text::Words;
 use tsn_timing::Timing;
 
 /// A certificate, and what it is to show of the times of a network: that the plan is right.
@@ -26,7 +26,7 @@ struct Wanted {
 /// Writes by how much the leaf of this number misses what it has to show.
 pub fn push_low_bound(
     alloc: Global,
-    text: &mut String,
+    text: &mut Words,
     shown: Shown<'_>,
     number: usize,
 ) -> Result<(), NoMemory> {
@@ -37,11 +37,13 @@ pub fn push_low_bound(
     let Ok(found) = bound_at(alloc, shown.timing, nodes, number) else {
         return Err(NoMemory);
     };
-    write!(text, "node {number}: ")?;
-    match found {
-        Some(bound) => Ok(push_bound(text, shown, node, bound)?),
-        None => Ok(()),
+    text.push_str("node ");
+    text.push_count(number);
+    text.push_str(": ");
+    if let Some(bound) = found {
+        push_bound(text, shown, node, bound);
     }
+    Ok(())
 }
 
 /// What a leaf that is no tie has to show.
@@ -61,75 +63,69 @@ fn wanted_of(shown: Shown<'_>) -> Wanted {
     }
 }
 
-fn push_bound(
-    text: &mut String,
-    shown: Shown<'_>,
-    node: &Node,
-    bound: Bound,
-) -> Result<(), AllocError> {
+fn push_bound(text: &mut Words, shown: Shown<'_>, node: &Node, bound: Bound) {
     match bound {
         Bound::Arrival(arrival) if node.is_tie() => push_tie(text, arrival, shown.plan),
         Bound::Arrival(arrival) => push_arrival(text, arrival, wanted_of(shown)),
         Bound::End { end, arrival } => push_overrun(text, shown.timing, node, end, arrival),
         Bound::Use(end) => push_overload(text, shown.timing, node, end),
-        Bound::Sum(sum) => write!(
-            text,
-            "the weights of its chain add up to {sum}, and have to be above 0"
-        ),
+        Bound::Sum(sum) => {
+            text.push_str("the weights of its chain add up to ");
+            text.push_signed(sum);
+            text.push_str(", and have to be above 0");
+        }
     }
 }
 
-fn push_arrival(text: &mut String, bound: i64, wanted: Wanted) -> Result<(), AllocError> {
+fn push_arrival(text: &mut Words, bound: i64, wanted: Wanted) {
     let Wanted {
         least,
         before,
         behind,
     } = wanted;
-    write!(text, "the bound {bound} is below {before}{least}{behind}")
+    text.push_str("the bound ");
+    text.push_signed(bound);
+    text.push_str(" is below ");
+    text.push_str(before);
+    text.push_number(least);
+    text.push_str(behind);
 }
 
-fn push_overrun(
-    text: &mut String,
-    timing: &Timing,
-    node: &Node,
-    end: i64,
-    arrival: i64,
-) -> Result<(), AllocError> {
+fn push_overrun(text: &mut Words, timing: &Timing, node: &Node, end: i64, arrival: i64) {
     let Node::Leaf(Leaf::Overrun(stream, _)) = node else {
-        return Ok(());
+        return;
     };
     if *stream >= timing.streams() {
-        return Ok(());
+        return;
     }
     let cycle = timing.cycle();
     let latest = timing.latest(*stream);
-    write!(
-        text,
-        "the bound {end} of stream {stream}'s end isn't past the cycle's end at {cycle}, "
-    )?;
-    write!(
-        text,
-        "nor the bound {arrival} of its arrival past its latest instant {latest}"
-    )
+    text.push_str("the bound ");
+    text.push_signed(end);
+    text.push_str(" of stream ");
+    text.push_count(*stream);
+    text.push_str("'s end isn't past the cycle's end at ");
+    text.push_number(cycle);
+    text.push_str(", nor the bound ");
+    text.push_signed(arrival);
+    text.push_str(" of its arrival past its latest instant ");
+    text.push_number(latest);
 }
 
-fn push_overload(
-    text: &mut String,
-    timing: &Timing,
-    node: &Node,
-    end: i64,
-) -> Result<(), AllocError> {
+fn push_overload(text: &mut Words, timing: &Timing, node: &Node, end: i64) {
     let Node::Leaf(Leaf::Overload(link, _)) = node else {
-        return Ok(());
+        return;
     };
     let cycle = timing.cycle();
-    write!(
-        text,
-        "the bound {end} of link {link}'s use isn't past the cycle's end at {cycle}"
-    )
+    text.push_str("the bound ");
+    text.push_signed(end);
+    text.push_str(" of link ");
+    text.push_count(*link);
+    text.push_str("'s use isn't past the cycle's end at ");
+    text.push_number(cycle);
 }
 
-fn push_tie(text: &mut String, bound: i64, plan: &Plan) -> Result<(), AllocError> {
+fn push_tie(text: &mut Words, bound: i64, plan: &Plan) {
     let Plan::Schedule { flowspan, .. } = plan else {
         return text.push_str("it is a tie, and the plan is that there is no schedule");
     };

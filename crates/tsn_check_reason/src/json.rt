@@ -1,45 +1,46 @@
 //! What plan files and certificate files have in common: they are objects of JSON.
 
 use serde_json::Value;
-use std::alloc::{AllocError, Global};
-use std::fmt::Write;
+use std::alloc::Global;
 use tsn_model::NoMemory;
 use tsn_network_reason::push_name;
+use tsn_text::Words;
 
 /// Writes what the reader of JSON says of bytes that it refuses, with line and column.
-pub fn push_not_json(alloc: Global, text: &mut String, bytes: &[u8]) -> Result<(), NoMemory> {
+pub fn push_not_json(alloc: Global, text: &mut Words, bytes: &[u8]) -> Result<(), NoMemory> {
     match Value::from_slice(alloc, bytes) {
         Ok(_) => Ok(()),
         Err(error) if error.is_memory() => Err(NoMemory),
-        Err(error) => Ok(write!(text, "{error}")?),
+        Err(error) => {
+            text.push_str(format!(in alloc; "{error}")?.as_str());
+            Ok(())
+        }
     }
 }
 
 /// Writes what is wrong with the keys of an object that has to have exactly these. Whether it wrote.
-pub fn push_wrong_keys(
-    text: &mut String,
-    value: &Value,
-    keys: &[&str],
-) -> Result<bool, AllocError> {
+pub fn push_wrong_keys(text: &mut Words, value: &Value, keys: &[&str]) -> bool {
     let Some(members) = value.as_object() else {
-        text.push_str("it has to be an object")?;
-        return Ok(true);
+        text.push_str("it has to be an object");
+        return true;
     };
     for &key in keys {
         if value.get(key).is_none() {
-            write!(text, "the key {key} is missing")?;
-            return Ok(true);
+            text.push_str("the key ");
+            text.push_str(key);
+            text.push_str(" is missing");
+            return true;
         }
     }
     for key in members.keys() {
         if !is_among(key.as_str(), keys) {
-            text.push_str("the key ")?;
-            push_name(text, key.as_str())?;
-            text.push_str(" isn't known")?;
-            return Ok(true);
+            text.push_str("the key ");
+            push_name(text, key.as_str());
+            text.push_str(" isn't known");
+            return true;
         }
     }
-    Ok(false)
+    false
 }
 
 fn is_among(wanted: &str, keys: &[&str]) -> bool {

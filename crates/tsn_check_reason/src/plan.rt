@@ -2,14 +2,14 @@
 
 use crate::json::{elements_at, is_null_at, number_at, push_not_json, push_wrong_keys};
 use serde_json::Value;
-use std::alloc::{AllocError, Global};
-use std::fmt::Write;
+use std::alloc::Global;
 use tsn_cert::plan::MAX_TIME;
 use tsn_cert::{FileFault, Plan};
 use tsn_check::CheckFault;
 use tsn_model::NoMemory;
 use tsn_net::Problem;
 use tsn_network_reason::{File, Reason, Schedule, line_of, push_violation};
+use tsn_text::Words;
 use tsn_timing::{Timing, Validity};
 
 /// A plan of a problem with these times.
@@ -22,24 +22,24 @@ pub struct Stated<'a> {
 
 /// Why a plan file with this fault is refused.
 pub fn plan_file_line(alloc: Global, plan: File<'_>, fault: FileFault) -> Reason {
-    let mut text = line_of(alloc, plan.name)?;
+    let mut text = line_of(alloc, plan.name);
     match fault {
         FileFault::NotJson => push_not_json(alloc, &mut text, plan.bytes)?,
         FileFault::WrongShape | FileFault::NumberTooLarge => match Value::from_slice(
             alloc, plan.bytes,
         ) {
-            Ok(value) => push_plan_value(&mut text, &value)?,
+            Ok(value) => push_plan_value(&mut text, &value),
             Err(_) => return Err(NoMemory),
         },
         FileFault::Memory => return Err(NoMemory),
     }
-    Ok(Some(text))
+    Ok(Some(text.finish()?))
 }
 
 /// Writes what is wrong with the value of a plan file.
-fn push_plan_value(text: &mut String, value: &Value) -> Result<(), AllocError> {
-    if push_wrong_keys(text, value, &["flowspan", "offsets"])? {
-        return Ok(());
+fn push_plan_value(text: &mut Words, value: &Value) {
+    if push_wrong_keys(text, value, &["flowspan", "offsets"]) {
+        return;
     }
     if is_null_at(value, "flowspan") != is_null_at(value, "offsets") {
         return text.push_str("flowspan and offsets have to be null both or neither");
@@ -51,13 +51,15 @@ fn push_plan_value(text: &mut String, value: &Value) -> Result<(), AllocError> {
         return text.push_str("offsets has to be an array");
     };
     if let Some(stream) = stream_of_no_number(offsets) {
-        return write!(text, "offset {stream} has to be a whole number");
+        text.push_str("offset ");
+        text.push_count(stream);
+        return text.push_str(" has to be a whole number");
     }
     if flowspan > MAX_TIME {
-        return write!(
-            text,
-            "flowspan is {flowspan}, and may be at most {MAX_TIME}"
-        );
+        text.push_str("flowspan is ");
+        text.push_number(flowspan);
+        text.push_str(", and may be at most ");
+        return text.push_number(MAX_TIME);
     }
     push_large_offset(text, offsets)
 }
@@ -73,18 +75,19 @@ fn stream_of_no_number(offsets: &[Value]) -> Option<usize> {
 }
 
 /// Writes which offset is too large.
-fn push_large_offset(text: &mut String, offsets: &[Value]) -> Result<(), AllocError> {
+fn push_large_offset(text: &mut Words, offsets: &[Value]) {
     for (stream, offset) in offsets.iter().enumerate() {
         if let Some(number) = offset.as_u64() {
             if number > MAX_TIME {
-                return write!(
-                    text,
-                    "offset {stream} is {number}, and may be at most {MAX_TIME}"
-                );
+                text.push_str("offset ");
+                text.push_count(stream);
+                text.push_str(" is ");
+                text.push_number(number);
+                text.push_str(", and may be at most ");
+                return text.push_number(MAX_TIME);
             }
         }
     }
-    Ok(())
 }
 
 /// Whether the plan itself is refused, whatever its certificate.
@@ -103,7 +106,7 @@ pub fn plan_line(alloc: Global, file: File<'_>, stated: Stated<'_>, fault: Check
     if fault == CheckFault::Memory {
         return Err(NoMemory);
     }
-    let mut text = line_of(alloc, file.name)?;
+    let mut text = line_of(alloc, file.name);
     match stated.plan {
         Plan::Schedule { flowspan, offsets } => {
             let schedule = Schedule {
@@ -111,26 +114,26 @@ pub fn plan_line(alloc: Global, file: File<'_>, stated: Stated<'_>, fault: Check
                 timing: stated.timing,
                 offsets: offsets.list(),
             };
-            push_schedule(&mut text, schedule, *flowspan)?;
+            push_schedule(&mut text, schedule, *flowspan);
         }
-        Plan::None => text.push_str("it says that there is no schedule")?,
+        Plan::None => text.push_str("it says that there is no schedule"),
     }
-    Ok(Some(text))
+    Ok(Some(text.finish()?))
 }
 
 /// Writes why offsets are no valid schedule, or which flowspan they have.
-fn push_schedule(text: &mut String, schedule: Schedule<'_>, stated: u64) -> Result<(), AllocError> {
+fn push_schedule(text: &mut Words, schedule: Schedule<'_>, stated: u64) {
     match schedule.timing.validity(schedule.offsets) {
         Validity::Refused(violation) => {
-            text.push_str("no valid schedule: ")?;
+            text.push_str("no valid schedule: ");
             push_violation(text, schedule, violation)
         }
         Validity::Valid => {
             let flowspan = schedule.timing.flowspan(schedule.offsets);
-            write!(
-                text,
-                "flowspan is {stated}, and that of the offsets is {flowspan}"
-            )
+            text.push_str("flowspan is ");
+            text.push_number(stated);
+            text.push_str(", and that of the offsets is ");
+            text.push_number(flowspan);
         }
     }
 }

@@ -3,21 +3,20 @@
 use crate::bound::{Shown, push_low_bound};
 use crate::target::push_wrong_target;
 use std::alloc::Global;
-use std::fmt::Write;
 use tsn_check::CheckFault;
 use tsn_model::NoMemory;
 use tsn_network_reason::{File, Reason, line_of};
 
 /// Why a tree with this fault is refused, where its plan is right.
 pub fn tree_line(alloc: Global, file: File<'_>, shown: Shown<'_>, fault: CheckFault) -> Reason {
-    let mut text = line_of(alloc, file.name)?;
+    let mut text = line_of(alloc, file.name);
     match fault {
         CheckFault::Memory => return Err(NoMemory),
         CheckFault::FlowspanWrong => {
-            push_wrong_target(&mut text, shown.timing, shown.plan, shown.cert.target)?
+            push_wrong_target(&mut text, shown.timing, shown.plan, shown.cert.target)
         }
         CheckFault::BoundTooLow(node) => push_low_bound(alloc, &mut text, shown, node)?,
-        _ => write!(text, "{fault}")?,
+        _ => text.push_str(format!(in alloc; "{fault}")?.as_str()),
     }
-    Ok(Some(text))
+    Ok(Some(text.finish()?))
 }

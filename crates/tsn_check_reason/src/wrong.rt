@@ -1,10 +1,9 @@
 //! What is wrong with a fact or a move of an argument, in words.
 
-use std::alloc::AllocError;
-use std::fmt::Write;
 use tsn_argument::Order;
 use tsn_net::Problem;
 use tsn_network_reason::{push_link, push_stream};
+use tsn_text::Words;
 
 /// What is wrong with a fact or a move. Times are in nanoseconds.
 #[derive(Clone, Copy)]
@@ -47,98 +46,90 @@ pub struct Room {
 }
 
 /// Writes what is wrong.
-pub fn push_wrong(text: &mut String, problem: &Problem, wrong: Wrong) -> Result<(), AllocError> {
+pub fn push_wrong(text: &mut Words, problem: &Problem, wrong: Wrong) {
     match wrong {
         Wrong::Crossed => text.push_str(
             "behind the moves before it nothing is in question any more",
         ),
-        Wrong::NoStream(stream) => write!(text, "there is no stream {stream}"),
+        Wrong::NoStream(stream) => {
+            text.push_str("there is no stream ");
+            text.push_count(stream);
+        }
         Wrong::NotOnLink(stream, link) => push_not_on_link(text, problem, stream, link),
         Wrong::Repeated(stream) => push_about(text, problem, stream, " stands twice"),
         Wrong::NoConflict(order) => push_no_conflict(text, problem, order),
         Wrong::NoOrder(order) => push_no_order(text, problem, order),
         Wrong::NoClause(number, shown) => {
-            write!(
-                text,
-                "clause {number} wasn't shown before: there are {shown}"
-            )
+            text.push_str("clause ");
+            text.push_count(number);
+            text.push_str(" wasn't shown before: there are ");
+            text.push_count(shown);
         }
-        Wrong::Left(number, count) => write!(
-            text,
-            "clause {number} has {count} facts left, and may have at most 1"
-        ),
+        Wrong::Left(number, count) => {
+            text.push_str("clause ");
+            text.push_count(number);
+            text.push_str(" has ");
+            text.push_count(count);
+            text.push_str(" facts left, and may have at most 1");
+        }
         Wrong::NotAmong(stream) => push_about(text, problem, stream, " is none of the others"),
         Wrong::NotClosed => text.push_str("its orders don't lead back to where they begin"),
-        Wrong::Weight(sum) => write!(
-            text,
-            "the weights of its orders add up to {sum}, and have to be above 0"
-        ),
+        Wrong::Weight(sum) => {
+            text.push_str("the weights of its orders add up to ");
+            text.push_signed(sum);
+            text.push_str(", and have to be above 0");
+        }
         Wrong::InReach(stream, least, most) => push_in_reach(text, problem, stream, least, most),
         Wrong::Room(link, room) => push_room(text, problem, link, room),
     }
 }
 
 /// Writes a stream and something about it.
-fn push_about(
-    text: &mut String,
-    problem: &Problem,
-    stream: usize,
-    what: &str,
-) -> Result<(), AllocError> {
-    push_stream(text, problem, stream)?;
+fn push_about(text: &mut Words, problem: &Problem, stream: usize, what: &str) {
+    push_stream(text, problem, stream);
     text.push_str(what)
 }
 
-fn push_not_on_link(
-    text: &mut String,
-    problem: &Problem,
-    stream: usize,
-    link: usize,
-) -> Result<(), AllocError> {
-    push_about(text, problem, stream, " doesn't use ")?;
+fn push_not_on_link(text: &mut Words, problem: &Problem, stream: usize, link: usize) {
+    push_about(text, problem, stream, " doesn't use ");
     push_link(text, problem, link)
 }
 
-fn push_no_conflict(text: &mut String, problem: &Problem, order: Order) -> Result<(), AllocError> {
-    push_about(text, problem, order.first, " and ")?;
-    push_about(text, problem, order.second, " have no conflict on ")?;
+fn push_no_conflict(text: &mut Words, problem: &Problem, order: Order) {
+    push_about(text, problem, order.first, " and ");
+    push_about(text, problem, order.second, " have no conflict on ");
     push_link(text, problem, order.link)
 }
 
-fn push_no_order(text: &mut String, problem: &Problem, order: Order) -> Result<(), AllocError> {
-    text.push_str("it isn't known that ")?;
-    push_about(text, problem, order.first, " goes before ")?;
-    push_about(text, problem, order.second, " on ")?;
+fn push_no_order(text: &mut Words, problem: &Problem, order: Order) {
+    text.push_str("it isn't known that ");
+    push_about(text, problem, order.first, " goes before ");
+    push_about(text, problem, order.second, " on ");
     push_link(text, problem, order.link)
 }
 
-fn push_in_reach(
-    text: &mut String,
-    problem: &Problem,
-    stream: usize,
-    least: i64,
-    most: i64,
-) -> Result<(), AllocError> {
-    write!(text, "by the other order the bound {least} of ")?;
-    push_about(text, problem, stream, "'s offset isn't past ")?;
-    write!(text, "its greatest one {most}")
+fn push_in_reach(text: &mut Words, problem: &Problem, stream: usize, least: i64, most: i64) {
+    text.push_str("by the other order the bound ");
+    text.push_signed(least);
+    text.push_str(" of ");
+    push_about(text, problem, stream, "'s offset isn't past ");
+    text.push_str("its greatest one ");
+    text.push_signed(most);
 }
 
-fn push_room(
-    text: &mut String,
-    problem: &Problem,
-    link: usize,
-    room: Room,
-) -> Result<(), AllocError> {
+fn push_room(text: &mut Words, problem: &Problem, link: usize, room: Room) {
     let Room {
         bound,
         end,
         of_others,
     } = room;
     let whose = if of_others { "the others'" } else { "their" };
-    write!(
-        text,
-        "the bound {bound} of their use isn't past {whose} latest end {end} on "
-    )?;
+    text.push_str("the bound ");
+    text.push_signed(bound);
+    text.push_str(" of their use isn't past ");
+    text.push_str(whose);
+    text.push_str(" latest end ");
+    text.push_signed(end);
+    text.push_str(" on ");
     push_link(text, problem, link)
 }

@@ -3,8 +3,7 @@
 --     ShowsLists, ShowsReplay, ShowsShares, ShowsTable      the table of a plan
 --     RejectsPlan                              a plan that has none
 --     TableAnswers, GatesAnswers, ReplayAnswers, ChartAnswers, StreamsAnswers    the answer to the files read so far
-use Rattle.std.specs.Prelude.{◌≡◌, ◌⊎◌, ℕ, ◌≤◌, Option, List, [], ◌∷◌, ◌++◌, codes, Ok}
-use Rattle.std.specs.List.{flat_map}
+use Rattle.std.specs.Prelude.{◌≡◌, ◌⊎◌, ℕ, ◌≤◌, List, [], ◌∷◌, ◌++◌, codes, Ok}
 use Rattle.tsn_model.specs.Network.{Network}
 use Rattle.tsn_model.specs.Schedule.{IsValid, flowspan}
 use Rattle.tsn_model.specs.Bridge.{LinkGates, BridgeRun, IsBridgeRun, IsFed}
@@ -16,9 +15,7 @@ use Rattle.tsn_cert.specs.Plan.{plan_in}
 use Rattle.tsn_check.specs.declared.fault.CheckFault.{CheckFault}
 use Rattle.tsn_check.specs.Faults.{IsPlanFault}
 use Rattle.tsn_gate.specs.Merged.{AreListsBy}
-use Rattle.tsn_gate.specs.Table as gate
-use Rattle.tsn_gate.specs.Taprio.{script_text_within}
-use Rattle.tsn_gate.specs.Json.{json_text}
+use Rattle.tsn_gate_output.specs.Format.{text_in}
 use Rattle.tsn_replay.specs.declared.trace.Row.{Row}
 use Rattle.tsn_replay.specs.Feeding.{background_for}
 use Rattle.tsn_replay.specs.Rows as replay
@@ -31,8 +28,6 @@ use Rattle.tsn_streams.specs.Shares.{stream_shares, AreSharesOfLinks}
 use Rattle.tsn_streams.specs.Table as streams
 use Rattle.tsn_streams.specs.Json as streams_json
 use Rattle.tsn_streams.specs.Csv as streams_csv
-use Rattle.tsn_options.specs.declared.GatesFormat.{GatesFormat}
-use Rattle.tsn_options.specs.declared.GatesFormat.TheVariants as lists
 use Rattle.tsn_options.specs.declared.ReplayFormat.{ReplayFormat}
 use Rattle.tsn_options.specs.declared.ReplayFormat.TheVariants as replays
 use Rattle.tsn_options.specs.declared.StreamsFormat.{StreamsFormat}
@@ -44,12 +39,7 @@ use Rattle.tsn_cli.specs.declared.table.Table.TheVariants.{Gates, Replay, Chart,
 use Rattle.tsn_run.specs.Run.{Output, Command, IsLine}
 use Rattle.tsn_run.specs.Refusal.{RefusesNetwork, RefusesPlan, rejected_plan}
 
--- the lists in a format, a script with the limits of a device
-abbrev pub text_in : GatesFormat → ℕ → Option ℕ → NamedNetwork → List LinkGates → List ℕ
-text_in lists.Table most least problem all = flat_map (gate.table_text problem) all
-text_in lists.Taprio most least problem all = script_text_within most least problem all
-text_in lists.Json most least problem all = flat_map (json_text problem) all
-
+-- the lists in the format that is asked for
 abbrev pub lists_text : GatesOptions → NamedNetwork → List LinkGates → List ℕ
 lists_text options = text_in options.format options.limits.most options.limits.least
 

@@ -1,7 +1,7 @@
 //! What a plan is shown by.
 
 use tsn_chart::View;
-use tsn_gate::DeviceLimits;
+use tsn_gate_output::DeviceLimits;
 use tsn_options::{GatesFormat, ReplayFormat, StreamsFormat};
 
 /// How the gate control lists of a plan are printed, and of how many nanoseconds an entry is to be at least: with `merge`,

@@ -1,16 +1,13 @@
 //! `gates`, `replay`, `chart` and `streams`: print the gate control lists of a plan, a replay by them, a picture, and what each
 //! stream and each link gets.
 ghost use Rattle.std.specs.Prelude.{◌≡◌, ◌≤◌, ◌<◌, ◌-◌, ◌^◌, ◌⊎◌, [], ◌∷◌, All, IfOk, length, string_bytes};
-ghost use Rattle.std.specs.List.{flat_map};
 ghost use Rattle.tsn_model.specs.Schedule.{IsValid};
 ghost use Rattle.tsn_run.specs.Run.{IsLine, RunsOver, sink_over, source_over};
 ghost use Rattle.tsn_run.specs.Outcome.{ComesOver, output_of};
-ghost use Rattle.tsn_gate.specs.Json.{json_text};
-ghost use Rattle.tsn_gate.specs.Table.{table_text};
 ghost use Rattle.tsn_replay.specs.declared.trace.Row.{Row};
 ghost use Rattle.tsn_streams.specs.declared.link.LinkShare.{LinkShare};
 ghost use Rattle.tsn_streams.specs.declared.stream.StreamShare.{StreamShare};
-ghost use Rattle.tsn_cli.specs.Tables.{CanShow, ChartAnswers, GatesAnswers, RejectsPlan, ReplayAnswers, ShowsLists, ShowsPicture, ShowsPlan, ShowsReplay, ShowsShares, ShowsTable, StreamsAnswers, TableAnswers, lists_text, rows_text, shares_text};
+ghost use Rattle.tsn_cli.specs.Tables.{CanShow, ChartAnswers, GatesAnswers, RejectsPlan, ReplayAnswers, ShowsLists, ShowsPicture, ShowsPlan, ShowsReplay, ShowsShares, ShowsTable, StreamsAnswers, TableAnswers, rows_text, shares_text};
 
 use crate::table::{GatesOptions, ReplayOptions, Table};
 use std::alloc::Global;
@@ -18,10 +15,11 @@ use tsn_cert::Plan;
 use tsn_chart::{View, marked_chart};
 use tsn_check::check_plan;
 use tsn_device::device::{ReadFault, Sink, Source};
-use tsn_gate::{GateList, gate_lists, lists_by, to_taprio_within};
+use tsn_gate::{gate_lists, lists_by};
+use tsn_gate_output::text_in;
 use tsn_model::NoMemory;
 use tsn_net::Problem;
-use tsn_options::{GatesFormat, ReplayFormat, StreamsFormat};
+use tsn_options::{ReplayFormat, StreamsFormat};
 use tsn_replay::{Background, ReplayFault, ReplayTable, replay_rows};
 use tsn_run::run::{DONE, REJECTED, respond};
 use tsn_run::{Answer, InputsRead, read_inputs, rejection};
@@ -256,49 +254,8 @@ fn lists(
     ensures { IfOk result (λ a. ShowsLists options problem.now valid.now (output_of (Ok a))) }
 {
     let lists = lists_by(alloc, problem, valid, options.merge)?;
-    let text = lists_text(alloc, problem, &lists, options)?;
+    let text = text_in(alloc, problem, &lists, options.format, options.limits)?;
     Ok(Answer { status: DONE, text })
-}
-
-/// The text of gate lists.
-fn lists_text(
-    alloc: Global,
-    problem: &Problem,
-    lists: &[GateList],
-    options: GatesOptions,
-) -> Result<String, NoMemory>
-    requires { All (λ list. list.link < length problem.now.network.links) lists.now }
-    ensures { IfOk result (λ text. string_bytes text ≡ lists_text options problem.now lists.now) }
-{
-    match options.format {
-        GatesFormat::Table => gate_tables(alloc, problem, lists),
-        GatesFormat::Taprio => to_taprio_within(alloc, problem, lists, options.limits),
-        GatesFormat::Json => gate_lines(alloc, problem, lists),
-    }
-}
-
-/// The tables of gate lists.
-fn gate_tables(alloc: Global, problem: &Problem, lists: &[GateList]) -> Result<String, NoMemory>
-    requires { All (λ list. list.link < length problem.now.network.links) lists.now }
-    ensures { IfOk result (λ text. string_bytes text ≡ flat_map (table_text problem.now) lists.now) }
-{
-    let mut text = String::new(alloc);
-    for list in lists {
-        text.push_str(list.to_text(alloc, problem)?.as_str())?;
-    }
-    Ok(text)
-}
-
-/// The lines of JSON of gate lists.
-fn gate_lines(alloc: Global, problem: &Problem, lists: &[GateList]) -> Result<String, NoMemory>
-    requires { All (λ list. list.link < length problem.now.network.links) lists.now }
-    ensures { IfOk result (λ text. string_bytes text ≡ flat_map (json_text problem.now) lists.now) }
-{
-    let mut text = String::new(alloc);
-    for list in lists {
-        text.push_str(list.to_json(alloc, problem)?.as_str())?;
-    }
-    Ok(text)
 }
 
 /// The picture of a plan in which some frames are marked, each by its stream and its link; a plan that isn't a valid schedule is

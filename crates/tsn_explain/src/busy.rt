@@ -10,6 +10,7 @@ use crate::replay::Replay;
 use crate::view::{View, least_tail};
 use std::alloc::{AllocError, Global};
 use tsn_argument::{Argument, Step};
+use tsn_text::{Growing, Words};
 
 /// How many links are told.
 const MOST_LINKS: usize = 5;
@@ -20,7 +21,7 @@ const MOST_STREAMS: usize = 6;
 /// Writes the links that most steps of a part use: how many steps, and the streams that are named most there.
 pub fn push_links(
     alloc: Global,
-    text: &mut String,
+    text: &mut Words,
     network: Network<'_>,
     argument: &Argument,
     part: &Part,
@@ -30,24 +31,26 @@ pub fn push_links(
         alloc,
         steps: argument.steps.list(),
         part,
-        mentions: Vec::new(alloc),
+        mentions: Growing::new(alloc),
     };
-    push_head(text, &replay.view)?;
+    push_head(text, &replay.view);
     let mut uses = busy.uses_of_links(network.problem.links())?;
     for _ in 0..MOST_LINKS {
         let Some(link) = most(&uses) else {
             break;
         };
-        busy.push_link(text, &replay.view, link, count_at(&uses, link))?;
+        busy.push_link(text, &replay.view, link, count_at(&uses, link));
         put_count(&mut uses, link, 0);
     }
-    Ok(())
+    let Busy { mentions, .. } = busy;
+    drop(mentions.finish()?);
+    replay.finish()
 }
 
 // Writes what the links are, and by when all has to be done.
-fn push_head(text: &mut String, view: &View<'_>) -> Result<(), AllocError> {
-    text.push_str("The links that most of these are about, if all is to be done by ")?;
-    push_time(text, view.high(view.done()))?;
+fn push_head(text: &mut Words, view: &View<'_>) {
+    text.push_str("The links that most of these are about, if all is to be done by ");
+    push_time(text, view.high(view.done()));
     text.push_str(":\n")
 }
 
@@ -56,12 +59,12 @@ struct Busy<'a> {
     alloc: Global,
     steps: &'a [Step],
     part: &'a Part,
-    mentions: Vec<Mention>,
+    mentions: Growing<Mention>,
 }
 
 impl Busy<'_> {
     // The frames that a step names.
-    fn name(&mut self, step: usize) -> Result<(), AllocError> {
+    fn name(&mut self, step: usize) {
         self.mentions.clear();
         add_step(&mut self.mentions, self.steps, self.part, step)
     }
@@ -72,8 +75,8 @@ impl Busy<'_> {
         let mut last = counts(self.alloc, NONE, links)?;
         let part = self.part;
         for step in &part.steps {
-            self.name(*step)?;
-            for mention in &self.mentions {
+            self.name(*step);
+            for mention in self.mentions.list() {
                 count_once(&mut uses, &mut last, mention.link, *step);
             }
         }
@@ -86,8 +89,8 @@ impl Busy<'_> {
         let mut last = counts(self.alloc, NONE, streams)?;
         let part = self.part;
         for step in &part.steps {
-            self.name(*step)?;
-            for mention in &self.mentions {
+            self.name(*step);
+            for mention in self.mentions.list() {
                 if mention.link == link {
                     count_once(&mut uses, &mut last, mention.stream, *step);
                 }
@@ -99,7 +102,7 @@ impl Busy<'_> {
     // The streams that most steps name on a link, by their numbers: those that at least half as many name as the first.
     fn streams_on(&mut self, link: usize, streams: usize) -> Result<Vec<usize>, AllocError> {
         let mut uses = self.uses_of_streams(link, streams)?;
-        let mut found = Vec::new(self.alloc);
+        let mut found = Growing::new(self.alloc);
         let mut greatest = 0;
         for _ in 0..MOST_STREAMS {
             let Some(stream) = most(&uses) else {
@@ -112,27 +115,24 @@ impl Busy<'_> {
             if count < greatest / 2 {
                 break;
             }
-            found.push(stream)?;
+            found.push(stream);
             put_count(&mut uses, stream, 0);
         }
+        let mut found = found.finish()?;
         found.sort()?;
         Ok(found)
     }
 
-    fn push_link(
-        &mut self,
-        text: &mut String,
-        view: &View<'_>,
-        link: usize,
-        uses: usize,
-    ) -> Result<(), AllocError> {
-        let streams = self.streams_on(link, view.done())?;
-        push_count(text, uses)?;
+    fn push_link(&mut self, text: &mut Words, view: &View<'_>, link: usize, uses: usize) {
+        let Ok(streams) = self.streams_on(link, view.done()) else {
+            return text.refuse();
+        };
+        push_count(text, uses);
         text.push_str(if uses == 1 {
             " step: on "
         } else {
             " steps: on "
-        })?;
+        });
         push_window(text, view, link, &streams)
     }
 }
@@ -146,12 +146,7 @@ fn count_once(uses: &mut [usize], last: &mut [usize], place: usize, step: usize)
 }
 
 // Writes how long frames take on a link, and from when to when they may be there.
-fn push_window(
-    text: &mut String,
-    view: &View<'_>,
-    link: usize,
-    streams: &[usize],
-) -> Result<(), AllocError> {
+fn push_window(text: &mut Words, view: &View<'_>, link: usize, streams: &[usize]) {
     let network = view.network();
     let load = Load {
         link,
@@ -160,9 +155,9 @@ fn push_window(
         work: network.work(link, streams),
         tail: least_tail(network, link, streams),
     };
-    load.push_begin(text, network)?;
-    text.push_str(", and the last one has to be through by ")?;
-    push_time(text, latest_end(view, link, streams))?;
+    load.push_begin(text, network);
+    text.push_str(", and the last one has to be through by ");
+    push_time(text, latest_end(view, link, streams));
     text.push_str(".\n")
 }
 

@@ -7,26 +7,22 @@ use crate::path::{Path, streams_of};
 use crate::round::push_round;
 use crate::view::least_tail;
 use std::alloc::{AllocError, Global};
+use tsn_argument::Order;
 use tsn_cert::{Chain, Entries, Leaf, LowerBound, Node};
+use tsn_text::{Growing, Words};
 
 /// Writes what a leaf shows, where the decisions of the path to it hold.
-pub fn push_leaf(
-    alloc: Global,
-    text: &mut String,
-    network: Network<'_>,
-    path: &Path,
-    node: &Node,
-) -> Result<(), AllocError> {
+pub fn push_leaf(alloc: Global, text: &mut Words, network: Network<'_>, path: &Path, node: &Node) {
     match node {
-        Node::Branch(_) => Ok(()),
+        Node::Branch(_) => {}
         Node::Leaf(leaf) => {
-            push_path(text, network, path)?;
-            push_shown(alloc, text, network, path, leaf)?;
+            push_path(text, network, path);
+            push_shown(alloc, text, network, path, leaf);
             text.push_str(".\n")
         }
         Node::Tie(bound, _) => {
-            push_path(text, network, path)?;
-            push_bound(alloc, text, network, path, bound)?;
+            push_path(text, network, path);
+            push_bound(alloc, text, network, path, bound);
             text.push_str(
                 "; of the schedules done then, none comes before the plan in list order.\n",
             )
@@ -35,28 +31,22 @@ pub fn push_leaf(
 }
 
 /// Writes the decisions of a path.
-fn push_path(text: &mut String, network: Network<'_>, path: &Path) -> Result<(), AllocError> {
-    let count = path.list.len();
+fn push_path(text: &mut Words, network: Network<'_>, path: &Path) {
+    let count = path.decided().len();
     if count == 0 {
         return text.push_str("In any order: ");
     }
-    text.push_str("If ")?;
-    for (place, decided) in path.list.iter().enumerate() {
+    text.push_str("If ");
+    for (place, decided) in path.decided().iter().enumerate() {
         if place > 0 {
-            push_joint(text, place, count, "and")?;
+            push_joint(text, place, count, "and");
         }
-        network.push_order(text, decided.order)?;
+        network.push_order(text, decided.order);
     }
     text.push_str(": ")
 }
 
-fn push_shown(
-    alloc: Global,
-    text: &mut String,
-    network: Network<'_>,
-    path: &Path,
-    leaf: &Leaf,
-) -> Result<(), AllocError> {
+fn push_shown(alloc: Global, text: &mut Words, network: Network<'_>, path: &Path, leaf: &Leaf) {
     match leaf {
         Leaf::Bound(bound) => push_bound(alloc, text, network, path, bound),
         Leaf::Overrun(stream, chain) => {
@@ -65,55 +55,52 @@ fn push_shown(
         }
         Leaf::Cycle(chain) => push_closed(alloc, text, network, path, chain),
         Leaf::Overload(link, entries) => {
-            let streams = streams_of(alloc, entries)?;
+            let Ok(streams) = streams_of(alloc, entries) else {
+                return text.refuse();
+            };
             let load = load_of(network, path, *link, entries, &streams);
-            text.push_str("on ")?;
-            load.push_begin(text, network)?;
-            load.push_past(text, network.cycle())?;
+            text.push_str("on ");
+            load.push_begin(text, network);
+            load.push_past(text, network.cycle());
             drop(streams);
-            Ok(())
         }
     }
 }
 
 fn push_bound(
     alloc: Global,
-    text: &mut String,
+    text: &mut Words,
     network: Network<'_>,
     path: &Path,
     bound: &LowerBound,
-) -> Result<(), AllocError> {
+) {
     match bound {
         LowerBound::Late(stream, chain) => {
             let offset = path.offset(network, *stream, chain);
             push_late(text, network, *stream, offset)
         }
         LowerBound::Load(link, entries) => {
-            let streams = streams_of(alloc, entries)?;
-            text.push_str("on ")?;
+            let Ok(streams) = streams_of(alloc, entries) else {
+                return text.refuse();
+            };
+            text.push_str("on ");
             push_load(
                 text,
                 network,
                 load_of(network, path, *link, entries, &streams),
-            )?;
+            );
             drop(streams);
-            Ok(())
         }
     }
 }
 
 /// Writes when a stream arrives that can't start before an offset.
-fn push_late(
-    text: &mut String,
-    network: Network<'_>,
-    stream: usize,
-    offset: i64,
-) -> Result<(), AllocError> {
-    network.push_stream(text, stream)?;
-    text.push_str(" can't start before ")?;
-    push_time(text, offset)?;
-    text.push_str(" and arrives at ")?;
-    push_time(text, sum(offset, network.arrival(stream)))?;
+fn push_late(text: &mut Words, network: Network<'_>, stream: usize, offset: i64) {
+    network.push_stream(text, stream);
+    text.push_str(" can't start before ");
+    push_time(text, offset);
+    text.push_str(" and arrives at ");
+    push_time(text, sum(offset, network.arrival(stream)));
     text.push_str(" or later")
 }
 
@@ -134,22 +121,23 @@ pub fn load_of<'a>(
     }
 }
 
-/// Writes that the orders of a closed chain can't all hold.
-fn push_closed(
-    alloc: Global,
-    text: &mut String,
-    network: Network<'_>,
-    path: &Path,
-    chain: &Chain,
-) -> Result<(), AllocError> {
-    let mut orders = Vec::new(alloc);
+// The orders of a chain.
+fn orders_of(alloc: Global, path: &Path, chain: &Chain) -> Result<Vec<Order>, AllocError> {
+    let mut orders = Growing::new(alloc);
     for place in 0..chain.len() {
         if let Some(order) = path.order(chain.at(place)) {
-            orders.push(order)?;
+            orders.push(order);
         }
     }
-    let is_said = orders.len() == path.list.len();
-    push_round(text, network, &orders, is_said)?;
+    orders.finish()
+}
+
+/// Writes that the orders of a closed chain can't all hold.
+fn push_closed(alloc: Global, text: &mut Words, network: Network<'_>, path: &Path, chain: &Chain) {
+    let Ok(orders) = orders_of(alloc, path, chain) else {
+        return text.refuse();
+    };
+    let is_said = orders.len() == path.decided().len();
+    push_round(text, network, &orders, is_said);
     drop(orders);
-    Ok(())
 }

@@ -28,6 +28,7 @@ use tsn_argument::Certificate;
 use tsn_cert::Plan;
 use tsn_model::NoMemory;
 use tsn_net::Problem;
+use tsn_text::Words;
 
 /// Why no schedule is done before the plan is, or why there is none: lines that each end in a line feed. Instants are in
 /// nanoseconds from the cycle's start. The steps of an argument are numbered from 0, as they stand in its file. The certificate is
@@ -43,10 +44,10 @@ pub fn explanation(
         problem,
         timing: &timing,
     };
-    let mut text = String::new(alloc);
+    let mut text = Words::new(alloc);
     push_explanation(alloc, &mut text, network, plan, certificate)?;
     drop(timing);
-    Ok(text)
+    Ok(text.finish()?)
 }
 
 /// The stream and the link of each frame that matters for this, in the order of the streams and of their routes: those that an
@@ -69,12 +70,12 @@ pub fn marked_frames(
 
 fn push_explanation(
     alloc: Global,
-    text: &mut String,
+    text: &mut Words,
     network: Network<'_>,
     plan: &Plan,
     certificate: &Certificate,
 ) -> Result<(), AllocError> {
-    push_claim(text, network, plan)?;
+    push_claim(text, network, plan);
     match certificate {
         Certificate::Tree(cert) => push_tree(alloc, text, network, cert),
         Certificate::Argument(argument) => push_argument(alloc, text, network, argument),
@@ -82,15 +83,15 @@ fn push_explanation(
 }
 
 /// Writes what is shown.
-fn push_claim(text: &mut String, network: Network<'_>, plan: &Plan) -> Result<(), AllocError> {
+fn push_claim(text: &mut Words, network: Network<'_>, plan: &Plan) {
     match plan {
         Plan::Schedule { flowspan, .. } => {
-            text.push_str("No schedule is done before ")?;
-            push_time(text, signed(*flowspan))?;
+            text.push_str("No schedule is done before ");
+            push_time(text, signed(*flowspan));
         }
         Plan::None => {
-            text.push_str("There is no schedule within the cycle of ")?;
-            push_time(text, network.cycle())?;
+            text.push_str("There is no schedule within the cycle of ");
+            push_time(text, network.cycle());
         }
     }
     text.push_str(" ns.\n")

@@ -1,7 +1,7 @@
 //! Frames that take a link up together, in words.
 use crate::network::Network;
 use crate::number::{less, push_time, sum};
-use std::alloc::AllocError;
+use tsn_text::Words;
 
 /// Streams on a link: when the first of them can start there, how long they take it up together, and how long after its
 /// occupancy the last of them arrives, in nanoseconds.
@@ -30,68 +30,63 @@ impl Load<'_> {
     }
 
     /// Writes the link, how long the frames take, and from when on.
-    pub fn push_begin(self, text: &mut String, network: Network<'_>) -> Result<(), AllocError> {
-        network.push_link(text, self.link)?;
-        text.push_str(", ")?;
-        network.push_frames(text, self.streams)?;
-        text.push_str(if self.is_one() { " takes " } else { " take " })?;
-        push_time(text, self.work)?;
+    pub fn push_begin(self, text: &mut Words, network: Network<'_>) {
+        network.push_link(text, self.link);
+        text.push_str(", ");
+        network.push_frames(text, self.streams);
+        text.push_str(if self.is_one() { " takes " } else { " take " });
+        push_time(text, self.work);
         text.push_str(if self.is_one() {
             " ns; it can't start before "
         } else {
             " ns together; the first can't start before "
-        })?;
+        });
         push_time(text, self.head)
     }
 
-    fn push_tail(self, text: &mut String) -> Result<(), AllocError> {
+    fn push_tail(self, text: &mut Words) {
         let it = if self.is_one() { "it" } else { "the last one" };
         if self.tail > 0 {
-            text.push_str(", and after ")?;
-            text.push_str(it)?;
-            text.push(' ')?;
-            push_time(text, self.tail)?;
-            text.push_str(" ns pass")?;
+            text.push_str(", and after ");
+            text.push_str(it);
+            text.push(' ');
+            push_time(text, self.tail);
+            text.push_str(" ns pass");
         } else if self.tail < 0 {
-            text.push_str(", and ")?;
-            text.push_str(it)?;
-            text.push_str(" has arrived ")?;
-            push_time(text, less(0, self.tail))?;
-            text.push_str(" ns before the gap behind it ends")?;
+            text.push_str(", and ");
+            text.push_str(it);
+            text.push_str(" has arrived ");
+            push_time(text, less(0, self.tail));
+            text.push_str(" ns before the gap behind it ends");
         }
-        Ok(())
     }
 
     /// Writes that the frames have to be through sooner.
-    pub fn push_too_late(self, text: &mut String, end: i64) -> Result<(), AllocError> {
+    pub fn push_too_late(self, text: &mut Words, end: i64) {
         text.push_str(if self.is_one() {
             ", and has to be through by "
         } else {
             ", and the last one has to be through by "
-        })?;
-        push_time(text, end)?;
-        text.push_str(", which is ")?;
-        push_time(text, less(self.end(), end))?;
+        });
+        push_time(text, end);
+        text.push_str(", which is ");
+        push_time(text, less(self.end(), end));
         text.push_str(" ns too soon")
     }
 
     /// Writes that the link is taken up past the cycle's end.
-    pub fn push_past(self, text: &mut String, cycle: i64) -> Result<(), AllocError> {
-        text.push_str(": so the link is taken up until ")?;
-        push_time(text, self.end())?;
-        text.push_str(", past the cycle's end at ")?;
+    pub fn push_past(self, text: &mut Words, cycle: i64) {
+        text.push_str(": so the link is taken up until ");
+        push_time(text, self.end());
+        text.push_str(", past the cycle's end at ");
         push_time(text, cycle)
     }
 }
 
 /// Writes before when nothing is done because of the frames on a link, from the link on.
-pub fn push_load(
-    text: &mut String,
-    network: Network<'_>,
-    load: Load<'_>,
-) -> Result<(), AllocError> {
-    load.push_begin(text, network)?;
-    load.push_tail(text)?;
-    text.push_str(": so nothing is done before ")?;
+pub fn push_load(text: &mut Words, network: Network<'_>, load: Load<'_>) {
+    load.push_begin(text, network);
+    load.push_tail(text);
+    text.push_str(": so nothing is done before ");
     push_time(text, load.bound())
 }

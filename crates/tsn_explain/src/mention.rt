@@ -1,7 +1,7 @@
 //! The frames that the steps of an argument name, and the links on which they name them.
 use crate::needs::Part;
-use std::alloc::AllocError;
 use tsn_argument::{Fact, Move, Order, Placing, Step};
+use tsn_text::Growing;
 
 /// A frame on a link.
 #[derive(Clone, Copy)]
@@ -11,37 +11,30 @@ pub struct Mention {
 }
 
 /// Adds the frames that a step names on links, in its clause and its moves of a part.
-pub fn add_step(
-    list: &mut Vec<Mention>,
-    steps: &[Step],
-    part: &Part,
-    number: usize,
-) -> Result<(), AllocError> {
+pub fn add_step(list: &mut Growing<Mention>, steps: &[Step], part: &Part, number: usize) {
     let Some(step) = steps.get(number) else {
-        return Ok(());
+        return;
     };
-    add_facts(list, step.clause.list())?;
+    add_facts(list, step.clause.list());
     for (place, motion) in step.moves.list().iter().enumerate() {
         if part.has(number, place) {
-            add_move(list, motion)?;
+            add_move(list, motion);
         }
     }
-    Ok(())
 }
 
-fn add_facts(list: &mut Vec<Mention>, facts: &[Fact]) -> Result<(), AllocError> {
+fn add_facts(list: &mut Growing<Mention>, facts: &[Fact]) {
     for fact in facts {
         if let Fact::Order(order) = fact {
-            add_order(list, *order)?;
+            add_order(list, *order);
         }
     }
-    Ok(())
 }
 
-fn add_move(list: &mut Vec<Mention>, motion: &Move) -> Result<(), AllocError> {
+fn add_move(list: &mut Growing<Mention>, motion: &Move) {
     match motion {
         Move::Go(order) | Move::Turn(order) => add_order(list, *order),
-        Move::Use(_) | Move::Arrive(_) => Ok(()),
+        Move::Use(_) | Move::Arrive(_) => {}
         Move::Last(placing) | Move::First(placing) => add_placing(list, placing),
         Move::Pack(link, streams) => add_streams(list, *link, streams.list()),
         Move::Round(orders) => add_orders(list, orders.list()),
@@ -49,31 +42,25 @@ fn add_move(list: &mut Vec<Mention>, motion: &Move) -> Result<(), AllocError> {
 }
 
 /// Adds the two frames of an order.
-pub fn add_order(list: &mut Vec<Mention>, order: Order) -> Result<(), AllocError> {
+pub fn add_order(list: &mut Growing<Mention>, order: Order) {
     add_streams(list, order.link, &[order.first, order.second])
 }
 
-fn add_orders(list: &mut Vec<Mention>, orders: &[Order]) -> Result<(), AllocError> {
+fn add_orders(list: &mut Growing<Mention>, orders: &[Order]) {
     for order in orders {
-        add_order(list, *order)?;
+        add_order(list, *order);
     }
-    Ok(())
 }
 
-fn add_placing(list: &mut Vec<Mention>, placing: &Placing) -> Result<(), AllocError> {
-    add_streams(list, placing.link, &[placing.stream])?;
+fn add_placing(list: &mut Growing<Mention>, placing: &Placing) {
+    add_streams(list, placing.link, &[placing.stream]);
     add_streams(list, placing.link, placing.others.list())
 }
 
 /// Adds the frames of streams on a link.
-pub fn add_streams(
-    list: &mut Vec<Mention>,
-    link: usize,
-    streams: &[usize],
-) -> Result<(), AllocError> {
+pub fn add_streams(list: &mut Growing<Mention>, link: usize, streams: &[usize]) {
     for stream in streams {
         let stream = *stream;
-        list.push(Mention { stream, link })?;
+        list.push(Mention { stream, link });
     }
-    Ok(())
 }

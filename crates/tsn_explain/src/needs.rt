@@ -4,47 +4,54 @@ use crate::number::{is_marked, mark, marks, next, step_at};
 use crate::replay::Replay;
 use std::alloc::{AllocError, Global};
 use tsn_argument::Argument;
+use tsn_text::Growing;
 
 /// The moves that each move needs.
 #[derive(Drop)]
 pub struct Needs {
     // The first move of each step.
-    begins: Vec<usize>,
+    begins: Growing<usize>,
     // Of each move where those that it needs end in the list.
-    ends: Vec<usize>,
-    list: Vec<usize>,
+    ends: Growing<usize>,
+    list: Growing<usize>,
 }
 
 impl Needs {
     pub fn none(alloc: Global) -> Needs {
         Needs {
-            begins: Vec::new(alloc),
-            ends: Vec::new(alloc),
-            list: Vec::new(alloc),
+            begins: Growing::new(alloc),
+            ends: Growing::new(alloc),
+            list: Growing::new(alloc),
         }
     }
 
     /// A step begins with this move.
-    pub fn begin_step(&mut self, motion: usize) -> Result<(), AllocError> {
-        self.begins.push(motion)?;
-        Ok(())
+    pub fn begin_step(&mut self, motion: usize) {
+        self.begins.push(motion);
     }
 
     /// What the next move needs.
-    pub fn add(&mut self, moves: &[usize]) -> Result<(), AllocError> {
-        self.list.extend_from_slice(moves)?;
-        self.ends.push(self.list.len())?;
-        Ok(())
+    pub fn add(&mut self, moves: &[usize]) {
+        self.list.push_all(moves);
+        self.ends.push(self.list.list().len());
+    }
+
+    // The first move of each step.
+    fn into_begins(self) -> Result<Vec<usize>, AllocError> {
+        let Needs { begins, ends, list } = self;
+        drop(ends.finish()?);
+        drop(list.finish()?);
+        begins.finish()
     }
 
     fn of(&self, motion: usize) -> &[usize] {
         let begin = if motion == 0 {
             0
         } else {
-            step_at(&self.ends, motion.wrapping_sub(1))
+            step_at(self.ends.list(), motion.wrapping_sub(1))
         };
-        let end = step_at(&self.ends, motion);
-        match self.list.get(begin..end) {
+        let end = step_at(self.ends.list(), motion);
+        match self.list.list().get(begin..end) {
             Some(moves) => moves,
             None => &[],
         }
@@ -52,7 +59,7 @@ impl Needs {
 
     // Marks a move, and those that it needs.
     fn needed_for(&self, alloc: Global, last: usize) -> Result<Vec<bool>, AllocError> {
-        let count = self.ends.len();
+        let count = self.ends.list().len();
         let mut is_needed = marks(alloc, count)?;
         mark(&mut is_needed, last);
         for motion in (0..count).rev() {
@@ -118,13 +125,14 @@ impl Part {
         false
     }
 
-    fn add_steps(&mut self) -> Result<(), AllocError> {
+    fn steps_of(&self, alloc: Global) -> Result<Vec<usize>, AllocError> {
+        let mut steps = Growing::new(alloc);
         for step in 0..self.next {
             if self.has_some(step) {
-                self.steps.push(step)?;
+                steps.push(step);
             }
         }
-        Ok(())
+        steps.finish()
     }
 }
 
@@ -139,21 +147,19 @@ pub fn part_of(
         if replay.is_shown() {
             break;
         }
-        replay.take(step)?;
+        replay.take(step);
     }
-    replay.finish()?;
+    replay.end_last();
     let last = replay.showing();
-    let needs = replay.into_needs();
+    let needs = replay.into_needs()?;
     let is_needed = needs.needed_for(alloc, last)?;
-    let Needs { begins, ends, list } = needs;
-    drop(ends);
-    drop(list);
+    let begins = needs.into_begins()?;
     let mut part = Part {
         steps: Vec::new(alloc),
         next: begins.len(),
         begins,
         is_needed,
     };
-    part.add_steps()?;
+    part.steps = part.steps_of(alloc)?;
     Ok(part)
 }

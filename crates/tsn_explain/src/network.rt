@@ -1,10 +1,9 @@
 //! A network's times and names, where what isn't there has the time 0 and is called by its number.
 use crate::number::{less, signed, sum};
-use std::alloc::AllocError;
-use std::fmt::Write;
 use tsn_argument::Order;
 use tsn_model::Link;
 use tsn_net::Problem;
+use tsn_text::Words;
 use tsn_timing::Timing;
 
 /// The most names that are told of a set of streams.
@@ -150,94 +149,92 @@ impl Network<'_> {
     }
 
     /// Writes 'stream' and a stream's name.
-    pub fn push_stream(self, text: &mut String, stream: usize) -> Result<(), AllocError> {
-        text.push_str("stream ")?;
+    pub fn push_stream(self, text: &mut Words, stream: usize) {
+        text.push_str("stream ");
         self.push_name(text, stream)
     }
 
     /// Writes a stream's name.
-    fn push_name(self, text: &mut String, stream: usize) -> Result<(), AllocError> {
+    fn push_name(self, text: &mut Words, stream: usize) {
         if stream < self.problem.streams() {
             text.push_str(self.problem.stream_name(stream))
         } else {
-            write!(text, "{stream}")
+            text.push_count(stream);
         }
     }
 
     /// Writes the names of streams.
-    fn push_names(self, text: &mut String, streams: &[usize]) -> Result<(), AllocError> {
+    fn push_names(self, text: &mut Words, streams: &[usize]) {
         let count = streams.len();
         for (place, stream) in streams.iter().enumerate() {
             if place == MOST_NAMED {
                 let others = count.wrapping_sub(place);
-                return write!(text, " and {others} more");
+                text.push_str(" and ");
+                text.push_count(others);
+                return text.push_str(" more");
             }
             if place > 0 {
-                push_joint(text, place, count, "and")?;
+                push_joint(text, place, count, "and");
             }
-            self.push_name(text, *stream)?;
+            self.push_name(text, *stream);
         }
-        Ok(())
     }
 
     /// Writes 'the frame of' or 'the frames of' streams, and their names.
-    pub fn push_frames(self, text: &mut String, streams: &[usize]) -> Result<(), AllocError> {
+    pub fn push_frames(self, text: &mut Words, streams: &[usize]) {
         if streams.len() == 1 {
-            text.push_str("the frame of ")?;
+            text.push_str("the frame of ");
         } else {
-            text.push_str("the frames of ")?;
+            text.push_str("the frames of ");
         }
         self.push_names(text, streams)
     }
 
     /// Writes a directed link by its number, and the nodes that it joins.
-    pub fn push_link(self, text: &mut String, number: usize) -> Result<(), AllocError> {
-        write!(text, "link {number}")?;
+    pub fn push_link(self, text: &mut Words, number: usize) {
+        text.push_str("link ");
+        text.push_count(number);
         self.push_ends(text, number, ", ", "")
     }
 
     /// Writes the nodes that a link joins, between two texts.
-    fn push_ends(
-        self,
-        text: &mut String,
-        number: usize,
-        before: &str,
-        behind: &str,
-    ) -> Result<(), AllocError> {
+    fn push_ends(self, text: &mut Words, number: usize, before: &str, behind: &str) {
         let problem = self.problem;
         if number >= problem.links() {
-            return Ok(());
+            return;
         }
         let Link { from, to, .. } = problem.link(number);
         if from >= problem.nodes() || to >= problem.nodes() {
-            return Ok(());
+            return;
         }
         let first = problem.node_name(from);
         let second = problem.node_name(to);
-        write!(text, "{before}{first} to {second}{behind}")
+        text.push_str(before);
+        text.push_str(first);
+        text.push_str(" to ");
+        text.push_str(second);
+        text.push_str(behind);
     }
 
     /// Writes that one stream goes before another one on a link.
-    pub fn push_order(self, text: &mut String, order: Order) -> Result<(), AllocError> {
-        self.push_stream(text, order.first)?;
-        text.push_str(" goes before ")?;
-        self.push_stream(text, order.second)?;
+    pub fn push_order(self, text: &mut Words, order: Order) {
+        self.push_stream(text, order.first);
+        text.push_str(" goes before ");
+        self.push_stream(text, order.second);
         let link = order.link;
-        write!(text, " on link {link}")?;
+        text.push_str(" on link ");
+        text.push_count(link);
         self.push_ends(text, link, " (", ")")
     }
 }
 
 /// Writes what stands between two elements of an enumeration, before the one at this place.
-pub fn push_joint(
-    text: &mut String,
-    place: usize,
-    count: usize,
-    word: &str,
-) -> Result<(), AllocError> {
+pub fn push_joint(text: &mut Words, place: usize, count: usize, word: &str) {
     if place.wrapping_add(1) < count {
         text.push_str(", ")
     } else {
-        write!(text, " {word} ")
+        text.push(' ');
+        text.push_str(word);
+        text.push(' ');
     }
 }

@@ -1,6 +1,6 @@
 //! Numbers in lists, where a place that a list doesn't have is passed over, and how times are written.
 use std::alloc::{AllocError, Global};
-use std::fmt::Write;
+use tsn_text::Words;
 
 /// No step, and no move.
 pub const NONE: usize = 0xFFFF_FFFF_FFFF;
@@ -129,36 +129,35 @@ pub fn most(counts: &[usize]) -> Option<usize> {
 }
 
 /// Writes a time in nanoseconds, with commas between the thousands.
-pub fn push_time(text: &mut String, time: i64) -> Result<(), AllocError> {
+pub fn push_time(text: &mut Words, time: i64) {
     if time < 0 {
-        text.push('-')?;
+        text.push('-');
     }
     push_grouped(text, time.unsigned_abs())
 }
 
 /// Writes a number, with commas between the thousands.
-pub fn push_count(text: &mut String, count: usize) -> Result<(), AllocError> {
+pub fn push_count(text: &mut Words, count: usize) {
     push_grouped(text, count as u64)
 }
 
-fn push_grouped(text: &mut String, number: u64) -> Result<(), AllocError> {
+fn push_grouped(text: &mut Words, number: u64) {
     let mut is_begun = false;
     for unit in [1_000_000_000_000u64, 1_000_000_000, 1_000_000, 1000, 1] {
         if unit > 0 && (is_begun || number >= unit || unit == 1) {
-            push_group(text, is_begun, number / unit)?;
+            push_group(text, is_begun, number / unit);
             is_begun = true;
         }
     }
-    Ok(())
 }
 
 // Writes the last three digits of a number behind others, or else all of it.
-fn push_group(text: &mut String, is_behind: bool, number: u64) -> Result<(), AllocError> {
+fn push_group(text: &mut Words, is_behind: bool, number: u64) {
     if !is_behind {
-        return write!(text, "{number}");
+        return text.push_number(number);
     }
-    let hundreds = number / 100 % 10;
-    let tens = number / 10 % 10;
-    let ones = number % 10;
-    write!(text, ",{hundreds}{tens}{ones}")
+    text.push(',');
+    text.push_number(number / 100 % 10);
+    text.push_number(number / 10 % 10);
+    text.push_number(number % 10);
 }

@@ -6,6 +6,7 @@ use std::alloc::{AllocError, Global};
 use tsn_argument::Order;
 use tsn_cert::{Chain, Entries, Node};
 use tsn_model::Triple;
+use tsn_text::Growing;
 
 /// A decision of a path.
 #[derive(Clone, Copy)]
@@ -18,19 +19,31 @@ pub struct Decided {
 /// The way from the root of a tree to one of its nodes.
 #[derive(Drop)]
 pub struct Path {
-    pub list: Vec<Decided>,
+    list: Growing<Decided>,
 }
 
 impl Path {
     /// The way to the root.
     pub fn first(alloc: Global) -> Path {
         Path {
-            list: Vec::new(alloc),
+            list: Growing::new(alloc),
         }
     }
 
+    /// Whether there was memory for all of it.
+    pub fn finish(self) -> Result<(), AllocError> {
+        let Path { list } = self;
+        drop(list.finish()?);
+        Ok(())
+    }
+
+    /// The decisions, from the root on.
+    pub fn decided(&self) -> &[Decided] {
+        self.list.list()
+    }
+
     /// Goes on from a node to the one behind it.
-    pub fn go_on(&mut self, node: &Node) -> Result<(), AllocError> {
+    pub fn go_on(&mut self, node: &Node) {
         match node {
             Node::Branch(triple) => self.branch(*triple),
             _ => self.leaf(),
@@ -38,36 +51,34 @@ impl Path {
     }
 
     // Goes on to the left child of a branch.
-    fn branch(&mut self, triple: Triple) -> Result<(), AllocError> {
+    fn branch(&mut self, triple: Triple) {
         let order = Order {
             first: triple.left,
             second: triple.right,
             link: triple.link,
         };
         let is_left = true;
-        self.list.push(Decided { order, is_left })?;
-        Ok(())
+        self.list.push(Decided { order, is_left });
     }
 
     // Goes on from a leaf to the right child of the last branch whose left one it was in.
-    fn leaf(&mut self) -> Result<(), AllocError> {
-        for _ in 0..self.list.len() {
+    fn leaf(&mut self) {
+        for _ in 0..self.decided().len() {
             let Some(decided) = self.list.pop() else {
                 break;
             };
             if decided.is_left {
                 let order = turned(decided.order);
                 let is_left = false;
-                self.list.push(Decided { order, is_left })?;
+                self.list.push(Decided { order, is_left });
                 break;
             }
         }
-        Ok(())
     }
 
     /// The order at a depth.
     pub fn order(&self, depth: usize) -> Option<Order> {
-        match self.list.get(depth) {
+        match self.decided().get(depth) {
             Some(decided) => Some(decided.order),
             None => None,
         }
@@ -108,9 +119,9 @@ impl Path {
 
 /// The streams of entries.
 pub fn streams_of(alloc: Global, entries: &Entries) -> Result<Vec<usize>, AllocError> {
-    let mut streams = Vec::new(alloc);
+    let mut streams = Growing::new(alloc);
     for (stream, _) in entries.list() {
-        streams.push(*stream)?;
+        streams.push(*stream);
     }
-    Ok(streams)
+    streams.finish()
 }

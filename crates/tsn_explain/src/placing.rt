@@ -4,65 +4,60 @@ use crate::number::{push_time, sum};
 use crate::view::View;
 use std::alloc::{AllocError, Global};
 use tsn_argument::Placing;
+use tsn_text::Words;
 
 /// Writes that a frame goes last on a link, and why, up to what follows for its stream.
-pub fn push_last(
-    alloc: Global,
-    text: &mut String,
-    view: &View<'_>,
-    placing: &Placing,
-) -> Result<(), AllocError> {
+pub fn push_last(alloc: Global, text: &mut Words, view: &View<'_>, placing: &Placing) {
     let Placing { link, stream, .. } = placing;
     let others = placing.others.list();
     let some = placing.some.list();
-    let all = with_stream(alloc, others, *stream)?;
+    let Ok(all) = with_stream(alloc, others, *stream) else {
+        return text.refuse();
+    };
     let head = view.first_head(*link, &all);
-    let work = push_together(text, view.network(), *link, &all)?;
+    let work = push_together(text, view.network(), *link, &all);
     drop(all);
-    text.push_str(" and can't start before ")?;
-    push_time(text, head)?;
-    push_other_end(text, view.network(), others, "last")?;
-    text.push_str("it would be through at ")?;
-    push_time(text, sum(head, work))?;
-    text.push_str(" or later, past ")?;
-    push_time(text, view.last_end(*link, others))?;
-    push_placed(text, view.network(), *stream, "last")?;
+    text.push_str(" and can't start before ");
+    push_time(text, head);
+    push_other_end(text, view.network(), others, "last");
+    text.push_str("it would be through at ");
+    push_time(text, sum(head, work));
+    text.push_str(" or later, past ");
+    push_time(text, view.last_end(*link, others));
+    push_placed(text, view.network(), *stream, "last");
     if some.len() < others.len() {
-        push_some(text, view.network(), *link, some, ", after ")?;
-        text.push_str(" from ")?;
-        push_time(text, view.first_head(*link, some))?;
-        text.push_str(" on")?;
+        push_some(text, view.network(), *link, some, ", after ");
+        text.push_str(" from ");
+        push_time(text, view.first_head(*link, some));
+        text.push_str(" on");
     }
     text.push_str(", and ")
 }
 
 /// Writes that a frame goes first on a link, and why, up to what follows for its stream.
-pub fn push_first(
-    alloc: Global,
-    text: &mut String,
-    view: &View<'_>,
-    placing: &Placing,
-) -> Result<(), AllocError> {
+pub fn push_first(alloc: Global, text: &mut Words, view: &View<'_>, placing: &Placing) {
     let Placing { link, stream, .. } = placing;
     let others = placing.others.list();
     let some = placing.some.list();
-    let all = with_stream(alloc, others, *stream)?;
+    let Ok(all) = with_stream(alloc, others, *stream) else {
+        return text.refuse();
+    };
     let end = view.last_end(*link, &all);
-    let work = push_together(text, view.network(), *link, &all)?;
+    let work = push_together(text, view.network(), *link, &all);
     drop(all);
-    text.push_str(" and have to be through by ")?;
-    push_time(text, end)?;
-    push_other_end(text, view.network(), others, "first")?;
+    text.push_str(" and have to be through by ");
+    push_time(text, end);
+    push_other_end(text, view.network(), others, "first");
     let head = view.first_head(*link, others);
-    text.push_str("they would start at ")?;
-    push_time(text, head)?;
-    text.push_str(" or later and take until ")?;
-    push_time(text, sum(head, work))?;
-    push_placed(text, view.network(), *stream, "first")?;
+    text.push_str("they would start at ");
+    push_time(text, head);
+    text.push_str(" or later and take until ");
+    push_time(text, sum(head, work));
+    push_placed(text, view.network(), *stream, "first");
     if some.len() < others.len() {
-        push_some(text, view.network(), *link, some, ", before ")?;
-        text.push_str(" until ")?;
-        push_time(text, view.last_end(*link, some))?;
+        push_some(text, view.network(), *link, some, ", before ");
+        text.push_str(" until ");
+        push_time(text, view.last_end(*link, some));
     }
     text.push_str(", and ")
 }
@@ -76,63 +71,42 @@ fn with_stream(alloc: Global, others: &[usize], stream: usize) -> Result<Vec<usi
 }
 
 // Writes how long frames take on a link together, and says it.
-fn push_together(
-    text: &mut String,
-    network: Network<'_>,
-    link: usize,
-    streams: &[usize],
-) -> Result<i64, AllocError> {
+fn push_together(text: &mut Words, network: Network<'_>, link: usize, streams: &[usize]) -> i64 {
     let work = network.work(link, streams);
-    text.push_str("on ")?;
-    network.push_link(text, link)?;
-    text.push_str(", ")?;
-    network.push_frames(text, streams)?;
-    text.push_str(" take ")?;
-    push_time(text, work)?;
-    text.push_str(" ns together")?;
-    Ok(work)
+    text.push_str("on ");
+    network.push_link(text, link);
+    text.push_str(", ");
+    network.push_frames(text, streams);
+    text.push_str(" take ");
+    push_time(text, work);
+    text.push_str(" ns together");
+    work
 }
 
 // Writes that another frame would go last or first.
-fn push_other_end(
-    text: &mut String,
-    network: Network<'_>,
-    others: &[usize],
-    end: &str,
-) -> Result<(), AllocError> {
-    text.push_str(". If ")?;
+fn push_other_end(text: &mut Words, network: Network<'_>, others: &[usize], end: &str) {
+    text.push_str(". If ");
     if others.len() > 1 {
-        text.push_str("one of ")?;
+        text.push_str("one of ");
     }
-    network.push_frames(text, others)?;
-    text.push_str(" went ")?;
-    text.push_str(end)?;
+    network.push_frames(text, others);
+    text.push_str(" went ");
+    text.push_str(end);
     text.push_str(", ")
 }
 
 // Writes that a stream's frame goes last or first.
-fn push_placed(
-    text: &mut String,
-    network: Network<'_>,
-    stream: usize,
-    end: &str,
-) -> Result<(), AllocError> {
-    text.push_str(". So ")?;
-    network.push_frames(text, &[stream])?;
-    text.push_str(" goes ")?;
+fn push_placed(text: &mut Words, network: Network<'_>, stream: usize, end: &str) {
+    text.push_str(". So ");
+    network.push_frames(text, &[stream]);
+    text.push_str(" goes ");
     text.push_str(end)
 }
 
 // Writes how long some frames take on a link.
-fn push_some(
-    text: &mut String,
-    network: Network<'_>,
-    link: usize,
-    some: &[usize],
-    word: &str,
-) -> Result<(), AllocError> {
-    text.push_str(word)?;
-    push_time(text, network.work(link, some))?;
-    text.push_str(" ns of ")?;
+fn push_some(text: &mut Words, network: Network<'_>, link: usize, some: &[usize], word: &str) {
+    text.push_str(word);
+    push_time(text, network.work(link, some));
+    text.push_str(" ns of ");
     network.push_frames(text, some)
 }

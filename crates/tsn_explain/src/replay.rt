@@ -5,6 +5,7 @@ use crate::number::{less, next, signed, step_at, sum};
 use crate::view::{Learned, View, opposite, turned};
 use std::alloc::{AllocError, Global};
 use tsn_argument::{Argument, Fact, Goal, Move, Order, Placing, Step};
+use tsn_text::Growing;
 
 /// An argument whose steps are made.
 #[derive(Drop)]
@@ -15,8 +16,8 @@ pub struct Replay<'a> {
     /// The flowspan that no schedule is below.
     pub target: i64,
     // The step that each clause is of, and the move that shows it.
-    clauses: Vec<usize>,
-    shown_by: Vec<usize>,
+    clauses: Growing<usize>,
+    shown_by: Growing<usize>,
     // How many halves of moves have begun, and what those before the last one need.
     count: usize,
     needs: Needs,
@@ -41,8 +42,8 @@ impl<'a> Replay<'a> {
             steps,
             goal: argument.goal,
             target,
-            clauses: Vec::new(alloc),
-            shown_by: Vec::new(alloc),
+            clauses: Growing::new(alloc),
+            shown_by: Growing::new(alloc),
             count: 0,
             needs: Needs::none(alloc),
         })
@@ -77,7 +78,7 @@ impl<'a> Replay<'a> {
 
     /// The step that shows the clause of this number.
     pub fn step_of_clause(&self, number: usize) -> usize {
-        step_at(&self.clauses, number)
+        step_at(self.clauses.list(), number)
     }
 
     // The number of the move under way.
@@ -86,17 +87,22 @@ impl<'a> Replay<'a> {
     }
 
     // The next move begins.
-    fn go_on(&mut self) -> Result<(), AllocError> {
+    fn go_on(&mut self) {
         if self.count > 0 {
-            self.needs.add(self.view.needs())?;
+            self.needs.add(self.view.needs());
         }
         self.view.begin(self.count);
         self.count = next(self.count);
+    }
+
+    /// Whether there was memory for all of it.
+    pub fn finish(self) -> Result<(), AllocError> {
+        drop(self.into_needs()?);
         Ok(())
     }
 
-    /// What each move needs, after the last one.
-    pub fn into_needs(self) -> Needs {
+    /// What each move needs, after the last one; the error says that there was no memory for all of it.
+    pub fn into_needs(self) -> Result<Needs, AllocError> {
         let Replay {
             view,
             clauses,
@@ -104,14 +110,14 @@ impl<'a> Replay<'a> {
             needs,
             ..
         } = self;
-        drop(view);
-        drop(clauses);
-        drop(shown_by);
-        needs
+        view.finish()?;
+        drop(clauses.finish()?);
+        drop(shown_by.finish()?);
+        Ok(needs)
     }
 
     /// Ends the last move.
-    pub fn finish(&mut self) -> Result<(), AllocError> {
+    pub fn end_last(&mut self) {
         self.needs.add(self.view.needs())
     }
 
@@ -125,65 +131,63 @@ impl<'a> Replay<'a> {
     }
 
     /// Takes a step.
-    pub fn take(&mut self, step: usize) -> Result<(), AllocError> {
-        self.begin(step)?;
+    pub fn take(&mut self, step: usize) {
+        self.begin(step);
         for motion in self.moves(step) {
-            self.make(motion)?;
+            self.make(motion);
         }
         self.end(step)
     }
 
     /// A step begins with the opposites of its facts.
-    pub fn begin(&mut self, step: usize) -> Result<(), AllocError> {
-        self.go_on()?;
+    pub fn begin(&mut self, step: usize) {
+        self.go_on();
         let motion = self.last();
-        self.needs.begin_step(motion)?;
+        self.needs.begin_step(motion);
         for fact in self.facts(step) {
             let learned = self.view.learned_of(*fact);
-            self.view.learn(opposite(learned))?;
+            self.view.learn(opposite(learned));
         }
-        Ok(())
     }
 
     /// A step ends, and its clause is kept.
-    pub fn end(&mut self, step: usize) -> Result<(), AllocError> {
+    pub fn end(&mut self, step: usize) {
         let facts = self.facts(step);
         if !facts.is_empty() {
             self.view.go_back();
-            self.clauses.push(step)?;
+            self.clauses.push(step);
             let motion = self.last();
-            self.shown_by.push(motion)?;
+            self.shown_by.push(motion);
         }
         if let [fact] = facts {
             let learned = self.view.learned_of(*fact);
-            self.view.learn(learned)?;
+            self.view.learn(learned);
         }
         if facts.len() <= 1 {
             self.view.keep();
         }
-        Ok(())
     }
 
     /// Makes a move, its two halves one after the other, as long as there is room.
-    pub fn make(&mut self, motion: &Move) -> Result<(), AllocError> {
+    pub fn make(&mut self, motion: &Move) {
         if self.view.crossing().is_some() {
-            return Ok(());
+            return;
         }
-        self.go_on()?;
-        self.make_half(motion)?;
+        self.go_on();
+        self.make_half(motion);
         if self.view.crossing().is_some() {
-            return Ok(());
+            return;
         }
-        self.go_on()?;
+        self.go_on();
         match motion {
             Move::Go(order) => self.hold_back(*order),
             Move::Arrive(stream) => self.limit(*stream),
-            _ => Ok(()),
+            _ => {}
         }
     }
 
     // The first half of a move, which is all but for those by an order and by an arrival.
-    fn make_half(&mut self, motion: &Move) -> Result<(), AllocError> {
+    fn make_half(&mut self, motion: &Move) {
         match motion {
             Move::Go(order) => self.make_go(*order),
             Move::Turn(order) => self.make_turn(*order),
@@ -197,43 +201,41 @@ impl<'a> Replay<'a> {
     }
 
     // From when on the second stream of an order may start.
-    fn make_go(&mut self, order: Order) -> Result<(), AllocError> {
+    fn make_go(&mut self, order: Order) {
         let weight = self.view.network().weight(order);
         let low = sum(self.view.low(order.first), weight);
         if low > self.view.low(order.second) {
-            self.view.need_order(order)?;
-            self.view.need_low(order.first)?;
-            self.view.learn(Learned::From(order.second, low))?;
+            self.view.need_order(order);
+            self.view.need_low(order.first);
+            self.view.learn(Learned::From(order.second, low));
         }
-        Ok(())
     }
 
     // Until when the first one may start.
-    fn hold_back(&mut self, order: Order) -> Result<(), AllocError> {
+    fn hold_back(&mut self, order: Order) {
         let weight = self.view.network().weight(order);
         let high = less(self.view.high(order.second), weight);
         if high < self.view.high(order.first) {
-            self.view.need_order(order)?;
-            self.view.need_high(order.second)?;
-            self.view.learn(Learned::Until(order.first, high))?;
+            self.view.need_order(order);
+            self.view.need_high(order.second);
+            self.view.learn(Learned::Until(order.first, high));
         }
-        Ok(())
     }
 
-    fn make_turn(&mut self, order: Order) -> Result<(), AllocError> {
-        self.view.need_low(order.second)?;
-        self.view.need_high(order.first)?;
+    fn make_turn(&mut self, order: Order) {
+        self.view.need_low(order.second);
+        self.view.need_high(order.first);
         self.view.learn(Learned::Order(order))
     }
 
-    fn make_use(&mut self, number: usize) -> Result<(), AllocError> {
+    fn make_use(&mut self, number: usize) {
         let step = self.step_of_clause(number);
-        self.view.need(step_at(&self.shown_by, number))?;
+        self.view.need(step_at(self.shown_by.list(), number));
         let mut left = None;
         for fact in self.facts(step) {
             let learned = self.view.learned_of(*fact);
             if self.view.contradicts(learned) {
-                self.view.need_against(learned)?;
+                self.view.need_against(learned);
             } else {
                 left = Some(learned);
             }
@@ -255,47 +257,43 @@ impl<'a> Replay<'a> {
     }
 
     // No schedule is left.
-    fn refute(&mut self) -> Result<(), AllocError> {
+    fn refute(&mut self) {
         let done = self.view.done();
         let past = sum(self.view.high(done), 1);
         self.view.learn(Learned::From(done, past))
     }
 
-    fn make_arrive(&mut self, stream: usize) -> Result<(), AllocError> {
+    fn make_arrive(&mut self, stream: usize) {
         let arrival = self.view.network().arrival(stream);
         let done = self.view.done();
         let low = sum(self.view.low(stream), arrival);
         if low > self.view.low(done) {
-            self.view.need_low(stream)?;
-            self.view.learn(Learned::From(done, low))?;
+            self.view.need_low(stream);
+            self.view.learn(Learned::From(done, low));
         }
-        Ok(())
     }
 
     // Until when a stream may start that has to arrive in time.
-    fn limit(&mut self, stream: usize) -> Result<(), AllocError> {
+    fn limit(&mut self, stream: usize) {
         let arrival = self.view.network().arrival(stream);
         let done = self.view.done();
         let high = less(self.view.high(done), arrival);
         if high < self.view.high(stream) {
-            self.view.need_high(done)?;
-            self.view.learn(Learned::Until(stream, high))?;
+            self.view.need_high(done);
+            self.view.learn(Learned::Until(stream, high));
         }
-        Ok(())
     }
 
-    fn need_lows(&mut self, streams: &[usize]) -> Result<(), AllocError> {
+    fn need_lows(&mut self, streams: &[usize]) {
         for stream in streams {
-            self.view.need_low(*stream)?;
+            self.view.need_low(*stream);
         }
-        Ok(())
     }
 
-    fn need_highs(&mut self, streams: &[usize]) -> Result<(), AllocError> {
+    fn need_highs(&mut self, streams: &[usize]) {
         for stream in streams {
-            self.view.need_high(*stream)?;
+            self.view.need_high(*stream);
         }
-        Ok(())
     }
 
     /// From when on the stream of a placing may start, where it goes last.
@@ -307,10 +305,10 @@ impl<'a> Replay<'a> {
         less(free, network.start(placing.stream, placing.link))
     }
 
-    fn make_last(&mut self, placing: &Placing) -> Result<(), AllocError> {
-        self.view.need_low(placing.stream)?;
-        self.need_lows(placing.others.list())?;
-        self.need_highs(placing.others.list())?;
+    fn make_last(&mut self, placing: &Placing) {
+        self.view.need_low(placing.stream);
+        self.need_lows(placing.others.list());
+        self.need_highs(placing.others.list());
         let from = self.from_last(placing);
         self.view.learn(Learned::From(placing.stream, from))
     }
@@ -324,23 +322,23 @@ impl<'a> Replay<'a> {
         less(needed, network.end(placing.stream, placing.link))
     }
 
-    fn make_first(&mut self, placing: &Placing) -> Result<(), AllocError> {
-        self.view.need_high(placing.stream)?;
-        self.need_lows(placing.others.list())?;
-        self.need_highs(placing.others.list())?;
+    fn make_first(&mut self, placing: &Placing) {
+        self.view.need_high(placing.stream);
+        self.need_lows(placing.others.list());
+        self.need_highs(placing.others.list());
         let until = self.until_first(placing);
         self.view.learn(Learned::Until(placing.stream, until))
     }
 
-    fn make_pack(&mut self, _link: usize, streams: &[usize]) -> Result<(), AllocError> {
-        self.need_lows(streams)?;
-        self.need_highs(streams)?;
+    fn make_pack(&mut self, _link: usize, streams: &[usize]) {
+        self.need_lows(streams);
+        self.need_highs(streams);
         self.refute()
     }
 
-    fn make_round(&mut self, orders: &[Order]) -> Result<(), AllocError> {
+    fn make_round(&mut self, orders: &[Order]) {
         for order in orders {
-            self.view.need_order(*order)?;
+            self.view.need_order(*order);
         }
         self.refute()
     }

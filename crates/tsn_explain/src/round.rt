@@ -1,27 +1,22 @@
 //! Orders that lead from a stream back to it, in words.
 use crate::network::{Network, push_joint};
 use crate::number::{push_time, sum};
-use std::alloc::AllocError;
 use tsn_argument::Order;
+use tsn_text::Words;
 
 /// Writes that these orders can't all hold; the orders too, unless they stand there already.
-pub fn push_round(
-    text: &mut String,
-    network: Network<'_>,
-    orders: &[Order],
-    is_said: bool,
-) -> Result<(), AllocError> {
+pub fn push_round(text: &mut Words, network: Network<'_>, orders: &[Order], is_said: bool) {
     let Some(first) = orders.first() else {
-        return Ok(());
+        return;
     };
     if !is_said {
-        push_orders(text, network, orders)?;
-        text.push_str(": ")?;
+        push_orders(text, network, orders);
+        text.push_str(": ");
     }
-    text.push_str("by these orders ")?;
-    network.push_stream(text, first.first)?;
-    text.push_str(" would start ")?;
-    push_time(text, weight_of(network, orders))?;
+    text.push_str("by these orders ");
+    network.push_stream(text, first.first);
+    text.push_str(" would start ");
+    push_time(text, weight_of(network, orders));
     text.push_str(" ns later than it does, so they can't all hold")
 }
 
@@ -33,16 +28,11 @@ fn weight_of(network: Network<'_>, orders: &[Order]) -> i64 {
     weight
 }
 
-fn push_orders(
-    text: &mut String,
-    network: Network<'_>,
-    orders: &[Order],
-) -> Result<(), AllocError> {
+fn push_orders(text: &mut Words, network: Network<'_>, orders: &[Order]) {
     for (place, order) in orders.iter().enumerate() {
         if place > 0 {
-            push_joint(text, place, orders.len(), "and")?;
+            push_joint(text, place, orders.len(), "and");
         }
-        network.push_order(text, *order)?;
+        network.push_order(text, *order);
     }
-    Ok(())
 }

@@ -7,56 +7,53 @@ use crate::placing::{push_first, push_last};
 use crate::replay::Replay;
 use crate::round::push_round;
 use crate::view::{Crossing, Learned, View, least_tail, opposite};
-use std::alloc::{AllocError, Global};
-use std::fmt::Write;
+use std::alloc::Global;
 use tsn_argument::{Fact, Goal, Move, Order, Placing};
+use tsn_text::Words;
 
 /// Writes what a fact says.
-fn push_fact(text: &mut String, view: &View<'_>, fact: Learned) -> Result<(), AllocError> {
+fn push_fact(text: &mut Words, view: &View<'_>, fact: Learned) {
     match fact {
         Learned::From(subject, time) if subject == view.done() => {
-            text.push_str("nothing is done before ")?;
+            text.push_str("nothing is done before ");
             push_time(text, time)
         }
         Learned::Until(subject, time) if subject == view.done() => {
-            text.push_str("all is done by ")?;
+            text.push_str("all is done by ");
             push_time(text, time)
         }
         Learned::From(stream, time) => {
-            push_start(text, view, stream, time)?;
+            push_start(text, view, stream, time);
             text.push_str(" or later")
         }
         Learned::Until(stream, time) => {
-            push_start(text, view, stream, time)?;
+            push_start(text, view, stream, time);
             text.push_str(" or earlier")
         }
         Learned::Order(order) => view.network().push_order(text, order),
     }
 }
 
-fn push_start(
-    text: &mut String,
-    view: &View<'_>,
-    stream: usize,
-    time: i64,
-) -> Result<(), AllocError> {
-    view.network().push_stream(text, stream)?;
-    text.push_str(" starts at ")?;
+fn push_start(text: &mut Words, view: &View<'_>, stream: usize, time: i64) {
+    view.network().push_stream(text, stream);
+    text.push_str(" starts at ");
     push_time(text, time)
 }
 
 /// Writes a step and takes it: what is supposed, its moves that are of the part, and what follows.
 pub fn push_step(
     alloc: Global,
-    text: &mut String,
+    text: &mut Words,
     replay: &mut Replay<'_>,
     part: &Part,
     step: usize,
-) -> Result<(), AllocError> {
-    write!(text, "Step {step}: ")?;
-    push_supposed(text, replay, step)?;
-    replay.begin(step)?;
-    push_crossing(text, &replay.view)?;
+) {
+    text.push_str("Step ");
+    text.push_count(step);
+    text.push_str(": ");
+    push_supposed(text, replay, step);
+    replay.begin(step);
+    push_crossing(text, &replay.view);
     let mut teller = Teller {
         alloc,
         text,
@@ -68,20 +65,20 @@ pub fn push_step(
     for (place, motion) in replay.moves(step).iter().enumerate() {
         let halves = part.halves(step, place);
         if halves.first || halves.second {
-            teller.push_move(replay, motion, halves)?;
+            teller.push_move(replay, motion, halves);
         } else {
-            replay.make(motion)?;
+            replay.make(motion);
         }
     }
-    teller.push_limited(replay)?;
+    teller.push_limited(replay);
     let said = teller.said;
     drop(teller);
-    push_shown(text, replay, step, said)?;
+    push_shown(text, replay, step, said);
     replay.end(step)
 }
 
 /// Writes the opposites of the facts of a step, or which schedules it is about.
-fn push_supposed(text: &mut String, replay: &Replay<'_>, step: usize) -> Result<(), AllocError> {
+fn push_supposed(text: &mut Words, replay: &Replay<'_>, step: usize) {
     let facts = replay.facts(step);
     let view = &replay.view;
     if facts.is_empty() && replay.goal == Goal::None {
@@ -90,31 +87,25 @@ fn push_supposed(text: &mut String, replay: &Replay<'_>, step: usize) -> Result<
     if facts.is_empty() {
         return push_schedules(text, view);
     }
-    text.push_str("Suppose that ")?;
+    text.push_str("Suppose that ");
     for (place, fact) in facts.iter().enumerate() {
         if place > 0 {
-            push_joint(text, place, facts.len(), "and")?;
+            push_joint(text, place, facts.len(), "and");
         }
-        push_fact(text, view, opposite(view.learned_of(*fact)))?;
+        push_fact(text, view, opposite(view.learned_of(*fact)));
     }
-    Ok(())
 }
 
 /// Writes which schedules are in question.
-fn push_schedules(text: &mut String, view: &View<'_>) -> Result<(), AllocError> {
+fn push_schedules(text: &mut Words, view: &View<'_>) {
     let most = view.high(view.done());
-    text.push_str("In a schedule that is done by ")?;
-    push_time(text, most)?;
+    text.push_str("In a schedule that is done by ");
+    push_time(text, most);
     text.push_str(", ")
 }
 
 /// Writes what a step shows, where it was last said that nothing is done before some instant.
-fn push_shown(
-    text: &mut String,
-    replay: &Replay<'_>,
-    step: usize,
-    said: i64,
-) -> Result<(), AllocError> {
+fn push_shown(text: &mut Words, replay: &Replay<'_>, step: usize, said: i64) {
     let facts = replay.facts(step);
     let view = &replay.view;
     if facts.is_empty() {
@@ -125,23 +116,23 @@ fn push_shown(
             return text.push_str(".\n");
         }
     }
-    text.push_str(". So ")?;
+    text.push_str(". So ");
     for (place, fact) in facts.iter().enumerate() {
         if place > 0 {
-            push_joint(text, place, facts.len(), "or")?;
+            push_joint(text, place, facts.len(), "or");
         }
-        push_fact(text, view, view.learned_of(*fact))?;
+        push_fact(text, view, view.learned_of(*fact));
     }
     text.push_str(".\n")
 }
 
 /// Writes what a step without facts leaves.
-fn push_left(text: &mut String, replay: &Replay<'_>) -> Result<(), AllocError> {
+fn push_left(text: &mut Words, replay: &Replay<'_>) {
     if replay.view.crossing().is_some() {
         text.push_str(". So there is none.\n")
     } else if replay.is_shown() {
-        text.push_str(". So nothing is done before ")?;
-        push_time(text, replay.target)?;
+        text.push_str(". So nothing is done before ");
+        push_time(text, replay.target);
         text.push_str(".\n")
     } else {
         text.push_str(".\n")
@@ -149,18 +140,18 @@ fn push_left(text: &mut String, replay: &Replay<'_>) -> Result<(), AllocError> {
 }
 
 /// Writes whose numbers don't go together, if any.
-fn push_crossing(text: &mut String, view: &View<'_>) -> Result<(), AllocError> {
+fn push_crossing(text: &mut Words, view: &View<'_>) {
     let Some(Crossing { subject, is_least }) = view.crossing() else {
-        return Ok(());
+        return;
     };
     if subject == view.done() {
-        text.push_str(", but all has to be done by ")?;
+        text.push_str(", but all has to be done by ");
         push_time(text, view.high(subject))
     } else if is_least {
-        text.push_str(", but it can't start after ")?;
+        text.push_str(", but it can't start after ");
         push_time(text, view.high(subject))
     } else {
-        text.push_str(", but it can't start before ")?;
+        text.push_str(", but it can't start before ");
         push_time(text, view.low(subject))
     }
 }
@@ -169,7 +160,7 @@ fn push_crossing(text: &mut String, view: &View<'_>) -> Result<(), AllocError> {
 #[derive(Drop)]
 struct Teller<'a> {
     alloc: Global,
-    text: &'a mut String,
+    text: &'a mut Words,
     // The streams whose arrival was bounded and isn't told yet.
     limited: Vec<usize>,
     is_begun: bool,
@@ -180,47 +171,41 @@ struct Teller<'a> {
 
 impl Teller<'_> {
     /// Writes what goes before a move.
-    fn push_then(&mut self) -> Result<(), AllocError> {
+    fn push_then(&mut self) {
         if self.is_begun {
             return self.text.push_str(". Then ");
         }
         self.is_begun = true;
-        Ok(())
     }
 
     /// Writes a move and makes it.
-    fn push_move(
-        &mut self,
-        replay: &mut Replay<'_>,
-        motion: &Move,
-        halves: Halves,
-    ) -> Result<(), AllocError> {
+    fn push_move(&mut self, replay: &mut Replay<'_>, motion: &Move, halves: Halves) {
         if replay.view.crossing().is_some() {
-            return Ok(());
+            return;
         }
         if let Move::Arrive(stream) = motion {
             return self.push_arrive(replay, motion, *stream, halves);
         }
-        self.push_limited(replay)?;
+        self.push_limited(replay);
         match motion {
-            Move::Go(order) => self.push_go(replay, *order, halves)?,
-            Move::Turn(order) => self.push_turn(replay, *order)?,
-            Move::Use(number) => self.push_use(replay, *number)?,
-            Move::Last(placing) => self.push_last(replay, placing)?,
-            Move::First(placing) => self.push_first(replay, placing)?,
-            Move::Pack(link, streams) => self.push_pack(replay, *link, streams.list())?,
-            Move::Round(orders) => self.push_round(replay, orders.list())?,
+            Move::Go(order) => self.push_go(replay, *order, halves),
+            Move::Turn(order) => self.push_turn(replay, *order),
+            Move::Use(number) => self.push_use(replay, *number),
+            Move::Last(placing) => self.push_last(replay, placing),
+            Move::First(placing) => self.push_first(replay, placing),
+            Move::Pack(link, streams) => self.push_pack(replay, *link, streams.list()),
+            Move::Round(orders) => self.push_round(replay, orders.list()),
             Move::Arrive(_) => {}
         }
-        replay.make(motion)?;
+        replay.make(motion);
         self.push_end(replay, motion)
     }
 
     /// Writes whose numbers don't go together after a move that bounds a stream.
-    fn push_end(&mut self, replay: &Replay<'_>, motion: &Move) -> Result<(), AllocError> {
+    fn push_end(&mut self, replay: &Replay<'_>, motion: &Move) {
         match motion {
-            Move::Pack(..) | Move::Round(_) => Ok(()),
-            Move::Use(_) if self.is_refuted(replay) => Ok(()),
+            Move::Pack(..) | Move::Round(_) => {}
+            Move::Use(_) if self.is_refuted(replay) => {}
             _ => push_crossing(self.text, &replay.view),
         }
     }
@@ -239,133 +224,134 @@ impl Teller<'_> {
         motion: &Move,
         stream: usize,
         halves: Halves,
-    ) -> Result<(), AllocError> {
+    ) {
         let done = replay.view.done();
         let before = replay.view.low(done);
         let greatest = replay.view.high(stream);
-        replay.make(motion)?;
+        replay.make(motion);
         let low = replay.view.low(done);
         if halves.first && low > before {
-            self.push_limited(replay)?;
-            self.push_arrival(replay, stream, low)?;
-            push_crossing(self.text, &replay.view)?;
+            self.push_limited(replay);
+            self.push_arrival(replay, stream, low);
+            push_crossing(self.text, &replay.view);
         }
         if low > replay.view.high(done) {
-            return Ok(());
+            return;
         }
         if halves.second && replay.view.high(stream) < greatest {
-            self.limited.push(stream)?;
+            self.limit(stream);
         }
         if replay.view.crossing().is_some() {
-            self.push_limited(replay)?;
+            self.push_limited(replay);
             return push_crossing(self.text, &replay.view);
         }
-        Ok(())
+    }
+
+    // The stream's arrival is to be told.
+    fn limit(&mut self, stream: usize) {
+        if self.limited.push(stream).is_err() {
+            self.text.refuse();
+        }
     }
 
     /// Writes from when on a frame may arrive.
-    fn push_arrival(
-        &mut self,
-        replay: &Replay<'_>,
-        stream: usize,
-        low: i64,
-    ) -> Result<(), AllocError> {
-        self.push_then()?;
-        replay.view.network().push_frames(self.text, &[stream])?;
-        self.text.push_str(" arrives at ")?;
-        push_time(self.text, low)?;
+    fn push_arrival(&mut self, replay: &Replay<'_>, stream: usize, low: i64) {
+        self.push_then();
+        replay.view.network().push_frames(self.text, &[stream]);
+        self.text.push_str(" arrives at ");
+        push_time(self.text, low);
         self.text.push_str(" or later")
     }
 
     /// Writes by when the frames have to arrive that aren't told yet.
-    fn push_limited(&mut self, replay: &Replay<'_>) -> Result<(), AllocError> {
+    fn push_limited(&mut self, replay: &Replay<'_>) {
         if self.limited.is_empty() {
-            return Ok(());
+            return;
         }
-        self.push_then()?;
+        self.push_then();
         let view = &replay.view;
-        view.network().push_frames(self.text, &self.limited)?;
+        view.network().push_frames(self.text, &self.limited);
         let has = if self.limited.len() == 1 {
-            "has"
+            " has to arrive by "
         } else {
-            "have"
+            " have to arrive by "
         };
-        write!(self.text, " {has} to arrive by ")?;
+        self.text.push_str(has);
         self.limited.clear();
         push_time(self.text, view.high(view.done()))
     }
 
-    fn push_go(
-        &mut self,
-        replay: &Replay<'_>,
-        order: Order,
-        halves: Halves,
-    ) -> Result<(), AllocError> {
+    fn push_go(&mut self, replay: &Replay<'_>, order: Order, halves: Halves) {
         let view = &replay.view;
         let weight = view.network().weight(order);
         let low = sum(view.low(order.first), weight);
         let high = less(view.high(order.second), weight);
         let is_later = halves.first && low > view.low(order.second);
         if is_later {
-            self.push_then()?;
-            push_fact(self.text, view, Learned::From(order.second, low))?;
+            self.push_then();
+            push_fact(self.text, view, Learned::From(order.second, low));
         }
         if halves.second && high < view.high(order.first) {
             if is_later {
-                self.text.push_str(", and ")?;
+                self.text.push_str(", and ");
             } else {
-                self.push_then()?;
+                self.push_then();
             }
-            push_fact(self.text, view, Learned::Until(order.first, high))?;
+            push_fact(self.text, view, Learned::Until(order.first, high));
         }
-        Ok(())
     }
 
-    fn push_turn(&mut self, replay: &Replay<'_>, order: Order) -> Result<(), AllocError> {
+    fn push_turn(&mut self, replay: &Replay<'_>, order: Order) {
         let view = &replay.view;
         if view.has(order) {
-            return Ok(());
+            return;
         }
-        self.push_then()?;
-        view.network().push_order(self.text, order)?;
-        self.text.push_str(", since the other order would put ")?;
-        view.network().push_stream(self.text, order.first)?;
-        self.text.push_str(" at ")?;
-        push_time(self.text, replay.turned_low(order))?;
-        self.text.push_str(" or later, past its latest start ")?;
+        self.push_then();
+        view.network().push_order(self.text, order);
+        self.text.push_str(", since the other order would put ");
+        view.network().push_stream(self.text, order.first);
+        self.text.push_str(" at ");
+        push_time(self.text, replay.turned_low(order));
+        self.text.push_str(" or later, past its latest start ");
         push_time(self.text, view.high(order.first))
     }
 
-    fn push_use(&mut self, replay: &Replay<'_>, number: usize) -> Result<(), AllocError> {
+    fn push_use(&mut self, replay: &Replay<'_>, number: usize) {
         let step = replay.step_of_clause(number);
         let view = &replay.view;
-        self.push_then()?;
+        self.push_then();
         match replay.left_of(step) {
             Some(fact) => {
-                write!(self.text, "by step {step}, ")?;
+                self.text.push_str("by step ");
+                self.text.push_count(step);
+                self.text.push_str(", ");
                 push_fact(self.text, view, view.learned_of(fact))
             }
-            None => write!(self.text, "none of what step {step} says can hold"),
+            None => {
+                self.text.push_str("none of what step ");
+                self.text.push_count(step);
+                self.text.push_str(" says can hold");
+            }
         }
     }
 
-    fn push_last(&mut self, replay: &Replay<'_>, placing: &Placing) -> Result<(), AllocError> {
+    fn push_last(&mut self, replay: &Replay<'_>, placing: &Placing) {
         let from = replay.from_last(placing);
         if from <= replay.view.low(placing.stream) {
-            return Ok(());
+            return;
         }
-        self.push_then()?;
-        push_last(self.alloc, self.text, &replay.view, placing)?;
+        self.push_then();
+        push_last(self.alloc, self.text, &replay.view, placing);
         push_fact(self.text, &replay.view, Learned::From(placing.stream, from))
     }
 
-    fn push_first(&mut self, replay: &Replay<'_>, placing: &Placing) -> Result<(), AllocError> {
+    fn push_first(&mut self, replay: &Replay<'_>, placing: &Placing) {
         let until = replay.until_first(placing);
         if until >= replay.view.high(placing.stream) {
-            return Ok(());
+            return;
         }
-        self.push_then()?;
-        push_first(self.alloc, self.text, &replay.view, placing)?;
+        self.push_then();
+        push_first(self.alloc, self.text, &replay.view, placing);
         push_fact(
             self.text,
             &replay.view,
@@ -373,12 +359,7 @@ impl Teller<'_> {
         )
     }
 
-    fn push_pack(
-        &mut self,
-        replay: &Replay<'_>,
-        link: usize,
-        streams: &[usize],
-    ) -> Result<(), AllocError> {
+    fn push_pack(&mut self, replay: &Replay<'_>, link: usize, streams: &[usize]) {
         let view = &replay.view;
         let network = view.network();
         let load = Load {
@@ -388,19 +369,19 @@ impl Teller<'_> {
             work: network.work(link, streams),
             tail: least_tail(network, link, streams),
         };
-        self.push_then()?;
-        self.text.push_str("on ")?;
+        self.push_then();
+        self.text.push_str("on ");
         if load.bound() > view.high(view.done()) {
             self.said = load.bound();
             push_load(self.text, network, load)
         } else {
-            load.push_begin(self.text, network)?;
+            load.push_begin(self.text, network);
             load.push_too_late(self.text, view.last_end(link, streams))
         }
     }
 
-    fn push_round(&mut self, replay: &Replay<'_>, orders: &[Order]) -> Result<(), AllocError> {
-        self.push_then()?;
+    fn push_round(&mut self, replay: &Replay<'_>, orders: &[Order]) {
+        self.push_then();
         let is_said = orders.len() == self.facts.len();
         push_round(self.text, replay.view.network(), orders, is_said)
     }

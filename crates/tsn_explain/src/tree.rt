@@ -6,6 +6,7 @@ use crate::number::{count_at, count_up, counts, most, push_count, put_count};
 use crate::path::{Path, streams_of};
 use std::alloc::{AllocError, Global};
 use tsn_cert::{Cert, Entries, Format, Leaf, LowerBound, Node};
+use tsn_text::Words;
 
 /// The most nodes whose leaves are told one by one.
 pub const MOST_TOLD: usize = 12;
@@ -16,7 +17,7 @@ const MOST_LINKS: usize = 5;
 /// Writes why the target of a tree is right.
 pub fn push_tree(
     alloc: Global,
-    text: &mut String,
+    text: &mut Words,
     network: Network<'_>,
     cert: &Cert,
 ) -> Result<(), AllocError> {
@@ -24,11 +25,11 @@ pub fn push_tree(
         push_leaves(alloc, text, network, cert.nodes.list())?;
     } else {
         let tally = tally_of(alloc, network, cert.nodes.list())?;
-        tally.push(text, network)?;
+        tally.push_counts(alloc, text, network);
         drop(tally);
     }
     if cert.format == Format::Two && has_schedule(network, cert) {
-        text.push_str("Of the schedules of this flowspan the plan is the first in list order.\n")?;
+        text.push_str("Of the schedules of this flowspan the plan is the first in list order.\n");
     }
     Ok(())
 }
@@ -39,17 +40,16 @@ fn has_schedule(network: Network<'_>, cert: &Cert) -> bool {
 
 fn push_leaves(
     alloc: Global,
-    text: &mut String,
+    text: &mut Words,
     network: Network<'_>,
     nodes: &[Node],
 ) -> Result<(), AllocError> {
     let mut path = Path::first(alloc);
     for node in nodes {
-        push_leaf(alloc, text, network, &path, node)?;
-        path.go_on(node)?;
+        push_leaf(alloc, text, network, &path, node);
+        path.go_on(node);
     }
-    drop(path);
-    Ok(())
+    path.finish()
 }
 
 /// How many leaves of each kind there are, how many are of each link's load, and the load that comes to the least.
@@ -114,9 +114,9 @@ pub fn tally_of(alloc: Global, network: Network<'_>, nodes: &[Node]) -> Result<T
     };
     for node in nodes {
         tally.count(alloc, network, &path, node)?;
-        path.go_on(node)?;
+        path.go_on(node);
     }
-    drop(path);
+    path.finish()?;
     Ok(tally)
 }
 
@@ -211,9 +211,9 @@ impl Tally {
     }
 
     /// Writes the counts.
-    fn push(&self, text: &mut String, network: Network<'_>) -> Result<(), AllocError> {
-        push_count(text, self.leaves)?;
-        text.push_str(" ways to order frames are ruled out")?;
+    fn push_counts(&self, alloc: Global, text: &mut Words, network: Network<'_>) {
+        push_count(text, self.leaves);
+        text.push_str(" ways to order frames are ruled out");
         let mut is_begun = false;
         for (count, words) in [
             (self.late, "by a frame that arrives too late"),
@@ -230,43 +230,43 @@ impl Tally {
             (self.tie, "by the list order"),
         ] {
             if count > 0 {
-                text.push_str(if is_begun { ", " } else { ": " })?;
+                text.push_str(if is_begun { ", " } else { ": " });
                 is_begun = true;
-                push_count(text, count)?;
-                text.push(' ')?;
-                text.push_str(words)?;
+                push_count(text, count);
+                text.push(' ');
+                text.push_str(words);
             }
         }
-        text.push_str(".\n")?;
-        self.push_links(text, network)?;
+        text.push_str(".\n");
+        self.push_loads(alloc, text, network);
         self.push_least(text, network)
     }
 
-    fn push_links(&self, text: &mut String, network: Network<'_>) -> Result<(), AllocError> {
-        let alloc = *text.allocator();
-        let mut links = self.links.as_slice().to_vec(alloc)?;
+    fn push_loads(&self, alloc: Global, text: &mut Words, network: Network<'_>) {
+        let Ok(mut links) = self.links.as_slice().to_vec(alloc) else {
+            return text.refuse();
+        };
         for _ in 0..MOST_LINKS {
             let Some(link) = most(&links) else {
                 break;
             };
             let count = count_at(&links, link);
-            text.push_str("The load of ")?;
-            network.push_link(text, link)?;
-            text.push_str(", rules out ")?;
-            push_count(text, count)?;
-            text.push_str(".\n")?;
+            text.push_str("The load of ");
+            network.push_link(text, link);
+            text.push_str(", rules out ");
+            push_count(text, count);
+            text.push_str(".\n");
             put_count(&mut links, link, 0);
         }
         drop(links);
-        Ok(())
     }
 
-    fn push_least(&self, text: &mut String, network: Network<'_>) -> Result<(), AllocError> {
+    fn push_least(&self, text: &mut Words, network: Network<'_>) {
         if !self.least.is_there() {
-            return Ok(());
+            return;
         }
-        text.push_str("In the tightest of these ways, on ")?;
-        push_load(text, network, self.least.load())?;
+        text.push_str("In the tightest of these ways, on ");
+        push_load(text, network, self.least.load());
         text.push_str(".\n")
     }
 }

@@ -4,6 +4,7 @@ use crate::network::Network;
 use crate::number::{NONE, at, counts, less, next, put, put_count, signed, step_at, sum, zeros};
 use std::alloc::{AllocError, Global};
 use tsn_argument::{Fact, Order};
+use tsn_text::Growing;
 
 /// How many places of orders each stream has: one for each of its hops and each other stream.
 const PLACES: usize = 2048;
@@ -41,12 +42,12 @@ pub struct View<'a> {
     // For each order the move that it is from.
     orders: Vec<usize>,
     // What differs from the ground.
-    changes: Vec<Change>,
-    new_orders: Vec<usize>,
+    changes: Growing<Change>,
+    new_orders: Growing<usize>,
     // The move under way.
     motion: usize,
     // The moves that it needs, and for each move which needed it last.
-    needs: Vec<usize>,
+    needs: Growing<usize>,
     reads: Vec<usize>,
     crossing: Option<Crossing>,
 }
@@ -66,15 +67,37 @@ impl<'a> View<'a> {
             numbers: zeros(alloc, places)?,
             sources: counts(alloc, NONE, places)?,
             orders: counts(alloc, NONE, streams.wrapping_mul(PLACES))?,
-            changes: Vec::new(alloc),
-            new_orders: Vec::new(alloc),
+            changes: Growing::new(alloc),
+            new_orders: Growing::new(alloc),
             motion: NONE,
-            needs: Vec::new(alloc),
+            needs: Growing::new(alloc),
             reads: counts(alloc, NONE, moves)?,
             crossing: None,
         };
         view.put_first(greatest);
         Ok(view)
+    }
+
+    /// Whether there was memory for all of it.
+    pub fn finish(self) -> Result<(), AllocError> {
+        let View {
+            numbers,
+            sources,
+            orders,
+            changes,
+            new_orders,
+            needs,
+            reads,
+            ..
+        } = self;
+        drop(numbers);
+        drop(sources);
+        drop(orders);
+        drop(reads);
+        drop(changes.finish()?);
+        drop(new_orders.finish()?);
+        drop(needs.finish()?);
+        Ok(())
     }
 
     // The numbers that are known at first.
@@ -144,17 +167,16 @@ impl<'a> View<'a> {
 
     /// The moves that the one under way needs so far.
     pub fn needs(&self) -> &[usize] {
-        self.needs.as_slice()
+        self.needs.list()
     }
 
     /// The move under way needs this one.
-    pub fn need(&mut self, motion: usize) -> Result<(), AllocError> {
+    pub fn need(&mut self, motion: usize) {
         if motion == NONE || motion == self.motion || step_at(&self.reads, motion) == self.motion {
-            return Ok(());
+            return;
         }
         put_count(&mut self.reads, motion, self.motion);
-        self.needs.push(motion)?;
-        Ok(())
+        self.needs.push(motion);
     }
 
     /// The move that the least number of a subject is from.
@@ -163,24 +185,24 @@ impl<'a> View<'a> {
     }
 
     /// The move under way needs that the subject's number is no lower.
-    pub fn need_low(&mut self, subject: usize) -> Result<(), AllocError> {
+    pub fn need_low(&mut self, subject: usize) {
         self.need(self.source_of_low(subject))
     }
 
     /// The move under way needs that the subject's number is no greater.
-    pub fn need_high(&mut self, subject: usize) -> Result<(), AllocError> {
+    pub fn need_high(&mut self, subject: usize) {
         let source = step_at(&self.sources, greatest_place(subject));
         self.need(source)
     }
 
     /// The move under way needs the order.
-    pub fn need_order(&mut self, order: Order) -> Result<(), AllocError> {
+    pub fn need_order(&mut self, order: Order) {
         match self.order_place(order) {
             Some(place) => {
                 let source = step_at(&self.orders, place);
                 self.need(source)
             }
-            None => Ok(()),
+            None => {}
         }
     }
 
@@ -194,7 +216,7 @@ impl<'a> View<'a> {
     }
 
     /// The move under way needs that the view leaves the fact no room.
-    pub fn need_against(&mut self, fact: Learned) -> Result<(), AllocError> {
+    pub fn need_against(&mut self, fact: Learned) {
         match fact {
             Learned::From(subject, _) => self.need_high(subject),
             Learned::Until(subject, _) => self.need_low(subject),
@@ -203,7 +225,7 @@ impl<'a> View<'a> {
     }
 
     /// The view learns a fact.
-    pub fn learn(&mut self, fact: Learned) -> Result<(), AllocError> {
+    pub fn learn(&mut self, fact: Learned) {
         match fact {
             Learned::From(subject, number) => self.raise(subject, number),
             Learned::Until(subject, number) => self.lower(subject, number),
@@ -211,51 +233,47 @@ impl<'a> View<'a> {
         }
     }
 
-    fn raise(&mut self, subject: usize, number: i64) -> Result<(), AllocError> {
+    fn raise(&mut self, subject: usize, number: i64) {
         if number <= self.low(subject) {
-            return Ok(());
+            return;
         }
-        self.change(least_place(subject), number)?;
+        self.change(least_place(subject), number);
         if number > self.high(subject) {
             self.cross(subject, true);
             return self.need_high(subject);
         }
-        Ok(())
     }
 
-    fn lower(&mut self, subject: usize, number: i64) -> Result<(), AllocError> {
+    fn lower(&mut self, subject: usize, number: i64) {
         if number >= self.high(subject) {
-            return Ok(());
+            return;
         }
-        self.change(greatest_place(subject), number)?;
+        self.change(greatest_place(subject), number);
         if number < self.low(subject) {
             self.cross(subject, false);
             return self.need_low(subject);
         }
-        Ok(())
     }
 
-    fn decide(&mut self, order: Order) -> Result<(), AllocError> {
+    fn decide(&mut self, order: Order) {
         let Some(place) = self.order_place(order) else {
-            return Ok(());
+            return;
         };
         if step_at(&self.orders, place) == NONE {
-            self.new_orders.push(place)?;
+            self.new_orders.push(place);
             put_count(&mut self.orders, place, self.motion);
         }
-        Ok(())
     }
 
-    fn change(&mut self, place: usize, number: i64) -> Result<(), AllocError> {
+    fn change(&mut self, place: usize, number: i64) {
         let change = Change {
             place,
             number: at(&self.numbers, place),
             source: step_at(&self.sources, place),
         };
-        self.changes.push(change)?;
+        self.changes.push(change);
         put(&mut self.numbers, place, number);
         put_count(&mut self.sources, place, self.motion);
-        Ok(())
     }
 
     fn cross(&mut self, subject: usize, is_least: bool) {
@@ -266,10 +284,10 @@ impl<'a> View<'a> {
 
     /// Makes the view the ground once more.
     pub fn go_back(&mut self) {
-        for _ in 0..self.changes.len() {
+        for _ in 0..self.changes.list().len() {
             self.undo();
         }
-        for place in &self.new_orders {
+        for place in self.new_orders.list() {
             put_count(&mut self.orders, *place, NONE);
         }
         self.new_orders.clear();

@@ -5,8 +5,5 @@ pub mod Merged
 pub mod Widened
 pub mod Fault
 pub mod Table
-pub mod Taprio
-pub mod Device
-pub mod Json
 pub mod Laws
 pub mod Examples

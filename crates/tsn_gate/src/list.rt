@@ -5,10 +5,8 @@ ghost use Rattle.tsn_model.specs.Gates.{cycle_of, IsOctetAt};
 ghost use Rattle.tsn_gate.specs.Entries.{AllPositive, IsGateList};
 ghost use Rattle.tsn_gate.specs.Fault.{HasGateFault};
 ghost use Rattle.tsn_gate.specs.Table.{entry_text, head_text, table_text, name_at};
-ghost use Rattle.tsn_gate.specs.Json.{json_text};
 
 use crate::fault::GateFault;
-use crate::json::{line, list_value};
 use std::alloc::{AllocError, Global};
 use std::fmt::Write;
 use std::marker::Model;
@@ -127,16 +125,6 @@ impl GateList {
             write_entry(&mut text, *entry)?;
         }
         Ok(text)
-    }
-
-    /// The list as a line of JSON: an object with its cycle and entries (each an array of its octet and its interval in
-    /// nanoseconds), the link, and the names of the nodes that it joins.
-    pub fn to_json(&self, alloc: Global, problem: &Problem) -> Result<String, NoMemory>
-        requires { self.now.link < length problem.now.network.links }
-        ensures { IfOk result (λ text. string_bytes text ≡ json_text problem.now self.now) }
-    {
-        let value = list_value(alloc, problem, self)?;
-        Ok(line(alloc, &value)?)
     }
 }
 

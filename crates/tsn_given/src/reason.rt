@@ -2,7 +2,6 @@
 
 use crate::devices::Opened;
 use std::alloc::{AllocError, Global};
-use std::fmt::Write;
 use tsn_device::{Action, Failure};
 use tsn_reason::{File, cert_reason, line_of, network_reason, offsets_reason, plan_reason};
 use tsn_run::run::{DEVICE, MAX_FILE, REFUSED, REJECTED};
@@ -25,14 +24,14 @@ pub fn failure_line(alloc: Global, status: u8, failure: Option<Failure<'_>>) -> 
 }
 
 fn failure_text(alloc: Global, failure: Failure<'_>) -> Result<String, AllocError> {
-    let mut text = line_of(alloc, failure.name)?;
+    let mut text = line_of(alloc, failure.name);
     match failure.action {
-        Action::Read => text.push_str("cannot be read: ")?,
-        Action::Write => text.push_str("cannot be written: ")?,
+        Action::Read => text.push_str("cannot be read: "),
+        Action::Write => text.push_str("cannot be written: "),
     }
     let cause = failure.cause;
-    write!(text, "{cause}")?;
-    Ok(text)
+    text.push_str(format!(in alloc; "{cause}")?.as_str());
+    text.finish()
 }
 
 /// The line on a file of this name that has so many bytes; None where that isn't too many.
@@ -45,9 +44,11 @@ fn too_long_line(alloc: Global, name: &str, count: usize) -> Option<String> {
 }
 
 fn too_long_text(alloc: Global, name: &str) -> Result<String, AllocError> {
-    let mut text = line_of(alloc, name)?;
-    write!(text, "longer than {MAX_FILE} bytes")?;
-    Ok(text)
+    let mut text = line_of(alloc, name);
+    text.push_str("longer than ");
+    text.push_count(MAX_FILE);
+    text.push_str(" bytes");
+    text.finish()
 }
 
 /// All that a source gave, where that was kept.

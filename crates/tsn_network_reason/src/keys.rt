@@ -2,10 +2,9 @@
 
 use crate::document::is_of_kind;
 use crate::text::push_name;
-use std::alloc::AllocError;
-use std::fmt::Write;
 use toml::Value;
 use tsn_net::Place;
+use tsn_text::Words;
 
 /// The keys that a table at a place may have.
 fn keys_at(place: Place) -> &'static [&'static str] {
@@ -64,38 +63,40 @@ fn are_texts(value: &Value) -> bool {
 }
 
 /// Writes which key is missing, and beside it the one that isn't known, if there is one: that may have been meant.
-pub fn push_missing_key(text: &mut String, table: &Value, place: Place) -> Result<(), AllocError> {
+pub fn push_missing_key(text: &mut Words, table: &Value, place: Place) {
     for &key in keys_at(place) {
         if is_required(table, key) && table.get(key).is_none() {
-            write!(text, "the key {key} is missing")?;
+            text.push_str("the key ");
+            text.push_str(key);
+            text.push_str(" is missing");
             return push_unknown_beside(text, table, place);
         }
     }
-    Ok(())
 }
 
-fn push_unknown_beside(text: &mut String, table: &Value, place: Place) -> Result<(), AllocError> {
+fn push_unknown_beside(text: &mut Words, table: &Value, place: Place) {
     match unknown_key(table, place) {
         Some(key) => {
-            text.push_str(", and ")?;
+            text.push_str(", and ");
             push_unknown(text, key)
         }
-        None => Ok(()),
+        None => {}
     }
 }
 
 /// Writes which key has a value of another kind, and which kind it asks for.
-pub fn push_wrong_kind(text: &mut String, table: &Value, place: Place) -> Result<(), AllocError> {
+pub fn push_wrong_kind(text: &mut Words, table: &Value, place: Place) {
     if !table.is_table() {
         return text.push_str("it has to be a table");
     }
     for &key in keys_at(place) {
         if is_known(table, place, key) && is_wrong(table, key) {
             let wanted = kind_wanted(key);
-            return write!(text, "{key} has to be {wanted}");
+            text.push_str(key);
+            text.push_str(" has to be ");
+            return text.push_str(wanted);
         }
     }
-    Ok(())
 }
 
 /// Whether a table has a value of another kind at a key.
@@ -107,10 +108,10 @@ fn is_wrong(table: &Value, key: &str) -> bool {
 }
 
 /// Writes which key isn't known.
-pub fn push_unknown_key(text: &mut String, table: &Value, place: Place) -> Result<(), AllocError> {
+pub fn push_unknown_key(text: &mut Words, table: &Value, place: Place) {
     match unknown_key(table, place) {
         Some(key) => push_unknown(text, key),
-        None => Ok(()),
+        None => {}
     }
 }
 
@@ -125,11 +126,11 @@ fn unknown_key(table: &Value, place: Place) -> Option<&str> {
     None
 }
 
-fn push_unknown(text: &mut String, key: &str) -> Result<(), AllocError> {
+fn push_unknown(text: &mut Words, key: &str) {
     if key == "proc" {
         return text.push_str("a station has no proc");
     }
-    text.push_str("the key ")?;
-    push_name(text, key)?;
+    text.push_str("the key ");
+    push_name(text, key);
     text.push_str(" isn't known")
 }

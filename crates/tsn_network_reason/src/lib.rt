@@ -15,7 +15,6 @@ use crate::offsets::offsets_line;
 pub use network::network_line;
 pub use offsets::{Schedule, push_link, push_stream, push_violation};
 use std::alloc::Global;
-use std::fmt::Write;
 pub use text::{line_of, push_name};
 use tsn_model::NoMemory;
 use tsn_net::{Problem, read_problem};
@@ -54,12 +53,11 @@ pub fn network_reason(alloc: Global, network: File<'_>) -> Reason {
 
 /// That the reason isn't looked for in a long file.
 pub fn long_line(alloc: Global, network: File<'_>) -> Reason {
-    let mut text = line_of(alloc, network.name)?;
-    write!(
-        text,
-        "longer than {MOST_LOOKED_AT} bytes: the reason isn't looked for"
-    )?;
-    Ok(Some(text))
+    let mut text = line_of(alloc, network.name);
+    text.push_str("longer than ");
+    text.push_count(MOST_LOOKED_AT);
+    text.push_str(" bytes: the reason isn't looked for");
+    Ok(Some(text.finish()?))
 }
 
 /// Why a network file is refused, or these offsets of its streams, in nanoseconds.

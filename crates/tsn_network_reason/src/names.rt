@@ -2,41 +2,35 @@
 
 use crate::document::{elements_at, integer_at, name_at, number_of};
 use crate::text::push_name;
-use std::alloc::AllocError;
-use std::fmt::Write;
 use toml::Value;
 use tsn_net::Place;
+use tsn_text::Words;
 
 /// Writes which node or stream before this one has its name.
-pub fn push_duplicate_name(
-    text: &mut String,
-    top: &Value,
-    table: &Value,
-    place: Place,
-) -> Result<(), AllocError> {
+pub fn push_duplicate_name(text: &mut Words, top: &Value, table: &Value, place: Place) {
     let kind = match place {
         Place::Node(_) => "node",
         _ => "stream",
     };
     match number_of(elements_at(top, kind), name_at(table, "name")) {
-        Some(number) => write!(text, "{kind} {number} has this name already"),
-        None => Ok(()),
+        Some(number) => {
+            text.push_str(kind);
+            text.push(' ');
+            text.push_count(number);
+            text.push_str(" has this name already");
+        }
+        None => {}
     }
 }
 
 /// Writes which node a cable or a route names that isn't there.
-pub fn push_unknown_name(
-    text: &mut String,
-    top: &Value,
-    table: &Value,
-    place: Place,
-) -> Result<(), AllocError> {
+pub fn push_unknown_name(text: &mut Words, top: &Value, table: &Value, place: Place) {
     let nodes = elements_at(top, "node");
     let unknown = match place {
         Place::Cable(_) => unknown_end(nodes, table),
         _ => unknown_in_route(nodes, elements_at(table, "route")),
     };
-    text.push_str("there is no node ")?;
+    text.push_str("there is no node ");
     push_name(text, unknown)
 }
 
@@ -62,25 +56,27 @@ fn unknown_in_route<'a>(nodes: &[Value], route: &'a [Value]) -> &'a str {
 }
 
 /// Writes what the rate of a cable is, and has to be.
-pub fn push_bad_rate(text: &mut String, cable: &Value) -> Result<(), AllocError> {
+pub fn push_bad_rate(text: &mut Words, cable: &Value) {
     let rate = integer_at(cable, "mbps").unwrap_or(0);
-    write!(text, "mbps is {rate}, and has to be 10, 100 or 1000")
+    text.push_str("mbps is ");
+    text.push_signed(rate);
+    text.push_str(", and has to be 10, 100 or 1000");
 }
 
 /// Writes that a cable joins a node to itself, or which cable before it joins its nodes.
-pub fn push_duplicate_cable(
-    text: &mut String,
-    top: &Value,
-    cable: &Value,
-) -> Result<(), AllocError> {
+pub fn push_duplicate_cable(text: &mut Words, top: &Value, cable: &Value) {
     let first = name_at(cable, "a");
     let second = name_at(cable, "b");
     if first == second {
         return text.push_str("it joins a node to itself");
     }
     match joined_by(elements_at(top, "link"), first, second) {
-        Some(number) => write!(text, "cable {number} joins these nodes already"),
-        None => Ok(()),
+        Some(number) => {
+            text.push_str("cable ");
+            text.push_count(number);
+            text.push_str(" joins these nodes already");
+        }
+        None => {}
     }
 }
 

@@ -7,48 +7,43 @@ use crate::names::{push_bad_rate, push_duplicate_cable, push_duplicate_name, pus
 use crate::routes::{push_bad_route, push_no_cable};
 use crate::text::{is_name, line_of, push_name};
 use crate::{File, Reason};
-use std::alloc::{AllocError, Global};
-use std::fmt::Write;
+use std::alloc::Global;
 use toml::Value;
 use tsn_model::NoMemory;
 use tsn_net::{Code, NetFault, Place};
+use tsn_text::Words;
 
 /// Why a network file with this fault is refused.
 pub fn network_line(alloc: Global, network: File<'_>, fault: NetFault) -> Reason {
-    let mut text = line_of(alloc, network.name)?;
+    let mut text = line_of(alloc, network.name);
     match toml::table_from_slice(alloc, network.bytes) {
-        Ok(table) => push_fault(&mut text, &Value::Table(table), fault)?,
+        Ok(table) => push_fault(&mut text, &Value::Table(table), fault),
         Err(error) => {
             if error.is_memory() {
                 return Err(NoMemory);
             }
-            push_not_toml(alloc, &mut text, error)?;
+            let told = format!(in alloc; "{error}")?;
+            push_not_toml(&mut text, told.as_str());
         }
     }
-    Ok(Some(text))
+    Ok(Some(text.finish()?))
 }
 
 /// Writes what the reader of TOML says, which tells the line and the column first, and ends each of its parts with a line
 /// feed.
-fn push_not_toml(
-    alloc: Global,
-    text: &mut String,
-    error: toml::de::Error,
-) -> Result<(), AllocError> {
-    text.push_str("not TOML")?;
-    let told = format!(in alloc; "{error}")?;
-    for part in told.as_str().lines() {
-        text.push_str(": ")?;
-        text.push_str(part.strip_prefix("TOML parse error at ").unwrap_or(part))?;
+fn push_not_toml(text: &mut Words, told: &str) {
+    text.push_str("not TOML");
+    for part in told.lines() {
+        text.push_str(": ");
+        text.push_str(part.strip_prefix("TOML parse error at ").unwrap_or(part));
     }
-    Ok(())
 }
 
 /// Writes where a fault is, and what it is.
-fn push_fault(text: &mut String, top: &Value, fault: NetFault) -> Result<(), AllocError> {
+fn push_fault(text: &mut Words, top: &Value, fault: NetFault) {
     let place = fault.place;
     let table = value_at(top, place);
-    push_place(text, table, place)?;
+    push_place(text, table, place);
     match fault.code {
         Code::MissingKey => push_missing_key(text, table, place),
         Code::WrongKind => push_wrong_kind(text, table, place),
@@ -61,42 +56,48 @@ fn push_fault(text: &mut String, top: &Value, fault: NetFault) -> Result<(), All
         Code::BadRoute => push_bad_route(text, top, table),
         Code::NoCable => push_no_cable(text, top, table),
         Code::NoStream => text.push_str("there is no stream"),
-        Code::NotToml | Code::Memory => Ok(()),
+        Code::NotToml | Code::Memory => {}
     }
 }
 
 /// Writes the place of a fault: `node S: `, `cable 2, S to C: `, `stream one: `; nothing for the whole file.
-fn push_place(text: &mut String, table: &Value, place: Place) -> Result<(), AllocError> {
+fn push_place(text: &mut Words, table: &Value, place: Place) {
     match place {
         Place::Node(node) => push_named(text, "node", node, table),
         Place::Cable(cable) => push_cable(text, cable, table),
         Place::Stream(stream) => push_named(text, "stream", stream, table),
-        Place::Text | Place::Top => Ok(()),
+        Place::Text | Place::Top => {}
     }
 }
 
 /// Writes a node or a stream by its name, or by its number where it has none.
-fn push_named(
-    text: &mut String,
-    kind: &str,
-    number: usize,
-    table: &Value,
-) -> Result<(), AllocError> {
+fn push_named(text: &mut Words, kind: &str, number: usize, table: &Value) {
     match text_at(table, "name") {
-        Some(name) if is_name(name) => write!(text, "{kind} {name}: "),
-        _ => write!(text, "{kind} {number}: "),
+        Some(name) if is_name(name) => {
+            text.push_str(kind);
+            text.push(' ');
+            text.push_str(name);
+            text.push_str(": ");
+        }
+        _ => {
+            text.push_str(kind);
+            text.push(' ');
+            text.push_count(number);
+            text.push_str(": ");
+        }
     }
 }
 
 /// Writes a cable by its number, and the nodes that it joins, where they are named.
-fn push_cable(text: &mut String, number: usize, cable: &Value) -> Result<(), AllocError> {
-    write!(text, "cable {number}")?;
+fn push_cable(text: &mut Words, number: usize, cable: &Value) {
+    text.push_str("cable ");
+    text.push_count(number);
     if let Some(from) = text_at(cable, "a") {
         if let Some(to) = text_at(cable, "b") {
-            text.push_str(", ")?;
-            push_name(text, from)?;
-            text.push_str(" to ")?;
-            push_name(text, to)?;
+            text.push_str(", ");
+            push_name(text, from);
+            text.push_str(" to ");
+            push_name(text, to);
         }
     }
     text.push_str(": ")

@@ -2,10 +2,10 @@
 
 use crate::text::line_of;
 use crate::{File, Reason};
-use std::alloc::{AllocError, Global};
-use std::fmt::Write;
+use std::alloc::Global;
 use tsn_model::{Link, Triple, Violation};
 use tsn_net::Problem;
+use tsn_text::Words;
 use tsn_timing::Timing;
 
 /// Offsets of the streams of a network, in nanoseconds.
@@ -36,17 +36,13 @@ pub fn offsets_line(
     schedule: Schedule<'_>,
     violation: Violation,
 ) -> Reason {
-    let mut text = line_of(alloc, network.name)?;
-    push_violation(&mut text, schedule, violation)?;
-    Ok(Some(text))
+    let mut text = line_of(alloc, network.name);
+    push_violation(&mut text, schedule, violation);
+    Ok(Some(text.finish()?))
 }
 
 /// Writes what the violation is.
-pub fn push_violation(
-    text: &mut String,
-    schedule: Schedule<'_>,
-    violation: Violation,
-) -> Result<(), AllocError> {
+pub fn push_violation(text: &mut Words, schedule: Schedule<'_>, violation: Violation) {
     match violation {
         Violation::WrongCount => push_count(text, schedule),
         Violation::PastCycle(stream) => push_past_cycle(text, schedule, stream),
@@ -56,93 +52,96 @@ pub fn push_violation(
     }
 }
 
-fn push_count(text: &mut String, schedule: Schedule<'_>) -> Result<(), AllocError> {
+fn push_count(text: &mut Words, schedule: Schedule<'_>) {
     let count = schedule.offsets.len();
     let streams = schedule.timing.streams();
-    write!(
-        text,
-        "the number of offsets is {count}, and has to be {streams}, one for each stream"
-    )
+    text.push_str("the number of offsets is ");
+    text.push_count(count);
+    text.push_str(", and has to be ");
+    text.push_count(streams);
+    text.push_str(", one for each stream");
 }
 
-fn push_past_cycle(
-    text: &mut String,
-    schedule: Schedule<'_>,
-    stream: usize,
-) -> Result<(), AllocError> {
-    push_stream(text, schedule.problem, stream)?;
+fn push_past_cycle(text: &mut Words, schedule: Schedule<'_>, stream: usize) {
+    push_stream(text, schedule.problem, stream);
     if stream >= schedule.timing.streams() {
-        return Ok(());
+        return;
     }
     let offset = schedule.offset(stream);
     let end = offset.saturating_add(schedule.timing.span(stream));
     let cycle = schedule.timing.cycle();
-    write!(
-        text,
-        ": with offset {offset} it ends at {end}, past the cycle's end at {cycle}"
-    )
+    text.push_str(": with offset ");
+    text.push_number(offset);
+    text.push_str(" it ends at ");
+    text.push_number(end);
+    text.push_str(", past the cycle's end at ");
+    text.push_number(cycle);
 }
 
-fn push_overlap(text: &mut String, problem: &Problem, triple: Triple) -> Result<(), AllocError> {
+fn push_overlap(text: &mut Words, problem: &Problem, triple: Triple) {
     let Triple { left, right, link } = triple;
-    push_stream(text, problem, left)?;
-    text.push_str(" and ")?;
-    push_stream(text, problem, right)?;
-    text.push_str(" overlap on ")?;
+    push_stream(text, problem, left);
+    text.push_str(" and ");
+    push_stream(text, problem, right);
+    text.push_str(" overlap on ");
     push_link(text, problem, link)
 }
 
-fn push_early(text: &mut String, schedule: Schedule<'_>, stream: usize) -> Result<(), AllocError> {
-    push_stream(text, schedule.problem, stream)?;
+fn push_early(text: &mut Words, schedule: Schedule<'_>, stream: usize) {
+    push_stream(text, schedule.problem, stream);
     if stream >= schedule.timing.streams() {
-        return Ok(());
+        return;
     }
     let offset = schedule.offset(stream);
     let release = schedule.timing.release(stream);
-    write!(
-        text,
-        ": its offset {offset} is before its release {release}"
-    )
+    text.push_str(": its offset ");
+    text.push_number(offset);
+    text.push_str(" is before its release ");
+    text.push_number(release);
 }
 
-fn push_too_late(
-    text: &mut String,
-    schedule: Schedule<'_>,
-    stream: usize,
-) -> Result<(), AllocError> {
-    push_stream(text, schedule.problem, stream)?;
+fn push_too_late(text: &mut Words, schedule: Schedule<'_>, stream: usize) {
+    push_stream(text, schedule.problem, stream);
     if stream >= schedule.timing.streams() {
-        return Ok(());
+        return;
     }
     let offset = schedule.offset(stream);
     let arrival = offset.saturating_add(schedule.timing.arrival(stream));
     let latest = schedule.timing.latest(stream);
-    write!(
-        text,
-        ": with offset {offset} it arrives at {arrival}, after its latest instant {latest}"
-    )
+    text.push_str(": with offset ");
+    text.push_number(offset);
+    text.push_str(" it arrives at ");
+    text.push_number(arrival);
+    text.push_str(", after its latest instant ");
+    text.push_number(latest);
 }
 
 /// Writes a stream by its name.
-pub fn push_stream(text: &mut String, problem: &Problem, stream: usize) -> Result<(), AllocError> {
+pub fn push_stream(text: &mut Words, problem: &Problem, stream: usize) {
     if stream >= problem.streams() {
-        return write!(text, "stream {stream}");
+        text.push_str("stream ");
+        return text.push_count(stream);
     }
     let name = problem.stream_name(stream);
-    write!(text, "stream {name}")
+    text.push_str("stream ");
+    text.push_str(name);
 }
 
 /// Writes a directed link by its number, and the nodes that it joins.
-pub fn push_link(text: &mut String, problem: &Problem, number: usize) -> Result<(), AllocError> {
-    write!(text, "link {number}")?;
+pub fn push_link(text: &mut Words, problem: &Problem, number: usize) {
+    text.push_str("link ");
+    text.push_count(number);
     if number >= problem.links() {
-        return Ok(());
+        return;
     }
     let Link { from, to, .. } = problem.link(number);
     if from >= problem.nodes() || to >= problem.nodes() {
-        return Ok(());
+        return;
     }
     let first = problem.node_name(from);
     let second = problem.node_name(to);
-    write!(text, ", {first} to {second}")
+    text.push_str(", ");
+    text.push_str(first);
+    text.push_str(" to ");
+    text.push_str(second);
 }

@@ -3,9 +3,8 @@
 use crate::document::{elements_at, is_of_kind, number_of};
 use crate::names::joined_by;
 use crate::text::push_name;
-use std::alloc::AllocError;
-use std::fmt::Write;
 use toml::Value;
+use tsn_text::Words;
 
 /// The name at an index of a route; the empty one past its end.
 fn name_in(route: &[Value], index: usize) -> &str {
@@ -27,15 +26,14 @@ fn names_kind(nodes: &[Value], name: &str, kind: &str) -> bool {
 }
 
 /// Writes what is wrong with the route of a stream.
-pub fn push_bad_route(text: &mut String, top: &Value, stream: &Value) -> Result<(), AllocError> {
+pub fn push_bad_route(text: &mut Words, top: &Value, stream: &Value) {
     let nodes = elements_at(top, "node");
     let route = elements_at(stream, "route");
     let count = route.len();
     if count < 2 {
-        return write!(
-            text,
-            "the number of names in route is {count}, and has to be 2 to 17"
-        );
+        text.push_str("the number of names in route is ");
+        text.push_count(count);
+        return text.push_str(", and has to be 2 to 17");
     }
     if let Some(name) = repeated(route) {
         return push_route(text, "names ", name, " twice");
@@ -57,10 +55,10 @@ pub fn push_bad_route(text: &mut String, top: &Value, stream: &Value) -> Result<
 }
 
 /// Writes what a route does with a node.
-fn push_route(text: &mut String, does: &str, name: &str, behind: &str) -> Result<(), AllocError> {
-    text.push_str("its route ")?;
-    text.push_str(does)?;
-    push_name(text, name)?;
+fn push_route(text: &mut Words, does: &str, name: &str, behind: &str) {
+    text.push_str("its route ");
+    text.push_str(does);
+    push_name(text, name);
     text.push_str(behind)
 }
 
@@ -97,7 +95,7 @@ fn station_inside<'a>(nodes: &[Value], route: &'a [Value]) -> &'a str {
 }
 
 /// Writes which neighbours of a route no cable joins.
-pub fn push_no_cable(text: &mut String, top: &Value, stream: &Value) -> Result<(), AllocError> {
+pub fn push_no_cable(text: &mut Words, top: &Value, stream: &Value) {
     let cables = elements_at(top, "link");
     let route = elements_at(stream, "route");
     for index in 1..route.len() {
@@ -107,12 +105,11 @@ pub fn push_no_cable(text: &mut String, top: &Value, stream: &Value) -> Result<(
             return push_gap(text, from, to);
         }
     }
-    Ok(())
 }
 
-fn push_gap(text: &mut String, from: &str, to: &str) -> Result<(), AllocError> {
-    text.push_str("no cable joins ")?;
-    push_name(text, from)?;
-    text.push_str(" and ")?;
+fn push_gap(text: &mut Words, from: &str, to: &str) {
+    text.push_str("no cable joins ");
+    push_name(text, from);
+    text.push_str(" and ");
     push_name(text, to)
 }

@@ -1,29 +1,28 @@
 //! Names and other texts of files, on one line.
 
-use std::alloc::{AllocError, Global};
-use std::fmt::Write;
+use std::alloc::Global;
+use tsn_text::Words;
 
 /// The most characters that are shown of a text that is no name.
 const MOST_SHOWN: usize = 40;
 
 /// A line that begins with a file's name.
-pub fn line_of(alloc: Global, file: &str) -> Result<String, AllocError> {
-    let mut text = String::new(alloc);
-    push_line(&mut text, file)?;
-    text.push_str(": ")?;
-    Ok(text)
+pub fn line_of(alloc: Global, file: &str) -> Words {
+    let mut text = Words::new(alloc);
+    push_line(&mut text, file);
+    text.push_str(": ");
+    text
 }
 
 /// Writes a text, with marks for what doesn't show or would end the line.
-pub fn push_line(text: &mut String, words: &str) -> Result<(), AllocError> {
+pub fn push_line(text: &mut Words, words: &str) {
     for character in words.chars() {
-        push_shown(text, character)?;
+        push_shown(text, character);
     }
-    Ok(())
 }
 
 /// Writes a name; a text that is none is quoted, and its end left out where it is long.
-pub fn push_name(text: &mut String, name: &str) -> Result<(), AllocError> {
+pub fn push_name(text: &mut Words, name: &str) {
     if is_name(name) {
         text.push_str(name)
     } else {
@@ -31,22 +30,22 @@ pub fn push_name(text: &mut String, name: &str) -> Result<(), AllocError> {
     }
 }
 
-fn push_quoted(text: &mut String, words: &str) -> Result<(), AllocError> {
-    text.push('"')?;
+fn push_quoted(text: &mut Words, words: &str) {
+    text.push('"');
     let mut room = MOST_SHOWN;
     for character in words.chars() {
         if room == 0 {
-            text.push_str("..")?;
+            text.push_str("..");
             break;
         }
         room -= 1;
-        push_shown(text, character)?;
+        push_shown(text, character);
     }
     text.push('"')
 }
 
 /// Writes a character, or a mark for one that doesn't show.
-fn push_shown(text: &mut String, character: char) -> Result<(), AllocError> {
+fn push_shown(text: &mut Words, character: char) {
     match character {
         '\0'..='\x1f' | '\x7f'..='\u{9f}' => text.push('?'),
         '\u{200b}'..='\u{200f}' | '\u{2028}'..='\u{202e}' => text.push('?'),
@@ -65,12 +64,12 @@ fn are_name_bytes(bytes: &[u8]) -> bool {
 }
 
 /// Writes what a number is, and what it has to be.
-pub fn push_out_of_range(
-    text: &mut String,
-    what: &str,
-    number: i64,
-    least: i64,
-    most: i64,
-) -> Result<(), AllocError> {
-    write!(text, "{what} is {number}, and has to be {least} to {most}")
+pub fn push_out_of_range(text: &mut Words, what: &str, number: i64, least: i64, most: i64) {
+    text.push_str(what);
+    text.push_str(" is ");
+    text.push_signed(number);
+    text.push_str(", and has to be ");
+    text.push_signed(least);
+    text.push_str(" to ");
+    text.push_signed(most);
 }

@@ -4,7 +4,6 @@ use crate::offsets::push_link;
 use crate::text::line_of;
 use crate::{File, Reason};
 use std::alloc::Global;
-use std::fmt::Write;
 use tsn_net::{Problem, read_problem};
 use tsn_timing::Timing;
 
@@ -28,14 +27,18 @@ fn unused_line(alloc: Global, network: File<'_>, problem: &Problem, link: usize)
     if is_used {
         return Ok(None);
     }
-    let mut text = line_of(alloc, network.name)?;
+    let mut text = line_of(alloc, network.name);
     if link < links {
-        text.push_str("no stream uses ")?;
-        push_link(&mut text, problem, link)?;
+        text.push_str("no stream uses ");
+        push_link(&mut text, problem, link);
     } else {
-        write!(text, "there is no link {link}, but {links} from 0 on")?;
+        text.push_str("there is no link ");
+        text.push_count(link);
+        text.push_str(", but ");
+        text.push_count(links);
+        text.push_str(" from 0 on");
     }
-    Ok(Some(text))
+    Ok(Some(text.finish()?))
 }
 
 /// Whether a stream uses a link.

@@ -1,7 +1,6 @@
 //! By what a plan is undercut, in a line of words.
 
 use std::alloc::{AllocError, Global};
-use std::fmt::Write;
 use tsn_given::Opened;
 use tsn_prover::{Finding, Spans};
 use tsn_reason::line_of;
@@ -23,11 +22,14 @@ pub(crate) fn undercut_line<S: Opened>(
 /// The text on a plan of the file of this name, and on the better one.
 fn undercut_text(alloc: Global, name: &str, spans: Spans) -> Result<String, AllocError> {
     let Spans { stated, better } = spans;
-    let mut text = line_of(alloc, name)?;
-    write!(text, "a schedule of flowspan {better} is valid")?;
+    let mut text = line_of(alloc, name);
+    text.push_str("a schedule of flowspan ");
+    text.push_number(better);
+    text.push_str(" is valid");
     if let Some(flowspan) = stated {
-        let less = flowspan.saturating_sub(better);
-        write!(text, ", which is {less} ns less")?;
+        text.push_str(", which is ");
+        text.push_number(flowspan.saturating_sub(better));
+        text.push_str(" ns less");
     }
-    Ok(text)
+    text.finish()
 }

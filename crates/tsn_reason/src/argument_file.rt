@@ -1,35 +1,31 @@
 //! What is wrong with the value of a certificate file of format 3.
 
+use crate::certificate::push_large_target;
 use serde_json::Value;
-use std::alloc::{AllocError, Global};
-use std::fmt::Write;
+use std::alloc::Global;
 use tsn_argument_json::argument_from_json;
 use tsn_cert::FileFault;
 use tsn_cert::plan::MAX_TIME;
 use tsn_check_reason::{elements_at, number_at, push_wrong_keys};
 use tsn_model::NoMemory;
+use tsn_text::Words;
 
 /// Writes what is wrong with the value.
-pub fn push_argument_value(
-    alloc: Global,
-    text: &mut String,
-    value: &Value,
-    fault: FileFault,
-) -> Result<(), NoMemory> {
-    if push_wrong_keys(text, value, &["format", "goal", "steps", "target"])? {
-        return Ok(());
+pub fn push_argument_value(alloc: Global, text: &mut Words, value: &Value, fault: FileFault) {
+    if push_wrong_keys(text, value, &["format", "goal", "steps", "target"]) {
+        return;
     }
     if !is_goal(value.get("goal")) {
-        return Ok(text.push_str("goal has to be \"first\", \"least\" or \"none\"")?);
+        return text.push_str("goal has to be \"first\", \"least\" or \"none\"");
     }
     let Some(target) = number_at(value, "target") else {
-        return Ok(text.push_str("target has to be a whole number")?);
+        return text.push_str("target has to be a whole number");
     };
     let Some(steps) = elements_at(value, "steps") else {
-        return Ok(text.push_str("steps has to be an array")?);
+        return text.push_str("steps has to be an array");
     };
     if fault == FileFault::NumberTooLarge && target > MAX_TIME {
-        return Ok(write!(text, "target is {target}, and may be at most {MAX_TIME}")?);
+        return push_large_target(text, target);
     }
     push_first_step(alloc, text, steps, fault)
 }
@@ -42,20 +38,23 @@ fn is_goal(value: Option<&Value>) -> bool {
 }
 
 /// Writes which step is the first with this fault.
-fn push_first_step(
-    alloc: Global,
-    text: &mut String,
-    steps: &[Value],
-    fault: FileFault,
-) -> Result<(), NoMemory> {
+fn push_first_step(alloc: Global, text: &mut Words, steps: &[Value], fault: FileFault) {
     for (number, step) in steps.iter().enumerate() {
-        let one = step.to_string(alloc)?;
-        if is_fault_of(alloc, one.as_str(), fault)? {
-            write!(text, "step {number}")?;
+        let Ok(is_first) = is_step_of(alloc, step, fault) else {
+            return text.refuse();
+        };
+        if is_first {
+            text.push_str("step ");
+            text.push_count(number);
             return push_step(alloc, text, step, fault);
         }
     }
-    Ok(())
+}
+
+/// Whether a step has this fault.
+fn is_step_of(alloc: Global, step: &Value, fault: FileFault) -> Result<bool, NoMemory> {
+    let one = step.to_string(alloc)?;
+    is_fault_of(alloc, one.as_str(), fault)
 }
 
 /// Whether this is the fault of an argument file of this step alone.
@@ -71,27 +70,37 @@ fn is_fault_of(alloc: Global, step: &str, fault: FileFault) -> Result<bool, NoMe
 }
 
 /// Writes what is wrong with a step of this fault.
-fn push_step(
-    alloc: Global,
-    text: &mut String,
-    step: &Value,
-    fault: FileFault,
-) -> Result<(), NoMemory> {
+fn push_step(alloc: Global, text: &mut Words, step: &Value, fault: FileFault) {
     let Some([clause, moves]) = elements_of(step) else {
-        return Ok(push_no_step(text)?);
+        return push_no_step(text);
     };
     let Some(facts) = elements_of(clause) else {
-        return Ok(push_no_step(text)?);
+        return push_no_step(text);
     };
     let Some(moves) = elements_of(moves) else {
-        return Ok(push_no_step(text)?);
+        return push_no_step(text);
     };
-    if let Some(number) = first_fact(alloc, facts, fault)? {
-        write!(text, ", fact {number}")?;
-    } else if let Some(number) = first_move(alloc, moves, fault)? {
-        write!(text, ", move {number}")?;
+    let Ok(fact) = first_fact(alloc, facts, fault) else {
+        return text.refuse();
+    };
+    if let Some(number) = fact {
+        text.push_str(", fact ");
+        text.push_count(number);
+    } else {
+        push_first_move(alloc, text, moves, fault);
     }
-    Ok(push_fault(text, fault)?)
+    push_fault(text, fault);
+}
+
+/// Writes which move is the first with this fault.
+fn push_first_move(alloc: Global, text: &mut Words, moves: &[Value], fault: FileFault) {
+    let Ok(found) = first_move(alloc, moves, fault) else {
+        return text.refuse();
+    };
+    if let Some(number) = found {
+        text.push_str(", move ");
+        text.push_count(number);
+    }
 }
 
 fn elements_of(value: &Value) -> Option<&[Value]> {
@@ -101,16 +110,15 @@ fn elements_of(value: &Value) -> Option<&[Value]> {
     }
 }
 
-fn push_no_step(text: &mut String) -> Result<(), AllocError> {
+fn push_no_step(text: &mut Words) {
     text.push_str(" has to be an array of two arrays, of facts and of moves")
 }
 
-fn push_fault(text: &mut String, fault: FileFault) -> Result<(), AllocError> {
+fn push_fault(text: &mut Words, fault: FileFault) {
     if fault == FileFault::NumberTooLarge {
-        write!(
-            text,
-            " has a time above {MAX_TIME}, or another number above 4294967295"
-        )
+        text.push_str(" has a time above ");
+        text.push_number(MAX_TIME);
+        text.push_str(", or another number above 4294967295");
     } else {
         text.push_str(" has none of the forms of format 3")
     }

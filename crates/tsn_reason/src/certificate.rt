@@ -3,7 +3,6 @@
 use crate::argument_file::push_argument_value;
 use serde_json::Value;
 use std::alloc::Global;
-use std::fmt::Write;
 use tsn_argument::argument::ARGUMENT_FORMAT;
 use tsn_cert::FileFault;
 use tsn_cert::plan::MAX_TIME;
@@ -11,82 +10,82 @@ use tsn_cert_json::cert_from_json;
 use tsn_check_reason::{elements_at, number_at, push_not_json, push_wrong_keys};
 use tsn_model::NoMemory;
 use tsn_network_reason::{File, Reason, line_of};
+use tsn_text::Words;
 
 /// Why a certificate file with this fault is refused.
 pub fn cert_file_line(alloc: Global, cert: File<'_>, fault: FileFault) -> Reason {
-    let mut text = line_of(alloc, cert.name)?;
+    let mut text = line_of(alloc, cert.name);
     match fault {
         FileFault::NotJson => push_not_json(alloc, &mut text, cert.bytes)?,
         FileFault::WrongShape | FileFault::NumberTooLarge => match Value::from_slice(
             alloc, cert.bytes,
         ) {
-            Ok(value) => push_cert_value(alloc, &mut text, &value, fault)?,
+            Ok(value) => push_cert_value(alloc, &mut text, &value, fault),
             Err(_) => return Err(NoMemory),
         },
         FileFault::Memory => return Err(NoMemory),
     }
-    Ok(Some(text))
+    Ok(Some(text.finish()?))
 }
 
 /// Writes what is wrong with the value of a certificate file.
-fn push_cert_value(
-    alloc: Global,
-    text: &mut String,
-    value: &Value,
-    fault: FileFault,
-) -> Result<(), NoMemory> {
+fn push_cert_value(alloc: Global, text: &mut Words, value: &Value, fault: FileFault) {
     if !value.is_object() {
-        return Ok(text.push_str("it has to be an object")?);
+        return text.push_str("it has to be an object");
     }
     if value.get("format").is_none() {
-        return Ok(text.push_str("the key format is missing")?);
+        return text.push_str("the key format is missing");
     }
     match number_at(value, "format") {
         Some(ARGUMENT_FORMAT) => push_argument_value(alloc, text, value, fault),
         Some(format) if format == 1 || format == 2 => {
             push_tree_value(alloc, text, format, value, fault)
         }
-        _ => Ok(text.push_str("format has to be 1, 2 or 3")?),
+        _ => text.push_str("format has to be 1, 2 or 3"),
     }
 }
 
 /// Writes what is wrong with the value of a certificate file of format 1 or 2.
-fn push_tree_value(
-    alloc: Global,
-    text: &mut String,
-    format: u64,
-    value: &Value,
-    fault: FileFault,
-) -> Result<(), NoMemory> {
-    if push_wrong_keys(text, value, &["format", "nodes", "target"])? {
-        return Ok(());
+fn push_tree_value(alloc: Global, text: &mut Words, format: u64, value: &Value, fault: FileFault) {
+    if push_wrong_keys(text, value, &["format", "nodes", "target"]) {
+        return;
     }
     let Some(target) = number_at(value, "target") else {
-        return Ok(text.push_str("target has to be a whole number")?);
+        return text.push_str("target has to be a whole number");
     };
     let Some(nodes) = elements_at(value, "nodes") else {
-        return Ok(text.push_str("nodes has to be an array")?);
+        return text.push_str("nodes has to be an array");
     };
     if fault == FileFault::NumberTooLarge && target > MAX_TIME {
-        return Ok(write!(text, "target is {target}, and may be at most {MAX_TIME}")?);
+        return push_large_target(text, target);
     }
     push_first_node(alloc, text, format, nodes, fault)
+}
+
+/// Writes that a target is too large.
+pub fn push_large_target(text: &mut Words, target: u64) {
+    text.push_str("target is ");
+    text.push_number(target);
+    text.push_str(", and may be at most ");
+    text.push_number(MAX_TIME);
 }
 
 /// Writes which node is the first with this fault.
 fn push_first_node(
     alloc: Global,
-    text: &mut String,
+    text: &mut Words,
     format: u64,
     nodes: &[Value],
     fault: FileFault,
-) -> Result<(), NoMemory> {
+) {
     for (number, node) in nodes.iter().enumerate() {
-        if fault_of_node(alloc, format, node)? == Some(fault) {
+        let Ok(found) = fault_of_node(alloc, format, node) else {
+            return text.refuse();
+        };
+        if found == Some(fault) {
             return push_node(text, format, number, fault);
         }
     }
-    Ok(())
 }
 
 /// The fault of a certificate file of this node alone.
@@ -101,17 +100,14 @@ fn fault_of_node(alloc: Global, format: u64, node: &Value) -> Result<Option<File
     }
 }
 
-fn push_node(
-    text: &mut String,
-    format: u64,
-    number: usize,
-    fault: FileFault,
-) -> Result<(), NoMemory> {
-    write!(text, "node {number} ")?;
+fn push_node(text: &mut Words, format: u64, number: usize, fault: FileFault) {
+    text.push_str("node ");
+    text.push_count(number);
+    text.push(' ');
     if fault == FileFault::NumberTooLarge {
-        text.push_str("has a number above 4294967295")?;
+        text.push_str("has a number above 4294967295");
     } else {
-        write!(text, "has none of the forms of format {format}")?;
+        text.push_str("has none of the forms of format ");
+        text.push_number(format);
     }
-    Ok(())
 }

@@ -1,0 +1,4 @@
+pub mod Taprio
+pub mod Json
+pub mod Device
+pub mod Format
