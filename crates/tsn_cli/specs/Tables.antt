@@ -3,7 +3,7 @@
 --     ShowsLists, ShowsReplay, ShowsShares, ShowsTable      the table of a plan
 --     RejectsPlan                              a plan that has none
 --     TableAnswers, GatesAnswers, ReplayAnswers, ChartAnswers, StreamsAnswers    the answer to the files read so far
-use Rattle.std.specs.Prelude.{◌≡◌, ◌⊎◌, ℕ, ◌≤◌, List, [], ◌∷◌, ◌++◌, codes, Ok}
+use Rattle.std.specs.Prelude.{◌≡◌, ◌⊎◌, ℕ, ◌≤◌, List, [], ◌∷◌, Ok}
 use Rattle.tsn_model.specs.Network.{Network}
 use Rattle.tsn_model.specs.Schedule.{IsValid, flowspan}
 use Rattle.tsn_model.specs.Bridge.{LinkGates, BridgeRun, IsBridgeRun, IsFed}

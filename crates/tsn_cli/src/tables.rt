@@ -2,7 +2,7 @@
 //! stream and each link gets.
 ghost use Rattle.std.specs.Prelude.{◌≡◌, ◌≤◌, ◌<◌, ◌-◌, ◌^◌, ◌⊎◌, [], ◌∷◌, All, IfOk, length, string_bytes};
 ghost use Rattle.tsn_model.specs.Schedule.{IsValid};
-ghost use Rattle.tsn_run.specs.Run.{IsLine, RunsOver, sink_over, source_over};
+ghost use Rattle.tsn_run.specs.Run.{RunsOver, sink_over, source_over};
 ghost use Rattle.tsn_run.specs.Outcome.{ComesOver, output_of};
 ghost use Rattle.tsn_replay.specs.declared.trace.Row.{Row};
 ghost use Rattle.tsn_streams.specs.declared.link.LinkShare.{LinkShare};
@@ -21,7 +21,7 @@ use tsn_model::NoMemory;
 use tsn_net::Problem;
 use tsn_options::{ReplayFormat, StreamsFormat};
 use tsn_replay::{Background, ReplayFault, ReplayTable, replay_rows};
-use tsn_run::run::{DONE, REJECTED, respond};
+use tsn_run::run::{DONE, respond};
 use tsn_run::{Answer, InputsRead, read_inputs, rejection};
 use tsn_streams::{Shares, plan_shares, to_csv, to_json, to_text};
 use tsn_timing::Valid;

@@ -14,8 +14,8 @@ use Rattle.tsn_plan_output.specs.Plan.{PlanAnswers}
 use Rattle.tsn_wiring.specs.Options.{gates_options, replay_options}
 use Rattle.tsn_wiring.specs.Charts.{RunsChart}
 use Rattle.tsn_given.specs.Runs.{RunsTold}
-use Rattle.tsn_proof_wiring.specs.Devices.{CannotBegin, Devices, OnCert, OnNetwork, OnPlan, RunsProve}
-use Rattle.tsn_proof_wiring.specs.Files.{MadeFiles}
+use Rattle.tsn_prover.specs.Devices.{CannotBegin, Devices, OnCert, OnNetwork, OnPlan, RunsProve}
+use Rattle.tsn_prover.specs.Files.{MadeFiles}
 use Rattle.tsn_command.specs.Options.{effort_of}
 
 -- a plan, to the files that the words name

@@ -2,7 +2,7 @@
 ghost use Rattle.std.specs.Prelude.{◌≡◌};
 ghost use Rattle.tsn_run.specs.Run.{sink_over};
 ghost use Rattle.tsn_given.specs.Runs.{WithSome};
-ghost use Rattle.tsn_proof_wiring.specs.Devices.{devices_of};
+ghost use Rattle.tsn_prover.specs.Devices.{devices_of};
 ghost use Rattle.tsn_command.specs.Asked.{RunsAsked};
 
 use crate::planning::plan;
@@ -12,7 +12,7 @@ use std::sync::Wait;
 use std::thread::Threads;
 use std::time::Clock;
 use tsn_given::{Given, Made, Ran};
-use tsn_proof_wiring::prove;
+use tsn_prover::prove;
 use tsn_wiring::explained::{explain, picture};
 use tsn_wiring::judged::{check, valid};
 use tsn_wiring::tables::{gates, replay, streams};

@@ -1,8 +1,12 @@
-//! Any command by its words, over whatever it is given: `plan` gets its files, options and output here, and the others one layer below.
+//! The run of `plan`, which searches, over readers and writers of bytes. And any command by its words, over whatever it is given:
+//! `plan` gets its files, options and output here, and the others one layer below.
 #![tactic(auto)]
 
 mod command;
 pub mod options;
+mod plan;
 pub mod planning;
 
 pub use command::{run, run_to};
+pub use plan::plan_run;
+pub use tsn_plan_output::{NO_SCHEDULE, PlanEnd};

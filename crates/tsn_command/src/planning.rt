@@ -4,12 +4,13 @@ ghost use Rattle.tsn_run.specs.Run.{EndsOver, RunsOver, failed_in, sink_over, ta
 ghost use Rattle.tsn_plan_output.specs.Plan.{PlanAnswers, PlanStops};
 ghost use Rattle.tsn_run.specs.Stop.{stop_text};
 ghost use Rattle.tsn_given.specs.Runs.{LeavesSource, OverNetwork, RunsTold};
-ghost use Rattle.tsn_proof_wiring.specs.Files.{OverFiles};
-ghost use Rattle.tsn_proof_wiring.specs.Devices.{devices_of};
+ghost use Rattle.tsn_prover.specs.Files.{OverFiles};
+ghost use Rattle.tsn_prover.specs.Devices.{devices_of};
 ghost use Rattle.tsn_command.specs.Options.{effort_of};
 ghost use Rattle.tsn_command.specs.Asked.{RunsPlan};
 
 use crate::options::effort_of;
+use crate::{PlanEnd, plan_run};
 use std::alloc::Global;
 use std::io::Eprint;
 use std::sync::Wait;
@@ -19,12 +20,10 @@ use tsn_given::json::{end_as_json, line_keeper};
 use tsn_given::reason::{failure_line, network_line, source_line};
 use tsn_given::told::{Ended, end_at};
 use tsn_given::{Given, Made, Ran};
-use tsn_planner::{PlanEnd, plan_run};
-use tsn_progress::Progress;
-use tsn_proof_wiring::{PlanFiles, Unwritten, file_line, plan_files, stop_or, unwritable};
+use tsn_prover::{PlanFiles, Unwritten, file_line, plan_files, stop_or, unwritable};
 use tsn_run::device::Sink;
 use tsn_run::run::STOPPED;
-use tsn_setting::{NoSupervisor, Supervisor};
+use tsn_setting::{NoSupervisor, Progress, Supervisor};
 use tsn_words::PlanWords;
 
 /// How a run of `plan` ended, and its devices.

@@ -7,7 +7,7 @@ use crate::replay::Replay;
 use crate::told::push_step;
 use std::alloc::{AllocError, Global};
 use tsn_argument::{Argument, Goal};
-use tsn_text::Words;
+use tsn_text::TextBuilder;
 
 /// The most steps that are told one by one.
 const MOST_TOLD: usize = 12;
@@ -15,7 +15,7 @@ const MOST_TOLD: usize = 12;
 /// Writes why the argument's target is right.
 pub fn push_argument(
     alloc: Global,
-    text: &mut Words,
+    text: &mut TextBuilder,
     network: Network<'_>,
     argument: &Argument,
 ) -> Result<(), AllocError> {
@@ -40,7 +40,7 @@ pub fn push_argument(
 /// Writes why there is no schedule, where no step is needed.
 fn push_at_once(
     alloc: Global,
-    text: &mut Words,
+    text: &mut TextBuilder,
     network: Network<'_>,
     argument: &Argument,
 ) -> Result<(), AllocError> {
@@ -60,7 +60,7 @@ fn push_at_once(
 }
 
 /// Writes that a stream that can't start before an offset isn't done in time.
-pub fn push_no_room(text: &mut Words, network: Network<'_>, stream: usize, offset: i64) {
+pub fn push_no_room(text: &mut TextBuilder, network: Network<'_>, stream: usize, offset: i64) {
     network.push_stream(text, stream);
     text.push_str(" can't start before ");
     push_time(text, offset);
@@ -79,7 +79,7 @@ pub fn push_no_room(text: &mut Words, network: Network<'_>, stream: usize, offse
 }
 
 /// Writes how many steps there are, and how many of them are told.
-fn push_counts(text: &mut Words, argument: &Argument, part: &Part) {
+fn push_counts(text: &mut TextBuilder, argument: &Argument, part: &Part) {
     let count = argument.steps.list().len();
     let told = part.steps.len();
     text.push_str("The argument has ");
@@ -96,7 +96,7 @@ fn push_counts(text: &mut Words, argument: &Argument, part: &Part) {
 
 fn push_steps(
     alloc: Global,
-    text: &mut Words,
+    text: &mut TextBuilder,
     network: Network<'_>,
     argument: &Argument,
     part: &Part,
@@ -115,7 +115,7 @@ fn push_steps(
 }
 
 /// Writes which steps show that the plan is the first of its flowspan.
-fn push_order(text: &mut Words, first: usize, count: usize) {
+fn push_order(text: &mut TextBuilder, first: usize, count: usize) {
     text.push_str("Of the schedules of this flowspan the plan is the first in list order: ");
     if first >= count {
         return text.push_str("nothing else is left.\n");

@@ -10,7 +10,7 @@ use crate::replay::Replay;
 use crate::view::{View, least_tail};
 use std::alloc::{AllocError, Global};
 use tsn_argument::{Argument, Step};
-use tsn_text::{Growing, Words};
+use tsn_text::{ListBuilder, TextBuilder};
 
 /// How many links are told.
 const MOST_LINKS: usize = 5;
@@ -21,7 +21,7 @@ const MOST_STREAMS: usize = 6;
 /// Writes the links that most steps of a part use: how many steps, and the streams that are named most there.
 pub fn push_links(
     alloc: Global,
-    text: &mut Words,
+    text: &mut TextBuilder,
     network: Network<'_>,
     argument: &Argument,
     part: &Part,
@@ -31,7 +31,7 @@ pub fn push_links(
         alloc,
         steps: argument.steps.list(),
         part,
-        mentions: Growing::new(alloc),
+        mentions: ListBuilder::new(alloc),
     };
     push_head(text, &replay.view);
     let mut uses = busy.uses_of_links(network.problem.links())?;
@@ -48,7 +48,7 @@ pub fn push_links(
 }
 
 // Writes what the links are, and by when all has to be done.
-fn push_head(text: &mut Words, view: &View<'_>) {
+fn push_head(text: &mut TextBuilder, view: &View<'_>) {
     text.push_str("The links that most of these are about, if all is to be done by ");
     push_time(text, view.high(view.done()));
     text.push_str(":\n")
@@ -59,7 +59,7 @@ struct Busy<'a> {
     alloc: Global,
     steps: &'a [Step],
     part: &'a Part,
-    mentions: Growing<Mention>,
+    mentions: ListBuilder<Mention>,
 }
 
 impl Busy<'_> {
@@ -102,7 +102,7 @@ impl Busy<'_> {
     // The streams that most steps name on a link, by their numbers: those that at least half as many name as the first.
     fn streams_on(&mut self, link: usize, streams: usize) -> Result<Vec<usize>, AllocError> {
         let mut uses = self.uses_of_streams(link, streams)?;
-        let mut found = Growing::new(self.alloc);
+        let mut found = ListBuilder::new(self.alloc);
         let mut greatest = 0;
         for _ in 0..MOST_STREAMS {
             let Some(stream) = most(&uses) else {
@@ -123,7 +123,7 @@ impl Busy<'_> {
         Ok(found)
     }
 
-    fn push_link(&mut self, text: &mut Words, view: &View<'_>, link: usize, uses: usize) {
+    fn push_link(&mut self, text: &mut TextBuilder, view: &View<'_>, link: usize, uses: usize) {
         let Ok(streams) = self.streams_on(link, view.done()) else {
             return text.refuse();
         };
@@ -146,7 +146,7 @@ fn count_once(uses: &mut [usize], last: &mut [usize], place: usize, step: usize)
 }
 
 // Writes how long frames take on a link, and from when to when they may be there.
-fn push_window(text: &mut Words, view: &View<'_>, link: usize, streams: &[usize]) {
+fn push_window(text: &mut TextBuilder, view: &View<'_>, link: usize, streams: &[usize]) {
     let network = view.network();
     let load = Load {
         link,

@@ -9,10 +9,16 @@ use crate::view::least_tail;
 use std::alloc::{AllocError, Global};
 use tsn_argument::Order;
 use tsn_cert::{Chain, Entries, Leaf, LowerBound, Node};
-use tsn_text::{Growing, Words};
+use tsn_text::{ListBuilder, TextBuilder};
 
 /// Writes what a leaf shows, where the decisions of the path to it hold.
-pub fn push_leaf(alloc: Global, text: &mut Words, network: Network<'_>, path: &Path, node: &Node) {
+pub fn push_leaf(
+    alloc: Global,
+    text: &mut TextBuilder,
+    network: Network<'_>,
+    path: &Path,
+    node: &Node,
+) {
     match node {
         Node::Branch(_) => {}
         Node::Leaf(leaf) => {
@@ -31,7 +37,7 @@ pub fn push_leaf(alloc: Global, text: &mut Words, network: Network<'_>, path: &P
 }
 
 /// Writes the decisions of a path.
-fn push_path(text: &mut Words, network: Network<'_>, path: &Path) {
+fn push_path(text: &mut TextBuilder, network: Network<'_>, path: &Path) {
     let count = path.decided().len();
     if count == 0 {
         return text.push_str("In any order: ");
@@ -46,7 +52,13 @@ fn push_path(text: &mut Words, network: Network<'_>, path: &Path) {
     text.push_str(": ")
 }
 
-fn push_shown(alloc: Global, text: &mut Words, network: Network<'_>, path: &Path, leaf: &Leaf) {
+fn push_shown(
+    alloc: Global,
+    text: &mut TextBuilder,
+    network: Network<'_>,
+    path: &Path,
+    leaf: &Leaf,
+) {
     match leaf {
         Leaf::Bound(bound) => push_bound(alloc, text, network, path, bound),
         Leaf::Overrun(stream, chain) => {
@@ -69,7 +81,7 @@ fn push_shown(alloc: Global, text: &mut Words, network: Network<'_>, path: &Path
 
 fn push_bound(
     alloc: Global,
-    text: &mut Words,
+    text: &mut TextBuilder,
     network: Network<'_>,
     path: &Path,
     bound: &LowerBound,
@@ -95,7 +107,7 @@ fn push_bound(
 }
 
 /// Writes when a stream arrives that can't start before an offset.
-fn push_late(text: &mut Words, network: Network<'_>, stream: usize, offset: i64) {
+fn push_late(text: &mut TextBuilder, network: Network<'_>, stream: usize, offset: i64) {
     network.push_stream(text, stream);
     text.push_str(" can't start before ");
     push_time(text, offset);
@@ -123,7 +135,7 @@ pub fn load_of<'a>(
 
 // The orders of a chain.
 fn orders_of(alloc: Global, path: &Path, chain: &Chain) -> Result<Vec<Order>, AllocError> {
-    let mut orders = Growing::new(alloc);
+    let mut orders = ListBuilder::new(alloc);
     for place in 0..chain.len() {
         if let Some(order) = path.order(chain.at(place)) {
             orders.push(order);
@@ -133,7 +145,13 @@ fn orders_of(alloc: Global, path: &Path, chain: &Chain) -> Result<Vec<Order>, Al
 }
 
 /// Writes that the orders of a closed chain can't all hold.
-fn push_closed(alloc: Global, text: &mut Words, network: Network<'_>, path: &Path, chain: &Chain) {
+fn push_closed(
+    alloc: Global,
+    text: &mut TextBuilder,
+    network: Network<'_>,
+    path: &Path,
+    chain: &Chain,
+) {
     let Ok(orders) = orders_of(alloc, path, chain) else {
         return text.refuse();
     };

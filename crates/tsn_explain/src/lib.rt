@@ -28,7 +28,7 @@ use tsn_argument::Certificate;
 use tsn_cert::Plan;
 use tsn_model::NoMemory;
 use tsn_net::Problem;
-use tsn_text::Words;
+use tsn_text::TextBuilder;
 
 /// Why no schedule is done before the plan is, or why there is none: lines that each end in a line feed. Instants are in
 /// nanoseconds from the cycle's start. The steps of an argument are numbered from 0, as they stand in its file. The certificate is
@@ -44,7 +44,7 @@ pub fn explanation(
         problem,
         timing: &timing,
     };
-    let mut text = Words::new(alloc);
+    let mut text = TextBuilder::new(alloc);
     push_explanation(alloc, &mut text, network, plan, certificate)?;
     drop(timing);
     Ok(text.finish()?)
@@ -70,7 +70,7 @@ pub fn marked_frames(
 
 fn push_explanation(
     alloc: Global,
-    text: &mut Words,
+    text: &mut TextBuilder,
     network: Network<'_>,
     plan: &Plan,
     certificate: &Certificate,
@@ -83,7 +83,7 @@ fn push_explanation(
 }
 
 /// Writes what is shown.
-fn push_claim(text: &mut Words, network: Network<'_>, plan: &Plan) {
+fn push_claim(text: &mut TextBuilder, network: Network<'_>, plan: &Plan) {
     match plan {
         Plan::Schedule { flowspan, .. } => {
             text.push_str("No schedule is done before ");

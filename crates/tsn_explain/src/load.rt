@@ -1,7 +1,7 @@
 //! Frames that take a link up together, in words.
 use crate::network::Network;
 use crate::number::{less, push_time, sum};
-use tsn_text::Words;
+use tsn_text::TextBuilder;
 
 /// Streams on a link: when the first of them can start there, how long they take it up together, and how long after its
 /// occupancy the last of them arrives, in nanoseconds.
@@ -30,7 +30,7 @@ impl Load<'_> {
     }
 
     /// Writes the link, how long the frames take, and from when on.
-    pub fn push_begin(self, text: &mut Words, network: Network<'_>) {
+    pub fn push_begin(self, text: &mut TextBuilder, network: Network<'_>) {
         network.push_link(text, self.link);
         text.push_str(", ");
         network.push_frames(text, self.streams);
@@ -44,7 +44,7 @@ impl Load<'_> {
         push_time(text, self.head)
     }
 
-    fn push_tail(self, text: &mut Words) {
+    fn push_tail(self, text: &mut TextBuilder) {
         let it = if self.is_one() { "it" } else { "the last one" };
         if self.tail > 0 {
             text.push_str(", and after ");
@@ -62,7 +62,7 @@ impl Load<'_> {
     }
 
     /// Writes that the frames have to be through sooner.
-    pub fn push_too_late(self, text: &mut Words, end: i64) {
+    pub fn push_too_late(self, text: &mut TextBuilder, end: i64) {
         text.push_str(if self.is_one() {
             ", and has to be through by "
         } else {
@@ -75,7 +75,7 @@ impl Load<'_> {
     }
 
     /// Writes that the link is taken up past the cycle's end.
-    pub fn push_past(self, text: &mut Words, cycle: i64) {
+    pub fn push_past(self, text: &mut TextBuilder, cycle: i64) {
         text.push_str(": so the link is taken up until ");
         push_time(text, self.end());
         text.push_str(", past the cycle's end at ");
@@ -84,7 +84,7 @@ impl Load<'_> {
 }
 
 /// Writes before when nothing is done because of the frames on a link, from the link on.
-pub fn push_load(text: &mut Words, network: Network<'_>, load: Load<'_>) {
+pub fn push_load(text: &mut TextBuilder, network: Network<'_>, load: Load<'_>) {
     load.push_begin(text, network);
     load.push_tail(text);
     text.push_str(": so nothing is done before ");

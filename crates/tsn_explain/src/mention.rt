@@ -1,7 +1,7 @@
 //! The frames that the steps of an argument name, and the links on which they name them.
 use crate::needs::Part;
 use tsn_argument::{Fact, Move, Order, Placing, Step};
-use tsn_text::Growing;
+use tsn_text::ListBuilder;
 
 /// A frame on a link.
 #[derive(Clone, Copy)]
@@ -11,7 +11,7 @@ pub struct Mention {
 }
 
 /// Adds the frames that a step names on links, in its clause and its moves of a part.
-pub fn add_step(list: &mut Growing<Mention>, steps: &[Step], part: &Part, number: usize) {
+pub fn add_step(list: &mut ListBuilder<Mention>, steps: &[Step], part: &Part, number: usize) {
     let Some(step) = steps.get(number) else {
         return;
     };
@@ -23,7 +23,7 @@ pub fn add_step(list: &mut Growing<Mention>, steps: &[Step], part: &Part, number
     }
 }
 
-fn add_facts(list: &mut Growing<Mention>, facts: &[Fact]) {
+fn add_facts(list: &mut ListBuilder<Mention>, facts: &[Fact]) {
     for fact in facts {
         if let Fact::Order(order) = fact {
             add_order(list, *order);
@@ -31,7 +31,7 @@ fn add_facts(list: &mut Growing<Mention>, facts: &[Fact]) {
     }
 }
 
-fn add_move(list: &mut Growing<Mention>, motion: &Move) {
+fn add_move(list: &mut ListBuilder<Mention>, motion: &Move) {
     match motion {
         Move::Go(order) | Move::Turn(order) => add_order(list, *order),
         Move::Use(_) | Move::Arrive(_) => {}
@@ -42,23 +42,23 @@ fn add_move(list: &mut Growing<Mention>, motion: &Move) {
 }
 
 /// Adds the two frames of an order.
-pub fn add_order(list: &mut Growing<Mention>, order: Order) {
+pub fn add_order(list: &mut ListBuilder<Mention>, order: Order) {
     add_streams(list, order.link, &[order.first, order.second])
 }
 
-fn add_orders(list: &mut Growing<Mention>, orders: &[Order]) {
+fn add_orders(list: &mut ListBuilder<Mention>, orders: &[Order]) {
     for order in orders {
         add_order(list, *order);
     }
 }
 
-fn add_placing(list: &mut Growing<Mention>, placing: &Placing) {
+fn add_placing(list: &mut ListBuilder<Mention>, placing: &Placing) {
     add_streams(list, placing.link, &[placing.stream]);
     add_streams(list, placing.link, placing.others.list())
 }
 
 /// Adds the frames of streams on a link.
-pub fn add_streams(list: &mut Growing<Mention>, link: usize, streams: &[usize]) {
+pub fn add_streams(list: &mut ListBuilder<Mention>, link: usize, streams: &[usize]) {
     for stream in streams {
         let stream = *stream;
         list.push(Mention { stream, link });

@@ -4,24 +4,24 @@ use crate::number::{is_marked, mark, marks, next, step_at};
 use crate::replay::Replay;
 use std::alloc::{AllocError, Global};
 use tsn_argument::Argument;
-use tsn_text::Growing;
+use tsn_text::ListBuilder;
 
 /// The moves that each move needs.
 #[derive(Drop)]
 pub struct Needs {
     // The first move of each step.
-    begins: Growing<usize>,
+    begins: ListBuilder<usize>,
     // Of each move where those that it needs end in the list.
-    ends: Growing<usize>,
-    list: Growing<usize>,
+    ends: ListBuilder<usize>,
+    list: ListBuilder<usize>,
 }
 
 impl Needs {
     pub fn none(alloc: Global) -> Needs {
         Needs {
-            begins: Growing::new(alloc),
-            ends: Growing::new(alloc),
-            list: Growing::new(alloc),
+            begins: ListBuilder::new(alloc),
+            ends: ListBuilder::new(alloc),
+            list: ListBuilder::new(alloc),
         }
     }
 
@@ -126,7 +126,7 @@ impl Part {
     }
 
     fn steps_of(&self, alloc: Global) -> Result<Vec<usize>, AllocError> {
-        let mut steps = Growing::new(alloc);
+        let mut steps = ListBuilder::new(alloc);
         for step in 0..self.next {
             if self.has_some(step) {
                 steps.push(step);

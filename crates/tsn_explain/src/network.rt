@@ -3,7 +3,7 @@ use crate::number::{less, signed, sum};
 use tsn_argument::Order;
 use tsn_model::Link;
 use tsn_net::Problem;
-use tsn_text::Words;
+use tsn_text::TextBuilder;
 use tsn_timing::Timing;
 
 /// The most names that are told of a set of streams.
@@ -149,13 +149,13 @@ impl Network<'_> {
     }
 
     /// Writes 'stream' and a stream's name.
-    pub fn push_stream(self, text: &mut Words, stream: usize) {
+    pub fn push_stream(self, text: &mut TextBuilder, stream: usize) {
         text.push_str("stream ");
         self.push_name(text, stream)
     }
 
     /// Writes a stream's name.
-    fn push_name(self, text: &mut Words, stream: usize) {
+    fn push_name(self, text: &mut TextBuilder, stream: usize) {
         if stream < self.problem.streams() {
             text.push_str(self.problem.stream_name(stream))
         } else {
@@ -164,7 +164,7 @@ impl Network<'_> {
     }
 
     /// Writes the names of streams.
-    fn push_names(self, text: &mut Words, streams: &[usize]) {
+    fn push_names(self, text: &mut TextBuilder, streams: &[usize]) {
         let count = streams.len();
         for (place, stream) in streams.iter().enumerate() {
             if place == MOST_NAMED {
@@ -181,7 +181,7 @@ impl Network<'_> {
     }
 
     /// Writes 'the frame of' or 'the frames of' streams, and their names.
-    pub fn push_frames(self, text: &mut Words, streams: &[usize]) {
+    pub fn push_frames(self, text: &mut TextBuilder, streams: &[usize]) {
         if streams.len() == 1 {
             text.push_str("the frame of ");
         } else {
@@ -191,14 +191,14 @@ impl Network<'_> {
     }
 
     /// Writes a directed link by its number, and the nodes that it joins.
-    pub fn push_link(self, text: &mut Words, number: usize) {
+    pub fn push_link(self, text: &mut TextBuilder, number: usize) {
         text.push_str("link ");
         text.push_count(number);
         self.push_ends(text, number, ", ", "")
     }
 
     /// Writes the nodes that a link joins, between two texts.
-    fn push_ends(self, text: &mut Words, number: usize, before: &str, behind: &str) {
+    fn push_ends(self, text: &mut TextBuilder, number: usize, before: &str, behind: &str) {
         let problem = self.problem;
         if number >= problem.links() {
             return;
@@ -217,7 +217,7 @@ impl Network<'_> {
     }
 
     /// Writes that one stream goes before another one on a link.
-    pub fn push_order(self, text: &mut Words, order: Order) {
+    pub fn push_order(self, text: &mut TextBuilder, order: Order) {
         self.push_stream(text, order.first);
         text.push_str(" goes before ");
         self.push_stream(text, order.second);
@@ -229,7 +229,7 @@ impl Network<'_> {
 }
 
 /// Writes what stands between two elements of an enumeration, before the one at this place.
-pub fn push_joint(text: &mut Words, place: usize, count: usize, word: &str) {
+pub fn push_joint(text: &mut TextBuilder, place: usize, count: usize, word: &str) {
     if place.wrapping_add(1) < count {
         text.push_str(", ")
     } else {

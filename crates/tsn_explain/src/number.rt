@@ -1,6 +1,6 @@
 //! Numbers in lists, where a place that a list doesn't have is passed over, and how times are written.
 use std::alloc::{AllocError, Global};
-use tsn_text::Words;
+use tsn_text::TextBuilder;
 
 /// No step, and no move.
 pub const NONE: usize = 0xFFFF_FFFF_FFFF;
@@ -129,7 +129,7 @@ pub fn most(counts: &[usize]) -> Option<usize> {
 }
 
 /// Writes a time in nanoseconds, with commas between the thousands.
-pub fn push_time(text: &mut Words, time: i64) {
+pub fn push_time(text: &mut TextBuilder, time: i64) {
     if time < 0 {
         text.push('-');
     }
@@ -137,11 +137,11 @@ pub fn push_time(text: &mut Words, time: i64) {
 }
 
 /// Writes a number, with commas between the thousands.
-pub fn push_count(text: &mut Words, count: usize) {
+pub fn push_count(text: &mut TextBuilder, count: usize) {
     push_grouped(text, count as u64)
 }
 
-fn push_grouped(text: &mut Words, number: u64) {
+fn push_grouped(text: &mut TextBuilder, number: u64) {
     let mut is_begun = false;
     for unit in [1_000_000_000_000u64, 1_000_000_000, 1_000_000, 1000, 1] {
         if unit > 0 && (is_begun || number >= unit || unit == 1) {
@@ -152,7 +152,7 @@ fn push_grouped(text: &mut Words, number: u64) {
 }
 
 // Writes the last three digits of a number behind others, or else all of it.
-fn push_group(text: &mut Words, is_behind: bool, number: u64) {
+fn push_group(text: &mut TextBuilder, is_behind: bool, number: u64) {
     if !is_behind {
         return text.push_number(number);
     }

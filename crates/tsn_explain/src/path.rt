@@ -6,7 +6,7 @@ use std::alloc::{AllocError, Global};
 use tsn_argument::Order;
 use tsn_cert::{Chain, Entries, Node};
 use tsn_model::Triple;
-use tsn_text::Growing;
+use tsn_text::ListBuilder;
 
 /// A decision of a path.
 #[derive(Clone, Copy)]
@@ -19,14 +19,14 @@ pub struct Decided {
 /// The way from the root of a tree to one of its nodes.
 #[derive(Drop)]
 pub struct Path {
-    list: Growing<Decided>,
+    list: ListBuilder<Decided>,
 }
 
 impl Path {
     /// The way to the root.
     pub fn first(alloc: Global) -> Path {
         Path {
-            list: Growing::new(alloc),
+            list: ListBuilder::new(alloc),
         }
     }
 
@@ -119,7 +119,7 @@ impl Path {
 
 /// The streams of entries.
 pub fn streams_of(alloc: Global, entries: &Entries) -> Result<Vec<usize>, AllocError> {
-    let mut streams = Growing::new(alloc);
+    let mut streams = ListBuilder::new(alloc);
     for (stream, _) in entries.list() {
         streams.push(*stream);
     }

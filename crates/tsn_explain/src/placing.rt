@@ -4,10 +4,10 @@ use crate::number::{push_time, sum};
 use crate::view::View;
 use std::alloc::{AllocError, Global};
 use tsn_argument::Placing;
-use tsn_text::Words;
+use tsn_text::TextBuilder;
 
 /// Writes that a frame goes last on a link, and why, up to what follows for its stream.
-pub fn push_last(alloc: Global, text: &mut Words, view: &View<'_>, placing: &Placing) {
+pub fn push_last(alloc: Global, text: &mut TextBuilder, view: &View<'_>, placing: &Placing) {
     let Placing { link, stream, .. } = placing;
     let others = placing.others.list();
     let some = placing.some.list();
@@ -35,7 +35,7 @@ pub fn push_last(alloc: Global, text: &mut Words, view: &View<'_>, placing: &Pla
 }
 
 /// Writes that a frame goes first on a link, and why, up to what follows for its stream.
-pub fn push_first(alloc: Global, text: &mut Words, view: &View<'_>, placing: &Placing) {
+pub fn push_first(alloc: Global, text: &mut TextBuilder, view: &View<'_>, placing: &Placing) {
     let Placing { link, stream, .. } = placing;
     let others = placing.others.list();
     let some = placing.some.list();
@@ -71,7 +71,12 @@ fn with_stream(alloc: Global, others: &[usize], stream: usize) -> Result<Vec<usi
 }
 
 // Writes how long frames take on a link together, and says it.
-fn push_together(text: &mut Words, network: Network<'_>, link: usize, streams: &[usize]) -> i64 {
+fn push_together(
+    text: &mut TextBuilder,
+    network: Network<'_>,
+    link: usize,
+    streams: &[usize],
+) -> i64 {
     let work = network.work(link, streams);
     text.push_str("on ");
     network.push_link(text, link);
@@ -84,7 +89,7 @@ fn push_together(text: &mut Words, network: Network<'_>, link: usize, streams: &
 }
 
 // Writes that another frame would go last or first.
-fn push_other_end(text: &mut Words, network: Network<'_>, others: &[usize], end: &str) {
+fn push_other_end(text: &mut TextBuilder, network: Network<'_>, others: &[usize], end: &str) {
     text.push_str(". If ");
     if others.len() > 1 {
         text.push_str("one of ");
@@ -96,7 +101,7 @@ fn push_other_end(text: &mut Words, network: Network<'_>, others: &[usize], end:
 }
 
 // Writes that a stream's frame goes last or first.
-fn push_placed(text: &mut Words, network: Network<'_>, stream: usize, end: &str) {
+fn push_placed(text: &mut TextBuilder, network: Network<'_>, stream: usize, end: &str) {
     text.push_str(". So ");
     network.push_frames(text, &[stream]);
     text.push_str(" goes ");
@@ -104,7 +109,13 @@ fn push_placed(text: &mut Words, network: Network<'_>, stream: usize, end: &str)
 }
 
 // Writes how long some frames take on a link.
-fn push_some(text: &mut Words, network: Network<'_>, link: usize, some: &[usize], word: &str) {
+fn push_some(
+    text: &mut TextBuilder,
+    network: Network<'_>,
+    link: usize,
+    some: &[usize],
+    word: &str,
+) {
     text.push_str(word);
     push_time(text, network.work(link, some));
     text.push_str(" ns of ");

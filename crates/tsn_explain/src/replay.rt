@@ -5,7 +5,7 @@ use crate::number::{less, next, signed, step_at, sum};
 use crate::view::{Learned, View, opposite, turned};
 use std::alloc::{AllocError, Global};
 use tsn_argument::{Argument, Fact, Goal, Move, Order, Placing, Step};
-use tsn_text::Growing;
+use tsn_text::ListBuilder;
 
 /// An argument whose steps are made.
 #[derive(Drop)]
@@ -16,8 +16,8 @@ pub struct Replay<'a> {
     /// The flowspan that no schedule is below.
     pub target: i64,
     // The step that each clause is of, and the move that shows it.
-    clauses: Growing<usize>,
-    shown_by: Growing<usize>,
+    clauses: ListBuilder<usize>,
+    shown_by: ListBuilder<usize>,
     // How many halves of moves have begun, and what those before the last one need.
     count: usize,
     needs: Needs,
@@ -42,8 +42,8 @@ impl<'a> Replay<'a> {
             steps,
             goal: argument.goal,
             target,
-            clauses: Growing::new(alloc),
-            shown_by: Growing::new(alloc),
+            clauses: ListBuilder::new(alloc),
+            shown_by: ListBuilder::new(alloc),
             count: 0,
             needs: Needs::none(alloc),
         })

@@ -2,10 +2,10 @@
 use crate::network::{Network, push_joint};
 use crate::number::{push_time, sum};
 use tsn_argument::Order;
-use tsn_text::Words;
+use tsn_text::TextBuilder;
 
 /// Writes that these orders can't all hold; the orders too, unless they stand there already.
-pub fn push_round(text: &mut Words, network: Network<'_>, orders: &[Order], is_said: bool) {
+pub fn push_round(text: &mut TextBuilder, network: Network<'_>, orders: &[Order], is_said: bool) {
     let Some(first) = orders.first() else {
         return;
     };
@@ -28,7 +28,7 @@ fn weight_of(network: Network<'_>, orders: &[Order]) -> i64 {
     weight
 }
 
-fn push_orders(text: &mut Words, network: Network<'_>, orders: &[Order]) {
+fn push_orders(text: &mut TextBuilder, network: Network<'_>, orders: &[Order]) {
     for (place, order) in orders.iter().enumerate() {
         if place > 0 {
             push_joint(text, place, orders.len(), "and");

@@ -9,10 +9,10 @@ use crate::round::push_round;
 use crate::view::{Crossing, Learned, View, least_tail, opposite};
 use std::alloc::Global;
 use tsn_argument::{Fact, Goal, Move, Order, Placing};
-use tsn_text::Words;
+use tsn_text::TextBuilder;
 
 /// Writes what a fact says.
-fn push_fact(text: &mut Words, view: &View<'_>, fact: Learned) {
+fn push_fact(text: &mut TextBuilder, view: &View<'_>, fact: Learned) {
     match fact {
         Learned::From(subject, time) if subject == view.done() => {
             text.push_str("nothing is done before ");
@@ -34,7 +34,7 @@ fn push_fact(text: &mut Words, view: &View<'_>, fact: Learned) {
     }
 }
 
-fn push_start(text: &mut Words, view: &View<'_>, stream: usize, time: i64) {
+fn push_start(text: &mut TextBuilder, view: &View<'_>, stream: usize, time: i64) {
     view.network().push_stream(text, stream);
     text.push_str(" starts at ");
     push_time(text, time)
@@ -43,7 +43,7 @@ fn push_start(text: &mut Words, view: &View<'_>, stream: usize, time: i64) {
 /// Writes a step and takes it: what is supposed, its moves that are of the part, and what follows.
 pub fn push_step(
     alloc: Global,
-    text: &mut Words,
+    text: &mut TextBuilder,
     replay: &mut Replay<'_>,
     part: &Part,
     step: usize,
@@ -78,7 +78,7 @@ pub fn push_step(
 }
 
 /// Writes the opposites of the facts of a step, or which schedules it is about.
-fn push_supposed(text: &mut Words, replay: &Replay<'_>, step: usize) {
+fn push_supposed(text: &mut TextBuilder, replay: &Replay<'_>, step: usize) {
     let facts = replay.facts(step);
     let view = &replay.view;
     if facts.is_empty() && replay.goal == Goal::None {
@@ -97,7 +97,7 @@ fn push_supposed(text: &mut Words, replay: &Replay<'_>, step: usize) {
 }
 
 /// Writes which schedules are in question.
-fn push_schedules(text: &mut Words, view: &View<'_>) {
+fn push_schedules(text: &mut TextBuilder, view: &View<'_>) {
     let most = view.high(view.done());
     text.push_str("In a schedule that is done by ");
     push_time(text, most);
@@ -105,7 +105,7 @@ fn push_schedules(text: &mut Words, view: &View<'_>) {
 }
 
 /// Writes what a step shows, where it was last said that nothing is done before some instant.
-fn push_shown(text: &mut Words, replay: &Replay<'_>, step: usize, said: i64) {
+fn push_shown(text: &mut TextBuilder, replay: &Replay<'_>, step: usize, said: i64) {
     let facts = replay.facts(step);
     let view = &replay.view;
     if facts.is_empty() {
@@ -127,7 +127,7 @@ fn push_shown(text: &mut Words, replay: &Replay<'_>, step: usize, said: i64) {
 }
 
 /// Writes what a step without facts leaves.
-fn push_left(text: &mut Words, replay: &Replay<'_>) {
+fn push_left(text: &mut TextBuilder, replay: &Replay<'_>) {
     if replay.view.crossing().is_some() {
         text.push_str(". So there is none.\n")
     } else if replay.is_shown() {
@@ -140,7 +140,7 @@ fn push_left(text: &mut Words, replay: &Replay<'_>) {
 }
 
 /// Writes whose numbers don't go together, if any.
-fn push_crossing(text: &mut Words, view: &View<'_>) {
+fn push_crossing(text: &mut TextBuilder, view: &View<'_>) {
     let Some(Crossing { subject, is_least }) = view.crossing() else {
         return;
     };
@@ -160,7 +160,7 @@ fn push_crossing(text: &mut Words, view: &View<'_>) {
 #[derive(Drop)]
 struct Teller<'a> {
     alloc: Global,
-    text: &'a mut Words,
+    text: &'a mut TextBuilder,
     // The streams whose arrival was bounded and isn't told yet.
     limited: Vec<usize>,
     is_begun: bool,

@@ -6,7 +6,7 @@ use crate::number::{count_at, count_up, counts, most, push_count, put_count};
 use crate::path::{Path, streams_of};
 use std::alloc::{AllocError, Global};
 use tsn_cert::{Cert, Entries, Format, Leaf, LowerBound, Node};
-use tsn_text::Words;
+use tsn_text::TextBuilder;
 
 /// The most nodes whose leaves are told one by one.
 pub const MOST_TOLD: usize = 12;
@@ -17,7 +17,7 @@ const MOST_LINKS: usize = 5;
 /// Writes why the target of a tree is right.
 pub fn push_tree(
     alloc: Global,
-    text: &mut Words,
+    text: &mut TextBuilder,
     network: Network<'_>,
     cert: &Cert,
 ) -> Result<(), AllocError> {
@@ -40,7 +40,7 @@ fn has_schedule(network: Network<'_>, cert: &Cert) -> bool {
 
 fn push_leaves(
     alloc: Global,
-    text: &mut Words,
+    text: &mut TextBuilder,
     network: Network<'_>,
     nodes: &[Node],
 ) -> Result<(), AllocError> {
@@ -52,16 +52,44 @@ fn push_leaves(
     path.finish()
 }
 
+/// All leaves, and the kinds of which there may be some, in the order in which they are told.
+const KINDS: [&str; 7] = [
+    " ways to order frames are ruled out",
+    " by a frame that arrives too late",
+    " by the load of a link",
+    " by a frame that is past the cycle's end or its latest instant",
+    " by a link that is taken up past the cycle's end",
+    " by orders that can't all hold",
+    " by the list order",
+];
+
+/// Which kind a leaf is of; a branch counts as none.
+fn kind_of(node: &Node) -> usize {
+    match node {
+        Node::Branch(_) => KINDS.len(),
+        Node::Leaf(Leaf::Bound(LowerBound::Late(..))) => 1,
+        Node::Leaf(Leaf::Bound(LowerBound::Load(..))) => 2,
+        Node::Leaf(Leaf::Overrun(..)) => 3,
+        Node::Leaf(Leaf::Overload(..)) => 4,
+        Node::Leaf(Leaf::Cycle(_)) => 5,
+        Node::Tie(..) => 6,
+    }
+}
+
+/// The link whose load rules a leaf out, with the loads of its streams where they bound the flowspan.
+fn load_in(node: &Node) -> Option<(usize, Option<&Entries>)> {
+    match node {
+        Node::Leaf(Leaf::Bound(LowerBound::Load(link, entries))) => Some((*link, Some(entries))),
+        Node::Tie(LowerBound::Load(link, entries), _) => Some((*link, Some(entries))),
+        Node::Leaf(Leaf::Overload(link, _)) => Some((*link, None)),
+        _ => None,
+    }
+}
+
 /// How many leaves of each kind there are, how many are of each link's load, and the load that comes to the least.
 #[derive(Drop)]
 pub struct Tally {
-    leaves: usize,
-    late: usize,
-    overrun: usize,
-    cycle: usize,
-    load: usize,
-    overload: usize,
-    tie: usize,
+    kinds: Vec<usize>,
     links: Vec<usize>,
     least: Least,
 }
@@ -77,6 +105,16 @@ pub struct Least {
 }
 
 impl Least {
+    fn none(alloc: Global) -> Least {
+        Least {
+            link: 0,
+            streams: Vec::new(alloc),
+            head: 0,
+            work: 0,
+            tail: 0,
+        }
+    }
+
     fn load(&self) -> Load<'_> {
         Load {
             link: self.link,
@@ -96,21 +134,9 @@ impl Least {
 pub fn tally_of(alloc: Global, network: Network<'_>, nodes: &[Node]) -> Result<Tally, AllocError> {
     let mut path = Path::first(alloc);
     let mut tally = Tally {
-        leaves: 0,
-        late: 0,
-        overrun: 0,
-        cycle: 0,
-        load: 0,
-        overload: 0,
-        tie: 0,
+        kinds: counts(alloc, 0, KINDS.len())?,
         links: counts(alloc, 0, network.problem.links())?,
-        least: Least {
-            link: 0,
-            streams: Vec::new(alloc),
-            head: 0,
-            work: 0,
-            tail: 0,
-        },
+        least: Least::none(alloc),
     };
     for node in nodes {
         tally.count(alloc, network, &path, node)?;
@@ -133,50 +159,18 @@ impl Tally {
         path: &Path,
         node: &Node,
     ) -> Result<(), AllocError> {
-        match node {
-            Node::Branch(_) => Ok(()),
-            Node::Leaf(leaf) => {
-                self.leaves = self.leaves.wrapping_add(1);
-                self.count_leaf(leaf);
-                match leaf {
-                    Leaf::Bound(bound) => self.weigh(alloc, network, path, bound),
-                    _ => Ok(()),
-                }
-            }
-            Node::Tie(bound, _) => {
-                self.leaves = self.leaves.wrapping_add(1);
-                self.tie = self.tie.wrapping_add(1);
-                self.weigh(alloc, network, path, bound)
-            }
+        let kind = kind_of(node);
+        if kind < KINDS.len() {
+            count_up(&mut self.kinds, 0);
         }
-    }
-
-    fn count_leaf(&mut self, leaf: &Leaf) {
-        match leaf {
-            Leaf::Bound(LowerBound::Late(..)) => self.late = self.late.wrapping_add(1),
-            Leaf::Bound(LowerBound::Load(..)) => self.load = self.load.wrapping_add(1),
-            Leaf::Overrun(..) => self.overrun = self.overrun.wrapping_add(1),
-            Leaf::Cycle(_) => self.cycle = self.cycle.wrapping_add(1),
-            Leaf::Overload(link, _) => {
-                self.overload = self.overload.wrapping_add(1);
-                count_up(&mut self.links, *link);
-            }
-        }
-    }
-
-    fn weigh(
-        &mut self,
-        alloc: Global,
-        network: Network<'_>,
-        path: &Path,
-        bound: &LowerBound,
-    ) -> Result<(), AllocError> {
-        match bound {
-            LowerBound::Late(..) => Ok(()),
-            LowerBound::Load(link, entries) => {
-                count_up(&mut self.links, *link);
-                self.weigh_load(alloc, network, path, *link, entries)
-            }
+        count_up(&mut self.kinds, kind);
+        let Some((link, entries)) = load_in(node) else {
+            return Ok(());
+        };
+        count_up(&mut self.links, link);
+        match entries {
+            Some(entries) => self.weigh_load(alloc, network, path, link, entries),
+            None => Ok(()),
         }
     }
 
@@ -211,29 +205,16 @@ impl Tally {
     }
 
     /// Writes the counts.
-    fn push_counts(&self, alloc: Global, text: &mut Words, network: Network<'_>) {
-        push_count(text, self.leaves);
-        text.push_str(" ways to order frames are ruled out");
+    fn push_counts(&self, alloc: Global, text: &mut TextBuilder, network: Network<'_>) {
         let mut is_begun = false;
-        for (count, words) in [
-            (self.late, "by a frame that arrives too late"),
-            (self.load, "by the load of a link"),
-            (
-                self.overrun,
-                "by a frame that is past the cycle's end or its latest instant",
-            ),
-            (
-                self.overload,
-                "by a link that is taken up past the cycle's end",
-            ),
-            (self.cycle, "by orders that can't all hold"),
-            (self.tie, "by the list order"),
-        ] {
+        for (kind, words) in KINDS.iter().enumerate() {
+            let count = count_at(&self.kinds, kind);
             if count > 0 {
-                text.push_str(if is_begun { ", " } else { ": " });
-                is_begun = true;
+                if kind > 0 {
+                    text.push_str(if is_begun { ", " } else { ": " });
+                    is_begun = true;
+                }
                 push_count(text, count);
-                text.push(' ');
                 text.push_str(words);
             }
         }
@@ -242,7 +223,7 @@ impl Tally {
         self.push_least(text, network)
     }
 
-    fn push_loads(&self, alloc: Global, text: &mut Words, network: Network<'_>) {
+    fn push_loads(&self, alloc: Global, text: &mut TextBuilder, network: Network<'_>) {
         let Ok(mut links) = self.links.as_slice().to_vec(alloc) else {
             return text.refuse();
         };
@@ -261,7 +242,7 @@ impl Tally {
         drop(links);
     }
 
-    fn push_least(&self, text: &mut Words, network: Network<'_>) {
+    fn push_least(&self, text: &mut TextBuilder, network: Network<'_>) {
         if !self.least.is_there() {
             return;
         }

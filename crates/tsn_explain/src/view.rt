@@ -4,7 +4,7 @@ use crate::network::Network;
 use crate::number::{NONE, at, counts, less, next, put, put_count, signed, step_at, sum, zeros};
 use std::alloc::{AllocError, Global};
 use tsn_argument::{Fact, Order};
-use tsn_text::Growing;
+use tsn_text::ListBuilder;
 
 /// How many places of orders each stream has: one for each of its hops and each other stream.
 const PLACES: usize = 2048;
@@ -42,12 +42,12 @@ pub struct View<'a> {
     // For each order the move that it is from.
     orders: Vec<usize>,
     // What differs from the ground.
-    changes: Growing<Change>,
-    new_orders: Growing<usize>,
+    changes: ListBuilder<Change>,
+    new_orders: ListBuilder<usize>,
     // The move under way.
     motion: usize,
     // The moves that it needs, and for each move which needed it last.
-    needs: Growing<usize>,
+    needs: ListBuilder<usize>,
     reads: Vec<usize>,
     crossing: Option<Crossing>,
 }
@@ -67,10 +67,10 @@ impl<'a> View<'a> {
             numbers: zeros(alloc, places)?,
             sources: counts(alloc, NONE, places)?,
             orders: counts(alloc, NONE, streams.wrapping_mul(PLACES))?,
-            changes: Growing::new(alloc),
-            new_orders: Growing::new(alloc),
+            changes: ListBuilder::new(alloc),
+            new_orders: ListBuilder::new(alloc),
             motion: NONE,
-            needs: Growing::new(alloc),
+            needs: ListBuilder::new(alloc),
             reads: counts(alloc, NONE, moves)?,
             crossing: None,
         };

@@ -11,8 +11,8 @@ use Rattle.std.specs.Io.KnownBytes.{Appends}
 use Rattle.tsn_device.specs.declared.run.TheConstants.{DEVICE}
 use Rattle.tsn_run.specs.declared.run.TheConstants.{MEMORY}
 use Rattle.tsn_run.specs.Run.{Command, RunsOver, SinkRun, SourceRun, source_over, writing_of}
-use Rattle.tsn_report.specs.declared.told.Told.{Told}
-use Rattle.tsn_report.specs.Told.{IsTold, told_text}
+use Rattle.tsn_given.specs.declared.report.Told.{Told}
+use Rattle.tsn_given.specs.Told.{IsTold, told_text}
 
 -- it holds with some value of which this is so
 abbrev pub WithSome : {S : Type 0} → (S → Type 0) → (S → Type 0) → Type 0

@@ -5,9 +5,10 @@ ghost use Rattle.tsn_given.specs.Runs.{IsLineIn, IsObjectOf, IsTellingOf, IsWith
 
 use crate::devices::{Given, Made};
 use crate::reason::failure_line;
+use crate::report::{Told, told_to_json};
 use crate::told::{Ended, Ran, say, tell};
 use std::alloc::Global;
-use tsn_report::{NoMemory, Told, told_to_json};
+use tsn_model::NoMemory;
 use tsn_run::memory::{MemorySink, NEVER};
 use tsn_run::run::{DEVICE, MEMORY, NO_MEMORY_LINE};
 

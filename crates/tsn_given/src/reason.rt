@@ -1,9 +1,10 @@
 //! Why a run refused what it read, or which device failed, in a line of words.
 
 use crate::devices::Opened;
+use crate::refused::{cert_reason, network_reason, offsets_reason, plan_reason};
 use std::alloc::{AllocError, Global};
 use tsn_device::{Action, Failure};
-use tsn_reason::{File, cert_reason, line_of, network_reason, offsets_reason, plan_reason};
+use tsn_reason::{File, line_of};
 use tsn_run::run::{DEVICE, MAX_FILE, REFUSED, REJECTED};
 
 /// The line on a source, where it ended a run of this status.

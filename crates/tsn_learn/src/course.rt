@@ -1,14 +1,14 @@
 //! The order of the questions: a first schedule, then the flowspan, then stream after stream in list order. A stream whose question
 //! takes too long is left, and come back to with what is left of the budget. Times are in nanoseconds.
+use crate::first::first_schedule;
 use crate::learning::{Budget, Hear, News};
+use crate::table::{fill_table, table_without_streams};
 use crate::turn::Turn;
 use std::alloc::{AllocError, Global};
-use tsn_bounds::literal::Literal;
-use tsn_bounds::number::{at, copy, less, next, put, signed, signed_list, sum};
 use tsn_solver::ask::Answered;
+use tsn_solver::literal::Literal;
+use tsn_solver::number::{at, copy, less, next, put, signed, signed_list, sum};
 use tsn_solver::search::Search;
-use tsn_start::first::first_schedule;
-use tsn_start::table::{fill_table, table_without_streams};
 use tsn_timing::Timing;
 
 /// A search for the first of the optimal schedules.

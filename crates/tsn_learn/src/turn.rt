@@ -1,5 +1,5 @@
 //! How a question is asked next: how far above the least value, and with how many conflicts.
-use tsn_bounds::number::{less, sum};
+use tsn_solver::number::{less, sum};
 
 /// How many conflicts a question is worth at first.
 const SHARE: u64 = 200;

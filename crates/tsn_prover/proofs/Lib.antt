@@ -1,2 +1,3 @@
+pub mod FilesLemmas
 mod ProveLemmas
 mod ProvedLemmas

@@ -1,11 +1,22 @@
-//! The run of `prove`, which searches for a proof of a plan, over readers and writers of bytes.
+//! The run of `prove`, which searches for a proof of a plan, over readers and writers of bytes; and that command by its words, over
+//! whatever it is given. What `plan` shares with it stands here too: the files that are written, and how a search ended, or why none
+//! began.
 #![tactic(auto)]
 
+pub mod ended;
+pub mod files;
 pub mod finding;
 mod print_proof;
+pub mod proof;
 mod proof_output;
-mod prove;
 pub mod prove_laws;
+mod reason;
+mod run;
+pub mod unwritten;
 
+pub use ended::{file_line, stop_or};
+pub use files::{PlanFiles, plan_files};
 pub use finding::{Finding, Spans};
-pub use prove::{ProofEnd, prove_run};
+pub use proof::prove;
+pub use run::{ProofEnd, prove_run};
+pub use unwritten::{Unwritten, unwritable};

@@ -1,17 +1,17 @@
 //! What is wrong with the value of a certificate file of format 3.
 
 use crate::certificate::push_large_target;
+use crate::json::{elements_at, number_at, push_wrong_keys};
 use serde_json::Value;
 use std::alloc::Global;
 use tsn_argument_json::argument_from_json;
 use tsn_cert::FileFault;
 use tsn_cert::plan::MAX_TIME;
-use tsn_check_reason::{elements_at, number_at, push_wrong_keys};
 use tsn_model::NoMemory;
-use tsn_text::Words;
+use tsn_text::TextBuilder;
 
 /// Writes what is wrong with the value.
-pub fn push_argument_value(alloc: Global, text: &mut Words, value: &Value, fault: FileFault) {
+pub fn push_argument_value(alloc: Global, text: &mut TextBuilder, value: &Value, fault: FileFault) {
     if push_wrong_keys(text, value, &["format", "goal", "steps", "target"]) {
         return;
     }
@@ -38,7 +38,7 @@ fn is_goal(value: Option<&Value>) -> bool {
 }
 
 /// Writes which step is the first with this fault.
-fn push_first_step(alloc: Global, text: &mut Words, steps: &[Value], fault: FileFault) {
+fn push_first_step(alloc: Global, text: &mut TextBuilder, steps: &[Value], fault: FileFault) {
     for (number, step) in steps.iter().enumerate() {
         let Ok(is_first) = is_step_of(alloc, step, fault) else {
             return text.refuse();
@@ -70,7 +70,7 @@ fn is_fault_of(alloc: Global, step: &str, fault: FileFault) -> Result<bool, NoMe
 }
 
 /// Writes what is wrong with a step of this fault.
-fn push_step(alloc: Global, text: &mut Words, step: &Value, fault: FileFault) {
+fn push_step(alloc: Global, text: &mut TextBuilder, step: &Value, fault: FileFault) {
     let Some([clause, moves]) = elements_of(step) else {
         return push_no_step(text);
     };
@@ -93,7 +93,7 @@ fn push_step(alloc: Global, text: &mut Words, step: &Value, fault: FileFault) {
 }
 
 /// Writes which move is the first with this fault.
-fn push_first_move(alloc: Global, text: &mut Words, moves: &[Value], fault: FileFault) {
+fn push_first_move(alloc: Global, text: &mut TextBuilder, moves: &[Value], fault: FileFault) {
     let Ok(found) = first_move(alloc, moves, fault) else {
         return text.refuse();
     };
@@ -110,11 +110,11 @@ fn elements_of(value: &Value) -> Option<&[Value]> {
     }
 }
 
-fn push_no_step(text: &mut Words) {
+fn push_no_step(text: &mut TextBuilder) {
     text.push_str(" has to be an array of two arrays, of facts and of moves")
 }
 
-fn push_fault(text: &mut Words, fault: FileFault) {
+fn push_fault(text: &mut TextBuilder, fault: FileFault) {
     if fault == FileFault::NumberTooLarge {
         text.push_str(" has a time above ");
         text.push_number(MAX_TIME);

@@ -1,16 +1,17 @@
 //! Why a certificate file is refused.
 
 use crate::argument_file::push_argument_value;
+use crate::json::{elements_at, number_at, push_not_json, push_wrong_keys};
+use crate::text::line_of;
+use crate::{File, Reason};
 use serde_json::Value;
 use std::alloc::Global;
 use tsn_argument::argument::ARGUMENT_FORMAT;
 use tsn_cert::FileFault;
 use tsn_cert::plan::MAX_TIME;
 use tsn_cert_json::cert_from_json;
-use tsn_check_reason::{elements_at, number_at, push_not_json, push_wrong_keys};
 use tsn_model::NoMemory;
-use tsn_network_reason::{File, Reason, line_of};
-use tsn_text::Words;
+use tsn_text::TextBuilder;
 
 /// Why a certificate file with this fault is refused.
 pub fn cert_file_line(alloc: Global, cert: File<'_>, fault: FileFault) -> Reason {
@@ -29,7 +30,7 @@ pub fn cert_file_line(alloc: Global, cert: File<'_>, fault: FileFault) -> Reason
 }
 
 /// Writes what is wrong with the value of a certificate file.
-fn push_cert_value(alloc: Global, text: &mut Words, value: &Value, fault: FileFault) {
+fn push_cert_value(alloc: Global, text: &mut TextBuilder, value: &Value, fault: FileFault) {
     if !value.is_object() {
         return text.push_str("it has to be an object");
     }
@@ -46,7 +47,13 @@ fn push_cert_value(alloc: Global, text: &mut Words, value: &Value, fault: FileFa
 }
 
 /// Writes what is wrong with the value of a certificate file of format 1 or 2.
-fn push_tree_value(alloc: Global, text: &mut Words, format: u64, value: &Value, fault: FileFault) {
+fn push_tree_value(
+    alloc: Global,
+    text: &mut TextBuilder,
+    format: u64,
+    value: &Value,
+    fault: FileFault,
+) {
     if push_wrong_keys(text, value, &["format", "nodes", "target"]) {
         return;
     }
@@ -63,7 +70,7 @@ fn push_tree_value(alloc: Global, text: &mut Words, format: u64, value: &Value, 
 }
 
 /// Writes that a target is too large.
-pub fn push_large_target(text: &mut Words, target: u64) {
+pub fn push_large_target(text: &mut TextBuilder, target: u64) {
     text.push_str("target is ");
     text.push_number(target);
     text.push_str(", and may be at most ");
@@ -73,7 +80,7 @@ pub fn push_large_target(text: &mut Words, target: u64) {
 /// Writes which node is the first with this fault.
 fn push_first_node(
     alloc: Global,
-    text: &mut Words,
+    text: &mut TextBuilder,
     format: u64,
     nodes: &[Value],
     fault: FileFault,
@@ -100,7 +107,7 @@ fn fault_of_node(alloc: Global, format: u64, node: &Value) -> Result<Option<File
     }
 }
 
-fn push_node(text: &mut Words, format: u64, number: usize, fault: FileFault) {
+fn push_node(text: &mut TextBuilder, format: u64, number: usize, fault: FileFault) {
     text.push_str("node ");
     text.push_count(number);
     text.push(' ');

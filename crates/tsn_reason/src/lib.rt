@@ -1,101 +1,48 @@
-//! Why a command refused what it read, in a line of words. The reason is found again from the bytes that were read, so no
-//! command has to hand it on.
+//! Why what a command read is refused, in a line of words: what is wrong in a file or in offsets, by how much a leaf of a tree misses
+//! what it has to show, and which step of an argument is the first that is wrong.
 #![tactic(auto)]
 
+mod argument;
 mod argument_file;
+mod bound;
 mod certificate;
-mod device;
+mod claim;
+mod document;
+mod json;
+mod keys;
+mod limits;
+mod motion;
+mod names;
+mod network;
+mod offsets;
+mod plan;
+mod routes;
+mod target;
+mod text;
+mod times;
+mod tree;
+mod unused;
+mod view;
+mod wrong;
 
-use crate::certificate::cert_file_line;
-pub use device::device_reason;
-use std::alloc::Global;
-use tsn_argue::check_certificate;
-use tsn_argument::Certificate;
-use tsn_cert_json::plan_from_json;
-use tsn_certificate_json::certificate_from_json;
-use tsn_check_reason::{Claim, line_of_fault, plan_file_line, refused_plan};
-use tsn_net::{Problem, read_problem};
-pub use tsn_network_reason::{
-    File, MOST_LOOKED_AT, Reason, line_of, network_reason, offsets_reason, unused_reason,
-};
-use tsn_network_reason::{long_line, network_line};
+pub use certificate::cert_file_line;
+pub use claim::{Claim, line_of_fault, refused_plan};
+pub use network::network_line;
+pub use offsets::{Schedule, offsets_line};
+pub use plan::plan_file_line;
+pub use text::line_of;
+use tsn_model::NoMemory;
+pub use unused::unused_reason;
 
-/// Why a network file is refused, or else a plan file, or else the plan as a schedule that can be shown.
-pub fn plan_reason(alloc: Global, network: File<'_>, plan: File<'_>) -> Reason {
-    if network.bytes.len() > MOST_LOOKED_AT {
-        return long_line(alloc, network);
-    }
-    match read_problem(alloc, network.bytes) {
-        Ok(problem) => {
-            let reason = refused_plan_file(alloc, &problem, plan);
-            drop(problem);
-            reason
-        }
-        Err(fault) => network_line(alloc, network, fault),
-    }
+/// A file that was read.
+#[derive(Clone, Copy)]
+pub struct File<'a> {
+    /// What it is called.
+    pub name: &'a str,
+    /// All its bytes.
+    pub bytes: &'a [u8],
 }
 
-/// Why a plan file for this problem is refused, or else the plan.
-fn refused_plan_file(alloc: Global, problem: &Problem, file: File<'_>) -> Reason {
-    match plan_from_json(alloc, file.bytes) {
-        Ok(plan) => {
-            let reason = refused_plan(alloc, problem, file, &plan);
-            drop(plan);
-            reason
-        }
-        Err(fault) => plan_file_line(alloc, file, fault),
-    }
-}
-
-/// Why a network file is refused, or else a plan file, or else a certificate file, or else the plan or the certificate
-/// itself.
-pub fn cert_reason(alloc: Global, network: File<'_>, plan: File<'_>, cert: File<'_>) -> Reason {
-    if network.bytes.len() > MOST_LOOKED_AT {
-        return long_line(alloc, network);
-    }
-    match read_problem(alloc, network.bytes) {
-        Ok(problem) => {
-            let reason = refused_files(alloc, &problem, plan, cert);
-            drop(problem);
-            reason
-        }
-        Err(fault) => network_line(alloc, network, fault),
-    }
-}
-
-/// Why a plan file for this problem is refused, or else a certificate file, or else what they say.
-fn refused_files(alloc: Global, problem: &Problem, file: File<'_>, cert: File<'_>) -> Reason {
-    match plan_from_json(alloc, file.bytes) {
-        Ok(plan) => {
-            let claim = Claim {
-                problem,
-                file,
-                plan: &plan,
-            };
-            let reason = refused_cert_file(alloc, claim, cert);
-            drop(plan);
-            reason
-        }
-        Err(fault) => plan_file_line(alloc, file, fault),
-    }
-}
-
-/// Why a certificate file for this plan is refused, or else the plan or the certificate.
-fn refused_cert_file(alloc: Global, claim: Claim<'_>, file: File<'_>) -> Reason {
-    match certificate_from_json(alloc, file.bytes) {
-        Ok(cert) => {
-            let reason = refused_cert(alloc, claim, file, &cert);
-            drop(cert);
-            reason
-        }
-        Err(fault) => cert_file_line(alloc, file, fault),
-    }
-}
-
-/// Why a plan or its certificate is refused.
-fn refused_cert(alloc: Global, claim: Claim<'_>, file: File<'_>, cert: &Certificate) -> Reason {
-    match check_certificate(alloc, claim.problem, claim.plan, cert) {
-        Ok(_) => Ok(None),
-        Err(fault) => line_of_fault(alloc, claim, file, cert, fault),
-    }
-}
+/// The line, from the name of the file at fault on and without its end; None where nothing is refused. The error says that
+/// there was no memory.
+pub type Reason = Result<Option<String>, NoMemory>;

@@ -5,7 +5,7 @@ use Rattle.std.specs.Prelude.{ℕ, List, [], ◌∷◌, ◌++◌, codes, Option,
 use Rattle.std.specs.List.{flat_map}
 use Rattle.std.specs.Fmt.{decimal}
 use Rattle.tsn_net.specs.Problem.{NamedNetwork}
-use Rattle.tsn_csv.specs.Field.{quoted_field}
+use Rattle.tsn_text.specs.Field.{quoted_field}
 use Rattle.tsn_replay.specs.declared.trace.Row.{Row}
 use Rattle.tsn_replay.specs.Rows.{stream_name}
 

@@ -1,2 +1,4 @@
+mod Settling
 pub mod Batching
+pub mod BatchTellers
 pub mod Teams

@@ -1,2 +1,4 @@
+pub mod Search
+pub mod Below
 pub mod Batch
 pub mod Team

@@ -1,62 +1,18 @@
-//! Bags for workers in threads of their own.
-ghost use Rattle.std.specs.Prelude.{◌≡◌, vec_len, IfOk};
+//! The bags from which workers take nodes. A bag that takes no node gives back the one that it was handed. Nothing is claimed of
+//! what it hands out: a node that is lost stays open in the book, and one that comes twice is refused there.
+ghost use Rattle.std.specs.Prelude.{◌≡◌, IfErr};
 
-use crossbeam_deque::{Steal, Stealer, Worker};
-use std::alloc::{AllocError, Global};
-use tsn_model::NoMemory;
 use tsn_node::Node;
-use tsn_walk::Bag;
 
-/// How many nodes a bag has room for at first.
-const ROOM: usize = 64;
+/// The nodes of one worker.
+pub trait Bag: Drop {
+    /// Puts a node into the bag; the error gives that node back.
+    fn push(&mut self, node: Node) -> Result<(), Node>
+        ensures { IfErr result (λ refused. refused ≡ node) };
 
-/// A bag that pops the node pushed last, and steals the one that was pushed first.
-#[derive(Drop)]
-pub struct DequeBag {
-    own: Worker<Node>,
-    others: Vec<Stealer<Node>>,
-}
+    /// Takes a node out of the bag.
+    fn pop(&mut self) -> Option<Node>;
 
-impl DequeBag {
-    /// A bag for each worker, each of which steals from all others. The error says that there was no memory.
-    pub fn make(alloc: Global, workers: usize) -> Result<Vec<DequeBag>, NoMemory>
-        ensures { IfOk result (λ bags. vec_len bags ≡ workers) }
-    {
-        Ok(DequeBag::make_all(alloc, workers)?)
-    }
-
-    fn make_all(alloc: Global, workers: usize) -> Result<Vec<DequeBag>, AllocError>
-        ensures { IfOk result (λ bags. vec_len bags ≡ workers) }
-    {
-        let mut bags: Vec<DequeBag> = Vec::new(alloc);
-        for _worker in 0..workers {
-            let own = Worker::new_lifo(alloc, ROOM)?;
-            let mut others = Vec::new(alloc);
-            for bag in bags.iter_mut() {
-                others.push(bag.own.stealer()?)?;
-                bag.others.push(own.stealer()?)?;
-            }
-            bags.push(DequeBag { own, others })?;
-        }
-        Ok(bags)
-    }
-}
-
-impl Bag for DequeBag {
-    fn push(&mut self, node: Node) -> Result<(), Node> {
-        self.own.push(node)
-    }
-
-    fn pop(&mut self) -> Option<Node> {
-        self.own.pop()
-    }
-
-    fn steal(&mut self) -> Option<Node> {
-        for other in &self.others {
-            if let Steal::Success(node) = other.steal() {
-                return Some(node);
-            }
-        }
-        None
-    }
+    /// Takes a node out of another worker's bag.
+    fn steal(&mut self) -> Option<Node>;
 }

@@ -1,7 +1,7 @@
 //! One who settles nodes: the caller, or a worker.
 ghost use Rattle.std.specs.Prelude.{◌≡◌};
 
-use crate::best::Best;
+use crate::best_copy::Best;
 use tsn_share::{Named, Teller};
 
 /// A teller, with the number by which the supervisor knows it, and its copy of the best schedule.

@@ -2,9 +2,10 @@
 ghost use Rattle.std.specs.Prelude.{◌≡◌, ℕ, ◌+◌, ◌<◌, ◌≤◌, length, All, IfOk, slice_index_or};
 ghost use Rattle.tsn_share.specs.Names.{IsBookOf};
 ghost use Rattle.tsn_share.specs.Teller.{IsEven, tellers_from};
-ghost use Rattle.tsn_walk.specs.Search.{AreTablesOf};
+ghost use Rattle.tsn_search.specs.Search.{AreTablesOf};
 ghost use Rattle.tsn_search.specs.Team.{AreBack, IsGathered};
 
+use crate::Bag;
 use crate::board::Board;
 use crate::context::Context;
 use crate::settler::Settler;
@@ -19,7 +20,6 @@ use tsn_node::NoMemory;
 use tsn_setting::Setting;
 use tsn_setting::supervisor::Supervisor;
 use tsn_share::{Named, Parts, Teller, gather};
-use tsn_walk::Bag;
 
 /// The caller begins, along a schedule where one is known, the workers go on, one a bag, and what all have settled is gathered.
 /// The error says that there was no memory for the caller.

@@ -1,10 +1,10 @@
 //! Questions: whether there is a schedule in which some literals hold, the premises.
+use crate::literal::Literal;
+use crate::number::{mark, push};
+use crate::reason::Why;
 use crate::search::Search;
+use crate::trail::holds;
 use std::alloc::AllocError;
-use tsn_bounds::literal::Literal;
-use tsn_bounds::number::{mark, push};
-use tsn_bounds::reason::Why;
-use tsn_trail::trail::holds;
 
 /// How many more learned clauses are kept each time that some are forgotten.
 const MORE: usize = 300;

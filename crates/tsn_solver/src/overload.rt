@@ -1,11 +1,11 @@
 //! Why streams don't fit on a link: as few of them as will do, and each bound as weak as will do. Times are in nanoseconds.
+use crate::literal::Literal;
+use crate::number::{index_at, less, push, put_index, sum};
+use crate::reason::Deed;
+use crate::rooms::Overload;
 use crate::search::Search;
+use crate::side::{end_literal, head_literal};
 use std::alloc::AllocError;
-use tsn_bounds::literal::Literal;
-use tsn_bounds::number::{index_at, less, push, put_index, sum};
-use tsn_bounds::reason::Deed;
-use tsn_rules::rooms::Overload;
-use tsn_trail::side::{end_literal, head_literal};
 
 impl Search {
     /// Notes the clash of streams that don't fit on a link.

@@ -1,13 +1,13 @@
 //! What follows from the bounds that changed.
+use crate::arcs::Arc;
+use crate::clauses::Found;
+use crate::literal::Literal;
+use crate::number::{at, index, less, next, push, sum};
+use crate::reason::Why;
 use crate::search::Search;
+use crate::side::{bound_of, lead};
+use crate::trail::holds;
 use std::alloc::AllocError;
-use tsn_bounds::literal::Literal;
-use tsn_bounds::number::{at, index, less, next, push, sum};
-use tsn_bounds::reason::Why;
-use tsn_trail::arcs::Arc;
-use tsn_trail::clauses::Found;
-use tsn_trail::side::{bound_of, lead};
-use tsn_trail::trail::holds;
 
 impl Search {
     /// Works out what follows, until nothing changes. False at a contradiction, which is noted as the clash.

@@ -1,15 +1,15 @@
 //! A search that learns: bounds are narrowed by the arcs, the orders, the sets on links and the clauses, and from each contradiction a
 //! further clause is learned. Times are in nanoseconds.
 use crate::analysis::Analysis;
+use crate::choice::Choice;
+use crate::known::Known;
+use crate::literal::Literal;
+use crate::number::{at, index, less, sum};
+use crate::pace::Pace;
+use crate::reason::{Deed, Why};
+use crate::rooms::Rooms;
+use crate::table::Table;
 use std::alloc::{AllocError, Global};
-use tsn_bounds::literal::Literal;
-use tsn_bounds::number::{at, index, less, sum};
-use tsn_bounds::reason::{Deed, Why};
-use tsn_bounds::table::Table;
-use tsn_rules::choice::Choice;
-use tsn_rules::pace::Pace;
-use tsn_rules::rooms::Rooms;
-use tsn_trail::known::Known;
 
 /// A search over a network.
 #[derive(Drop)]

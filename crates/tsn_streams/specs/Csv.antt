@@ -6,7 +6,7 @@ use Rattle.std.specs.List.{flat_map}
 use Rattle.std.specs.Fmt.{decimal}
 use Rattle.tsn_model.specs.Network.{link_at}
 use Rattle.tsn_net.specs.Problem.{NamedNetwork}
-use Rattle.tsn_csv.specs.Field.{quoted_field}
+use Rattle.tsn_text.specs.Field.{quoted_field}
 use Rattle.tsn_streams.specs.declared.stream.StreamShare.{StreamShare}
 use Rattle.tsn_streams.specs.declared.link.LinkShare.{LinkShare}
 use Rattle.tsn_gate.specs.Table.{name_at}

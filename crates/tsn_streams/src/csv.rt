@@ -6,9 +6,9 @@ use crate::link::LinkShare;
 use crate::stream::StreamShare;
 use std::alloc::AllocError;
 use std::fmt::Write;
-use tsn_csv::write_quoted;
 use tsn_gate::list::names;
 use tsn_net::Problem;
+use tsn_text::write_quoted;
 
 /// The first line: the names of the fields.
 pub const HEADER: &str =

@@ -1,10 +1,11 @@
 //! Lines on what was shown, where something of it can't be used.
 
+use crate::device::device_reason;
 use std::alloc::Global;
 use tsn_cli::{GatesFormat, GatesOptions};
 use tsn_given::Opened;
 use tsn_given::reason::file_of;
-use tsn_reason::{device_reason, unused_reason};
+use tsn_reason::unused_reason;
 use tsn_run::run::DONE;
 
 /// What a device doesn't take of the lists that were printed as a script for it, a line each, where what was read was kept and

@@ -9,6 +9,5 @@ pub use planning::{plan, plan_by, plan_over, search_by};
 pub use tsn_answer::{
     Answer, Effort, FILE_ORDER_LIMIT, Found, Known, MAX_LIMIT, MAX_WORKERS, Method, plan_of,
 };
-pub use tsn_search::DequeBag;
+pub use tsn_search::{Bag, DequeBag};
 pub use tsn_setting::{LearnedNews, News, NoSupervisor, Phase, Supervisor};
-pub use tsn_walk::Bag;

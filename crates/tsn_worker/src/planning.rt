@@ -2,7 +2,7 @@
 ghost use Rattle.std.specs.Prelude.{◌≡◌, ◌≤◌, ◌<◌, length, IfOk};
 ghost use Rattle.tsn_answer.specs.Answer.{IsAnswer, IsAnswerBy, IsFound, IsFoundBy, HasNoArgument, KeepsFound, KeepsKept, KeepsKnown};
 ghost use Rattle.tsn_answer.specs.Known.{IsKnown};
-ghost use Rattle.tsn_walk.specs.Search.{IsSearchBy};
+ghost use Rattle.tsn_search.specs.Search.{IsSearchBy};
 
 use crate::learned::{Learned, Question, find_by_learning};
 use std::alloc::Global;
@@ -14,12 +14,11 @@ use tsn_book::Book;
 use tsn_model::NoMemory;
 use tsn_net::Problem;
 use tsn_options::Method;
-use tsn_search::DequeBag;
+use tsn_search::search::settle_open;
 use tsn_search::threads::search;
+use tsn_search::{Bag, DequeBag};
 use tsn_setting::{Phase, Prepared, Setting, Supervisor, lower_bound};
 use tsn_share::Parts;
-use tsn_walk::Bag;
-use tsn_walk::search::settle_open;
 
 /// From this limit on one worker goes on in the book that is there, where the search that learns gave up. Below it too few nodes may
 /// be left for the way along the best schedule that is known.

@@ -1,4 +1,4 @@
-use Rattle.tsn_proof_wiring.proofs.FilesLemmas.{some_along}
+use Rattle.tsn_prover.proofs.FilesLemmas.{some_along}
 use Rattle.tsn_command.proofs.planning.plan_over.Goals as goal
 
 pub returns-clause-runs : goal.returns-clause-runs

@@ -1,5 +1,5 @@
 use Rattle.std.proofs.Common.{◌≡◌, ℕ, List, string_bytes, subst}
-use Rattle.tsn_report.specs.Told.{told_text}
+use Rattle.tsn_given.specs.Told.{told_text}
 use Rattle.tsn_given.specs.Runs.{IsLineIn, IsObjectOf}
 use Rattle.tsn_given.proofs.RunsLemmas.{ok_along}
 use Rattle.tsn_given.proofs.json.object_of.Goals as goal

@@ -1,0 +1,20 @@
+use Rattle.std.proofs.Common.{inl, inr}
+use Rattle.tsn_given.proofs.RunsLemmas.{over_along}
+use Rattle.tsn_prover.proofs.proof.prove.Goals as goal
+
+pub returns-in-Ok : goal.returns-in-Ok
+returns-in-Ok g c =
+    let e = c.in-Ok.ensures in
+    inl
+    (over_along c.prove_to.ensures
+    (λ network over. over_along over
+    (λ plan files. record {
+      cert = c.in-Ok.files.cert;
+      better = c.in-Ok.files.better;
+      made = (e.cert, e.better);
+      unfailing = (e.failures.1, e.failures.0);
+      over = files;
+    })))
+
+pub returns-in-Err : goal.returns-in-Err
+returns-in-Err g c = inr (c.in-Err.ensures.refused, c.unwritable.ensures)

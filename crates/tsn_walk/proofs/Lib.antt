@@ -1,2 +1,0 @@
-mod Settling
-pub mod Batching
