@@ -1,7 +1,8 @@
-//! Texts of pictures, of names too that no network file can have.
+//! Texts of pictures and of fields, of names too that no network file can have.
 
 use std::test::Fail;
 use tsn_chart::words::{write_microseconds, write_name, write_whole};
+use tsn_text::write_quoted;
 
 #[test]
 fn names_are_cut_and_escaped(rt: HostRuntime) -> Result<(), Fail> {
@@ -24,5 +25,14 @@ fn instants_have_few_decimals(rt: HostRuntime) -> Result<(), Fail> {
         text.push(' ')?;
     }
     assert_eq!(&rt; text.as_str(), "0 0.001 0.01 0.1 1 2.924 2.05 2.5 1000000 ");
+    Ok(())
+}
+
+#[test]
+fn a_quote_stands_twice_in_a_field(rt: HostRuntime) -> Result<(), Fail> {
+    let mut text = String::new(rt.alloc());
+    write_quoted(&mut text, "four")?;
+    write_quoted(&mut text, "a \"b\"\",c")?;
+    assert_eq!(&rt; text.as_str(), "\"four\"\"a \"\"b\"\"\"\",c\"");
     Ok(())
 }

@@ -199,6 +199,17 @@ fn the_first_loaded_link_is_taken(rt: HostRuntime) {
     expect_rows(&rt, LINE, LOADED_LINKS);
 }
 
+/// On link 4 both streams are busy from 576 to 1920. The second one arrives 1056 ns after its occupancy, and the first one 2400, so
+/// the load asks for a flowspan of 2976 and no more.
+const TAILS: &str = "\
+1000000, look root: 3649 = split 0 1 4
+1000000, look root: 3648 = pruned 3648 Late 0 []";
+
+#[test]
+fn a_load_counts_the_least_tail(rt: HostRuntime) {
+    expect_rows(&rt, LOOP, TAILS);
+}
+
 /// An overrun goes before a flowspan that is the target.
 const SPANS: &str = "\
 2297, look root: 2298 = refuted Overrun 0 []
