@@ -105,14 +105,14 @@ fn found<R: Threads + Wait + Sync, N: Source, S: Supervisor + Sync>(
     ensures failures { TellsFailures (reads_of (source_over N.given N.failed N.is_at_end network.old network.new ∷ [])) result }
 {
     let file = read_all(alloc, network, MAX_FILE)?;
-    match found_in(rt, alloc, &file, task, supervisor) {
+    match plan_file(rt, alloc, &file, task, supervisor) {
         Ok(output) => Ok(output),
         Err(NoMemory) => Err(ReadFault::Memory),
     }
 }
 
-/// What is found in a network file.
-fn found_in<R: Threads + Wait + Sync, S: Supervisor + Sync>(
+/// Plans what a network file states, and says what is printed of it.
+fn plan_file<R: Threads + Wait + Sync, S: Supervisor + Sync>(
     rt: &R,
     alloc: Global,
     file: &[u8],

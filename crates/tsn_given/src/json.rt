@@ -5,7 +5,7 @@ ghost use Rattle.tsn_given.specs.Runs.{IsLineIn, IsObjectOf, IsTellingOf, IsWith
 
 use crate::devices::{Given, Made};
 use crate::reason::failure_line;
-use crate::report::{Told, told_to_json};
+use crate::report::{Told, format_told};
 use crate::told::{Ended, Ran, say, tell};
 use std::alloc::Global;
 use tsn_model::NoMemory;
@@ -77,7 +77,7 @@ fn object_of(alloc: Global, ended: &Ended, line: &MemorySink) -> Result<String, 
         None => None,
     };
     let told = Told::of(ended.status, line_in(line.bytes.as_slice()), reason);
-    told_to_json(alloc, &told)
+    format_told(alloc, &told)
 }
 
 /// The line that was written, without its line feed; empty where nothing was written.

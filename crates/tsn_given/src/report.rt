@@ -82,7 +82,7 @@ fn coded_in(line: &str) -> (Option<&str>, Option<&str>)
 /// # Errors
 ///
 /// There was no memory.
-pub fn told_to_json(alloc: Global, told: &Told<'_>) -> Result<String, NoMemory>
+pub fn format_told(alloc: Global, told: &Told<'_>) -> Result<String, NoMemory>
     ensures { IfOk result (λ text. string_bytes text ≡ told_text told.now) }
 {
     let value = value_of(alloc, told)?;

@@ -6,8 +6,8 @@ use Rattle.tsn_given.proofs.json.object_of.Goals as goal
 
 pub returns : goal.returns
 returns c =
-    ok_along c.told_to_json.result (λ text. string_bytes text ≡ told_text c.of-told.result)
-    (λ text. IsObjectOf c.args.ended.now.status c.args.line.now.bytes.items (string_bytes text)) c.told_to_json.ensures
+    ok_along c.format_told.result (λ text. string_bytes text ≡ told_text c.of-told.result)
+    (λ text. IsObjectOf c.args.ended.now.status c.args.line.now.bytes.items (string_bytes text)) c.format_told.ensures
     (λ text is. record {
       line = c.line_in.result.now;
       told = c.of-told.result;

@@ -1,5 +1,5 @@
 use Rattle.tsn_plan_output.proofs.PlanLemmas.{stops_found, told_found}
-use Rattle.tsn_command.proofs.plan.found_in.Goals as goal
+use Rattle.tsn_command.proofs.plan.plan_file.Goals as goal
 
 pub output_for-requires : goal.output_for-requires
 output_for-requires g c = (c.in-Ok.problem.network, (c.args.task.effort.limit, c.in_ok-found-in-Ok.ensures.found))

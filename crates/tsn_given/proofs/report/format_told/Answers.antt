@@ -2,7 +2,7 @@ use Rattle.std.proofs.Common.{◌≡◌, ◌∙◌, ◌||◌, ℕ, Bool, List, [
 use Rattle.serde_json.specs.Written.{has_float}
 use Rattle.tsn_given.specs.declared.report.Told.{Told}
 use Rattle.tsn_given.specs.Told.{line_or_null, line_text, number_or_null, text_or_null, told_value}
-use Rattle.tsn_given.proofs.report.told_to_json.Goals as goal
+use Rattle.tsn_given.proofs.report.format_told.Goals as goal
 
 neither : (a b : Bool) → a ≡ false → b ≡ false → (a || b) ≡ false
 neither false b e f = f
