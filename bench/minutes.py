@@ -80,9 +80,9 @@ def main():
         with subprocess.Popen(["rt", "ci", *sys.argv[1:]], cwd=ROOT, stdout=log, stderr=subprocess.STDOUT) as started:
             found = watch(started)
     for name in names():
-        if (name, False) in found:
+        if (name, False) in found or (name, True) in found:
             edits = f" {edits_of(name)} {found[name, True] / 60:.1f}" if (name, True) in found else ""
-            print(f"{name} {found[name, False] / 60:.1f}{edits}")
+            print(f"{name} {found.get((name, False), 0) / 60:.1f}{edits}")
     used = resource.getrusage(resource.RUSAGE_CHILDREN)
     print(f"# {(used.ru_utime + used.ru_stime) / 60:.1f} processor minutes, {(time.monotonic() - begin) / 60:.1f} by the clock")
     return started.returncode
