@@ -8,8 +8,9 @@
 --     IsStoppedWith what is known where a search is stopped
 --     IsFound       what a search leaves
 --     IsAnswer      the answer to a network
---     MayArgue, IsCertificateBy, IsFoundBy, IsAnswerBy     of what kind a certificate may be, by what was asked for
---     HasNoArgument, HasAnswer, KeepsKnown, KeepsKept, KeepsFound     what the phases of a search leave to one another
+--     MayArgue, IsCertificateBy, IsFoundBy, IsAnswerBy, HasTree     of what kind a certificate may be, by what was asked for
+--     count_in, IsCounted     how much was done for an answer
+--     HasNoArgument, HasAnswer, IsLeft, KeepsKnown, KeepsKept, KeepsFound     what the phases of a search leave to one another
 use Rattle.std.specs.Prelude.{◌≡◌, ◌≤◌, ◌<◌, ◌+◌, ◌-◌, ◌^◌, ℕ, List, [], length, Option, Some, None, MatchOption}
 use Rattle.tsn_model.specs.Network.{Network}
 use Rattle.tsn_model.specs.Schedule.{IsValid, HasNoSchedule, flowspan}
@@ -164,6 +165,29 @@ IsAnswerBy effort (Optimal plan certificate count) = IsCertificateBy effort cert
 IsAnswerBy effort (NoSchedule certificate count) = IsCertificateBy effort certificate
 IsAnswerBy effort (Stopped book) = Unit {0}
 
+-- a tree of format 2
+abbrev pub IsTree : Certificate → Type 0
+IsTree (Tree cert) = cert.format ≡ Two
+IsTree (Argued argument) = ⊥
+
+-- what is answered in the order of the file: its certificate is a tree
+abbrev pub HasTree : Answer → Type 0
+HasTree (Optimal plan certificate count) = IsTree certificate
+HasTree (NoSchedule certificate count) = IsTree certificate
+HasTree (Stopped book) = Unit {0}
+
+-- how many nodes are settled, or steps shown, by what is answered
+abbrev pub count_in : Answer → ℕ
+count_in (Optimal plan certificate count) = count
+count_in (NoSchedule certificate count) = count
+count_in (Stopped book) = length book.history
+
+-- what is answered of a book counts its settlements; of an argument there is no tree
+abbrev pub IsCounted : Found → Answer → Type 0
+IsCounted (found.Finished book) answer = count_in answer ≡ length book.history
+IsCounted (found.Argued plan argument) answer = HasTree answer → ⊥
+IsCounted (found.Stopped book known) answer = count_in answer ≡ length book.history
+
 -- ---- the phases of a search
 
 -- what is left is a book, and no argument
@@ -171,6 +195,12 @@ abbrev pub HasNoArgument : Found → Type 0
 HasNoArgument (found.Finished book) = Unit {0}
 HasNoArgument (found.Argued plan argument) = ⊥
 HasNoArgument (found.Stopped book known) = Unit {0}
+
+-- what is left is this book
+abbrev pub IsLeft : Progress → Found → Type 0
+IsLeft book (found.Finished left) = left ≡ book
+IsLeft book (found.Argued plan argument) = ⊥
+IsLeft book (found.Stopped left known) = left ≡ book
 
 -- where it is stopped, nothing is lost of what was known before
 abbrev pub KeepsKnown : Known → Found → Type 0

@@ -1,6 +1,7 @@
 -- What is known of a network's schedules while a search goes on.
 --     IsKnown                        it is so
 --     KnowsWithin, HoldsKept         a schedule is known that is no longer than so much, or than what a book has kept
+--     IsKeptIfBest                   a schedule than which none better is known is the one that is kept
 --     LosesNothing                   what was known before still is
 --     IsOneOf                        one of two schedules
 use Rattle.std.specs.Prelude.{◌≡◌, ◌≤◌, ◌⊎◌, ℕ, Option, Some, IfSome, IsSomeAnd}
@@ -21,6 +22,10 @@ pub record IsKnown (network : Network) (known : Known) : Type 0 where
 -- a schedule is known whose flowspan is at most so much
 abbrev pub KnowsWithin : Known → ℕ → Type 0
 KnowsWithin known span = IsSomeAnd known.best (λ solution. solution.flowspan ≤ span)
+
+-- a schedule is known, and it is this one where it has its flowspan
+abbrev pub IsKeptIfBest : Solution → Known → Type 0
+IsKeptIfBest solution known = IsSomeAnd known.best (λ best. best.flowspan ≡ solution.flowspan → best ≡ solution)
 
 -- where the book has kept a schedule, one is known that is no longer
 abbrev pub HoldsKept : Network → Progress → Known → Type 0

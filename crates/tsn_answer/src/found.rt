@@ -5,7 +5,7 @@ ghost use Rattle.tsn_model.specs.Search.{open_paths, kept_of};
 ghost use Rattle.tsn_cert.specs.declared.plan.Plan.TheVariants.{Schedule};
 ghost use Rattle.tsn_answer.specs.declared.effort.Effort.{Effort};
 ghost use Rattle.tsn_answer.specs.Known.{IsKnown};
-ghost use Rattle.tsn_answer.specs.Answer.{IsAnswer, IsAnswerBy, IsArgued, IsCertificateBy, IsFinished, IsFound, IsFoundBy, MayArgue, HasNoArgument, HasNoneOpen, KeepsKnown, plan_kept, answer_for};
+ghost use Rattle.tsn_answer.specs.Answer.{IsAnswer, IsAnswerBy, IsArgued, IsCertificateBy, IsFinished, IsFound, IsFoundBy, MayArgue, HasNoArgument, HasNoneOpen, HasTree, IsCounted, IsLeft, IsTree, KeepsKnown, count_in, plan_kept, answer_for};
 
 use crate::answer::Answer;
 use crate::known::Known;
@@ -39,6 +39,7 @@ impl Found {
         ensures found { IfOk result (IsFound timing.now limit) }
         ensures kept { IfOk result (KeepsKnown known) }
         ensures book { IfOk result HasNoArgument }
+        ensures same_book { IfOk result (IsLeft book) }
     {
         if book.open_count() == 0 {
             drop(known);
@@ -58,6 +59,7 @@ impl Found {
         requires { HasNoneOpen self }
         ensures answer { IfOk result (λ answer. (network : Network) (limit : ℕ) → IsFound network limit self → IsAnswer network limit answer) }
         ensures method { IfOk result (λ answer. (effort : Effort) → IsFoundBy effort self → IsAnswerBy effort answer) }
+        ensures counted { IfOk result (IsCounted self) }
     {
         match self {
             Found::Finished(book) => certify(alloc, book),
@@ -85,6 +87,7 @@ fn certify(alloc: Global, book: Book) -> Result<Answer, NoMemory>
     requires { open_paths book.history ≡ [] }
     ensures answer { IfOk result (λ answer. (network : Network) (limit : ℕ) → IsFinished network limit book → IsAnswer network limit answer) }
     ensures method { IfOk result (λ answer. (effort : Effort) → IsAnswerBy effort answer) }
+    ensures counted { IfOk result (λ answer. count_in answer ≡ length book.history) }
 {
     let count = book.count();
     let plan = match plan_of(alloc, &book) {
@@ -107,6 +110,7 @@ fn certify(alloc: Global, book: Book) -> Result<Answer, NoMemory>
 fn argued(plan: Plan, argument: Argument) -> Answer
     ensures answer { (network : Network) (limit : ℕ) → IsArgued network limit plan argument → IsAnswer network limit result }
     ensures method { (effort : Effort) → MayArgue effort.method effort.limit → IsAnswerBy effort result }
+    ensures no_tree { HasTree result → ⊥ }
 {
     let count = argument.steps.list().len();
     answer_for(plan, Certificate::Argument(argument), count)
@@ -116,6 +120,8 @@ fn argued(plan: Plan, argument: Argument) -> Answer
 fn answer_for(plan: Plan, certificate: Certificate, count: usize) -> Answer
     ensures answer { result ≡ answer_for plan certificate count }
     ensures method { (effort : Effort) → IsCertificateBy effort certificate → IsAnswerBy effort result }
+    ensures counted { count_in result ≡ count }
+    ensures tree { HasTree result → IsTree certificate }
 {
     match plan {
         Plan::Schedule { flowspan, offsets } => {

@@ -1,9 +1,9 @@
 //! What is known of a network's schedules while a search goes on.
-ghost use Rattle.std.specs.Prelude.{◌≤◌, IfOk, IfSome};
+ghost use Rattle.std.specs.Prelude.{◌≡◌, ◌≤◌, IfOk, IfSome};
 ghost use Rattle.tsn_model.specs.Network.{Network};
 ghost use Rattle.tsn_timing.specs.Solution.{IsSolved};
 ghost use Rattle.tsn_setting.specs.Bound.{IsLowerBound};
-ghost use Rattle.tsn_answer.specs.Known.{HoldsKept, IsKnown, IsOneOf, KnowsWithin, LosesNothing};
+ghost use Rattle.tsn_answer.specs.Known.{HoldsKept, IsKeptIfBest, IsKnown, IsOneOf, KnowsWithin, LosesNothing};
 
 use tsn_book::Book;
 use tsn_cert::Plan;
@@ -33,6 +33,7 @@ impl Known {
         ensures known { (network : Network) → IsKnown network self → IsSolved network solved → IsKnown network result }
         ensures kept { LosesNothing self result }
         ensures taken { KnowsWithin result solved.flowspan }
+        ensures latest { IsKeptIfBest solved result }
     {
         let Known { best, bound } = self;
         Known {
@@ -109,6 +110,7 @@ fn better_of(best: Option<Solved>, solved: Solved) -> Solved
     ensures one { IsOneOf best solved result }
     ensures first { IfSome best (λ before. result.flowspan ≤ before.flowspan) }
     ensures second { result.flowspan ≤ solved.flowspan }
+    ensures latest { result.flowspan ≡ solved.flowspan → result ≡ solved }
 {
     match best {
         Some(best) if best.flowspan() < solved.flowspan() => {

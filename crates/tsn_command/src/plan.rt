@@ -17,7 +17,7 @@ use tsn_plan_output::{PlanEnd, PlanOutput, alone, output_for, stop_in};
 use tsn_run::refusal;
 use tsn_run::run::{MAX_FILE, STOPPED};
 use tsn_setting::Supervisor;
-use tsn_worker::search_by;
+use tsn_worker::{Searched, search_by};
 
 /// Reads a network file and plans it by a method, with 1 to 16 workers and at most so many settlements, 1 to 1,000,000,000. It
 /// writes the plan, then its certificate, where there is a sink for it, then a line on what was found; or a line on why the file is
@@ -129,9 +129,11 @@ fn plan_file<R: Threads + Wait + Sync, S: Supervisor + Sync>(
 {
     match read_problem(alloc, file) {
         Ok(problem) => {
-            let found = search_by(rt, alloc, &problem, task.effort, supervisor);
+            let searched = search_by(rt, alloc, &problem, task.effort, supervisor);
             drop(problem);
-            output_for(alloc, found?, task.wanted)
+            let Searched { found, word } = searched?;
+            drop(word);
+            output_for(alloc, found, task.wanted)
         }
         Err(fault) => Ok(alone(alloc, refusal(alloc, fault)?)),
     }

@@ -1,5 +1,5 @@
 //! The command that plans a network.
-ghost use Rattle.std.specs.Prelude.{◌≡◌, ◌↔◌, ◌++◌, [], ◌∷◌, IfSome, IsTrue, is_some, option_map, string_bytes};
+ghost use Rattle.std.specs.Prelude.{◌≡◌, ◌↔◌, ◌++◌, [], ◌∷◌, IfSome, IsTrue, codes, is_some, option_map, string_bytes};
 ghost use Rattle.tsn_run.specs.Run.{EndsOver, RunsOver, failed_in, sink_over, taken_in};
 ghost use Rattle.tsn_plan_output.specs.Plan.{PlanAnswers, PlanStops};
 ghost use Rattle.tsn_run.specs.Stop.{stop_text};
@@ -181,7 +181,8 @@ fn end_plan<'a, G: Given<'a>>(
     run: PlanRun<G::Source, G::File>,
 ) -> Ended
     ensures status { result.status ≡ run.end.status }
-    ensures line { IfSome run.end.stop (λ stop. IfSome result.line (λ line. string_bytes line ≡ stop_text stop)) }
+    ensures line { IfSome run.end.stop (λ stop. IfSome result.line (λ line.
+        string_bytes line ≡ stop_text stop (codes "prove NET PLAN --cert FILE"))) }
 {
     let PlanRun {
         end: PlanEnd { status, stop },
@@ -200,6 +201,6 @@ fn end_plan<'a, G: Given<'a>>(
     }
     Ended {
         status,
-        line: stop_or(alloc, stop, line),
+        line: stop_or(alloc, stop, "prove NET PLAN --cert FILE", line),
     }
 }

@@ -229,8 +229,19 @@ pub closes : (network : Network) (tellers slots id : ℕ) (me : Me (Unit {0}) Vi
 closes network tellers slots id me same count s running homes at fits =
     let word = slice_index s.words 0 in
     let fair = running.1 in
-    let seen = observes network tellers slots id me same s running homes at fits in
-    (seen.0, keeps, tt, seen.3, λ all. (whole all, seen.4.1))
+    let wrote = written s.words word running.0 in
+    let stays : min word (no_flowspan network) ≡ word = omega (arith, word_le network tellers word s.views fair) in
+    let stand = all_at (λ u. All (Stands network word) u.standings) s.views id me.0 fair.stand at in
+    let low : lows network me.0 ≡ min (lows network me.0) (no_flowspan network) =
+    omega (arith, least_le (λ (p : Standing). p.posted) (no_flowspan network) me.0.standings) in
+    let next =
+    changes network tellers word (no_flowspan network) s.views id me.0 me.0 fair at (rw stays fair.incumbent) (λ number. refl) low (rw stays stand) in (
+      me.0,
+      keeps,
+      tt,
+      (wrote.0, subst (λ n. Fair network tellers n (set s.views id me.0)) (stays ∙ sym wrote.1) next),
+      (refl, λ all. (whole all, (subst (λ n. IsIncumbent n word) (sym same) fair.incumbent, finds network tellers word s.views id me.0 fair at))),
+    )
   where
     whole : ((k : ℕ) → k < me.0.tellers → times k me.0.standings ≡ 1) → slice_index s.words 0 ≡ least_posted me.0.timing me.0.standings
     whole all =

@@ -52,4 +52,4 @@ module _ {S : Type 0} where
   Posted flowspan me word after = (after ≡ (knowing me.0 (posted flowspan me.0.standings), me.1)) × Found me.0 word
 
   abbrev pub Closed : Me S View → ℕ → Me S View → Type 0
-  Closed me word after = ((number : ℕ) → number < me.0.tellers → times number me.0.standings ≡ 1) → (word ≡ least_posted me.0.timing me.0.standings) × Found me.0 word
+  Closed me word after = (after ≡ (me.0, me.1)) × (((number : ℕ) → number < me.0.tellers → times number me.0.standings ≡ 1) → (word ≡ least_posted me.0.timing me.0.standings) × Found me.0 word)

@@ -74,6 +74,11 @@ pub record Seated : Type 0 where
   pub race : Race
   pub standings : List Standing
 
+-- the word in the end, and the seat that was closed
+pub record Ended : Type 0 where
+  pub word : ℕ
+  pub seat : Seated
+
 -- the seat holds each teller's number
 abbrev pub HoldsAll : Seated → Type 0
 HoldsAll seat = (number : ℕ) → number < seat.race.tellers → times number seat.standings ≡ 1

@@ -49,6 +49,31 @@ impl Model for Seat {
     ghost invariant = { λ s. (s.seat.me.1 ≡ []) × (0 < length s.seat.me.0.standings) };
 }
 
+/// The word once nobody steps on it any more, and the seat of all tellers, as it was closed. `Incumbent::end` alone makes one.
+/// Contracts see the word, and what each teller had seen and posted.
+#[derive(Drop)]
+pub struct EndedWord {
+    word: u64,
+    seat: Seat,
+}
+
+impl Model for EndedWord {
+    ghost use Rattle.tsn_incumbent.specs.Standings.{Ended};
+
+    ghost Value = { Ended };
+
+    ghost view = { λ e. record { word = e.word; seat = e.seat } };
+}
+
+impl EndedWord {
+    /// The word in the end, in nanoseconds.
+    pub fn word(&self) -> u64
+        ensures { result ≡ self.now.word }
+    {
+        self.word
+    }
+}
+
 impl Incumbent {
     /// The word at cycle + 1, and the seat of all tellers.
     pub fn new(
@@ -140,7 +165,23 @@ impl Incumbent {
         ensures incumbent { IsIncumbent self.network result }
         ensures at_most { IsAtMostKnown result seat.standings }
     {
+        self.end(seat).word()
+    }
+
+    /// The same with the seat, by which nobody steps any more.
+    pub fn end(self, seat: Seat) -> EndedWord
+        requires seat { seat.race ≡ self }
+        requires all { HoldsAll seat }
+        ensures seat { result.seat ≡ seat }
+        ensures least { result.word ≡ least_or_none self.network (map (λ standing. standing.posted) seat.standings) }
+        ensures incumbent { IsIncumbent self.network result.word }
+        ensures at_most { IsAtMostKnown result.word seat.standings }
+    {
         let Seat { mut seat } = seat;
-        self.table.shared.load::<Closes>(&mut seat, 0)
+        let word = self.table.shared.load::<Closes>(&mut seat, 0);
+        EndedWord {
+            word,
+            seat: Seat { seat },
+        }
     }
 }

@@ -7,6 +7,6 @@ mod share;
 mod view;
 
 pub use halves::{Half, Halves};
-pub use incumbent::{Incumbent, Seat};
+pub use incumbent::{EndedWord, Incumbent, Seat};
 pub use tsn_model::Tally;
 pub use tsn_timing::NoMemory;

@@ -292,8 +292,16 @@ impl Course {
             .min(self.search.known.table.flowspan(&self.best));
     }
 
-    /// Asks for one less than the plan's flowspan, and than each of its offsets. Whether there is none.
+    /// Asks for one less than the plan's flowspan, and than each of its offsets. Whether there is none. What was met by the last
+    /// question is told, too.
     pub fn confirm<H: Hear>(&mut self, hear: &H) -> Result<bool, AllocError> {
+        let is_confirmed = self.ask_below(hear)?;
+        let last = self.search.known.table.streams().checked_sub(1);
+        self.tell(hear, last);
+        Ok(is_confirmed)
+    }
+
+    fn ask_below<H: Hear>(&mut self, hear: &H) -> Result<bool, AllocError> {
         let streams = self.search.known.table.streams();
         self.take_part(1);
         self.give_flowspan()?;

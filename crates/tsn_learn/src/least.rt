@@ -62,7 +62,7 @@ fn show_below<H: Hear>(
     }
 }
 
-// Asks for a schedule, and tells how far it has got each time that it is asked again.
+// Asks for a schedule, and tells how far it has got each time that it is asked again, and at the end.
 fn ask_on<H: Hear>(
     search: &mut Search,
     flowspan: i64,
@@ -74,6 +74,7 @@ fn ask_on<H: Hear>(
         let left = budget.conflicts.saturating_sub(search.pace.conflicts);
         let answered = search.ask(left.min(ROUND))?;
         if answered != Answered::Unknown || search.pace.is_used_up(budget.conflicts) {
+            hear.hear(news(search, flowspan));
             return Ok(answered);
         }
     }

@@ -7,14 +7,20 @@ use tsn_given::Made;
 use tsn_given::reason::failure_line;
 use tsn_run::Stop;
 
-/// The line on what is known where the limit was met, and else this one.
-pub fn stop_or(alloc: Global, stop: Option<Stop>, line: Option<String>) -> Option<String>
-    ensures { IfSome stop (λ stop. IfSome result (λ line. string_bytes line ≡ stop_text stop)) }
+/// The line on what is known where the limit was met, and else this one. The first names the command that writes a certificate, where
+/// the flowspan is shown to be the least.
+pub fn stop_or(
+    alloc: Global,
+    stop: Option<Stop>,
+    writer: &str,
+    line: Option<String>,
+) -> Option<String>
+    ensures { IfSome stop (λ stop. IfSome result (λ line. string_bytes line ≡ stop_text stop writer.now)) }
 {
     match stop {
         Some(stop) => {
             drop(line);
-            stop.line(alloc).ok()
+            stop.line(alloc, writer).ok()
         }
         None => line,
     }

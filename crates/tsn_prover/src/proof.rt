@@ -1,5 +1,5 @@
 //! The command that proves a plan.
-ghost use Rattle.std.specs.Prelude.{◌≡◌, ◌↔◌, ◌++◌, [], ◌∷◌, IfSome, IsTrue, is_some, option_map, string_bytes};
+ghost use Rattle.std.specs.Prelude.{◌≡◌, ◌↔◌, ◌++◌, [], ◌∷◌, IfSome, IsTrue, codes, is_some, option_map, string_bytes};
 ghost use Rattle.tsn_run.specs.Run.{EndsOver, RunsOver, sink_over};
 ghost use Rattle.tsn_prover.specs.Finding.{stop_among};
 ghost use Rattle.tsn_prover.specs.Prove.{ProveAnswers, ProveFinds};
@@ -183,7 +183,7 @@ fn end_proof<'a, G: Given<'a>>(
 ) -> Ended
     ensures status { result.status ≡ run.end.status }
     ensures line { IfSome (stop_among run.end.finding) (λ stop.
-        IfSome result.line (λ line. string_bytes line ≡ stop_text stop)) }
+        IfSome result.line (λ line. string_bytes line ≡ stop_text stop (codes "prove with more --steps"))) }
 {
     let ProofRun {
         end,
@@ -205,6 +205,6 @@ fn end_proof<'a, G: Given<'a>>(
     given.close_cert(cert);
     Ended {
         status,
-        line: stop_or(alloc, end.stop(), line),
+        line: stop_or(alloc, end.stop(), "prove with more --steps", line),
     }
 }

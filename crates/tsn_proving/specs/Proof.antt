@@ -4,6 +4,7 @@
 --     Undercuts      a schedule of lesser flowspan than a target
 --     IsBound        what no schedule undercuts, within the cycle
 --     IsProof        what is found of a plan
+--     IsTold         how many conflicts are told of, where no argument is found
 use Rattle.std.specs.Prelude.{◌≡◌, ◌≢◌, ◌≤◌, ◌<◌, ℕ, length}
 use Rattle.tsn_model.specs.Network.{Network}
 use Rattle.tsn_model.specs.Schedule.{IsValid, flowspan, target_of, HasNoSchedule}
@@ -46,3 +47,9 @@ abbrev pub IsProof : Network → ℕ → Plan → Proof → Type 0
 IsProof network limit plan (Proved argument count) = IsShownBy network limit plan argument × (count ≡ length argument.steps)
 IsProof network limit plan (Undercut better count) = Undercuts network (target_of network (offsets_in plan)) better × (count ≤ limit)
 IsProof network limit plan (Stopped bound count) = IsBound network bound × (count ≤ limit)
+
+-- so many conflicts are told of, but with an argument, whose steps are
+abbrev pub IsTold : ℕ → Proof → Type 0
+IsTold conflicts (Proved argument count) = Unit {0}
+IsTold conflicts (Undercut better count) = count ≡ conflicts
+IsTold conflicts (Stopped bound count) = count ≡ conflicts

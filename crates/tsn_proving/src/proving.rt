@@ -1,11 +1,11 @@
 //! Proves that no valid schedule undercuts a plan, or finds one that does.
-ghost use Rattle.std.specs.Prelude.{◌≡◌, ◌≤◌, true, Ok, IfOk};
+ghost use Rattle.std.specs.Prelude.{◌≡◌, ◌≤◌, min, true, Ok, IfOk};
 ghost use Rattle.tsn_model.specs.Schedule.{target_of};
 ghost use Rattle.tsn_check.specs.Plans.{IsPlanRight, offsets_in};
 ghost use Rattle.tsn_setting.specs.Bound.{IsLowerBound};
-ghost use Rattle.tsn_proving.specs.Proof.{IsBound, IsProof, IsShownBy};
+ghost use Rattle.tsn_proving.specs.Proof.{IsBound, IsProof, IsShownBy, IsTold};
 
-use crate::hearer::{Hearer, budget_of};
+use crate::hearer::{Hearer, budget_of, count_of};
 use crate::proof::Proof;
 use std::alloc::Global;
 use tsn_argue::check_argument;
@@ -55,7 +55,18 @@ pub fn prove<S: Supervisor>(
         Plan::None => about_none(alloc, task, &timing, supervisor),
     };
     drop(timing);
-    found
+    let found = found?;
+    tell_found(plan, &found, supervisor);
+    Ok(found)
+}
+
+// Tells the supervisor what is found of the plan: no schedule undercuts it, or which one does.
+fn tell_found<S: Supervisor>(plan: &Plan, found: &Proof, supervisor: &S) {
+    match (found, plan) {
+        (Proof::Proved(_, _), Plan::Schedule { flowspan, .. }) => supervisor.hear_bound(*flowspan),
+        (Proof::Undercut(better, _), _) => tell_plan(better, supervisor),
+        (Proof::Proved(_, _), Plan::None) | (Proof::Stopped(_, _), _) => {}
+    }
 }
 
 // Tells the supervisor of the plan's flowspan, which is the best one known.
@@ -110,6 +121,7 @@ fn about_schedule<S: Supervisor>(
     let hearer = Hearer {
         supervisor,
         streams: timing.streams(),
+        limit: task.limit,
     };
     let budget = budget_of(task.limit);
     match show_least(alloc, timing, offsets, budget, &hearer)? {
@@ -139,6 +151,7 @@ fn about_none<S: Supervisor>(
     let hearer = Hearer {
         supervisor,
         streams: timing.streams(),
+        limit: task.limit,
     };
     match learn(alloc, timing, None, budget_of(task.limit), &hearer)? {
         Answer::First(found) => {
@@ -167,7 +180,8 @@ fn after_giving_up(task: Task<'_>, timing: &Timing, best: BestSoFar) -> Proof
     requires timing { timing.now ≡ task.problem.now.network }
     requires right { IsPlanRight task.problem.now.network task.plan.now }
     requires bound { IsBound task.problem.now.network task.bound }
-    ensures { IsProof task.entry.problem.now.network task.entry.limit task.entry.plan.now result }
+    ensures proof { IsProof task.entry.problem.now.network task.entry.limit task.entry.plan.now result }
+    ensures told { IsTold (min task.entry.limit best.conflicts) result }
 {
     let BestSoFar {
         schedule,
@@ -190,7 +204,8 @@ fn proved(
     conflicts: u64,
 ) -> Result<Proof, NoMemory>
     requires bound { IsBound task.problem.now.network task.bound }
-    ensures { IfOk result (IsProof task.entry.problem.now.network task.entry.limit task.entry.plan.now) }
+    ensures proof { IfOk result (IsProof task.entry.problem.now.network task.entry.limit task.entry.plan.now) }
+    ensures told { IfOk result (IsTold (min task.entry.limit conflicts)) }
 {
     let steps = argument.steps.list().len();
     match is_shown(alloc, task, &argument) {
@@ -229,7 +244,8 @@ fn undercut(task: Task<'_>, timing: &Timing, offsets: Vec<u64>, conflicts: u64) 
     requires timing { timing.now ≡ task.problem.now.network }
     requires right { IsPlanRight task.problem.now.network task.plan.now }
     requires bound { IsBound task.problem.now.network task.bound }
-    ensures { IsProof task.entry.problem.now.network task.entry.limit task.entry.plan.now result }
+    ensures proof { IsProof task.entry.problem.now.network task.entry.limit task.entry.plan.now result }
+    ensures told { IsTold (min task.entry.limit conflicts) result }
 {
     if !timing.is_valid(&offsets) {
         return stopped(task, conflicts);
@@ -259,14 +275,8 @@ fn target_of(timing: &Timing, plan: &Plan) -> u64
 // The answer where the budget is used up.
 fn stopped(task: Task<'_>, conflicts: u64) -> Proof
     requires bound { IsBound task.problem.now.network task.bound }
-    ensures { IsProof task.entry.problem.now.network task.entry.limit task.entry.plan.now result }
+    ensures proof { IsProof task.entry.problem.now.network task.entry.limit task.entry.plan.now result }
+    ensures told { IsTold (min task.entry.limit conflicts) result }
 {
     Proof::Stopped(task.bound, count_of(conflicts, task.limit))
-}
-
-// How many conflicts there were, at most so many.
-fn count_of(conflicts: u64, limit: usize) -> usize
-    ensures { result ≤ limit }
-{
-    limit.min(conflicts as usize)
 }

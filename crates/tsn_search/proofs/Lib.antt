@@ -1,3 +1,5 @@
+mod Further
+mod Gathering
 mod Settling
 pub mod Batching
 pub mod BatchTellers

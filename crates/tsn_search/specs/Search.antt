@@ -2,8 +2,9 @@
 --     AreTablesOf        the tables of a network
 --     IsSearchBy         whose book it is who settles, by which tables
 --     IsFurther          what settlements leave as it was
-use Rattle.std.specs.Prelude.{◌≡◌, ℕ, ◌<◌, ◌≤◌, length}
+use Rattle.std.specs.Prelude.{◌≡◌, ℕ, ◌<◌, ◌≤◌, List, ◌++◌, length}
 use Rattle.tsn_model.specs.Network.{Network}
+use Rattle.tsn_model.specs.Search.{Settlement}
 use Rattle.tsn_branch.specs.declared.tables.Tables.{Tables}
 use Rattle.tsn_book.specs.Book.{Progress}
 
@@ -17,9 +18,11 @@ pub record IsSearchBy (tables : Tables) (teller until : ℕ) (book : Progress) :
   pub within : until ≤ book.limit
   pub is_teller : teller < book.tellers
 
--- the book of the same search, in which as much or more is settled
+-- the book of the same search, in which the same is settled, and maybe more after it
 pub record IsFurther (old new : Progress) : Type 0 where
   pub same_network : new.network ≡ old.network
   pub same_tellers : new.tellers ≡ old.tellers
   pub same_limit : new.limit ≡ old.limit
+  pub later : List Settlement
+  pub follows : new.history ≡ old.history ++ later
   pub more : length old.history ≤ length new.history

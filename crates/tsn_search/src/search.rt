@@ -58,6 +58,7 @@ pub fn settle_open<S: Supervisor>(
 }
 
 // Settles open nodes until none is open or so many are settled.
+#[tactic(auto, using(crate::proofs::Further::stays, crate::proofs::Further::goes_on, crate::proofs::Further::appended))]
 fn settle_all<S: Supervisor>(
     course: &Course<'_, S>,
     known: Option<&[u64]>,
@@ -84,6 +85,7 @@ fn settle_all<S: Supervisor>(
 }
 
 // Settles the nodes on the way that a schedule keeps to, from where it is open, and gives the other sides to the bag.
+#[tactic(auto, using(crate::proofs::Further::stays, crate::proofs::Further::goes_on, crate::proofs::Further::appended))]
 fn dive<S: Supervisor>(
     course: &Course<'_, S>,
     book: &mut Book,
@@ -120,6 +122,7 @@ fn dive<S: Supervisor>(
 
 // Takes an open node, and settles what is open below it, or the first open node alone where no way leads to that one. False
 // where nothing is open then.
+#[tactic(auto, using(crate::proofs::Further::stays, crate::proofs::Further::goes_on, crate::proofs::Further::appended))]
 fn settle_more<S: Supervisor>(
     course: &Course<'_, S>,
     book: &mut Book,
@@ -160,6 +163,7 @@ fn first_open<S: Supervisor>(course: &Course<'_, S>, book: &Book) -> Result<Node
 }
 
 // Settles what is open below a node, until so many are settled.
+#[tactic(auto, using(crate::proofs::Further::stays, crate::proofs::Further::goes_on, crate::proofs::Further::appended))]
 fn settle_under<S: Supervisor>(
     course: &Course<'_, S>,
     book: &mut Book,
@@ -189,6 +193,7 @@ fn settle_under<S: Supervisor>(
 
 // Looks at up to so many nodes where the walk stands, and settles them, once the supervisor was passed for each. False where the walk
 // doesn't go on.
+#[tactic(auto, using(crate::proofs::Further::stays, crate::proofs::Further::goes_on, crate::proofs::Further::appended))]
 fn settle_batch<S: Supervisor>(
     course: &Course<'_, S>,
     book: &mut Book,
@@ -219,6 +224,7 @@ fn settle_batch<S: Supervisor>(
 }
 
 // Settles what was found at the nodes of a walk. False where the walk doesn't go on.
+#[tactic(auto, using(crate::proofs::Further::stays, crate::proofs::Further::goes_on, crate::proofs::Further::appended))]
 fn record_batch<S: Supervisor>(
     course: &Course<'_, S>,
     book: &mut Book,
@@ -263,6 +269,7 @@ fn tell<S: Supervisor>(course: &Course<'_, S>, book: &Book, nodes: usize, splits
 }
 
 // Settles the open node that is first in preorder, looked at by itself.
+#[tactic(auto, using(crate::proofs::Further::stays, crate::proofs::Further::goes_on, crate::proofs::Further::appended))]
 fn settle_first_open<S: Supervisor>(course: &Course<'_, S>, book: &mut Book) -> Result<(), NoMemory>
     requires search { IsSearchBy course.now.setting.now.tables course.now.teller course.now.until book.old }
     requires some_open { 0 < length (open_paths book.old.history) }
@@ -290,6 +297,7 @@ fn settle_first_open<S: Supervisor>(course: &Course<'_, S>, book: &mut Book) -> 
 }
 
 // Settles an open node, as a look found it.
+#[tactic(auto, using(crate::proofs::Further::stays, crate::proofs::Further::goes_on, crate::proofs::Further::appended))]
 fn record(book: &mut Book, teller: usize, event: Event) -> Result<(), NoMemory>
     requires teller { teller < book.old.tellers }
     requires some_left { length book.old.history < book.old.limit }

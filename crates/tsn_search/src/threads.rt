@@ -19,10 +19,10 @@ use tsn_book::Book;
 use tsn_node::NoMemory;
 use tsn_setting::Setting;
 use tsn_setting::supervisor::Supervisor;
-use tsn_share::{Named, Parts, Teller, gather};
+use tsn_share::{EndedWord, Named, Parts, Teller, gather};
 
-/// The caller begins, along a schedule where one is known, the workers go on, one a bag, and what all have settled is gathered.
-/// The error says that there was no memory for the caller.
+/// The caller begins, along a schedule where one is known, the workers go on, one a bag, and what all have settled is gathered: the
+/// word that they shared, with the seat of all of them, and the book. The error says that there was no memory for the caller.
 pub fn search<
     K: Named + Send + Sync,
     R: Threads + Wait + Sync,
@@ -34,13 +34,14 @@ pub fn search<
     bags: Vec<B>,
     parts: Parts,
     known: Option<&[u64]>,
-) -> Result<Book, NoMemory>
+) -> Result<(EndedWord, Book), NoMemory>
     requires names { parts ≡ K.names }
     requires tables { AreTablesOf K.names.race.network setting.now.tables }
     requires tellers { K.names.race.tellers ≡ length bags.items + 1 }
     requires some { 1 ≤ length bags.items }
-    ensures book { IfOk result (IsBookOf K.names) }
-    ensures gathered { IfOk result (IsGathered K.names) }
+    ensures race { IfOk result (λ left. left.0.seat.race ≡ K.names.race) }
+    ensures book { IfOk result (λ left. IsBookOf K.names left.1) }
+    ensures gathered { IfOk result (λ left. IsGathered left.0 left.1) }
 {
     let (shared, tellers) = parts.share::<K>(setting.alloc)?;
     let board = Board::new(bags.len());
@@ -53,10 +54,7 @@ pub fn search<
     drop(context);
     drop(board);
     match back {
-        Ok(tellers) => {
-            let (_, book) = gather(shared, tellers);
-            Ok(book)
-        }
+        Ok(tellers) => Ok(gather(shared, tellers)),
         Err(fault) => {
             drop(shared);
             Err(fault)

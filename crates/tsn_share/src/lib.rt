@@ -21,3 +21,4 @@ pub use steps::{
     observing_is_a_step, posting_is_a_step, settling_all_is_steps, settling_is_a_step,
 };
 pub use teller::Teller;
+pub use tsn_incumbent::EndedWord;

@@ -128,6 +128,7 @@ pub fn settle_and_post<K: Named>(
     ensures at_most { IfOk result (λ word. (word ≤ teller.old.standing.seen) × (word ≤ teller.old.standing.posted)) }
     ensures refused { OnErr result (teller.new ≡ teller.old) }
     ensures returned { IfErr result (λ refusal. refusal.event ≡ event) }
+    ensures fault { IfErr result (λ refusal. IsRefused K.names teller.new (event_of event) refusal.fault) }
 {
     settle_as(rt, shared, teller, event)?;
     Ok(post_as(shared, teller, solved))

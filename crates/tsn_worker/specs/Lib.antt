@@ -1,1 +1,3 @@
+pub mod GoingOn
 pub mod Learned
+pub mod Team

@@ -1,21 +1,23 @@
 //! What the search that learns shows, once its argument is checked.
-ghost use Rattle.std.specs.Prelude.{◌≡◌, ◌≤◌, true};
+ghost use Rattle.std.specs.Prelude.{◌≡◌, ◌≤◌, true, Ok, IfOk, IfErr, IfSome, IsTrue};
 ghost use Rattle.tsn_check.specs.Plans.{IsOptimalPlan, span_in};
 ghost use Rattle.tsn_setting.specs.Bound.{IsLowerBound};
 ghost use Rattle.tsn_answer.specs.Answer.{IsArgued};
-ghost use Rattle.tsn_answer.specs.Known.{IsKnown};
-ghost use Rattle.tsn_worker.specs.Learned.{IsLearned};
+ghost use Rattle.tsn_answer.specs.Known.{IsKnown, LosesNothing};
+ghost use Rattle.tsn_worker.specs.Learned.{CountsBound, IsLearned, ShowsLeast, bound_in};
 
+use crate::telling::tell_bound;
 use std::alloc::Global;
 use tsn_answer::Known;
 use tsn_argue::check_argument;
 use tsn_argument::Argument;
 use tsn_cert::{Offsets, Plan};
-use tsn_check::Verdict;
+use tsn_check::{CheckFault, Verdict};
 use tsn_learn::{Answer, BestSoFar, learn};
+use tsn_model::NoMemory;
 use tsn_net::Problem;
 use tsn_proving::{Hearer, budget_of};
-use tsn_setting::{Phase, Supervisor};
+use tsn_setting::{Phase, Setting, Supervisor};
 use tsn_timing::Timing;
 
 /// What a search that learns comes to.
@@ -29,16 +31,38 @@ pub enum Learned {
 
 /// What is asked: of what network, and with how many steps at most.
 #[derive(Clone, Copy)]
-pub struct Question<'a> {
-    pub problem: &'a Problem,
-    pub timing: &'a Timing,
-    pub limit: usize,
+struct Question<'a> {
+    problem: &'a Problem,
+    timing: &'a Timing,
+    limit: usize,
 }
 
 /// What a search that learns finds, from the schedule on that is known, where there is one: an argument of at most so many steps, which
 /// is checked. Where memory is wanting nothing is shown. What it has as its best schedule counts where it is valid, and what it has
-/// as a bound where its argument is accepted.
+/// as a bound where its argument is accepted. The supervisor hears of the bound that this comes to.
 pub fn find_by_learning<S: Supervisor>(
+    setting: &Setting<'_, S>,
+    problem: &Problem,
+    limit: usize,
+    known: Known,
+) -> Learned
+    requires timing { setting.now.tables.timing.now ≡ problem.now.network }
+    requires known { IsKnown problem.now.network known }
+    ensures { IsLearned problem.now.network limit known result }
+{
+    let question = Question {
+        problem,
+        timing: setting.tables.timing,
+        limit,
+    };
+    setting.supervisor.begin(Phase::Learning);
+    let learned = learned_by(setting.alloc, question, known, setting.supervisor);
+    tell_bound(setting, bound_of(&learned));
+    learned
+}
+
+// What a search that learns finds, at a supervisor that hears how far it has got.
+fn learned_by<S: Supervisor>(
     alloc: Global,
     question: Question<'_>,
     known: Known,
@@ -48,10 +72,10 @@ pub fn find_by_learning<S: Supervisor>(
     requires known { IsKnown question.problem.now.network known }
     ensures { IsLearned question.entry.problem.now.network question.entry.limit known result }
 {
-    supervisor.begin(Phase::Learning);
     let hearer = Hearer {
         supervisor,
         streams: question.timing.streams(),
+        limit: question.limit,
     };
     let budget = budget_of(question.limit);
     match learn(alloc, question.timing, known.offsets(), budget, &hearer) {
@@ -77,8 +101,21 @@ pub fn find_by_learning<S: Supervisor>(
             Some(argument) => judged(alloc, question, Plan::None, argument, known),
             None => Learned::Open(known),
         },
-        Ok(Answer::GaveUp(best)) => given_up(alloc, question, best, known, supervisor),
+        Ok(Answer::GaveUp(best)) => match given_up(alloc, question, best, known) {
+            Ok(known) => Learned::Open(known),
+            Err(known) => Learned::Open(known),
+        },
         Err(_) => Learned::Open(known),
+    }
+}
+
+// What no schedule's flowspan is below by what was learned, in nanoseconds.
+fn bound_of(learned: &Learned) -> u64
+    ensures { result ≡ bound_in learned.now }
+{
+    match learned {
+        Learned::Shown(plan, _) => span_of(plan),
+        Learned::Open(known) => known.bound,
     }
 }
 
@@ -119,17 +156,20 @@ fn is_shown(alloc: Global, question: Question<'_>, plan: &Plan, argument: &Argum
     }
 }
 
-// What is known where the search gave up. The supervisor hears of the bound.
-fn given_up<S: Supervisor>(
+// What is known where the search gave up. The error has what is known where there was no memory to check its argument.
+fn given_up(
     alloc: Global,
     question: Question<'_>,
     best: BestSoFar,
     known: Known,
-    supervisor: &S,
-) -> Learned
+) -> Result<Known, Known>
     requires timing { question.timing.now ≡ question.problem.now.network }
     requires known { IsKnown question.problem.now.network known }
-    ensures { IsLearned question.entry.problem.now.network question.entry.limit known result }
+    ensures known { IfOk result (IsKnown question.entry.problem.now.network) }
+    ensures kept { IfOk result (LosesNothing known) }
+    ensures shown { IfOk result (CountsBound question.entry.problem.now.network best) }
+    ensures known_unchecked { IfErr result (IsKnown question.entry.problem.now.network) }
+    ensures kept_unchecked { IfErr result (LosesNothing known) }
 {
     let BestSoFar {
         schedule,
@@ -139,7 +179,7 @@ fn given_up<S: Supervisor>(
     } = best;
     let Some(offsets) = schedule else {
         drop(argument);
-        return Learned::Open(known);
+        return Ok(known);
     };
     let plan = Plan::Schedule {
         flowspan: bound,
@@ -147,31 +187,51 @@ fn given_up<S: Supervisor>(
     };
     let shown = bound_shown(alloc, question.problem, &plan, &argument);
     drop(argument);
-    let known = known.raised(shown);
-    supervisor.hear_bound(known.bound);
-    Learned::Open(known.with_plan(question.timing, plan))
-}
-
-// What the argument shows that no valid schedule's flowspan is below, in nanoseconds: that of the plan, where it shows that this is
-// optimal; else 0.
-fn bound_shown(alloc: Global, problem: &Problem, plan: &Plan, argument: &Option<Argument>) -> u64
-    ensures lower { IsLowerBound problem.now.network result }
-    ensures within_cycle { result ≤ problem.now.network.cycle }
-{
-    match argument {
-        Some(argument) if is_optimal(alloc, problem, plan, argument) => span_of(plan),
-        _ => 0,
+    match shown {
+        Ok(shown) => Ok(known.raised(shown).with_plan(question.timing, plan)),
+        Err(_) => Err(known.with_plan(question.timing, plan)),
     }
 }
 
-// Whether the argument shows that the plan is optimal.
-fn is_optimal(alloc: Global, problem: &Problem, plan: &Plan, argument: &Argument) -> bool
-    ensures { result ≡ true → IsOptimalPlan problem.now.network plan.now }
+// What the argument shows that no valid schedule's flowspan is below, in nanoseconds: that of the plan, where it shows that this is
+// optimal; else 0. The error says that there was no memory.
+fn bound_shown(
+    alloc: Global,
+    problem: &Problem,
+    plan: &Plan,
+    argument: &Option<Argument>,
+) -> Result<u64, NoMemory>
+    ensures lower { IfOk result (IsLowerBound problem.now.network) }
+    ensures within_cycle { IfOk result (λ bound. bound ≤ problem.now.network.cycle) }
+    ensures shown { IfOk result (λ bound. IfSome argument.now (λ argument. ShowsLeast problem.now.network plan.now argument → bound ≡ span_in plan.now)) }
 {
-    matches!(
-        check_argument(alloc, problem, plan, argument),
-        Ok(Verdict::Optimal)
-    )
+    let Some(argument) = argument else {
+        return Ok(0);
+    };
+    if is_optimal(alloc, problem, plan, argument)? {
+        Ok(span_of(plan))
+    } else {
+        Ok(0)
+    }
+}
+
+// Whether the argument shows that the plan is optimal. The error says that there was no memory.
+fn is_optimal(
+    alloc: Global,
+    problem: &Problem,
+    plan: &Plan,
+    argument: &Argument,
+) -> Result<bool, NoMemory>
+    ensures optimal { result ≡ Ok true → IsOptimalPlan problem.now.network plan.now }
+    ensures complete { IfOk result (λ optimal. ShowsLeast problem.now.network plan.now argument.now → IsTrue optimal) }
+{
+    match check_argument(alloc, problem, plan, argument) {
+        Ok(Verdict::Optimal) => Ok(true),
+        Ok(Verdict::First) => Ok(false),
+        Ok(Verdict::NoSchedule) => Ok(false),
+        Err(CheckFault::Memory) => Err(NoMemory),
+        Err(_) => Ok(false),
+    }
 }
 
 // The flowspan of a plan in nanoseconds, 0 where it is that there is none.

@@ -4,8 +4,11 @@
 
 mod learned;
 pub mod planning;
+mod searched;
+mod telling;
 
 pub use planning::{plan, plan_by, plan_over, search_by};
+pub use searched::{Planned, Searched};
 pub use tsn_answer::{
     Answer, Effort, FILE_ORDER_LIMIT, Found, Known, MAX_LIMIT, MAX_WORKERS, Method, plan_of,
 };

@@ -1,10 +1,15 @@
 //! Plans a network.
 ghost use Rattle.std.specs.Prelude.{◌≡◌, ◌≤◌, ◌<◌, length, IfOk};
-ghost use Rattle.tsn_answer.specs.Answer.{IsAnswer, IsAnswerBy, IsFound, IsFoundBy, HasNoArgument, KeepsFound, KeepsKept, KeepsKnown};
+ghost use Rattle.tsn_answer.specs.Answer.{HasTree, IsAnswer, IsAnswerBy, IsFound, IsFoundBy, HasNoArgument, KeepsFound, KeepsKept, KeepsKnown};
 ghost use Rattle.tsn_answer.specs.Known.{IsKnown};
 ghost use Rattle.tsn_search.specs.Search.{IsSearchBy};
+ghost use Rattle.tsn_worker.specs.GoingOn.{GoesOn};
+ghost use Rattle.tsn_worker.specs.Team.{IsTeamAnswer, IsTeamwork};
+ghost use Rattle.tsn_worker.specs.declared.planning.TheConstants.{GOES_ON_FROM};
 
-use crate::learned::{Learned, Question, find_by_learning};
+use crate::learned::{Learned, find_by_learning};
+use crate::searched::{Planned, Searched};
+use crate::telling::tell_bound;
 use std::alloc::Global;
 use std::marker::Brand;
 use std::sync::Wait;
@@ -31,6 +36,7 @@ const GOES_ON_FROM: usize = 2 * FILE_ORDER_LIMIT;
 /// There are 1 to 16 workers. One is the caller, who then starts no thread and waits for nobody but the supervisor. Two or more run in
 /// threads of their own, or one after another where no thread can be made; the caller settles the first nodes before they
 /// start, and what they leave open after they have ended. The error says that there was no memory for the caller.
+#[tactic(auto, using(crate::proofs::Teams::has_tree))]
 pub fn plan<R: Threads + Wait + Sync, S: Supervisor + Sync>(
     rt: &R,
     alloc: Global,
@@ -42,31 +48,43 @@ pub fn plan<R: Threads + Wait + Sync, S: Supervisor + Sync>(
     requires workers { (1 ≤ workers) × (workers ≤ MAX_WORKERS) }
     requires some { 1 ≤ limit }
     requires few { limit ≤ MAX_LIMIT }
-    ensures { IfOk result (IsAnswer problem.now.network limit) }
+    ensures answer { IfOk result (IsAnswer problem.now.network limit) }
+    ensures method { IfOk result HasTree }
 {
     let effort = Effort {
         method: Method::FileOrder,
         workers,
         limit,
     };
-    plan_by(rt, alloc, problem, effort, supervisor)
+    let Planned { answer, word } = plan_by(rt, alloc, problem, effort, supervisor)?;
+    drop(word);
+    Ok(answer)
 }
 
-/// What `plan` answers, by any method.
+/// What `plan` answers, by any method, and the word that several workers shared for it.
+#[tactic(auto, using(crate::proofs::Teams::answered))]
 pub fn plan_by<R: Threads + Wait + Sync, S: Supervisor + Sync>(
     rt: &R,
     alloc: Global,
     problem: &Problem,
     effort: Effort,
     supervisor: &S,
-) -> Result<Answer, NoMemory>
+) -> Result<Planned, NoMemory>
     requires workers { (1 ≤ effort.workers) × (effort.workers ≤ MAX_WORKERS) }
     requires some { 1 ≤ effort.limit }
     requires few { effort.limit ≤ MAX_LIMIT }
-    ensures answer { IfOk result (IsAnswer problem.now.network effort.limit) }
-    ensures method { IfOk result (IsAnswerBy effort) }
+    ensures answer { IfOk result (λ planned. IsAnswer problem.now.network effort.limit planned.answer) }
+    ensures method { IfOk result (λ planned. IsAnswerBy effort planned.answer) }
+    ensures gathered { IfOk result (λ planned. IsTeamAnswer effort.workers planned.word planned.answer) }
 {
-    search_by(rt, alloc, problem, effort, supervisor)?.into_answer(alloc)
+    let Searched { found, word } = search_by(rt, alloc, problem, effort, supervisor)?;
+    match found.into_answer(alloc) {
+        Ok(answer) => Ok(Planned { answer, word }),
+        Err(fault) => {
+            drop(word);
+            Err(fault)
+        }
+    }
 }
 
 /// What is searched for `plan_by`, and no certificate: the book that is left says which schedule is the first, or that there is
@@ -78,12 +96,13 @@ pub fn search_by<R: Threads + Wait + Sync, S: Supervisor + Sync>(
     problem: &Problem,
     effort: Effort,
     supervisor: &S,
-) -> Result<Found, NoMemory>
+) -> Result<Searched, NoMemory>
     requires workers { (1 ≤ effort.workers) × (effort.workers ≤ MAX_WORKERS) }
     requires some { 1 ≤ effort.limit }
     requires few { effort.limit ≤ MAX_LIMIT }
-    ensures found { IfOk result (IsFound problem.now.network effort.limit) }
-    ensures method { IfOk result (IsFoundBy effort) }
+    ensures found { IfOk result (λ searched. IsFound problem.now.network effort.limit searched.found) }
+    ensures method { IfOk result (λ searched. IsFoundBy effort searched.found) }
+    ensures gathered { IfOk result (λ searched. IsTeamwork effort.workers searched.word searched.found) }
 {
     let prepared = Prepared::of(alloc, problem)?;
     let setting = prepared.setting(alloc, supervisor);
@@ -105,14 +124,17 @@ pub fn plan_over<R: Threads + Wait + Sync, S: Supervisor + Sync, B: Bag + Send>(
     requires workers { (2 ≤ length bags.items) × (length bags.items ≤ MAX_WORKERS) }
     requires some { 1 ≤ limit }
     requires few { limit ≤ MAX_LIMIT }
-    ensures { IfOk result (IsAnswer problem.now.network limit) }
+    ensures answer { IfOk result (IsAnswer problem.now.network limit) }
+    ensures method { IfOk result HasTree }
 {
     let prepared = Prepared::of(alloc, problem)?;
     let setting = prepared.setting(alloc, supervisor);
     let found = search_in_bags(rt, &setting, limit, bags);
     drop(setting);
     drop(prepared);
-    found?.into_answer(alloc)
+    let Searched { found, word } = found?;
+    drop(word);
+    found.into_answer(alloc)
 }
 
 // What 2 to 16 workers find from the root on, one a bag.
@@ -121,11 +143,13 @@ fn search_in_bags<R: Threads + Wait + Sync, S: Supervisor + Sync, B: Bag + Send>
     setting: &Setting<'_, S>,
     limit: usize,
     bags: Vec<B>,
-) -> Result<Found, NoMemory>
+) -> Result<Searched, NoMemory>
     requires workers { (2 ≤ length bags.items) × (length bags.items ≤ MAX_WORKERS) }
     requires some { 1 ≤ limit }
     requires few { limit ≤ MAX_LIMIT }
-    ensures { IfOk result (IsFound setting.now.tables.timing.now limit) }
+    ensures found { IfOk result (λ searched. IsFound setting.now.tables.timing.now limit searched.found) }
+    ensures book { IfOk result (λ searched. HasNoArgument searched.found) }
+    ensures gathered { IfOk result (λ searched. IsTeamwork (length bags.items) searched.word searched.found) }
 {
     let known = known_at_root(setting)?;
     setting.supervisor.begin(Phase::File);
@@ -142,7 +166,7 @@ fn known_at_root<S: Supervisor>(setting: &Setting<'_, S>) -> Result<Known, NoMem
         best: None,
         bound: bound.min(setting.tables.timing.cycle()),
     };
-    setting.supervisor.hear_bound(known.bound);
+    tell_bound(setting, known.bound);
     Ok(known)
 }
 
@@ -152,13 +176,14 @@ fn search_by_method<R: Threads + Wait + Sync, S: Supervisor + Sync>(
     problem: &Problem,
     setting: &Setting<'_, S>,
     effort: Effort,
-) -> Result<Found, NoMemory>
+) -> Result<Searched, NoMemory>
     requires workers { (1 ≤ effort.workers) × (effort.workers ≤ MAX_WORKERS) }
     requires some { 1 ≤ effort.limit }
     requires few { effort.limit ≤ MAX_LIMIT }
     requires timing { setting.now.tables.timing.now ≡ problem.now.network }
-    ensures found { IfOk result (IsFound setting.now.tables.timing.now effort.limit) }
-    ensures method { IfOk result (IsFoundBy effort) }
+    ensures found { IfOk result (λ searched. IsFound setting.now.tables.timing.now effort.limit searched.found) }
+    ensures method { IfOk result (λ searched. IsFoundBy effort searched.found) }
+    ensures gathered { IfOk result (λ searched. IsTeamwork effort.workers searched.word searched.found) }
 {
     let known = known_at_root(setting)?;
     match effort.method {
@@ -175,20 +200,21 @@ fn search_in_file_order<R: Threads + Wait + Sync, S: Supervisor + Sync>(
     known: Known,
     workers: usize,
     limit: usize,
-) -> Result<Found, NoMemory>
+) -> Result<Searched, NoMemory>
     requires workers { (1 ≤ workers) × (workers ≤ MAX_WORKERS) }
     requires some { 1 ≤ limit }
     requires few { limit ≤ MAX_LIMIT }
     requires known { IsKnown setting.now.tables.timing.now known }
-    ensures found { IfOk result (IsFound setting.now.tables.timing.now limit) }
-    ensures kept { IfOk result (KeepsKnown known) }
-    ensures book { IfOk result HasNoArgument }
+    ensures found { IfOk result (λ searched. IsFound setting.now.tables.timing.now limit searched.found) }
+    ensures kept { IfOk result (λ searched. KeepsKnown known searched.found) }
+    ensures book { IfOk result (λ searched. HasNoArgument searched.found) }
+    ensures gathered { IfOk result (λ searched. IsTeamwork workers searched.word searched.found) }
 {
-    setting.supervisor.begin(Phase::File);
-    search_with(rt, setting, known, workers, limit)
+    search_with(rt, setting, Phase::File, known, workers, limit)
 }
 
 // What is found in the order of the file, or, where more may be settled than that search may, by the search that learns.
+#[tactic(auto, using(crate::proofs::Teams::alone))]
 fn search_auto<R: Threads + Wait + Sync, S: Supervisor + Sync>(
     rt: &R,
     problem: &Problem,
@@ -196,21 +222,22 @@ fn search_auto<R: Threads + Wait + Sync, S: Supervisor + Sync>(
     known: Known,
     workers: usize,
     limit: usize,
-) -> Result<Found, NoMemory>
+) -> Result<Searched, NoMemory>
     requires workers { (1 ≤ workers) × (workers ≤ MAX_WORKERS) }
     requires some { 1 ≤ limit }
     requires few { limit ≤ MAX_LIMIT }
     requires timing { setting.now.tables.timing.now ≡ problem.now.network }
     requires known { IsKnown setting.now.tables.timing.now known }
-    ensures found { IfOk result (IsFound setting.now.tables.timing.now limit) }
-    ensures kept { IfOk result (KeepsKnown known) }
-    ensures method { IfOk result (λ found. limit ≤ FILE_ORDER_LIMIT → HasNoArgument found) }
+    ensures found { IfOk result (λ searched. IsFound setting.now.tables.timing.now limit searched.found) }
+    ensures kept { IfOk result (λ searched. KeepsKnown known searched.found) }
+    ensures method { IfOk result (λ searched. limit ≤ FILE_ORDER_LIMIT → HasNoArgument searched.found) }
+    ensures gathered { IfOk result (λ searched. IsTeamwork workers searched.word searched.found) }
 {
     if limit <= FILE_ORDER_LIMIT {
         return search_in_file_order(rt, setting, known, workers, limit);
     }
     if workers == 1 {
-        return search_auto_alone(problem, setting, known, limit);
+        return Ok(Searched::alone(search_auto_alone(problem, setting, known, limit)?));
     }
     let first = search_in_file_order(rt, setting, known, workers, FILE_ORDER_LIMIT)?;
     search_beyond(rt, problem, setting, first, workers, limit)
@@ -221,25 +248,35 @@ fn search_beyond<R: Threads + Wait + Sync, S: Supervisor + Sync>(
     rt: &R,
     problem: &Problem,
     setting: &Setting<'_, S>,
-    first: Found,
+    first: Searched,
     workers: usize,
     limit: usize,
-) -> Result<Found, NoMemory>
+) -> Result<Searched, NoMemory>
     requires workers { (1 ≤ workers) × (workers ≤ MAX_WORKERS) }
     requires some { FILE_ORDER_LIMIT < limit }
     requires few { limit ≤ MAX_LIMIT }
     requires timing { setting.now.tables.timing.now ≡ problem.now.network }
-    requires first { IsFound setting.now.tables.timing.now FILE_ORDER_LIMIT first }
-    ensures found { IfOk result (IsFound setting.now.tables.timing.now limit) }
-    ensures kept { IfOk result (KeepsFound first) }
+    requires first { IsFound setting.now.tables.timing.now FILE_ORDER_LIMIT first.found }
+    requires gathered { IsTeamwork workers first.word first.found }
+    ensures found { IfOk result (λ searched. IsFound setting.now.tables.timing.now limit searched.found) }
+    ensures kept { IfOk result (λ searched. KeepsFound first.found searched.found) }
+    ensures gathered { IfOk result (λ searched. IsTeamwork workers searched.word searched.found) }
 {
-    match first {
+    let Searched { found, word } = first;
+    match found {
         Found::Stopped(book, known) => {
             drop(book);
+            drop(word);
             search_learning(rt, problem, setting, known, workers, limit)
         }
-        Found::Argued(plan, argument) => Ok(Found::Argued(plan, argument)),
-        Found::Finished(finished) => Ok(Found::Finished(finished)),
+        Found::Argued(plan, argument) => Ok(Searched {
+            found: Found::Argued(plan, argument),
+            word,
+        }),
+        Found::Finished(finished) => Ok(Searched {
+            found: Found::Finished(finished),
+            word,
+        }),
     }
 }
 
@@ -285,14 +322,10 @@ fn search_after<S: Supervisor>(
     ensures found { IfOk result (IsFound setting.now.tables.timing.now limit) }
     ensures kept { IfOk result (KeepsKnown known) }
     ensures kept_book { IfOk result (KeepsKept setting.now.tables.timing.now book) }
+    ensures goes_on { GOES_ON_FROM ≤ limit → IfOk result (GoesOn book) }
 {
     let known = known.with_kept(&book)?;
-    let question = Question {
-        problem,
-        timing: setting.tables.timing,
-        limit,
-    };
-    match find_by_learning(setting.alloc, question, known, setting.supervisor) {
+    match find_by_learning(setting, problem, limit, known) {
         Learned::Shown(plan, argument) => {
             drop(book);
             Ok(Found::Argued(plan, argument))
@@ -315,45 +348,13 @@ fn go_on<S: Supervisor>(
     requires known { IsKnown setting.now.tables.timing.now known }
     ensures found { IfOk result (IsFound setting.now.tables.timing.now limit) }
     ensures kept { IfOk result (KeepsKnown known) }
+    ensures goes_on { GOES_ON_FROM ≤ limit → IfOk result (GoesOn book) }
 {
     if limit < GOES_ON_FROM {
         drop(book);
-        return begin_anew(setting, known, limit);
+        return search_alone(setting, Phase::File, known, limit);
     }
-    search_along(setting, known, limit, book)
-}
-
-// What the caller finds alone from the root on, along the best schedule that is known.
-fn begin_anew<S: Supervisor>(
-    setting: &Setting<'_, S>,
-    known: Known,
-    limit: usize,
-) -> Result<Found, NoMemory>
-    requires some { 1 ≤ limit }
-    requires few { limit ≤ MAX_LIMIT }
-    requires known { IsKnown setting.now.tables.timing.now known }
-    ensures found { IfOk result (IsFound setting.now.tables.timing.now limit) }
-    ensures kept { IfOk result (KeepsKnown known) }
-{
-    setting.supervisor.begin(Phase::File);
-    search_alone(setting, known, limit)
-}
-
-// What the caller finds alone, in a book in which something is settled, along the best schedule that is known.
-fn search_along<S: Supervisor>(
-    setting: &Setting<'_, S>,
-    known: Known,
-    limit: usize,
-    book: Book,
-) -> Result<Found, NoMemory>
-    requires search { IsSearchBy setting.now.tables 0 limit book }
-    requires limit { book.limit ≡ limit }
-    requires known { IsKnown setting.now.tables.timing.now known }
-    ensures found { IfOk result (IsFound setting.now.tables.timing.now limit) }
-    ensures kept { IfOk result (KeepsKnown known) }
-{
-    setting.supervisor.begin(Phase::Along);
-    search_from(setting, known, limit, book)
+    search_from(setting, Phase::Along, known, limit, book)
 }
 
 // What is found by the search that learns, or else in the order of the file, along the best schedule that is known.
@@ -364,79 +365,106 @@ fn search_learning<R: Threads + Wait + Sync, S: Supervisor + Sync>(
     known: Known,
     workers: usize,
     limit: usize,
-) -> Result<Found, NoMemory>
+) -> Result<Searched, NoMemory>
     requires workers { (1 ≤ workers) × (workers ≤ MAX_WORKERS) }
     requires some { 1 ≤ limit }
     requires few { limit ≤ MAX_LIMIT }
     requires timing { setting.now.tables.timing.now ≡ problem.now.network }
     requires known { IsKnown setting.now.tables.timing.now known }
-    ensures found { IfOk result (IsFound setting.now.tables.timing.now limit) }
-    ensures kept { IfOk result (KeepsKnown known) }
+    ensures found { IfOk result (λ searched. IsFound setting.now.tables.timing.now limit searched.found) }
+    ensures kept { IfOk result (λ searched. KeepsKnown known searched.found) }
+    ensures gathered { IfOk result (λ searched. IsTeamwork workers searched.word searched.found) }
 {
-    let question = Question {
-        problem,
-        timing: setting.tables.timing,
-        limit,
-    };
-    match find_by_learning(setting.alloc, question, known, setting.supervisor) {
-        Learned::Shown(plan, argument) => Ok(Found::Argued(plan, argument)),
-        Learned::Open(known) => {
-            setting.supervisor.begin(Phase::Along);
-            search_with(rt, setting, known, workers, limit)
-        }
+    match find_by_learning(setting, problem, limit, known) {
+        Learned::Shown(plan, argument) => Ok(Searched::alone(Found::Argued(plan, argument))),
+        Learned::Open(known) => search_with(rt, setting, Phase::Along, known, workers, limit),
     }
 }
 
-// What 1 to 16 workers find.
+// What 1 to 16 workers find in a phase.
+#[tactic(auto, using(crate::proofs::Teams::alone))]
 fn search_with<R: Threads + Wait + Sync, S: Supervisor + Sync>(
     rt: &R,
     setting: &Setting<'_, S>,
+    phase: Phase,
     known: Known,
     workers: usize,
     limit: usize,
-) -> Result<Found, NoMemory>
+) -> Result<Searched, NoMemory>
     requires workers { (1 ≤ workers) × (workers ≤ MAX_WORKERS) }
     requires some { 1 ≤ limit }
     requires few { limit ≤ MAX_LIMIT }
     requires known { IsKnown setting.now.tables.timing.now known }
-    ensures found { IfOk result (IsFound setting.now.tables.timing.now limit) }
-    ensures kept { IfOk result (KeepsKnown known) }
-    ensures book { IfOk result HasNoArgument }
+    ensures found { IfOk result (λ searched. IsFound setting.now.tables.timing.now limit searched.found) }
+    ensures kept { IfOk result (λ searched. KeepsKnown known searched.found) }
+    ensures book { IfOk result (λ searched. HasNoArgument searched.found) }
+    ensures gathered { IfOk result (λ searched. IsTeamwork workers searched.word searched.found) }
 {
     if workers == 1 {
-        return search_alone(setting, known, limit);
+        return Ok(Searched::alone(search_alone(setting, phase, known, limit)?));
     }
+    setting.supervisor.begin(phase);
     let bags = DequeBag::make(setting.alloc, workers)?;
     search_over(rt, setting, known, limit, bags)
 }
 
 // What 2 to 16 workers find, one a bag.
+#[tactic(auto, using(crate::proofs::Teams::together))]
 fn search_over<R: Threads + Wait + Sync, S: Supervisor + Sync, B: Bag + Send>(
     rt: &R,
     setting: &Setting<'_, S>,
     known: Known,
     limit: usize,
     bags: Vec<B>,
-) -> Result<Found, NoMemory>
+) -> Result<Searched, NoMemory>
     requires workers { (2 ≤ length bags.items) × (length bags.items ≤ MAX_WORKERS) }
     requires some { 1 ≤ limit }
     requires few { limit ≤ MAX_LIMIT }
     requires known { IsKnown setting.now.tables.timing.now known }
+    ensures found { IfOk result (λ searched. IsFound setting.now.tables.timing.now limit searched.found) }
+    ensures kept { IfOk result (λ searched. KeepsKnown known searched.found) }
+    ensures book { IfOk result (λ searched. HasNoArgument searched.found) }
+    ensures gathered { IfOk result (λ searched. IsTeamwork (length bags.items) searched.word searched.found) }
+{
+    let workers = bags.len();
+    let parts = Parts::new(setting.alloc, setting.tables.timing, workers + 1, limit)?;
+    let (word, gathered) = search::<Brand, R, S, B>(rt, setting, bags, parts, known.offsets())?;
+    match finish(setting, known, limit, workers, gathered) {
+        Ok(found) => Ok(Searched {
+            found,
+            word: Some(word),
+        }),
+        Err(fault) => {
+            drop(word);
+            Err(fault)
+        }
+    }
+}
+
+// What is found where the caller goes on alone in the book that so many workers and it have gathered.
+fn finish<S: Supervisor>(
+    setting: &Setting<'_, S>,
+    known: Known,
+    limit: usize,
+    workers: usize,
+    gathered: Book,
+) -> Result<Found, NoMemory>
+    requires search { IsSearchBy setting.now.tables workers limit gathered }
+    requires limit { gathered.limit ≡ limit }
+    requires known { IsKnown setting.now.tables.timing.now known }
     ensures found { IfOk result (IsFound setting.now.tables.timing.now limit) }
     ensures kept { IfOk result (KeepsKnown known) }
     ensures book { IfOk result HasNoArgument }
+    ensures goes_on { IfOk result (GoesOn gathered) }
 {
-    let workers = bags.len();
-    let timing = setting.tables.timing;
-    let parts = Parts::new(setting.alloc, timing, workers + 1, limit)?;
-    let book = search::<Brand, R, S, B>(rt, setting, bags, parts, known.offsets())?;
-    let book = settle_open(setting, workers, limit, None, book)?;
-    Found::of(timing, known, limit, book)
+    let book = settle_open(setting, workers, limit, None, gathered)?;
+    Found::of(setting.tables.timing, known, limit, book)
 }
 
-// What the caller finds alone.
+// What the caller finds alone in a phase, from the root on.
 fn search_alone<S: Supervisor>(
     setting: &Setting<'_, S>,
+    phase: Phase,
     known: Known,
     limit: usize,
 ) -> Result<Found, NoMemory>
@@ -448,12 +476,13 @@ fn search_alone<S: Supervisor>(
     ensures book { IfOk result HasNoArgument }
 {
     let book = Book::new(setting.alloc, setting.tables.timing, 1, limit)?;
-    search_from(setting, known, limit, book)
+    search_from(setting, phase, known, limit, book)
 }
 
-// What the caller finds alone in a book, along the best schedule that is known.
+// What the caller finds alone in a book, along the best schedule that is known. The supervisor hears that the phase begins.
 fn search_from<S: Supervisor>(
     setting: &Setting<'_, S>,
+    phase: Phase,
     known: Known,
     limit: usize,
     book: Book,
@@ -464,7 +493,9 @@ fn search_from<S: Supervisor>(
     ensures found { IfOk result (IsFound setting.now.tables.timing.now limit) }
     ensures kept { IfOk result (KeepsKnown known) }
     ensures book { IfOk result HasNoArgument }
+    ensures goes_on { IfOk result (GoesOn book) }
 {
+    setting.supervisor.begin(phase);
     let book = settle_open(setting, 0, limit, known.offsets(), book)?;
     Found::of(setting.tables.timing, known, limit, book)
 }

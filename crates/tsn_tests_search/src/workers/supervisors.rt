@@ -2,7 +2,7 @@
 
 use std::sync::atomic::{AtomicU64, Ordering};
 use std::sync::{Mutex, Wait};
-use tsn_worker::{News, Supervisor};
+use tsn_worker::{LearnedNews, News, Supervisor};
 
 /// How often a worker looks for the other one before it goes on alone.
 const TURNS: u64 = 50_000_000;
@@ -325,4 +325,91 @@ impl Supervisor for WaitingSupervisor {
         };
         settled.fetch_add(news.nodes as u64, Ordering::SeqCst);
     }
+}
+
+/// A supervisor that notes what it hears of the search that learns: a digit for each time that it is told, 0 where the flowspan is being
+/// shown and else the number of the stream, from 1; and a digit for how many conflicts there were.
+#[derive(Drop)]
+pub struct LearningSupervisor {
+    streams: u64,
+    flowspan: u64,
+    times: AtomicU64,
+    aims: AtomicU64,
+    conflicts: AtomicU64,
+    least_bound: AtomicU64,
+    last_bound: AtomicU64,
+    others: AtomicU64,
+}
+
+impl LearningSupervisor {
+    /// For a network of so many streams, whose least flowspan is this.
+    pub fn new(streams: u64, flowspan: u64) -> LearningSupervisor {
+        LearningSupervisor {
+            streams,
+            flowspan,
+            times: AtomicU64::new(0),
+            aims: AtomicU64::new(0),
+            conflicts: AtomicU64::new(0),
+            least_bound: AtomicU64::new(u64::MAX),
+            last_bound: AtomicU64::new(0),
+            others: AtomicU64::new(0),
+        }
+    }
+
+    /// How often it was told something.
+    pub fn times(&self) -> u64 {
+        self.times.load(Ordering::SeqCst)
+    }
+
+    pub fn aims(&self) -> u64 {
+        self.aims.load(Ordering::SeqCst)
+    }
+
+    pub fn conflicts(&self) -> u64 {
+        self.conflicts.load(Ordering::SeqCst)
+    }
+
+    /// The least bound that it was told of, and the last one.
+    pub fn bounds(&self) -> (u64, u64) {
+        (
+            self.least_bound.load(Ordering::SeqCst),
+            self.last_bound.load(Ordering::SeqCst),
+        )
+    }
+
+    /// How often it was told of another flowspan, or another number of streams.
+    pub fn others(&self) -> u64 {
+        self.others.load(Ordering::SeqCst)
+    }
+
+    fn is_other(&self, news: LearnedNews) -> bool {
+        news.flowspan != Some(self.flowspan) || news.streams as u64 != self.streams
+    }
+}
+
+impl Supervisor for LearningSupervisor {
+    fn pass(&self, _teller: usize) {}
+
+    fn hear_learned(&self, news: LearnedNews) {
+        let aim = match news.stream {
+            Some(stream) => (stream as u64).saturating_add(1),
+            None => 0,
+        };
+        self.times.fetch_add(1, Ordering::SeqCst);
+        add_digit(&self.aims, aim);
+        add_digit(&self.conflicts, news.conflicts);
+        self.least_bound.fetch_min(news.bound, Ordering::SeqCst);
+        self.last_bound.store(news.bound, Ordering::SeqCst);
+        if self.is_other(news) {
+            self.others.fetch_add(1, Ordering::SeqCst);
+        }
+    }
+}
+
+fn add_digit(digits: &AtomicU64, digit: u64) {
+    let before = digits.load(Ordering::SeqCst);
+    digits.store(
+        before.wrapping_mul(10).wrapping_add(digit),
+        Ordering::SeqCst,
+    );
 }

@@ -3,6 +3,7 @@ use std::process::Abort;
 use tsn_book::Book;
 use tsn_cert::Cert;
 use tsn_cert_json::cert_to_json;
+use tsn_share::EndedWord;
 
 fn certificate<R: Abort + AllocGlobal>(rt: &R, book: Book) -> Cert {
     match book.first_open(rt.alloc()).expect(rt, "memory") {
@@ -27,8 +28,10 @@ fn expect_kept(rt: &impl Abort, book: &Book) {
 }
 
 /// The search is finished: by offsets 0 and 672, and three settlements.
-pub fn expect_finished<R: Abort + AllocGlobal>(rt: &R, end: (u64, Book)) {
-    let (word, book) = end;
+pub fn expect_finished<R: Abort + AllocGlobal>(rt: &R, end: (EndedWord, Book)) {
+    let (ended, book) = end;
+    let word = ended.word();
+    drop(ended);
     assert_eq!(rt; (word, book.count()), (2_924, 3));
     expect_kept(rt, &book);
     let cert = certificate(rt, book);

@@ -11,7 +11,7 @@ use std::process::Abort;
 use std::sync::Wait;
 use std::test::*;
 use tsn_book::Book;
-use tsn_share::{Named, Parts, Shared, Teller, gather_unordered};
+use tsn_share::{EndedWord, Named, Parts, Shared, Teller, gather_unordered};
 use tsn_timing::Timing;
 
 /// In which order three tellers come back.
@@ -77,7 +77,7 @@ fn gather_reversed<K: Named, R: Abort + AllocGlobal>(
     zero: Teller<K>,
     one: Teller<K>,
     two: Teller<K>,
-) -> (u64, Book)
+) -> (EndedWord, Book)
     requires tellers { K.names.race.tellers ≡ 3 }
     requires numbers { (zero.standing.number ≡ 0) × (one.standing.number ≡ 1) × (two.standing.number ≡ 2) }
     requires even { IsEven zero × IsEven one × IsEven two }
@@ -93,7 +93,7 @@ fn gather_rotated<K: Named, R: Abort + AllocGlobal>(
     zero: Teller<K>,
     one: Teller<K>,
     two: Teller<K>,
-) -> (u64, Book)
+) -> (EndedWord, Book)
     requires tellers { K.names.race.tellers ≡ 3 }
     requires numbers { (zero.standing.number ≡ 0) × (one.standing.number ≡ 1) × (two.standing.number ≡ 2) }
     requires even { IsEven zero × IsEven one × IsEven two }

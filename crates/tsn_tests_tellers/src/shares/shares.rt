@@ -17,7 +17,8 @@ use std::test::*;
 use tsn_book::{Book, Event, EventRefusal};
 use tsn_node::{Node, Side};
 use tsn_share::{
-    Counts, Named, Parts, Shared, Teller, gather, post_as, settle_and_post, settle_as, with_book,
+    Counts, EndedWord, Named, Parts, Shared, Teller, gather, post_as, settle_and_post, settle_as,
+    with_book,
 };
 use tsn_timing::{Solved, Timing};
 
@@ -183,7 +184,7 @@ fn gather_two<K: Named, R: Abort + AllocGlobal>(
     shared: Shared<K>,
     zero: Teller<K>,
     one: Teller<K>,
-) -> (u64, Book)
+) -> (EndedWord, Book)
     requires tellers { K.names.race.tellers ≡ 2 }
     requires numbers { (zero.standing.number ≡ 0) × (one.standing.number ≡ 1) }
     requires even { IsEven zero × IsEven one }

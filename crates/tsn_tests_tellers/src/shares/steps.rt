@@ -17,7 +17,7 @@ use tsn_branch::{fits, look};
 use tsn_conflict::conflicts;
 use tsn_node::outcome::Look;
 use tsn_node::{Node, Side, Triple};
-use tsn_share::{Named, Parts, Shared, Teller, best_as, gather, observe_as};
+use tsn_share::{EndedWord, Named, Parts, Shared, Teller, best_as, gather, observe_as};
 use tsn_timing::{Solved, Timing};
 
 /// Adds an item.
@@ -104,7 +104,7 @@ pub fn gather_one<K: Named, R: Abort + AllocGlobal>(
     rt: &R,
     shared: Shared<K>,
     teller: Teller<K>,
-) -> (u64, Book)
+) -> (EndedWord, Book)
     requires tellers { K.names.race.tellers ≡ 1 }
     requires number { teller.standing.number ≡ 0 }
     requires even { IsEven teller }

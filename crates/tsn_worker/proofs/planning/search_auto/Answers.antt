@@ -4,5 +4,6 @@ use Rattle.tsn_worker.proofs.planning.search_auto.Goals as goal
 
 pub returns-clause-kept : goal.returns-clause-kept
 returns-clause-kept g c =
-    IfOk-weaker c.search_beyond.result _ _ (λ found keeps. KeepsFound-through c.args.known c.in_ok-first.first found c.in_ok-first.ensures.kept keeps)
+    IfOk-weaker c.search_beyond.result _ _
+    (λ searched keeps. KeepsFound-through c.args.known c.in_ok-first.first.found searched.found c.in_ok-first.ensures.kept keeps)
     c.search_beyond.ensures.kept

@@ -7,7 +7,8 @@ pub search_learning-requires-clause-known : goal.search_learning-requires-clause
 search_learning-requires-clause-known g c = λ ks lives. (subst (IsFound c.args.setting.now.tables.timing.now 100000) c.in-Stopped.is c.requires.first).so
 
 pub returns-in-Stopped-clause-kept : goal.returns-in-Stopped-clause-kept
-returns-in-Stopped-clause-kept g c = subst (λ first. IfOk c.search_learning.result (KeepsFound first)) (sym c.in-Stopped.is) c.search_learning.ensures.kept
+returns-in-Stopped-clause-kept g c =
+    subst (λ first. IfOk c.search_learning.result (λ searched. KeepsFound first searched.found)) (sym c.in-Stopped.is) c.search_learning.ensures.kept
 
 pub returns-in-Argued-clause-found : goal.returns-in-Argued-clause-found
 returns-in-Argued-clause-found g c =

@@ -12,5 +12,5 @@ search_with-requires-clause-known g c = λ ks lives. subst (λ n. IsKnown n c.in
 
 pub returns-in-Open-clause-kept : goal.returns-in-Open-clause-kept
 returns-in-Open-clause-kept g c =
-    IfOk-weaker c.search_with.result _ _ (λ found keeps. KeepsKnown-through c.args.known c.in-Open.known found c.in-Open.ensures.1 keeps)
+    IfOk-weaker c.search_with.result _ _ (λ searched keeps. KeepsKnown-through c.args.known c.in-Open.known searched.found c.in-Open.ensures.1 keeps)
     c.search_with.ensures.kept
