@@ -2,7 +2,8 @@
 --     path_in        its path
 --     contents_in    what it holds
 --     IsMade         it is made, where it is wanted
-use Rattle.std.specs.Prelude.{ℕ, List, Option, None, Some, IsSome}
+--     IsUnwritten    nothing was written to it: it isn't made
+use Rattle.std.specs.Prelude.{◌≡◌, ℕ, List, Option, None, Some, IsSome}
 use Rattle.tsn_device.specs.declared.sink.Wanted.{Wanted}
 use Rattle.tsn_device.specs.Known.{known_of}
 
@@ -20,3 +21,8 @@ contents_in contents (Some wanted) = known_of contents wanted.file
 abbrev pub IsMade : {F : Type 0} → Option (Wanted F) → Type 0
 IsMade None = Unit {0}
 IsMade (Some wanted) = IsSome wanted.file
+
+-- nothing was written to it: it isn't made
+abbrev pub IsUnwritten : {F : Type 0} → Option (Wanted F) → Type 0
+IsUnwritten None = Unit {0}
+IsUnwritten (Some wanted) = wanted.file ≡ None

@@ -22,6 +22,7 @@ impl Kept {
     pub fn new(alloc: Global) -> Kept
         ensures whole { IsTrue result.is_whole }
         ensures bytes { result.bytes.items ≡ [] }
+        ensures count { result.count ≡ 0 }
     {
         Kept {
             alloc,

@@ -1,5 +1,5 @@
 //! Readers of the system that are opened when they are first read.
-ghost use Rattle.std.specs.Prelude.{◌≡◌, ◌≤◌, ◌<◌, IsTrue, IfOk, codes, length, not, if◌then◌else◌};
+ghost use Rattle.std.specs.Prelude.{◌≡◌, ◌≤◌, ◌<◌, IsTrue, IfOk, None, codes, length, not, if◌then◌else◌};
 ghost use Rattle.either.specs.Either.{either, is_left};
 ghost use Rattle.std.specs.Io.KnownBytes.{ReadConsumes};
 ghost use Rattle.tsn_device.specs.Known.{is_over, known_of};
@@ -24,6 +24,7 @@ impl<'a, R: Files + Input> LateReader<'a, R> {
     pub fn new(rt: &'a R, path: &'a str, is_input: bool) -> LateReader<'a, R>
         ensures input { result.is_input ≡ is_input }
         ensures path { result.path ≡ path.entry }
+        ensures unopened { result.reader ≡ None }
     {
         LateReader {
             rt,

@@ -1,5 +1,5 @@
 //! Files and standard output, as sinks.
-ghost use Rattle.std.specs.Prelude.{◌≡◌, ◌≤◌, ◌<◌, ◌+◌, ◌-◌, ◌^◌, ◌↔◌, length, take, option_map, IfErr, IfOk, IfSome, OnOk, OnErr, IsSome, Some};
+ghost use Rattle.std.specs.Prelude.{◌≡◌, ◌≤◌, ◌<◌, ◌+◌, ◌-◌, ◌^◌, ◌↔◌, length, take, option_map, IfErr, IfOk, IfSome, OnOk, OnErr, IsSome, None, Some};
 ghost use Rattle.std.specs.Io.{WritesAtMost};
 ghost use Rattle.std.specs.Io.KnownBytes.{Appends, Keeps, WriteAppends};
 ghost use Rattle.tsn_device.specs.Known.{known_of};
@@ -161,7 +161,7 @@ pub struct FileSink<'a, R: Files> {
 }
 
 impl<'a, R: Files> FileSink<'a, R> {
-    ghost use Rattle.tsn_device.specs.Wanted.{path_in};
+    ghost use Rattle.tsn_device.specs.Wanted.{IsUnwritten, path_in};
 
     /// The file of this path, if one is asked for, of which no write has failed yet. It is tried whether it can be made; why
     /// it can't is an error, of kind `OutOfMemory` where memory was refused. Nothing is left of that.
@@ -171,6 +171,7 @@ impl<'a, R: Files> FileSink<'a, R> {
         path: Option<&'a str>,
     ) -> Result<FileSink<'a, R>, Failure<'a>>
         ensures wanted { IfOk result (λ sink. path_in sink.wanted ≡ option_map (λ path. path.now) path.entry) }
+        ensures unwritten { IfOk result (λ sink. IsUnwritten sink.wanted) }
         ensures failures { IfOk result (λ sink. sink.failures ≡ 0) }
         ensures action { IfErr result (λ failure. failure.action ≡ Action.Write) }
         ensures name { IfErr result (λ failure. Some failure.name.now ≡ option_map (λ path. path.now) path.entry) }
@@ -225,6 +226,7 @@ fn wanted_at<'a, R: Files>(
     path: &'a str,
 ) -> Result<Wanted<'a, R::File>, Failure<'a>>
     ensures path { IfOk result (λ wanted. wanted.path ≡ path.entry) }
+    ensures unmade { IfOk result (λ wanted. wanted.file ≡ None) }
     ensures action { IfErr result (λ failure. failure.action ≡ Action.Write) }
     ensures name { IfErr result (λ failure. failure.name ≡ path.entry) }
 {

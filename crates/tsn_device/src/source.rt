@@ -27,6 +27,8 @@ impl<'a, R: Files + Input> FileSource<'a, R> {
     pub fn network(rt: &'a R, alloc: Global, name: &'a str) -> FileSource<'a, R>
         ensures input { IsTrue result.reader.is_input ↔ (name.now ≡ codes "-") }
         ensures path { result.reader.path ≡ name.entry }
+        ensures unopened { result.reader.reader ≡ None }
+        ensures unread { result.kept.count ≡ 0 }
         ensures failures { result.failures ≡ 0 }
     {
         FileSource::new(LateReader::new(rt, name, name == "-"), alloc)
@@ -36,6 +38,8 @@ impl<'a, R: Files + Input> FileSource<'a, R> {
     pub fn file(rt: &'a R, alloc: Global, name: &'a str) -> FileSource<'a, R>
         ensures input { result.reader.is_input ≡ false }
         ensures path { result.reader.path ≡ name.entry }
+        ensures unopened { result.reader.reader ≡ None }
+        ensures unread { result.kept.count ≡ 0 }
         ensures failures { result.failures ≡ 0 }
     {
         FileSource::new(LateReader::new(rt, name, false), alloc)
@@ -43,6 +47,7 @@ impl<'a, R: Files + Input> FileSource<'a, R> {
 
     fn new(reader: LateReader<'a, R>, alloc: Global) -> FileSource<'a, R>
         ensures reader { result.reader ≡ reader.entry }
+        ensures unread { result.kept.count ≡ 0 }
         ensures failures { result.failures ≡ 0 }
     {
         FileSource {

@@ -1,6 +1,6 @@
 //! What a command is given by the system: files, standard streams.
-ghost use Rattle.std.specs.Prelude.{◌≡◌, ◌↔◌, IsTrue, codes, false};
-ghost use Rattle.tsn_device.specs.Wanted.{path_in};
+ghost use Rattle.std.specs.Prelude.{◌≡◌, ◌↔◌, IsSome, IsTrue, None, codes, false};
+ghost use Rattle.tsn_device.specs.Wanted.{IsUnwritten, path_in};
 
 use crate::told::STANDARD_OUTPUT;
 use std::alloc::Global;
@@ -26,15 +26,23 @@ impl<'a, R: Files + Input, P: Print, E: Eprint> Given<'a> for System<'a, R, P, E
 
     type Output = WriterSink<'a, Printer<'a, P>>;
 
-    ghost opens_network = { λ _ word s. (IsTrue s.reader.is_input ↔ (word ≡ codes "-")) × (s.reader.path.now ≡ word) × (s.failures ≡ 0) };
+    ghost opens_network = { λ _ word s. (IsTrue s.reader.is_input ↔ (word ≡ codes "-")) × (s.reader.path.now ≡ word)
+        × (s.reader.reader ≡ None) × (s.kept.count ≡ 0) × (s.failures ≡ 0) };
 
-    ghost opens_plan = { λ _ word s. (s.reader.is_input ≡ false) × (s.reader.path.now ≡ word) × (s.failures ≡ 0) };
+    ghost opens_plan = { λ _ word s. (s.reader.is_input ≡ false) × (s.reader.path.now ≡ word)
+        × (s.reader.reader ≡ None) × (s.kept.count ≡ 0) × (s.failures ≡ 0) };
 
-    ghost opens_cert = { λ _ word s. (s.reader.is_input ≡ false) × (s.reader.path.now ≡ word) × (s.failures ≡ 0) };
+    ghost opens_cert = { λ _ word s. (s.reader.is_input ≡ false) × (s.reader.path.now ≡ word)
+        × (s.reader.reader ≡ None) × (s.kept.count ≡ 0) × (s.failures ≡ 0) };
 
-    ghost makes_plan = { λ _ word s. (path_in s.wanted ≡ word) × (s.failures ≡ 0) };
+    ghost makes_plan = { λ _ word s. (path_in s.wanted ≡ word) × IsUnwritten s.wanted × (s.failures ≡ 0) };
 
-    ghost makes_cert = { λ _ word s. (path_in s.wanted ≡ word) × (s.failures ≡ 0) };
+    ghost makes_cert = { λ _ word s. (path_in s.wanted ≡ word) × IsUnwritten s.wanted × (s.failures ≡ 0) };
+
+    // (a file that no word names is refused by nobody)
+    ghost refuses_plan = { λ _ word. IsSome word };
+
+    ghost refuses_cert = { λ _ word. IsSome word };
 
     fn network(&self, word: &'a str) -> FileSource<'a, R> {
         FileSource::network(self.rt, self.alloc, word)

@@ -1,4 +1,5 @@
 //! Why a run refused what it read, or which device failed, in a line of words.
+ghost use Rattle.std.specs.Prelude.{◌<◌, IsSome};
 
 use crate::devices::Opened;
 use crate::refused::{cert_reason, network_reason, offsets_reason, plan_reason};
@@ -36,7 +37,9 @@ fn failure_text(alloc: Global, failure: Failure<'_>) -> Result<String, AllocErro
 }
 
 /// The line on a file of this name that has so many bytes; None where that isn't too many.
-fn too_long_line(alloc: Global, name: &str, count: usize) -> Option<String> {
+fn too_long_line(alloc: Global, name: &str, count: usize) -> Option<String>
+    ensures { IsSome result → MAX_FILE < count }
+{
     if count > MAX_FILE {
         too_long_text(alloc, name).ok()
     } else {

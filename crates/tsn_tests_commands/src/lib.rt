@@ -26,3 +26,5 @@ mod replays;
 mod texts;
 #[cfg(test)]
 mod words;
+#[cfg(test)]
+mod written;
