@@ -56,15 +56,18 @@ fn write_title(text: &mut String, sheet: Sheet<'_>) -> Result<(), AllocError> {
     let links = sheet.lists.len();
     write!(text, " &#181;s, {rows} of {links} links in use")?;
     if rows == 0 {
-        write_why_empty(text, sheet.shown)?;
+        write_why_empty(text, sheet)?;
     }
     text.push_str("</text>\n")
 }
 
 /// Writes why no link has a row.
-fn write_why_empty(text: &mut String, shown: Shown) -> Result<(), AllocError> {
-    match shown {
-        Shown::Link(link) => write!(text, ": no stream uses link {link}"),
+fn write_why_empty(text: &mut String, sheet: Sheet<'_>) -> Result<(), AllocError> {
+    match sheet.shown {
+        Shown::Link(link) if link < sheet.problem.links() => {
+            write!(text, ": no stream uses link {link}")
+        }
+        Shown::Link(link) => write!(text, ": there is no link {link}"),
         Shown::Auto | Shown::All => text.push_str(": none is shared"),
     }
 }

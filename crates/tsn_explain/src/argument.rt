@@ -123,13 +123,13 @@ fn push_order(text: &mut TextBuilder, first: usize, count: usize) {
     let last = count.wrapping_sub(1);
     if first == last {
         text.push_str("step ");
-        text.push_count(first);
+        push_count(text, first);
         text.push_str(" shows it.\n");
     } else {
         text.push_str("steps ");
-        text.push_count(first);
+        push_count(text, first);
         text.push_str(" to ");
-        text.push_count(last);
+        push_count(text, last);
         text.push_str(" show it.\n");
     }
 }

@@ -4,7 +4,7 @@ use crate::load::{Load, push_load};
 use crate::network::{Network, push_joint};
 use crate::number::{push_time, sum};
 use crate::path::{Path, streams_of};
-use crate::round::push_round;
+use crate::round::{has_order, push_round};
 use crate::view::least_tail;
 use std::alloc::{AllocError, Global};
 use tsn_argument::Order;
@@ -144,6 +144,16 @@ fn orders_of(alloc: Global, path: &Path, chain: &Chain) -> Result<Vec<Order>, Al
     orders.finish()
 }
 
+// Whether no order of a path is left out of these.
+fn are_all(path: &Path, orders: &[Order]) -> bool {
+    for decided in path.decided() {
+        if !has_order(orders, decided.order) {
+            return false;
+        }
+    }
+    true
+}
+
 /// Writes that the orders of a closed chain can't all hold.
 fn push_closed(
     alloc: Global,
@@ -155,7 +165,7 @@ fn push_closed(
     let Ok(orders) = orders_of(alloc, path, chain) else {
         return text.refuse();
     };
-    let is_said = orders.len() == path.decided().len();
+    let is_said = are_all(path, &orders);
     push_round(text, network, &orders, is_said);
     drop(orders);
 }

@@ -20,6 +20,16 @@ pub fn push_round(text: &mut TextBuilder, network: Network<'_>, orders: &[Order]
     text.push_str(" ns later than it does, so they can't all hold")
 }
 
+/// Whether an order is one of these.
+pub fn has_order(orders: &[Order], order: Order) -> bool {
+    for other in orders {
+        if *other == order {
+            return true;
+        }
+    }
+    false
+}
+
 fn weight_of(network: Network<'_>, orders: &[Order]) -> i64 {
     let mut weight = 0;
     for order in orders {

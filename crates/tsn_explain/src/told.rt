@@ -2,11 +2,11 @@
 use crate::load::{Load, push_load};
 use crate::needs::{Halves, Part};
 use crate::network::push_joint;
-use crate::number::{less, push_time, signed, sum};
+use crate::number::{less, push_count, push_time, signed, sum};
 use crate::placing::{push_first, push_last};
 use crate::replay::Replay;
-use crate::round::push_round;
-use crate::view::{Crossing, Learned, View, least_tail, opposite};
+use crate::round::{has_order, push_round};
+use crate::view::{Crossing, Learned, View, least_tail, opposite, turned};
 use std::alloc::Global;
 use tsn_argument::{Fact, Goal, Move, Order, Placing};
 use tsn_text::TextBuilder;
@@ -49,7 +49,7 @@ pub fn push_step(
     step: usize,
 ) {
     text.push_str("Step ");
-    text.push_count(step);
+    push_count(text, step);
     text.push_str(": ");
     push_supposed(text, replay, step);
     replay.begin(step);
@@ -323,13 +323,13 @@ impl Teller<'_> {
         match replay.left_of(step) {
             Some(fact) => {
                 self.text.push_str("by step ");
-                self.text.push_count(step);
+                push_count(self.text, step);
                 self.text.push_str(", ");
                 push_fact(self.text, view, view.learned_of(fact))
             }
             None => {
                 self.text.push_str("none of what step ");
-                self.text.push_count(step);
+                push_count(self.text, step);
                 self.text.push_str(" says can hold");
             }
         }
@@ -382,7 +382,33 @@ impl Teller<'_> {
 
     fn push_round(&mut self, replay: &Replay<'_>, orders: &[Order]) {
         self.push_then();
-        let is_said = orders.len() == self.facts.len();
+        let is_said = are_supposed(self.facts, orders);
         push_round(self.text, replay.view.network(), orders, is_said)
     }
+}
+
+// Whether the opposites of a clause's facts are these orders and nothing else.
+fn are_supposed(facts: &[Fact], orders: &[Order]) -> bool {
+    for fact in facts {
+        match fact {
+            Fact::Order(order) if has_order(orders, turned(*order)) => {}
+            _ => return false,
+        }
+    }
+    for order in orders {
+        if !has_fact(facts, turned(*order)) {
+            return false;
+        }
+    }
+    true
+}
+
+// Whether an order is one of the facts.
+fn has_fact(facts: &[Fact], order: Order) -> bool {
+    for fact in facts {
+        if *fact == Fact::Order(order) {
+            return true;
+        }
+    }
+    false
 }

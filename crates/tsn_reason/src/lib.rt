@@ -21,7 +21,6 @@ mod target;
 mod text;
 mod times;
 mod tree;
-mod unused;
 mod view;
 mod wrong;
 
@@ -32,7 +31,6 @@ pub use offsets::{Schedule, offsets_line};
 pub use plan::plan_file_line;
 pub use text::line_of;
 use tsn_model::NoMemory;
-pub use unused::unused_reason;
 
 /// A file that was read.
 #[derive(Clone, Copy)]

@@ -51,6 +51,10 @@ fn fail_calls<R: AllocGlobal + Threads + Wait + Sync>(
             is_cut(device, good_calls, whole, &found),
             "call {good_calls} of a device fails, and something else is written than the text before it"
         );
+        ensure!(
+            is_told(device, found.told.as_str()),
+            "call {good_calls} of a device fails, and standard error doesn't say which"
+        );
     }
     Ok(u64::MAX)
 }
@@ -66,6 +70,16 @@ fn is_cut(device: Device, good_calls: u64, whole: &Outcome, found: &Outcome) -> 
     is_beginning(plan, &whole.plan, &found.plan)
         && is_beginning(cert, &whole.cert, &found.cert)
         && is_beginning(output, &whole.output, &found.output)
+}
+
+/// Whether this is the line on a device that failed.
+fn is_told(device: Device, line: &str) -> bool {
+    match device {
+        Device::PlanFile => line.starts_with("the plan: cannot be written: "),
+        Device::CertFile => line.starts_with("the certificate: cannot be written: "),
+        Device::Output => line.starts_with("standard output: cannot be written: "),
+        _ => line.contains(": cannot be read: "),
+    }
 }
 
 /// Whether these are the first so many bytes, or all where there are fewer.

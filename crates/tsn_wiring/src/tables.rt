@@ -6,11 +6,11 @@ ghost use Rattle.tsn_wiring.specs.Options.{gates_options, replay_options, IsView
 ghost use Rattle.tsn_given.specs.Runs.{OverPlan, LeavesSource, WithSome};
 
 use crate::options::{gates_options, replay_options, view_of};
-use crate::unshown::{untaken, unused_line};
+use crate::unshown::untaken;
 use std::alloc::Global;
 use tsn_cli::{chart_run, gates_run, replay_run, streams_run};
 use tsn_given::reason::{plan_line, source_line};
-use tsn_given::told::{Ended, Ran, end_at, tell, tell_all};
+use tsn_given::told::{Ended, Ran, end_at, tell_all};
 use tsn_given::{Given, Made};
 use tsn_run::device::Sink;
 use tsn_words::{ChartWords, GatesWords, ReplayWords, StreamsWords};
@@ -75,10 +75,7 @@ pub fn chart<'a, G: Given<'a>, W: Made>(
         (λ sources. RunsOver (ChartAnswers view) sources (sink_over W.taken W.failed output result.output ∷ []) result.status)) }
 {
     let shown = chart_over(alloc, given, words, &mut output);
-    let unused = unused_line(alloc, shown.status, words.link, &shown.network);
-    let ran = end_shown(alloc, given, shown, output);
-    tell(given, unused);
-    ran
+    end_shown(alloc, given, shown, output)
 }
 
 /// Prints what each stream and each link gets by a plan; the network `-` is standard input.

@@ -5,7 +5,6 @@ use std::alloc::Global;
 use tsn_cli::{GatesFormat, GatesOptions};
 use tsn_given::Opened;
 use tsn_given::reason::file_of;
-use tsn_reason::unused_reason;
 use tsn_run::run::DONE;
 
 /// What a device doesn't take of the lists that were printed as a script for it, a line each, where what was read was kept and
@@ -20,21 +19,6 @@ pub(crate) fn untaken<S: Opened>(
     match (file_of(network), file_of(plan)) {
         (Some(network), Some(plan)) if status == DONE && is_script(options.format) => {
             device_reason(alloc, network, plan, options.merge, options.limits).unwrap_or(None)
-        }
-        _ => None,
-    }
-}
-
-/// That no stream uses the link of which alone a picture was drawn, where what was read was kept and there is memory for that.
-pub(crate) fn unused_line<S: Opened>(
-    alloc: Global,
-    status: u8,
-    link: Option<usize>,
-    network: &S,
-) -> Option<String> {
-    match (file_of(network), link) {
-        (Some(network), Some(link)) if status == DONE => {
-            unused_reason(alloc, network, link).unwrap_or(None)
         }
         _ => None,
     }

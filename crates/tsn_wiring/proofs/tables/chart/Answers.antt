@@ -8,6 +8,6 @@ returns g c = (
     c.chart_over-shown.ensures.1.0,
     leaves_over c.chart_over-shown.ensures.1.1
         (λ network left. leaves_over left
-        (λ plan runs. rw (c.end_shown-ran.ensures.status, c.end_shown-ran.ensures.output) runs)),
+        (λ plan runs. rw (c.end_shown.ensures.status, c.end_shown.ensures.output) runs)),
   ),
 )
