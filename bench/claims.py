@@ -1,9 +1,11 @@
 #!/usr/bin/env python3
 """Checks docs/proved.md against the sources: that each call, clause, definition and file that it names is there, that each public
-function with a contract is named, and that what it quotes stands where its links lead.
+function with a contract is named, and that what it quotes stands where its links lead. And that the documents tell right within a
+twentieth how many functions have a contract: those of the program and of the crates below it that have an `ensures` at their head.
 
 Usage: bench/claims.py [--list | --mend]. With --list it prints each public function with its file and clauses; with --mend it writes
-the lines of links anew where their words have moved. It looks at the crates below the program, which is what a user's call goes through. It reads texts and proves nothing: `rt ci` does.
+the lines of links anew where their words have moved, and the counts of functions to the nearest 50. It looks at the crates below the
+program, which is what a user's call goes through, and at the shared search without threads. It reads texts and proves nothing: `rt ci` does.
 """
 
 import glob
@@ -18,6 +20,13 @@ from lanes import below, minutes, uses
 
 PAGE = os.path.join(ROOT, "docs", "proved.md")
 PAGES = [PAGE, os.path.join(ROOT, "README.md")]
+LEARNS = ("tsn_solver", "tsn_learn")
+
+# What stands around the counts of functions in each page, and which counts these are.
+COUNTS = {
+    PAGE: (r"Some ([\d,]+) of ([\d,]+) functions have no contract", ("without", "all")),
+    PAGES[1]: (r"Some ([\d,]+) functions have a contract\. Some ([\d,]+), of which ([\d,]+) are the search that learns", ("with", "without", "learns")),
+}
 
 
 def read(path):
@@ -59,6 +68,45 @@ def functions(crate):
             if clause:
                 clauses.append(clause[1] or "")
     return found
+
+
+def contracts(crate):
+    """For each function of a crate whether an `ensures` stands at its head."""
+    found, is_head = [], False
+    for path in glob.glob(os.path.join(ROOT, "crates", crate, "src", "**", "*.rt"), recursive=True):
+        for line in read(path).splitlines():
+            if re.match(r"\s*(pub(\(\w+\))? )?(const )?(unsafe )?fn \w", line):
+                found.append(False)
+                is_head = True
+            is_clause = re.match(r"\s+(requires|ensures)\b", line)
+            if is_head and is_clause and is_clause[1] == "ensures":
+                found[-1] = True
+            is_head = is_head and (bool(is_clause) or not line.endswith(("{", ";")))
+    return found
+
+
+def counts(crates):
+    """How many functions there are, and how many of them have a contract, or none, or are of the search that learns without one."""
+    found = {crate: contracts(crate) for crate in crates}
+    every, proved = sum(map(len, found.values())), sum(map(sum, found.values()))
+    return {"all": every, "with": proved, "without": every - proved, "learns": sum(found[it].count(False) for it in LEARNS)}
+
+
+def wrong_counts(path, counted, mend):
+    """Counts of functions that a page tells wrong; with `mend` they are written."""
+    pattern, names = COUNTS[path]
+    page = os.path.relpath(path, ROOT)
+    text = read(path)
+    found = re.search(pattern, text)
+    if not found:
+        return [f"{page}: no counts of functions"]
+    if not mend:
+        told = ((name, int(it.replace(",", ""))) for name, it in zip(names, found.groups()))
+        return [f"{page}: {it} functions {name}, and there are {counted[name]}" for name, it in told if abs(it - counted[name]) * 20 > counted[name]]
+    right = iter(f"{round(counted[name] / 50) * 50:,}" for name in names)
+    with open(path, "w", encoding="utf-8") as file:
+        file.write(text.replace(found[0], re.sub(r"\d[\d,]*\d", lambda _: next(right), found[0])))
+    return []
 
 
 def definitions(crate):
@@ -171,14 +219,17 @@ def wrong_quotes(path):
 
 def main():
     used = uses()
-    crates = [it for it in used if it in below("tsn", used)]
+    crates = [it for it in used if it in below("tsn", used) or it == "tsn_core"]
     listed = {crate: functions(crate) for crate in crates}
     if sys.argv[1:] == ["--list"]:
         for crate, found in listed.items():
             for name, path, clauses in found:
                 print(crate, name, path, " ".join(it or "-" for it in clauses))
         return 0
-    wrong = [it for page in PAGES for it in wrong_links(page, sys.argv[1:] == ["--mend"])] + wrong_quotes(PAGE)
+    mend = sys.argv[1:] == ["--mend"]
+    wrong = [it for page in PAGES for it in wrong_links(page, mend)] + wrong_quotes(PAGE)
+    counted = counts([*crates, "tsn"])
+    wrong += [it for page in PAGES for it in wrong_counts(page, counted, mend)]
     words = set().union(*(definitions(it) for it in used))
     rows = sections(read(PAGE))
     for crate in crates:

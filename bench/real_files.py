@@ -27,10 +27,17 @@ INPUT = "two-streams.toml"
 LONG = os.path.join(ROOT, "bench", "networks", "random-40.toml")
 COPIED = {"examples": os.path.join(ROOT, "examples"), "suite": os.path.join(ROOT, "bench", "suite")}
 NOBODY = 65534
+# (seconds that a command may take: the longest needs eight of a processor)
+PATIENCE = 600
 
 
 class Wrong(Exception):
     pass
+
+
+def expanded(text):
+    """The text with `<3*text #>` written out: three times, with the numbers 0, 1 and 2 for `#`."""
+    return re.sub(r"<(\d+)\*([^>]*)>", lambda it: "".join(it[2].replace("#", str(i)) for i in range(int(it[1]))), text)
 
 
 class Setting:
@@ -74,8 +81,7 @@ class Session:
     def text_of(self, content):
         """`@NAME` is a file of the data, and any other text is a line, or lines with `<0a>` between them."""
         if not content.startswith("@"):
-            content = content.replace("<0a>", "\n") + "\n"
-            return re.sub(r"<(\d+)\*([^>]*)>", lambda it: "".join(it[2].replace("#", str(i)) for i in range(int(it[1]))), content)
+            return expanded(content.replace("<0a>", "\n") + "\n")
         with open(content[1:]) as file:
             return file.read()
 
@@ -84,10 +90,13 @@ class Session:
         mark, _, rest = line.partition(" ")
         if mark in ("", "#"):
             return False
-        makes = {"put": self.put, "link": self.link, "mode": self.mode, "folder": self.folder, "$": self.run}
+        makes = {
+            "put": self.put, "size": self.size, "link": self.link, "twin": self.twin, "mode": self.mode, "own": self.own,
+            "folder": self.folder, "$": self.run,
+        }
         compares = {
             "=": self.compare_end, "!": self.compare_told, "?": self.compare_part, ">": self.compare_file, "absent": self.compare_absent,
-            "files": self.compare_files, "has": self.compare_mode, "leads": self.compare_link, "threads": self.compare_threads,
+            "files": self.compare_files, "has": self.compare_mode, "owned": self.compare_owner, "leads": self.compare_link, "threads": self.compare_threads,
         }
         steps = {**makes, **compares}
         if mark not in steps:
@@ -99,6 +108,20 @@ class Session:
         name, content = rest.split(" = ", 1)
         with open(name, "w") as file:
             file.write(self.text_of(content))
+
+    def size(self, rest):
+        name, count = rest.split(" = ", 1)
+        with open(name, "wb") as file:
+            file.truncate(int(count))
+
+    def twin(self, rest):
+        name, target = rest.split(" = ", 1)
+        os.link(target, name)
+
+    def own(self, rest):
+        name, ids = rest.split(" = ", 1)
+        if os.geteuid() == 0:
+            os.chown(name, *map(int, ids.split()))
 
     def link(self, rest):
         name, target = rest.split(" = ", 1)
@@ -118,14 +141,14 @@ class Session:
         given = open(setting.input) if setting.input else self.given
         taken = open(setting.output, "w") if setting.output else subprocess.PIPE
         told = None if 2 in setting.closed else subprocess.PIPE
-        words = [self.program, *("" if word == "<>" else word for word in words.split(" "))]
+        words = [self.program, *("" if word == "<>" else expanded(word) for word in words.split(" "))]
         return subprocess.Popen(words, stdin=given, stdout=taken, stderr=told, text=True, preexec_fn=setting.prepare)
 
     def run(self, rest):
         if self.ended is not None:
             raise Wrong("nothing compares what the command before this tells")
         process = self.started(rest)
-        output, told = process.communicate(timeout=60)
+        output, told = process.communicate(timeout=PATIENCE)
         self.ended = process.returncode, output or "", told or ""
 
     def compare_end(self, rest):
@@ -163,7 +186,7 @@ class Session:
 
     def compare_file(self, rest):
         name, content = rest.split(" = ", 1)
-        with open(name) as file:
+        with open(expanded(name)) as file:
             found = file.read()
         if found != self.text_of(content):
             raise Wrong(f"it holds {found!r}")
@@ -183,6 +206,12 @@ class Session:
         found = stat.S_IMODE(os.stat(name).st_mode)
         if found != int(mode, 8):
             raise Wrong(f"its mode is {found:o}")
+
+    def compare_owner(self, rest):
+        name, ids = rest.split(" = ", 1)
+        found = os.stat(name)
+        if os.geteuid() == 0 and [found.st_uid, found.st_gid] != [int(it) for it in ids.split()]:
+            raise Wrong(f"its owner is {found.st_uid}, its group {found.st_gid}")
 
     def compare_link(self, rest):
         name, target = rest.split(" = ", 1)

@@ -8,7 +8,7 @@ has to end with status 7 and the line `no memory`, or whole, where the call that
 with all calls refused from each one on; and `plan` with 4 workers and by the search that learns, each call alone, on the star of
 ten and on networks on which that search learns: no memory, or the optimum with a certificate that is accepted. A run is stopped
 only where the limit is too little for the order of the file, when the search that learns or the check of its argument had no
-memory; its plan is then a valid schedule. What is told at the end has how many calls were refused in all.
+memory; its plan is then a valid schedule. No run leaves an unfinished file. What is told at the end has how many calls were refused in all.
 """
 
 import json
@@ -55,6 +55,9 @@ class Program:
         found = subprocess.run([self.path, *words], capture_output=True, text=True, env=environment, timeout=120)
         with open(counted) as file:
             calls = int(file.read())
+        for name in os.listdir(self.folder):
+            if ".tsn-unfinished-" in name:
+                sys.exit(f"{' '.join(words)}: with call {refused} refused it leaves {name}")
         return (found.stdout.strip(), found.returncode), calls
 
     def refuse_each(self, words):
