@@ -3,7 +3,8 @@
 
 check_argument.py NET PLAN CERT    prints the line that `tsn check` prints of these files, and ends with its status
 
-The network has to be one that isn't refused. Certificates of formats 1 and 2 aren't judged here, and end with status 2.
+The network has to be one that isn't refused. Its streams may have a `period` and `frames`, as docs/definitions.md has them.
+Certificates of formats 1 and 2 aren't judged here, and end with status 2.
 docs/formats.md and docs/definitions.md say what arguments are; bench/arguments/mutate.py runs both checkers side by side.
 """
 
@@ -15,8 +16,10 @@ import tomllib
 ACCEPTED, REFUSED, NOT_SHOWN, NOT_JUDGED = 0, 3, 6, 2
 MOST_TIME = 2_000_000_000
 MOST_NUMBER = 4_294_967_295
+MOST_LAG = 999_999_999
 MOST_U64 = 18_446_744_073_709_551_615
-MOST_LISTED = 128
+LEAST_I64 = -9_223_372_036_854_775_808
+MOST_FRAMES, MOST_ORDERS = 1024, 128
 MOST_NESTED = 127
 GOALS = ("first", "least", "none")
 
@@ -24,8 +27,28 @@ GOALS = ("first", "least", "none")
 # Networks.
 
 
+def frame_of(frame):
+    """A frame as it stands in a file, a stream or a stream and a shift: its stream and its shift."""
+    return (frame, 0) if isinstance(frame, int) else tuple(frame)
+
+
+def order_of(order):
+    """An order as it stands in a file, with a lag or without one: its streams, its link and its lag."""
+    return tuple(order) if len(order) == 4 else (*order, 0)
+
+
+def written_frame(stream, shift):
+    """A frame as it stands in a file."""
+    return [stream, shift] if shift else stream
+
+
+def written_order(i, j, link, lag):
+    """An order as it stands in a file."""
+    return [i, j, link, lag] if lag else [i, j, link]
+
+
 class Network:
-    """What an argument needs of a network: the cycle, and of each stream when it starts on its links and for how long."""
+    """What an argument needs of a network: the cycle, and of each stream its frames, when they start on its links and for how long."""
 
     def __init__(self, data):
         text = tomllib.loads(data.decode())
@@ -44,10 +67,12 @@ class Network:
             return True
         on = {}
         for offset, stream in zip(offsets, self.streams):
-            if offset < stream.release or offset + stream.span > self.cycle or offset + stream.arrival > stream.latest:
+            if offset < stream.release or offset + stream.span > stream.period or offset + stream.arrival > stream.latest:
                 return True
             for link, start in stream.start.items():
-                on.setdefault(link, []).append((offset + start, offset + start + stream.occupancy[link]))
+                for shift in stream.shifts:
+                    begin = offset + shift + start
+                    on.setdefault(link, []).append((begin, begin + stream.occupancy[link]))
         for windows in on.values():
             windows.sort()
             if any(before[1] > after[0] for before, after in zip(windows, windows[1:])):
@@ -63,17 +88,39 @@ class Network:
     def uses(self, i, link):
         return self.has_stream(i) and link in self.streams[i].start
 
-    def is_conflict(self, i, j, link):
-        return i != j and self.uses(i, link) and self.uses(j, link)
+    def sends(self, frame, link):
+        """Whether the frame's stream sends it, and uses the link."""
+        stream, shift = frame
+        return self.uses(stream, link) and shift in self.streams[stream].shifts
 
-    def weight(self, i, j, link):
-        """By how much j starts behind i at least, where i goes before j on the link."""
-        return self.streams[i].start[link] + self.streams[i].occupancy[link] - self.streams[j].start[link]
+    def lags(self, i, j):
+        """By how much frames of the greater stream are behind those of the lesser one, of which their periods don't keep the two apart."""
+        left, right = self.streams[min(i, j)], self.streams[max(i, j)]
+        every = {there - here for here in left.shifts for there in right.shifts}
+        return sorted(lag for lag in every if -right.period < lag < left.period)
+
+    def is_conflict(self, i, j, link, lag=0):
+        return i != j and self.uses(i, link) and self.uses(j, link) and lag in self.lags(i, j)
+
+    def weight(self, i, j, link, lag=0):
+        """By how much j starts behind i at least, where i goes before j on the link. The lag is the greater stream's less the lesser's."""
+        behind = self.streams[i].start[link] + self.streams[i].occupancy[link] - self.streams[j].start[link]
+        return behind - lag if i < j else behind + lag
+
+    def begin(self, frame, link):
+        """When the frame starts on the link, counted from its stream's offset."""
+        stream, shift = frame
+        return shift + self.streams[stream].start[link]
+
+    def end(self, frame, link):
+        """When its occupancy of the link ends."""
+        return self.begin(frame, link) + self.streams[frame[0]].occupancy[link]
 
 
 class Stream:
     def __init__(self, text, nodes, links, cycle):
         self.release, self.latest = text.get("release", 0), text.get("latest", cycle)
+        self.period, burst = text.get("period", cycle), text.get("frames", 1)
         self.start, self.occupancy = {}, {}
         route, at, ends = text["route"], 0, []
         for here, there in zip(route, route[1:]):
@@ -82,7 +129,11 @@ class Stream:
             ends.append(at + self.occupancy[link])
             self.arrival = at + (text["octets"] + 8) * octet + prop
             at = self.arrival + nodes[there].get("proc", 0)
-        self.span = max(ends + [self.arrival])
+        pace = max(self.occupancy.values())
+        spread = (burst - 1) * pace
+        self.shifts = {turn + place * pace for turn in range(0, cycle, self.period) for place in range(burst)}
+        self.arrival += spread
+        self.span = max([end + spread for end in ends] + [self.arrival])
 
 
 # Files.
@@ -97,10 +148,10 @@ class NotHere(Exception):
 
 
 def number_of(text):
-    """A number as it is read: one that isn't whole or has more than 64 bits is a float, whatever it is."""
+    """A number as it is read: one that isn't whole or has more than 64 bits is a float, whatever it is, and so is -0."""
     if abs(float(text)) == float("inf"):
         raise ValueError("out of range")
-    whole = text.isdigit() and len(text) <= 20 and int(text) <= MOST_U64
+    whole = text.removeprefix("-").isdigit() and len(text) <= 20 and LEAST_I64 <= int(text) <= MOST_U64 and text != "-0"
     return int(text) if whole else 0.5
 
 
@@ -150,8 +201,12 @@ def value_of(data):
     return value
 
 
-def is_number(value):
+def is_signed(value):
     return isinstance(value, int) and not isinstance(value, bool)
+
+
+def is_number(value):
+    return is_signed(value) and value >= 0
 
 
 def need(condition, code="C2"):
@@ -171,10 +226,11 @@ def plan_of(data):
     return flowspan, offsets
 
 
-# The parts of facts and moves: n a number, t a time (a number v), s streams, o orders.
-FACTS = {"from": "nt", "until": "nt", "order": "nnn", "done_from": "t", "done_until": "t"}
+# The parts of facts and moves: n a number, t a time (a number v), l a lag, which is left out where it is 0, f a frame, s frames, p an order, o orders.
+FACTS = {"from": "nt", "until": "nt", "order": "nnnl", "done_from": "t", "done_until": "t"}
 MOVES = {
-    "go": "nnn", "turn": "nnn", "use": "n", "arrive": "n", "last": "nnss", "first": "nnss", "pack": "ns", "round": "o",
+    "go": "nnnl", "turn": "nnnl", "use": "n", "arrive": "n", "last": "nfss", "first": "nfss", "pack": "ns", "round": "o",
+    "follow": "pp",
 }
 
 
@@ -188,7 +244,20 @@ class Shape:
         need(is_number(value))
         self.is_above |= value > limit
 
-    def listed(self, value, most=MOST_LISTED):
+    def lag(self, value):
+        need(is_signed(value) and value != 0)
+        self.is_above |= abs(value) > MOST_LAG
+
+    def frame(self, value):
+        if isinstance(value, list):
+            need(len(value) == 2)
+            self.number(value[0])
+            self.number(value[1])
+            need(value[1] > 0)
+        else:
+            self.number(value)
+
+    def listed(self, value, most):
         need(isinstance(value, list) and 1 <= len(value) <= most)
         return value
 
@@ -197,21 +266,30 @@ class Shape:
             self.number(value)
         elif kind == "t":
             self.number(value, MOST_TIME)
+        elif kind == "l":
+            self.lag(value)
+        elif kind == "f":
+            self.frame(value)
         elif kind == "s":
-            for stream in self.listed(value):
-                self.number(stream)
+            for frame in self.listed(value, MOST_FRAMES):
+                self.frame(frame)
+        elif kind == "p":
+            need(isinstance(value, list))
+            self.parts("nnnl", value)
         else:
-            for order in self.listed(value):
-                need(isinstance(order, list) and len(order) == 3)
-                for it in order:
-                    self.number(it)
+            for order in self.listed(value, MOST_ORDERS):
+                self.part("p", order)
+
+    def parts(self, kinds, values):
+        if kinds.endswith("l") and len(values) < len(kinds):
+            kinds = kinds[:-1]
+        need(len(values) == len(kinds))
+        for kind, value in zip(kinds, values):
+            self.part(kind, value)
 
     def named(self, forms, value):
         need(isinstance(value, list) and value and isinstance(value[0], str) and value[0] in forms)
-        kinds = forms[value[0]]
-        need(len(value) == 1 + len(kinds))
-        for kind, part in zip(kinds, value[1:]):
-            self.part(kind, part)
+        self.parts(forms[value[0]], value[1:])
 
     def steps(self, value):
         need(isinstance(value, list))
@@ -270,7 +348,7 @@ class View:
         elif kind == "until":
             self.high[of[0]] = min(self.high[of[0]], of[1])
         elif kind == "order":
-            self.orders.add(tuple(of))
+            self.orders.add(order_of(of))
         elif kind == "done_from":
             self.done_low = max(self.done_low, of[0])
         else:
@@ -283,7 +361,7 @@ class View:
         if kind == "until":
             return self.low[of[0]] > of[1]
         if kind == "order":
-            return (of[1], of[0], of[2]) in self.orders
+            return order_of([of[1], of[0], *of[2:]]) in self.orders
         if kind == "done_from":
             return self.done_high < of[0]
         return self.done_low > of[0]
@@ -297,7 +375,7 @@ def opposite(fact):
     if kind == "until":
         return ["from", of[0], of[1] + 1]
     if kind == "order":
-        return ["order", of[1], of[0], of[2]]
+        return ["order", of[1], of[0], *of[2:]]
     if kind == "done_from":
         return ["done_until", of[0] - 1]
     return ["done_from", of[0] + 1]
@@ -314,7 +392,7 @@ class Checker:
             greatest = self.flowspan if goal == "first" else self.flowspan - 1
         streams = network.streams
         low = [it.release for it in streams]
-        high = [min(network.cycle - it.span, it.latest - it.arrival) for it in streams]
+        high = [min(it.period - it.span, it.latest - it.arrival) for it in streams]
         self.ground = View(low, high, (), 0, greatest)
         self.settle()
 
@@ -374,8 +452,8 @@ class Checker:
         elif fact[0] in ("from", "until") and not self.network.has_stream(fact[1]):
             raise Fault("K9")
 
-    def try_conflict(self, i, j, link):
-        if not self.network.is_conflict(i, j, link):
+    def try_conflict(self, *order):
+        if not self.network.is_conflict(*order):
             raise Fault("K5")
 
     def move(self, view, move):
@@ -391,20 +469,20 @@ class Checker:
         if view.is_impossible():
             self.shut(view)
 
-    def move_go(self, view, i, j, link):
-        if (i, j, link) not in view.orders:
+    def move_go(self, view, i, j, *on):
+        if order_of([i, j, *on]) not in view.orders:
             raise Fault("K6")
-        weight = self.network.weight(i, j, link)
+        weight = self.network.weight(i, j, *on)
         low, high = view.low[i] + weight, view.high[j] - weight
         view.learn(["from", j, low])
         view.learn(["until", i, high])
         self.end(view)
 
-    def move_turn(self, view, i, j, link):
-        self.try_conflict(i, j, link)
-        if not view.low[j] + self.network.weight(j, i, link) > view.high[i]:
+    def move_turn(self, view, i, j, *on):
+        self.try_conflict(i, j, *on)
+        if not view.low[j] + self.network.weight(j, i, *on) > view.high[i]:
             raise Fault("K7")
-        view.learn(["order", i, j, link])
+        view.learn(["order", i, j, *on])
 
     def move_use(self, view, k):
         if k >= len(self.clauses):
@@ -427,66 +505,79 @@ class Checker:
         view.learn(["until", i, high])
         self.end(view)
 
-    def try_users(self, link, streams):
-        """The streams use the link, and are different."""
-        for k, i in enumerate(streams):
-            if not self.network.uses(i, link):
+    def try_users(self, link, frames):
+        """The frames are on the link, and different."""
+        for k, frame in enumerate(frames):
+            if not self.network.sends(frame, link):
                 raise Fault("K9")
-            if i in streams[:k]:
+            if frame in frames[:k]:
                 raise Fault("K8")
 
     def try_some(self, all_of, some):
-        """Some streams of these, each once."""
-        for k, i in enumerate(some):
-            if i not in all_of:
+        """Some frames of these, each once."""
+        for k, frame in enumerate(some):
+            if frame not in all_of:
                 raise Fault("K6")
-            if i in some[:k]:
+            if frame in some[:k]:
                 raise Fault("K8")
 
-    def least_head(self, view, link, streams):
-        return min(view.low[i] + self.network.streams[i].start[link] for i in streams)
+    def least_head(self, view, link, frames):
+        return min(view.low[frame[0]] + self.network.begin(frame, link) for frame in frames)
 
-    def greatest_end(self, view, link, streams):
-        return max(view.high[i] + self.network.streams[i].start[link] + self.network.streams[i].occupancy[link] for i in streams)
+    def greatest_end(self, view, link, frames):
+        return max(view.high[frame[0]] + self.network.end(frame, link) for frame in frames)
 
-    def work(self, link, streams):
-        return sum(self.network.streams[i].occupancy[link] for i in streams)
+    def work(self, link, frames):
+        return sum(self.network.streams[stream].occupancy[link] for stream, _ in frames)
 
-    def move_last(self, view, link, j, others, some):
-        self.try_users(link, [j, *others])
+    def placed(self, link, frame, others, some):
+        """A frame, others and some of these, which are all right."""
+        frame, others, some = frame_of(frame), [frame_of(it) for it in others], [frame_of(it) for it in some]
+        self.try_users(link, [frame, *others])
         self.try_some(others, some)
-        every = [j, *others]
+        return frame, others, some
+
+    def move_last(self, view, link, *sets):
+        frame, others, some = self.placed(link, *sets)
+        every = [frame, *others]
         if not self.least_head(view, link, every) + self.work(link, every) > self.greatest_end(view, link, others):
             raise Fault("K7")
         ready = self.least_head(view, link, some) + self.work(link, some)
-        view.learn(["from", j, ready - self.network.streams[j].start[link]])
+        view.learn(["from", frame[0], ready - self.network.begin(frame, link)])
         self.end(view)
 
-    def move_first(self, view, link, j, others, some):
-        self.try_users(link, [j, *others])
-        self.try_some(others, some)
-        every = [j, *others]
+    def move_first(self, view, link, *sets):
+        frame, others, some = self.placed(link, *sets)
+        every = [frame, *others]
         if not self.greatest_end(view, link, every) - self.work(link, every) < self.least_head(view, link, others):
             raise Fault("K7")
-        stream = self.network.streams[j]
         begun = self.greatest_end(view, link, some) - self.work(link, some)
-        view.learn(["until", j, begun - stream.occupancy[link] - stream.start[link]])
+        view.learn(["until", frame[0], begun - self.network.end(frame, link)])
         self.end(view)
 
-    def move_pack(self, view, link, streams):
-        self.try_users(link, streams)
-        if not self.least_head(view, link, streams) + self.work(link, streams) > self.greatest_end(view, link, streams):
+    def move_pack(self, view, link, frames):
+        frames = [frame_of(it) for it in frames]
+        self.try_users(link, frames)
+        if not self.least_head(view, link, frames) + self.work(link, frames) > self.greatest_end(view, link, frames):
             raise Fault("K7")
         self.shut(view)
 
     def move_round(self, view, orders):
-        if any(tuple(order) not in view.orders for order in orders):
+        if any(order_of(order) not in view.orders for order in orders):
             raise Fault("K6")
         if any(here[1] != there[0] for here, there in zip(orders, orders[1:] + orders[:1])):
             raise Fault("K6")
         if not sum(self.network.weight(*order) for order in orders) > 0:
             raise Fault("K7")
         self.shut(view)
+
+    def move_follow(self, view, known, weaker):
+        if order_of(known) not in view.orders:
+            raise Fault("K6")
+        self.try_conflict(*weaker)
+        if known[:2] != weaker[:2] or not self.network.weight(*weaker) <= self.network.weight(*known):
+            raise Fault("K7")
+        view.learn(["order", *weaker])
 
 
 def verdict(network, plan, argument, checker):

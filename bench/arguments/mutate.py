@@ -32,6 +32,8 @@ import check_argument
 
 KINDS = []
 LARGE = [127, 128, 129, 2_000_000_000, 2_000_000_001, 4_294_967_295, 4_294_967_296, 18_446_744_073_709_551_615, 18_446_744_073_709_551_616]
+LAGS = [0, 1, -1, 672, -672, 999_999_999, -999_999_999, 1_000_000_000, -1_000_000_000, -9_223_372_036_854_775_808, 0.5, None]
+SHIFTS = [0, 1, 672, 4_294_967_295, 4_294_967_296, -1, 0.5, None]
 LINKED = ("last", "first", "pack")
 
 
@@ -64,6 +66,24 @@ class Case:
         count = len(self.network.streams)
         return count + self.chance.randrange(3) if self.chance.random() < 0.05 else self.chance.randrange(count)
 
+    def frame(self):
+        """A frame, or now and then none of its stream's."""
+        stream = self.stream()
+        count = len(self.network.streams)
+        shifts = sorted(self.network.streams[stream].shifts) if stream < count else [0]
+        shift = self.chance.choice(shifts)
+        return check_argument.written_frame(stream, shift + 1 if self.chance.random() < 0.05 else shift)
+
+    def frames(self, streams):
+        """All frames of these streams, or some of them where they are many."""
+        every = [check_argument.written_frame(i, shift) for i in streams for shift in sorted(self.network.streams[i].shifts)]
+        return every if len(every) <= 40 else self.chance.sample(every, 40)
+
+    def order(self, i, j, link):
+        """An order of these streams on the link, by one of their lags, or now and then by none."""
+        lag = self.chance.choice(self.network.lags(i, j) or [0])
+        return check_argument.written_order(i, j, link, lag + 1 if self.chance.random() < 0.05 else lag)
+
     def link(self):
         return 999 if self.chance.random() < 0.05 else self.chance.choice(self.links)
 
@@ -73,7 +93,7 @@ class Case:
             link = self.chance.choice(self.links)
             users = [i for i, it in enumerate(self.network.streams) if link in it.start]
             if len(users) > 1:
-                return [*self.chance.sample(users, 2), link]
+                return self.order(*self.chance.sample(users, 2), link)
         return [self.stream(), self.stream(), self.link()]
 
     def time(self):
@@ -98,11 +118,11 @@ class Case:
         if word == "round":
             return [word, [self.conflict() for _ in range(self.chance.randint(1, 3))]]
         link = self.chance.choice(self.links)
-        users = [i for i, it in enumerate(self.network.streams) if link in it.start]
+        users = self.frames(i for i, it in enumerate(self.network.streams) if link in it.start)
         some = self.chance.sample(users, self.chance.randint(1, len(users)))
         if word == "pack":
             return [word, link, some]
-        others = some[1:] or [self.stream()]
+        others = some[1:] or [self.frame()]
         return [word, link, some[0], others, self.chance.sample(others, self.chance.randint(1, len(others)))]
 
     def step(self, needs=lambda step: True):
@@ -210,7 +230,7 @@ def a_stream_of_a_move(case):
     move = case.made_move(lambda it: it[0] in ("go", "turn", "arrive", "last", "first"))
     if move:
         at = {"arrive": [1], "last": [2], "first": [2]}.get(move[0], [1, 2])
-        move[case.chance.choice(at)] = case.stream()
+        move[case.chance.choice(at)] = case.frame() if move[0] in LINKED else case.stream()
     return bool(move)
 
 
@@ -265,33 +285,33 @@ def changed_list(case, which, change):
 
 
 @kind
-def a_stream_of_the_set_dropped(case):
+def a_frame_of_the_set_dropped(case):
     return changed_list(case, 3, lambda move, some: some.pop(case.chance.randrange(len(some))))
 
 
 @kind
-def a_stream_of_the_set_added(case):
-    return changed_list(case, 3, lambda move, some: some.insert(case.chance.randint(0, len(some)), case.stream()))
+def a_frame_of_the_set_added(case):
+    return changed_list(case, 3, lambda move, some: some.insert(case.chance.randint(0, len(some)), case.frame()))
 
 
 @kind
-def a_stream_of_the_set_twice(case):
+def a_frame_of_the_set_twice(case):
     return changed_list(case, 3, lambda move, some: some.insert(case.chance.randint(0, len(some)), case.chance.choice(some)))
 
 
 @kind
-def a_stream_of_the_set_in_place_of_another(case):
-    return changed_list(case, 3, lambda move, some: some.__setitem__(case.chance.randrange(len(some)), case.stream()))
+def a_frame_of_the_set_in_place_of_another(case):
+    return changed_list(case, 3, lambda move, some: some.__setitem__(case.chance.randrange(len(some)), case.frame()))
 
 
 @kind
-def a_stream_of_the_ready_dropped(case):
+def a_frame_of_the_ready_dropped(case):
     return changed_list(case, 4, lambda move, some: some.pop(case.chance.randrange(len(some))))
 
 
 @kind
-def a_stream_of_the_ready_added(case):
-    return changed_list(case, 4, lambda move, some: some.append(case.stream() if case.chance.random() < 0.3 else case.chance.choice(move[3] or [0])))
+def a_frame_of_the_ready_added(case):
+    return changed_list(case, 4, lambda move, some: some.append(case.frame() if case.chance.random() < 0.3 else case.chance.choice(move[3] or [0])))
 
 
 @kind
@@ -338,12 +358,73 @@ def a_set_that_is_packed(case):
 
 @kind
 def a_long_set(case):
-    return changed_list(case, 3, lambda move, some: some.extend(case.stream() for _ in range(case.chance.choice([127, 128]))))
+    return changed_list(case, 3, lambda move, some: some.extend(case.frame() for _ in range(case.chance.choice([127, 128, 1023, 1024]))))
 
 
 @kind
 def an_empty_set(case):
     return changed_list(case, case.chance.choice([3, 4]), lambda move, some: some.clear())
+
+
+# Lags and shifts.
+
+
+def changed_lag(case, order, at):
+    """Another lag of an order, from this place of a list on, or none."""
+    del order[at + 3:]
+    lags = [*LAGS, None, case.chance.choice(LARGE)]
+    if case.chance.random() < 0.5 and isinstance(order[at], int) and isinstance(order[at + 1], int) and order[at] != order[at + 1]:
+        lags = case.network.lags(order[at], order[at + 1])
+    lag = case.chance.choice(lags)
+    if lag is not None:
+        order.append(lag)
+
+
+@kind
+def a_lag_of_a_fact(case):
+    fact = case.pick(it for step in case.steps for it in step[0] if it[0] == "order")
+    if fact:
+        changed_lag(case, fact, 1)
+    return bool(fact)
+
+
+@kind
+def a_lag_of_a_move(case):
+    move = case.made_move(lambda it: it[0] in ("go", "turn"))
+    if move:
+        changed_lag(case, move, 1)
+    return bool(move)
+
+
+@kind
+def a_lag_of_a_round(case):
+    move = case.made_move(lambda it: it[0] == "round" and it[1])
+    if move:
+        changed_lag(case, case.chance.choice(move[1]), 0)
+    return bool(move)
+
+
+def with_shift(case, frame):
+    """The frame with another shift, which may be none of its stream's, or one of 0 that is written."""
+    stream = frame[0] if isinstance(frame, list) else frame
+    return [stream, *([] if case.chance.random() < 0.05 else [case.chance.choice([*SHIFTS, *LARGE])])]
+
+
+@kind
+def a_shift_of_the_one(case):
+    move = case.made_move(lambda it: it[0] in ("last", "first"))
+    if move:
+        move[2] = with_shift(case, move[2])
+    return bool(move)
+
+
+@kind
+def a_shift_of_the_set(case):
+    def change(move, some):
+        at = case.chance.randrange(len(some))
+        some[at] = with_shift(case, some[at])
+
+    return changed_list(case, case.chance.choice([3, 4]), change)
 
 
 # Facts.
@@ -517,8 +598,9 @@ def facts_against(case, offsets, streams, link):
     for i in streams:
         found += [["until", i, max(0, offsets[i] - 1 - slack())], ["from", i, max(0, offsets[i] + 1 + slack())]]
         for j in streams:
-            if i != j and offsets[j] >= offsets[i] + case.network.weight(i, j, link) and chance.random() < 0.5:
-                found.append(["order", j, i, link])
+            for lag in case.network.lags(i, j) if i != j else ():
+                if offsets[j] >= offsets[i] + case.network.weight(i, j, link, lag) and chance.random() < 0.5:
+                    found.append(["order", *check_argument.written_order(j, i, link, lag)])
     flowspan = case.network.flowspan(offsets)
     found += [["done_until", flowspan - 1 - slack()], ["done_from", flowspan + 1 + slack()]]
     chance.shuffle(found)
@@ -530,11 +612,11 @@ def one_or_the_other(case, offsets, streams, link):
     chance, i = case.chance, case.chance.choice(streams)
     near = max(0, offsets[i] + chance.choice([-1, 0, 0, 1]))
     done = max(0, case.network.flowspan(offsets) + chance.choice([-1, 0, 0, 1]))
-    one, two = chance.sample(streams, 2)
+    one, two, *on = case.order(*chance.sample(streams, 2), link)
     clause, moves = chance.choice([
         ([["from", i, near + 1], ["until", i, near]], []),
         ([["done_from", done + 1], ["done_until", done]], []),
-        ([["order", one, two, link], ["order", two, one, link]], [["round", [[one, two, link], [two, one, link]]]]),
+        ([["order", one, two, *on], ["order", two, one, *on]], [["round", [[one, two, *on], [two, one, *on]]]]),
     ])
     chance.shuffle(clause)
     if chance.random() < 0.2:
@@ -543,13 +625,14 @@ def one_or_the_other(case, offsets, streams, link):
 
 
 def move_among(case, view, clauses, streams, link):
-    """A move of these streams on their link, mostly of a right form."""
+    """A move of these streams or their frames on their link, mostly of a right form."""
     chance = case.chance
+    frames = case.frames(streams)
 
     def some(of):
         found = chance.sample(of, chance.randint(1, len(of)))
         if chance.random() < 0.15:
-            found.insert(chance.randint(0, len(found)), chance.choice(streams))
+            found.insert(chance.randint(0, len(found)), chance.choice(frames))
         return found
 
     word = chance.choice(["go", "go", "turn", "turn", "use", "arrive", "last", "last", "first", "first", "pack", "round"])
@@ -558,22 +641,22 @@ def move_among(case, view, clauses, streams, link):
     if word == "arrive":
         return [word, chance.choice(streams)]
     if word == "pack":
-        return [word, link, some(streams)]
+        return [word, link, some(frames)]
     orders = sorted(view.orders)
     if word in ("go", "round") and not orders:
         word = "turn"
     if word == "go":
-        return [word, *chance.choice(orders)]
+        return [word, *check_argument.written_order(*chance.choice(orders))]
     if word == "turn":
-        return [word, *chance.sample(streams, 2), link]
+        return [word, *case.order(*chance.sample(streams, 2), link)]
     if word == "round":
         found = [chance.choice(orders)]
         while len(found) < 4 and found[-1][1] != found[0][0]:
             found.append(chance.choice([it for it in orders if it[0] == found[-1][1]] or orders))
-        return [word, [list(it) for it in found]]
-    j = chance.choice(streams)
-    others = some([i for i in streams if i != j])
-    return [word, link, j, others, some(others)]
+        return [word, [check_argument.written_order(*it) for it in found]]
+    frame = chance.choice(frames)
+    others = some([it for it in frames if it != frame])
+    return [word, link, frame, others, some(others)]
 
 
 @kind

@@ -131,8 +131,8 @@ def u(i, v):
     return ["until", i, v]
 
 
-def o(i, j, link):
-    return ["order", i, j, link]
+def o(i, j, link, *lag):
+    return ["order", i, j, link, *lag]
 
 
 def df(v):
@@ -143,12 +143,12 @@ def du(v):
     return ["done_until", v]
 
 
-def go(i, j, link):
-    return ["go", i, j, link]
+def go(i, j, link, *lag):
+    return ["go", i, j, link, *lag]
 
 
-def turn(i, j, link):
-    return ["turn", i, j, link]
+def turn(i, j, link, *lag):
+    return ["turn", i, j, link, *lag]
 
 
 def use(k):
@@ -288,6 +288,28 @@ def whole_files(rows):
     rows.cut(2, "C1")
 
 
+def lags(rows, form, name, hand):
+    """Rows of a form at each kind of lag, L: at those within the limit the answer is this."""
+    for lag in ("1", "-1", "672", "999999999", "-999999999"):
+        rows.row(hand, f"{name} => {form.replace('L', lag)}")
+    for lag in ("1000000000", "-1000000000", "18446744073709551615", "-9223372036854775808"):
+        rows.row("C3", f"{name} => {form.replace('L', lag)}")
+    for lag in ("0", "-0", "0.0", "5.0", "-0.5", "1e3", '"5"', "null", "true", "[]", "18446744073709551616", "-9223372036854775809"):
+        rows.row("C2", f"{name} => {form.replace('L', lag)}")
+    for lag in ("+5", "--5", "05", "-05", "-"):
+        rows.row("C1", f"{name} => {form.replace('L', lag)}")
+
+
+def shifts(rows, form, hand):
+    """Rows of a move at each kind of shift, T: at those within the limit the answer is this."""
+    for shift in ("1", "672", "4294967295"):
+        rows.row(hand, f"MOVE => {form.replace('T', shift)}")
+    for shift in ("4294967296", "18446744073709551615"):
+        rows.row("C3", f"MOVE => {form.replace('T', shift)}")
+    for shift in ("0", "-0", "-1", "5.0", '"5"', "null", "true", "[5]", "5,6", "18446744073709551616"):
+        rows.row("C2", f"MOVE => {form.replace('T', shift)}")
+
+
 def forms(rows):
     template = '{"format":3,"goal":"first","steps":[STEPS],"target":2924}'
     rows.table("Steps: a clause and moves. Those that are in the grammar are judged; no step shows the least flowspan here.", ("cert", template), net=TWO, plan=PLAN)
@@ -333,6 +355,14 @@ def forms(rows):
         rows.row(hand, "FACT => " + text(fact).replace('"I"', "4294967295"))
         rows.row("C3", "FACT => " + text(fact).replace('"I"', "4294967296"))
         rows.row("C2", "FACT => " + text(fact).replace('"I"', "-1"))
+    rows.note("Lags. One of 0 isn't written. Of streams that send one frame a cycle no two frames have another one, above 0 or below.")
+    lags(rows, '["order",0,1,4,L]', "FACT", "K5 0")
+    rows.row("K5 0", 'FACT => ["order",1,0,4,5]')
+    rows.row("K5 0", 'FACT => ["order",1,0,4,-5]')
+    rows.row("K5 0", 'FACT => ["order",0,0,4,5]')
+    for fact in ('["order",0,1,4,5,6]', '["order",0,1,4,[5]]', '["order",0,1,-4]', '["order",0,1,-4,5]', '["from",0,-5]', '["from",0,1,5]', '["from",[0,1],1]',
+                 '["until",0,-1]', '["done_from",-1]', '["done_until",1,5]', '["order",[0,1],1,4]', '["order",0,[1,1],4,5]'):
+        rows.row("C2", f"FACT => {fact}")
 
     rows.table("Moves.", ("cert", template.replace("STEPS", "[[],[MOVE]]")), net=TWO, plan=PLAN)
     rows.note("Each form, with a part less and a part more.")
@@ -364,16 +394,59 @@ def forms(rows):
     rows.row("C2", 'MOVE => ["use",18446744073709551616]')
     rows.row("C2", 'MOVE => ["use","0"]')
     rows.row("C2", 'MOVE => ["use",[0]]')
-    rows.note("S, R and a round have 1 to 128 elements. (A stream that stands in S again is a fault of the argument, K8.)")
-    for move, hand, longest in (
-        ('["last",4,1,[X],[0]]', "0", "K8 0"), ('["first",4,1,[X],[0]]', "0", "K8 0"), ('["pack",4,[X]]', "0", "K8 0"), ('["last",4,1,[0],[X]]', "0", "K8 0"),
-        ('["first",4,1,[0],[X]]', "0", "K8 0"), ('["round",[X]]', "[0,1,4]", "K6 0"),
-    ):
+    rows.note("Lags of moves, as of facts. An order that the view doesn't have is told before anything of its lag.")
+    lags(rows, '["go",0,1,4,L]', "MOVE", "K6 0")
+    lags(rows, '["turn",0,1,4,L]', "MOVE", "K5 0")
+    lags(rows, '["round",[[0,1,4,L]]]', "MOVE", "K6 0")
+    lags(rows, '["round",[[0,1,4],[1,0,4,L]]]', "MOVE", "K6 0")
+    for move in ('["go",0,1,4,5,6]', '["turn",0,1,4,[5]]', '["round",[[0,1,4,5,6]]]', '["go",0,1,-4,5]', '["use",-1]', '["use",0,5]', '["arrive",-1]'):
+        rows.row("C2", f"MOVE => {move}")
+    rows.note("Frames. A shift of 0 isn't written. Streams that send one frame a cycle have no other one: not of j, nor in S, and in R none that isn't in S.")
+    shifts(rows, '["last",4,[1,T],[0],[0]]', "K9 0")
+    shifts(rows, '["last",4,1,[[0,T]],[0]]', "K9 0")
+    shifts(rows, '["last",4,1,[0],[[0,T]]]', "K6 0")
+    shifts(rows, '["first",4,[1,T],[0],[0]]', "K9 0")
+    shifts(rows, '["first",4,1,[[0,T]],[0]]', "K9 0")
+    shifts(rows, '["first",4,1,[0],[[0,T]]]', "K6 0")
+    shifts(rows, '["pack",4,[[0,T]]]', "K9 0")
+    shifts(rows, '["pack",4,[0,1,[1,T]]]', "K9 0")
+    for move in ('["arrive",[0,5]]', '["use",[0,5]]', '["go",[0,5],1,4]', '["turn",0,[1,5],4]', '["last",[4,5],1,[0],[0]]', '["last",4,[[1,5]],[0],[0]]', '["pack",4,[0,5],1]',
+                 '["pack",4,[[0,5,1]]]', '["pack",4,[[]]]', '["pack",4,[[0]]]', '["pack",4,[[[0],5]]]', '["pack",4,[["0",5]]]', '["pack",4,[[-1,5]]]', '["pack",4,[{}]]',
+                 '["round",[[[0,5],1,4]]]'):
+        rows.row("C2", f"MOVE => {move}")
+    rows.row("C3", 'MOVE => ["pack",4,[[4294967296,5]]]')
+    rows.note("A frame that isn't the stream's goes before one that stands twice, and the first of the two in S is told; a stream that isn't there, and a link, are told likewise.")
+    rows.row("K9 0", 'MOVE => ["last",4,1,[[0,5],[0,5]],[0]]')
+    rows.row("K8 0", 'MOVE => ["last",4,1,[0,0,[0,5]],[0]]')
+    rows.row("K9 0", 'MOVE => ["last",4,1,[0,[0,5],0],[0]]')
+    rows.row("K9 0", 'MOVE => ["pack",4,[[0,5],0,0]]')
+    rows.row("K8 0", 'MOVE => ["pack",4,[0,0,[0,5]]]')
+    rows.row("K9 0", 'MOVE => ["pack",4,[[2,5]]]')
+    rows.row("K9 0", 'MOVE => ["pack",4,[[128,5]]]')
+    rows.row("K9 0", 'MOVE => ["pack",0,[[1,5]]]')
+    rows.row("K9 0", 'MOVE => ["last",4,1,[0,[1,5]],[0]]')
+    rows.row("K8 0", 'MOVE => ["last",4,1,[0,1],[0]]')
+    rows.row("K6 0", 'MOVE => ["last",4,1,[0],[[1,5]]]')
+    rows.row("K6 0", 'MOVE => ["last",4,1,[0],[[128,5]]]')
+    rows.row("K8 0", 'MOVE => ["last",4,1,[0],[0,0,[0,5]]]')
+    rows.row("K6 0", 'MOVE => ["last",4,1,[0],[0,[0,5],0]]')
+    rows.note("S and R have 1 to 1,024 frames, and a round has 1 to 128 orders. (A frame that stands in S again is a fault of the argument, K8.)")
+    for move in ('["last",4,1,[X],[0]]', '["first",4,1,[X],[0]]', '["pack",4,[X]]', '["last",4,1,[0],[X]]', '["first",4,1,[0],[X]]'):
         rows.row("C2", "MOVE => " + move.replace("X", ""))
-        rows.row(longest, "MOVE => " + move.replace("X", f"<127*{hand},>{hand}"))
-        rows.row("C2", "MOVE => " + move.replace("X", f"<128*{hand},>{hand}"))
+        for count in (127, 128, 1023):
+            rows.row("K8 0", "MOVE => " + move.replace("X", f"<{count}*0,>0"))
+        rows.row("C2", "MOVE => " + move.replace("X", "<1024*0,>0"))
+        rows.row("C2", "MOVE => " + move.replace("X", "<1024*[0,1#],>0"))
         rows.row("C2", "MOVE => " + move.replace("[X]", "0"))
         rows.row("C2", "MOVE => " + move.replace("X", "[]"))
+    rows.row("K9 0", 'MOVE => ["pack",4,[<1023*[0,1#],>0]]')
+    rows.row("K9 0", 'MOVE => ["last",4,1,[0,<1022*[0,1#],>0],[0]]')
+    rows.row("K6 0", 'MOVE => ["last",4,1,[0],[0,<1022*[0,1#],>0]]')
+    rows.row("C2", 'MOVE => ["round",[]]')
+    rows.row("K6 0", 'MOVE => ["round",[<127*[0,1,4],>[0,1,4]]]')
+    rows.row("C2", 'MOVE => ["round",[<128*[0,1,4],>[0,1,4]]]')
+    rows.row("C2", 'MOVE => ["round",0]')
+    rows.row("C2", 'MOVE => ["round",[[]]]')
     for order in ("[0,1]", "[0,1,4,0]", "0", "[[0,1,4]]", '["order",0,1,4]', "[0,1,4],[0,1]"):
         rows.row("C2", f'MOVE => ["round",[{order}]]')
     rows.row("C2", 'MOVE => ["round",[0,1,4]]')
@@ -492,6 +565,8 @@ def facts(rows):
     row("first 2924", [o(0, 1, 4), o(1, 0, 4)], round_of([0, 1, 4], [1, 0, 4]))
     row("K6 0", [o(0, 1, 4), o(0, 1, 4)], round_of([0, 1, 4], [1, 0, 4]))
     row("K7 0", [o(0, 1, 4), o(1, 0, 4)])
+    row("K6 0", [o(0, 1, 4), o(1, 0, 4)], round_of([0, 1, 4, 5], [1, 0, 4, 5]))
+    row("K6 0", [o(0, 1, 4), o(1, 0, 4)], round_of([0, 1, 4], [1, 0, 4, 5]))
     rows.note("The opposite of an order is the other one on the same link: stream 0 goes first, so stream 1 starts 672 ns later.")
     row("first 2924", [o(1, 0, 4), f(1, 672)], go(0, 1, 4))
     row("first 2924", [f(1, 672), o(1, 0, 4)], go(0, 1, 4))
@@ -503,7 +578,7 @@ def facts(rows):
     for fact, hand in (
         (f(2, 0), "K9 0"), (u(2, 2000000000), "K9 0"), (f(127, 0), "K9 0"), (f(128, 0), "K9 0"), (o(0, 0, 4), "K5 0"), (o(1, 1, 4), "K5 0"), (o(0, 1, 0), "K5 0"),
         (o(0, 1, 2), "K5 0"), (o(1, 0, 2), "K5 0"), (o(0, 1, 5), "K5 0"), (o(0, 1, 6), "K5 0"), (o(0, 2, 4), "K5 0"), (o(2, 0, 4), "K5 0"), (o(2, 3, 4), "K5 0"),
-        (o(0, 1, 99), "K5 0"),
+        (o(0, 1, 99), "K5 0"), (o(0, 1, 4, 1), "K5 0"), (o(0, 1, 4, -1), "K5 0"), (o(1, 0, 4, 672), "K5 0"), (o(0, 1, 4, 999999999), "K5 0"), (o(0, 2, 4, 5), "K5 0"),
     ):
         row(hand, [fact])
         row(hand, [f(0, 0), fact])
@@ -537,6 +612,8 @@ def moves(rows):
         row("K6 0", [f(0, 1)], go(*order))
     row("K6 0", [o(1, 0, 4), f(1, 672)], go(1, 0, 4))
     row("K6 0", [o(1, 0, 4), f(1, 672)], go(0, 1, 2))
+    for lag in (1, -1, 672, -672, 999999999):
+        row("K6 0", [o(1, 0, 4), f(1, 672)], go(0, 1, 4, lag))
     rows.note("turn: the other order is out of reach. With both offsets below 672 neither can go first; below 673 stream 1 can.")
     row("first 2924", [f(0, 672), f(1, 672)], turn(0, 1, 4), go(0, 1, 4))
     row("K7 0", [f(0, 673), f(1, 672)], turn(0, 1, 4), go(0, 1, 4))
@@ -552,6 +629,8 @@ def moves(rows):
     row("K6 0", [f(0, 672), f(1, 672)], turn(0, 1, 4), go(1, 0, 4))
     for order in ((0, 0, 4), (0, 1, 0), (0, 1, 2), (0, 1, 5), (0, 1, 99), (0, 2, 4), (2, 0, 4), (9, 9, 9)):
         row("K5 0", [f(0, 672), f(1, 672)], turn(*order))
+    for lag in (1, -1, 672, -672, 999999, -999999, 999999999):
+        row("K5 0", [f(0, 672), f(1, 672)], turn(0, 1, 4, lag))
     rows.note("arrive: the flowspan is 2252 ns behind the offset at least; the offset is at most 2924 - 2252 = 672.")
     row("first 2924", [df(2252), f(0, 1)], arrive(0))
     row("K7 0", [df(2253), f(0, 1)], arrive(0))
@@ -1114,7 +1193,7 @@ def sets(rows):
     three("K6 0", orders[:2], round_of([0, 1, 20], [1, 2, 20], [2, 0, 20]))
 
     streams = "{name = 'one', octets = 64, route = ['A', 'S', 'C']}, =>"
-    rows.table("128 streams, all over links 0 and 4: lists of 127 and of 128 streams.", ("cert", '{"format":3,"goal":"none","steps":[[CLAUSE,[MOVE]]],"target":87642}'),
+    rows.table("128 streams, all over links 0 and 4: sets of 127, of 128 and of more frames.", ("cert", '{"format":3,"goal":"none","steps":[[CLAUSE,[MOVE]]],"target":87642}'),
                net=TWO + " | cycle = 1000000 => cycle = 87641 | " + streams + " | {name = 'two', octets = 64, route = ['B', 'S', 'C']}, => <128*{name = 's#', octets = 64, route = ['A', 'S', 'C']}, >",
                plan=NONE)
     listed = "[" + ",".join(map(str, range(128))) + "]"
@@ -1123,7 +1202,12 @@ def sets(rows):
     rows.row("no schedule", "CLAUSE => []", f'MOVE => ["pack",0,{listed}]')
     rows.row("K9 0", "CLAUSE => []", f'MOVE => ["pack",2,{listed}]')
     rows.row("K7 0", "CLAUSE => []", f'MOVE => ["pack",4,{listed.replace(",127", "")}]')
-    rows.row("C2", "CLAUSE => []", f'MOVE => ["pack",4,{listed.replace(",127", ",127,128")}]')
+    rows.row("K9 0", "CLAUSE => []", f'MOVE => ["pack",4,{listed.replace(",127", ",127,128")}]')
+    rows.row("K8 0", "CLAUSE => []", f'MOVE => ["pack",4,{listed.replace(",127", ",127,127")}]')
+    rows.row("K9 0", "CLAUSE => []", 'MOVE => ["pack",4,[<1023*#,>1023]]')
+    rows.row("C2", "CLAUSE => []", 'MOVE => ["pack",4,[<1024*#,>1024]]')
+    rows.row("K8 0", "CLAUSE => []", 'MOVE => ["pack",4,[<128*#,><895*0,>0]]')
+    rows.row("C2", "CLAUSE => []", 'MOVE => ["pack",4,[<128*#,><896*0,>0]]')
     rows.row("no schedule", "CLAUSE => []", f'MOVE => ["last",4,127,{listed.replace(",127", "")},{listed.replace(",127", "")}]')
     rows.row("no schedule", "CLAUSE => []", f'MOVE => ["first",4,0,{listed.replace("[0,", "[")},{listed.replace("[0,", "[")}]')
     rows.row("K8 0", "CLAUSE => []", f'MOVE => ["last",4,127,{listed},{listed}]')

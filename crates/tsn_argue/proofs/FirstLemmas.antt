@@ -46,7 +46,7 @@ pub all_there : {X : Type 0} (P : X → Type 0) (xs : List X) (k : ℕ) (x : X) 
 all_there P xs k x all at = subst P (get_or_from_slice_get xs k x x at) (all k x (slice_get_within xs k x at))
 
 -- of different elements none stands before
-pub none_before : (xs : List ℕ) (k : ℕ) (x : ℕ) → AllPairs ◌≢◌ xs → slice_get xs k ≡ Some x → Contains (take k xs) x → ⊥
+pub none_before : {X : Type 0} (xs : List X) (k : ℕ) (x : X) → AllPairs ◌≢◌ xs → slice_get xs k ≡ Some x → Contains (take k xs) x → ⊥
 none_before xs k x different at (i, below, is) =
     let within : k < length xs = slice_get_within xs k x at in
     let long : length (take k xs) ≡ k = length-take-le k xs (omega (arith, within)) in

@@ -3,6 +3,8 @@ use Rattle.std.proofs.Common.{◌≡◌, ◌⊎◌, ℕ, ◌<◌, ◌≤◌, ◌
 use Rattle.std.specs.Prelude.{MatchBool, nat_eq, ◌&&◌, ◌||◌}
 use Rattle.std.specs.List.{range_with_len, list_any}
 use Rattle.std.proofs.lemmas.Int.{ints}
+use Rattle.std.specs.Ordering.{int_eq}
+use Rattle.std.proofs.lemmas.Bool.Decides.{Decides-int_eq}
 use Rattle.std.proofs.lemmas.List.{map-append}
 use Rattle.std.proofs.lemmas.List.FromFn.{length-map-range_with_len}
 use Rattle.std.proofs.lemmas.Bool.{and_from, or_cases}
@@ -10,7 +12,8 @@ use Rattle.tsn_model.specs.declared.Decision.{Decision}
 use Rattle.tsn_model.specs.Network.{Network, stream_count, release_of}
 use Rattle.tsn_model.specs.Schedule.{IsValid, IsConflict, flowspan}
 use Rattle.tsn_model.specs.Argument as model
-use Rattle.tsn_model.specs.Argument.{IsImpossible, greatest_flowspan, latest_offset, first_ground}
+use Rattle.tsn_model.specs.Argument.{IsImpossible, greatest_flowspan, first_ground}
+use Rattle.tsn_model.specs.Schedule.{latest_offset}
 use Rattle.tsn_model.proofs.ArgumentNumbers.{IsBounded-first}
 use Rattle.tsn_argue.specs.State.{view_of, base_of, IsKept}
 use Rattle.tsn_argue.specs.Steps.{AreCrossed, IsFirstView}
@@ -46,12 +49,14 @@ side_same Right = refl
 decision_same : (a : Decision) → decision_eq a a ≡ true
 unfolding decision_eq
 decision_same a =
-    and_from (nat_eq a.triple.left a.triple.left && nat_eq a.triple.right a.triple.right && nat_eq a.triple.link a.triple.link) (side_eq a.side a.side)
-    (and_from (nat_eq a.triple.left a.triple.left && nat_eq a.triple.right a.triple.right) (nat_eq a.triple.link a.triple.link)
-    (and_from (nat_eq a.triple.left a.triple.left) (nat_eq a.triple.right a.triple.right)
-    (eq-eqb a.triple.left a.triple.left refl) (eq-eqb a.triple.right a.triple.right refl))
-    (eq-eqb a.triple.link a.triple.link refl))
-    (side_same a.side)
+    let left = nat_eq a.triple.left a.triple.left in
+    let right = nat_eq a.triple.right a.triple.right in
+    let link = nat_eq a.triple.link a.triple.link in
+    let lag = int_eq a.triple.lag a.triple.lag in
+    let streams = and_from left right (eq-eqb a.triple.left a.triple.left refl) (eq-eqb a.triple.right a.triple.right refl) in
+    let links = and_from (left && right) link streams (eq-eqb a.triple.link a.triple.link refl) in
+    let lags = and_from (left && right && link) lag links ((Decides-int_eq a.triple.lag a.triple.lag).1 refl) in
+    and_from (left && right && link && lag) (side_eq a.side a.side) lags (side_same a.side)
 
 or_right : (a : Bool) → (a || true) ≡ true
 or_right true = refl

@@ -3,7 +3,7 @@ pub mod Capping
 pub mod DecidedLemmas
 pub mod FirstLemmas
 pub mod FirstView
-pub mod JudgeStreams
+pub mod JudgeFrames
 pub mod LinkLemmas
 pub mod MotionLemmas
 pub mod OpenLemmas

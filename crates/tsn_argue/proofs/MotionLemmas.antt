@@ -1,10 +1,11 @@
 -- Moves: arcs of the view, rounds, and what is left of a clause.
-use Rattle.std.proofs.Common.{◌≡◌, ℕ, zero, suc, ◌+◌, ◌-◌, ◌≤◌, ◌<◌, List, [], ◌∷◌, ◌++◌, length, take, get_or, map, Option, Some, None, ℤ, pos, ◌+ℤ◌, ◌-ℤ◌, ◌≤ℤ◌, ◌*◌, All, Contains, true, false, refl, sym, ap, ◌∙◌, subst, arith}
+use Rattle.std.proofs.Common.{◌≡◌, ℕ, zero, suc, ◌+◌, ◌≤◌, ◌<◌, List, [], ◌∷◌, ◌++◌, length, take, get_or, map, Option, Some, None, ℤ, pos, ◌+ℤ◌, ◌-ℤ◌, ◌≤ℤ◌, ◌*◌, All, Contains, true, false, refl, sym, ap, ◌∙◌, subst, arith}
 use Rattle.std.specs.Prelude.{Ok, not, drop, is_some}
 use Rattle.std.proofs.lemmas.Int.{ints}
 use Rattle.std.proofs.lemmas.Bool.{true≢false}
 use Rattle.std.proofs.lemmas.List.{take_more, take_all, take-append-drop, length-append, length-map, get_or-map, map_more, map-append}
 use Rattle.std.proofs.lemmas.List.Elements.{filter-append, All-nil, All-cons, All-push, Contains-push, Contains-append_left}
+use Rattle.tsn_model.specs.declared.Frame.{Frame}
 use Rattle.tsn_model.specs.declared.Arc.{Arc}
 use Rattle.tsn_model.specs.declared.Decision.{Decision}
 use Rattle.tsn_model.specs.declared.Side.{Side}
@@ -14,7 +15,7 @@ use Rattle.tsn_model.specs.Network.{Network, stream_count}
 use Rattle.tsn_model.specs.Schedule.{IsConflict}
 use Rattle.tsn_model.specs.Timing.{arrival}
 use Rattle.tsn_model.specs.Arcs.{arc_between, arc_on, arc_of}
-use Rattle.tsn_model.specs.Argument.{Fact as ModelFact, from, until, done_from, IsFact, low_at, high_at, go, turn, order, apply, arrive, pack, round, shown, shown_by, refuting, unit_of, clause_at, View, LeadsBy, weight_by, contradicts, left_open, turned}
+use Rattle.tsn_model.specs.Argument.{Fact as ModelFact, from, until, done_from, IsFact, low_at, high_at, go, turn, order, apply, arrive, pack, round, follow, shown, shown_by, refuting, unit_of, clause_at, View, LeadsBy, weight_by, contradicts, left_open, turned}
 use Rattle.tsn_model.proofs.Lists.{All-unmap}
 use Rattle.tsn_argument.specs.Meaning.{fact_of, clause_of, decision_of}
 use Rattle.tsn_argument.specs.declared.order.Order.{Order}
@@ -90,8 +91,8 @@ pub record IsWalked (network : Network) (view : View) (start : ℕ) (ds : List D
   pub all : All (Contains view.orders) (take k ds)
   pub leads : LeadsBy network start (take k ds) at
   pub weighs : weight ≡ weight_by network (take k ds)
-  pub low : pos 0 ≤ℤ (weight +ℤ pos (k * 100000000))
-  pub high : weight ≤ℤ pos (k * 100000000)
+  pub low : pos 0 ≤ℤ (weight +ℤ pos (k * 1060000000))
+  pub high : weight ≤ℤ pos (k * 1060000000)
 
 -- one more fact of a clause
 module _ (view : View) (clause : List Fact) (k : ℕ) (d : Fact) (below : k < length clause) where
@@ -220,13 +221,19 @@ module _ (network : Network) (clauses : List (List ModelFact)) (view : View) whe
   unfolding shown
   turn_shown decision facts is = is
 
-  pub pack_shown : (link : ℕ) (streams : List ℕ) (facts : List ModelFact) → facts ≡ refuting view ∷ [] → facts ≡ shown network clauses view (pack link streams)
+  pub pack_shown : (link : ℕ) (frames : List Frame) (facts : List ModelFact) → facts ≡ refuting view ∷ []
+      → facts ≡ shown network clauses view (pack link frames)
   unfolding shown
-  pack_shown link streams facts is = is
+  pack_shown link frames facts is = is
 
   pub round_shown : (decisions : List Decision) (facts : List ModelFact) → facts ≡ refuting view ∷ [] → facts ≡ shown network clauses view (round decisions)
   unfolding shown
   round_shown decisions facts is = is
+
+  pub follow_shown : (decision weaker : Decision) (facts : List ModelFact) → facts ≡ order weaker ∷ []
+      → facts ≡ shown network clauses view (follow decision weaker)
+  unfolding shown
+  follow_shown decision weaker facts is = is
 
 -- the clause of a number
 module _ (clauses : List (Bor Clause)) (k : ℕ) (clause : Bor Clause) (below : k < length clauses) (is : clause ≡ get_or clauses k clause) where
@@ -250,8 +257,3 @@ module _ (network : Network) (clauses : List (List ModelFact)) (view : View) (k 
   pub use_refutes : facts ≡ refuting view ∷ [] → left_open view (clause_at clauses k) ≡ [] → facts ≡ shown network clauses view (apply k)
   unfolding shown unit_of
   use_refutes is found = is ∙ ap (λ left. unit_of view left ∷ []) (sym found)
-
--- the first of some streams, and the others
-pub first_others : (xs : List ℕ) → 1 ≤ length xs → get_or xs 0 0 ∷ take (length xs - 1) (drop 1 xs) ≡ xs
-first_others [] some = absurd (omega (arith, some))
-first_others (x ∷ xs) some = ap (λ ys. x ∷ ys) (take_all (suc (length xs) - 1) xs (omega arith))

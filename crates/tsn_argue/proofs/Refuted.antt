@@ -3,10 +3,11 @@ use Rattle.std.proofs.Common.{◌≡◌, ℕ, List, [], ◌∷◌, length, take,
 use Rattle.std.proofs.lemmas.Int.{ints}
 use Rattle.std.specs.Prelude.{slice_get}
 use Rattle.tsn_model.specs.Network.{Network}
-use Rattle.tsn_model.specs.Timing.{UsesLink}
-use Rattle.tsn_model.specs.Argument.{from, until, order, done_from, done_until, go, turn, apply, arrive, put_last, put_first, pack, round, Goal, Fact, View, Move, Step, Known, IsFact, AreOn, AreSome, IsAllowed, AreAllowed, narrowed, begun, IsRight, Argues}
+use Rattle.tsn_model.specs.declared.Frame.{Frame}
+use Rattle.tsn_model.specs.Certificate.{IsFrameOn}
+use Rattle.tsn_model.specs.Argument.{from, until, order, done_from, done_until, go, turn, apply, arrive, put_last, put_first, pack, round, follow, Goal, Fact, View, Move, Step, Known, IsFact, AreOn, AreSome, IsAllowed, AreAllowed, narrowed, begun, IsRight, Argues}
 use Rattle.tsn_argue.specs.First.{IsFirstWrong}
-use Rattle.tsn_argue.specs.Faults.{IsWrongFact, IsWrongStream, AreWrongOn, AreAmong, IsWrongChoice, AreWrongAmong, IsWrongPlacing, IsWrongMove, IsWrongNext, IsWrongStep, known_by, AreRight, first_known, IsWrongAfter, fault_at, IsArgumentFault}
+use Rattle.tsn_argue.specs.Faults.{IsWrongFact, IsWrongFrame, AreWrongOn, AreAmong, IsWrongChoice, AreWrongAmong, IsWrongPlacing, IsWrongMove, IsWrongNext, IsWrongStep, known_by, AreRight, first_known, IsWrongAfter, fault_at, IsArgumentFault}
 use Rattle.tsn_argue.specs.declared.fault.StepFault.{StepFault}
 use Rattle.tsn_check.specs.declared.fault.CheckFault.{CheckFault}
 use Rattle.tsn_check.specs.declared.fault.CheckFault.TheVariants.{PlanInvalid, FlowspanWrong}
@@ -35,29 +36,29 @@ pub facts_clash : (network : Network) (xs : List Fact) (k : ℕ) (x : Fact) (fau
     → IsWrongFact network x fault → ⊥
 facts_clash network xs k x fault are at wrong = wrong_fact network x fault wrong (all_there (IsFact network) xs k x are at)
 
--- ---- streams
+-- ---- frames
 
-pub on_clash : (network : Network) (link : ℕ) (xs : List ℕ) (k x : ℕ) (fault : StepFault) → AreOn network link xs → slice_get xs k ≡ Some x
-    → IsWrongStream network link (take k xs) x fault → ⊥
-on_clash network link xs k x fault are at (inl off) = off.1 (all_there (λ i. UsesLink network i link) xs k x are.on_link at)
+pub on_clash : (network : Network) (link : ℕ) (xs : List Frame) (k : ℕ) (x : Frame) (fault : StepFault) → AreOn network link xs → slice_get xs k ≡ Some x
+    → IsWrongFrame network link (take k xs) x fault → ⊥
+on_clash network link xs k x fault are at (inl off) = off.1 (all_there (IsFrameOn network link) xs k x are.on_link at)
 on_clash network link xs k x fault are at (inr again) = none_before xs k x are.different at again.2
 
-pub among_clash : (streams xs : List ℕ) (k x : ℕ) (fault : StepFault) → AreAmong streams xs → slice_get xs k ≡ Some x
-    → IsWrongChoice streams (take k xs) x fault → ⊥
-among_clash streams xs k x fault are at (inl out) = out.1 (all_there (Contains streams) xs k x are.among at)
-among_clash streams xs k x fault are at (inr again) = none_before xs k x are.different at again.2
+pub among_clash : (frames xs : List Frame) (k : ℕ) (x : Frame) (fault : StepFault) → AreAmong frames xs → slice_get xs k ≡ Some x
+    → IsWrongChoice frames (take k xs) x fault → ⊥
+among_clash frames xs k x fault are at (inl out) = out.1 (all_there (Contains frames) xs k x are.among at)
+among_clash frames xs k x fault are at (inr again) = none_before xs k x are.different at again.2
 
-on_refuted : (network : Network) (link : ℕ) (streams : List ℕ) (fault : StepFault) → AreWrongOn network link streams fault → AreOn network link streams → ⊥
-on_refuted network link streams fault wrong are =
-    first_wrong_refutes (AreOn network link) (IsWrongStream network link) (on_clash network link) streams fault wrong are
+on_refuted : (network : Network) (link : ℕ) (frames : List Frame) (fault : StepFault) → AreWrongOn network link frames fault → AreOn network link frames → ⊥
+on_refuted network link frames fault wrong are =
+    first_wrong_refutes (AreOn network link) (IsWrongFrame network link) (on_clash network link) frames fault wrong are
 
-some_refuted : (streams some : List ℕ) (fault : StepFault) → AreWrongAmong streams some fault → AreSome streams some → ⊥
-some_refuted streams some fault (inl none) are =
+some_refuted : (frames some : List Frame) (fault : StepFault) → AreWrongAmong frames some fault → AreSome frames some → ⊥
+some_refuted frames some fault (inl none) are =
     let empty : length some ≡ 0 = ap length none.1 in
     let one = are.one in
     omega (arith, empty, one)
-some_refuted streams some fault (inr wrong) are =
-    first_wrong_refutes (AreAmong streams) (IsWrongChoice streams) (among_clash streams) some fault wrong (record {
+some_refuted frames some fault (inr wrong) are =
+    first_wrong_refutes (AreAmong frames) (IsWrongChoice frames) (among_clash frames) some fault wrong (record {
       different =
           are.different;
       among = are.among;
@@ -65,12 +66,12 @@ some_refuted streams some fault (inr wrong) are =
 
 -- ---- moves
 
-placing_refuted : (network : Network) (link j : ℕ) (streams some : List ℕ) (Fitting : Type 0) (fault : StepFault)
-    → IsWrongPlacing network link j streams some Fitting fault
-    → AreOn network link (j ∷ streams) → AreSome streams some → Fitting → ⊥
-placing_refuted network link j streams some Fitting fault (inl on) are chosen fit = on_refuted network link (j ∷ streams) fault on are
-placing_refuted network link j streams some Fitting fault (inr (inl choice)) are chosen fit = some_refuted streams some fault choice.1 chosen
-placing_refuted network link j streams some Fitting fault (inr (inr fails)) are chosen fit = fails.3 fit
+placing_refuted : (network : Network) (link : ℕ) (frame : Frame) (frames some : List Frame) (Fitting : Type 0) (fault : StepFault)
+    → IsWrongPlacing network link frame frames some Fitting fault
+    → AreOn network link (frame ∷ frames) → AreSome frames some → Fitting → ⊥
+placing_refuted network link frame frames some Fitting fault (inl on) are chosen fit = on_refuted network link (frame ∷ frames) fault on are
+placing_refuted network link frame frames some Fitting fault (inr (inl choice)) are chosen fit = some_refuted frames some fault choice.1 chosen
+placing_refuted network link frame frames some Fitting fault (inr (inr fails)) are chosen fit = fails.3 fit
 
 not_above : (a : ℤ) → a ≤ℤ pos 0 → pos 0 <ℤ a → ⊥
 not_above a low high = grind (arith, ints)
@@ -83,12 +84,15 @@ wrong_move network clauses view (turn decision) fault (inr wrong) is = wrong.2 i
 wrong_move network clauses view (apply k) fault (inl wrong) is = let past = wrong.1 in let below = is.0 in omega (arith, past, below)
 wrong_move network clauses view (apply k) fault (inr wrong) is = let more = wrong.2 in let few = is.1 in omega (arith, more, few)
 wrong_move network clauses view (arrive i) fault wrong is = let past = wrong.1 in omega (arith, past, is)
-wrong_move network clauses view (put_last link j streams some) fault wrong is = placing_refuted network link j streams some _ fault wrong is.0 is.1 is.2
-wrong_move network clauses view (put_first link j streams some) fault wrong is = placing_refuted network link j streams some _ fault wrong is.0 is.1 is.2
-wrong_move network clauses view (pack link streams) fault (inl wrong) is = on_refuted network link streams fault wrong is.0
-wrong_move network clauses view (pack link streams) fault (inr wrong) is = wrong.2 is.1
+wrong_move network clauses view (put_last link frame frames some) fault wrong is = placing_refuted network link frame frames some _ fault wrong is.0 is.1 is.2
+wrong_move network clauses view (put_first link frame frames some) fault wrong is = placing_refuted network link frame frames some _ fault wrong is.0 is.1 is.2
+wrong_move network clauses view (pack link frames) fault (inl wrong) is = on_refuted network link frames fault wrong is.0
+wrong_move network clauses view (pack link frames) fault (inr wrong) is = wrong.2 is.1
 wrong_move network clauses view (round decisions) fault (inl wrong) is = wrong.1 (is.0, is.1)
 wrong_move network clauses view (round decisions) fault (inr wrong) is = not_above _ wrong.2 is.2
+wrong_move network clauses view (follow decision weaker) fault (inl wrong) is = wrong.1 is.0
+wrong_move network clauses view (follow decision weaker) fault (inr (inl wrong)) is = wrong.2 is.1
+wrong_move network clauses view (follow decision weaker) fault (inr (inr wrong)) is = wrong.3 is.2
 
 pub moves_clash : (network : Network) (clauses : List (List Fact)) (view : View) (xs : List Move) (k : ℕ) (x : Move) (fault : StepFault)
     → AreAllowed network clauses view xs
@@ -131,47 +135,47 @@ one_fact network (order decision) a b one two = one.0 ∙ sym two.0
 one_fact network (done_from v) a b one two = absurd one
 one_fact network (done_until v) a b one two = absurd one
 
-one_stream : (network : Network) (link : ℕ) (before : List ℕ) (i : ℕ) (a b : StepFault) → IsWrongStream network link before i a
-    → IsWrongStream network link before i b → a ≡ b
-one_stream network link before i a b (inl one) (inl two) = one.0 ∙ sym two.0
-one_stream network link before i a b (inl one) (inr two) = absurd (one.1 two.1)
-one_stream network link before i a b (inr one) (inl two) = absurd (two.1 one.1)
-one_stream network link before i a b (inr one) (inr two) = one.0 ∙ sym two.0
+one_frame : (network : Network) (link : ℕ) (before : List Frame) (i : Frame) (a b : StepFault) → IsWrongFrame network link before i a
+    → IsWrongFrame network link before i b → a ≡ b
+one_frame network link before i a b (inl one) (inl two) = one.0 ∙ sym two.0
+one_frame network link before i a b (inl one) (inr two) = absurd (one.1 two.1)
+one_frame network link before i a b (inr one) (inl two) = absurd (two.1 one.1)
+one_frame network link before i a b (inr one) (inr two) = one.0 ∙ sym two.0
 
-one_choice : (streams before : List ℕ) (i : ℕ) (a b : StepFault) → IsWrongChoice streams before i a → IsWrongChoice streams before i b → a ≡ b
-one_choice streams before i a b (inl one) (inl two) = one.0 ∙ sym two.0
-one_choice streams before i a b (inl one) (inr two) = absurd (one.1 two.1)
-one_choice streams before i a b (inr one) (inl two) = absurd (two.1 one.1)
-one_choice streams before i a b (inr one) (inr two) = one.0 ∙ sym two.0
+one_choice : (frames before : List Frame) (i : Frame) (a b : StepFault) → IsWrongChoice frames before i a → IsWrongChoice frames before i b → a ≡ b
+one_choice frames before i a b (inl one) (inl two) = one.0 ∙ sym two.0
+one_choice frames before i a b (inl one) (inr two) = absurd (one.1 two.1)
+one_choice frames before i a b (inr one) (inl two) = absurd (two.1 one.1)
+one_choice frames before i a b (inr one) (inr two) = one.0 ∙ sym two.0
 
-one_on : (network : Network) (link : ℕ) (streams : List ℕ) (a b : StepFault) → AreWrongOn network link streams a → AreWrongOn network link streams b → a ≡ b
-one_on network link = one_first_wrong (AreOn network link) (IsWrongStream network link) (on_clash network link) (one_stream network link)
+one_on : (network : Network) (link : ℕ) (frames : List Frame) (a b : StepFault) → AreWrongOn network link frames a → AreWrongOn network link frames b → a ≡ b
+one_on network link = one_first_wrong (AreOn network link) (IsWrongFrame network link) (on_clash network link) (one_frame network link)
 
-empty_first : (streams some : List ℕ) (fault : StepFault) → some ≡ [] → IsFirstWrong (AreAmong streams) (IsWrongChoice streams) some fault → ⊥
-empty_first streams some fault none wrong =
+empty_first : (frames some : List Frame) (fault : StepFault) → some ≡ [] → IsFirstWrong (AreAmong frames) (IsWrongChoice frames) some fault → ⊥
+empty_first frames some fault none wrong =
     let empty : length some ≡ 0 = ap length none in
     let below = slice_get_within some wrong.k wrong.there wrong.at in
     omega (arith, empty, below)
 
-one_among : (streams some : List ℕ) (a b : StepFault) → AreWrongAmong streams some a → AreWrongAmong streams some b → a ≡ b
-one_among streams some a b (inl one) (inl two) = one.0 ∙ sym two.0
-one_among streams some a b (inl one) (inr two) = absurd (empty_first streams some b one.1 two)
-one_among streams some a b (inr one) (inl two) = absurd (empty_first streams some a two.1 one)
-one_among streams some a b (inr one) (inr two) =
-    one_first_wrong (AreAmong streams) (IsWrongChoice streams) (among_clash streams) (one_choice streams) some a b one two
+one_among : (frames some : List Frame) (a b : StepFault) → AreWrongAmong frames some a → AreWrongAmong frames some b → a ≡ b
+one_among frames some a b (inl one) (inl two) = one.0 ∙ sym two.0
+one_among frames some a b (inl one) (inr two) = absurd (empty_first frames some b one.1 two)
+one_among frames some a b (inr one) (inl two) = absurd (empty_first frames some a two.1 one)
+one_among frames some a b (inr one) (inr two) =
+    one_first_wrong (AreAmong frames) (IsWrongChoice frames) (among_clash frames) (one_choice frames) some a b one two
 
-one_placing : (network : Network) (link j : ℕ) (streams some : List ℕ) (Fitting : Type 0) (a b : StepFault)
-    → IsWrongPlacing network link j streams some Fitting a
-    → IsWrongPlacing network link j streams some Fitting b → a ≡ b
-one_placing network link j streams some Fitting a b (inl one) (inl two) = one_on network link (j ∷ streams) a b one two
-one_placing network link j streams some Fitting a b (inl one) (inr (inl two)) = absurd (on_refuted network link (j ∷ streams) a one two.0)
-one_placing network link j streams some Fitting a b (inl one) (inr (inr two)) = absurd (on_refuted network link (j ∷ streams) a one two.0)
-one_placing network link j streams some Fitting a b (inr (inl one)) (inl two) = absurd (on_refuted network link (j ∷ streams) b two one.0)
-one_placing network link j streams some Fitting a b (inr (inr one)) (inl two) = absurd (on_refuted network link (j ∷ streams) b two one.0)
-one_placing network link j streams some Fitting a b (inr (inl one)) (inr (inl two)) = one_among streams some a b one.1 two.1
-one_placing network link j streams some Fitting a b (inr (inl one)) (inr (inr two)) = absurd (some_refuted streams some a one.1 two.1)
-one_placing network link j streams some Fitting a b (inr (inr one)) (inr (inl two)) = absurd (some_refuted streams some b two.1 one.1)
-one_placing network link j streams some Fitting a b (inr (inr one)) (inr (inr two)) = one.2 ∙ sym two.2
+one_placing : (network : Network) (link : ℕ) (frame : Frame) (frames some : List Frame) (Fitting : Type 0) (a b : StepFault)
+    → IsWrongPlacing network link frame frames some Fitting a
+    → IsWrongPlacing network link frame frames some Fitting b → a ≡ b
+one_placing network link frame frames some Fitting a b (inl one) (inl two) = one_on network link (frame ∷ frames) a b one two
+one_placing network link frame frames some Fitting a b (inl one) (inr (inl two)) = absurd (on_refuted network link (frame ∷ frames) a one two.0)
+one_placing network link frame frames some Fitting a b (inl one) (inr (inr two)) = absurd (on_refuted network link (frame ∷ frames) a one two.0)
+one_placing network link frame frames some Fitting a b (inr (inl one)) (inl two) = absurd (on_refuted network link (frame ∷ frames) b two one.0)
+one_placing network link frame frames some Fitting a b (inr (inr one)) (inl two) = absurd (on_refuted network link (frame ∷ frames) b two one.0)
+one_placing network link frame frames some Fitting a b (inr (inl one)) (inr (inl two)) = one_among frames some a b one.1 two.1
+one_placing network link frame frames some Fitting a b (inr (inl one)) (inr (inr two)) = absurd (some_refuted frames some a one.1 two.1)
+one_placing network link frame frames some Fitting a b (inr (inr one)) (inr (inl two)) = absurd (some_refuted frames some b two.1 one.1)
+one_placing network link frame frames some Fitting a b (inr (inr one)) (inr (inr two)) = one.2 ∙ sym two.2
 
 one_move : (network : Network) (clauses : List (List Fact)) (view : View) (move : Move) (a b : StepFault) → IsWrongMove network clauses view move a
     → IsWrongMove network clauses view move b → a ≡ b
@@ -185,16 +189,25 @@ one_move network clauses view (apply k) a b (inl one) (inr two) = let past = one
 one_move network clauses view (apply k) a b (inr one) (inl two) = let past = two.1 in let below = one.0 in absurd (omega (arith, past, below))
 one_move network clauses view (apply k) a b (inr one) (inr two) = one.1 ∙ sym two.1
 one_move network clauses view (arrive i) a b one two = one.0 ∙ sym two.0
-one_move network clauses view (put_last link j streams some) a b one two = one_placing network link j streams some _ a b one two
-one_move network clauses view (put_first link j streams some) a b one two = one_placing network link j streams some _ a b one two
-one_move network clauses view (pack link streams) a b (inl one) (inl two) = one_on network link streams a b one two
-one_move network clauses view (pack link streams) a b (inl one) (inr two) = absurd (on_refuted network link streams a one two.0)
-one_move network clauses view (pack link streams) a b (inr one) (inl two) = absurd (on_refuted network link streams b two one.0)
-one_move network clauses view (pack link streams) a b (inr one) (inr two) = one.1 ∙ sym two.1
+one_move network clauses view (put_last link frame frames some) a b one two = one_placing network link frame frames some _ a b one two
+one_move network clauses view (put_first link frame frames some) a b one two = one_placing network link frame frames some _ a b one two
+one_move network clauses view (pack link frames) a b (inl one) (inl two) = one_on network link frames a b one two
+one_move network clauses view (pack link frames) a b (inl one) (inr two) = absurd (on_refuted network link frames a one two.0)
+one_move network clauses view (pack link frames) a b (inr one) (inl two) = absurd (on_refuted network link frames b two one.0)
+one_move network clauses view (pack link frames) a b (inr one) (inr two) = one.1 ∙ sym two.1
 one_move network clauses view (round decisions) a b (inl one) (inl two) = one.0 ∙ sym two.0
 one_move network clauses view (round decisions) a b (inl one) (inr two) = absurd (one.1 two.0)
 one_move network clauses view (round decisions) a b (inr one) (inl two) = absurd (two.1 one.0)
 one_move network clauses view (round decisions) a b (inr one) (inr two) = one.1 ∙ sym two.1
+one_move network clauses view (follow decision weaker) a b (inl one) (inl two) = one.0 ∙ sym two.0
+one_move network clauses view (follow decision weaker) a b (inl one) (inr (inl two)) = absurd (one.1 two.0)
+one_move network clauses view (follow decision weaker) a b (inl one) (inr (inr two)) = absurd (one.1 two.0)
+one_move network clauses view (follow decision weaker) a b (inr (inl one)) (inl two) = absurd (two.1 one.0)
+one_move network clauses view (follow decision weaker) a b (inr (inr one)) (inl two) = absurd (two.1 one.0)
+one_move network clauses view (follow decision weaker) a b (inr (inl one)) (inr (inl two)) = one.1 ∙ sym two.1
+one_move network clauses view (follow decision weaker) a b (inr (inl one)) (inr (inr two)) = absurd (one.2 two.1)
+one_move network clauses view (follow decision weaker) a b (inr (inr one)) (inr (inl two)) = absurd (two.2 one.1)
+one_move network clauses view (follow decision weaker) a b (inr (inr one)) (inr (inr two)) = one.2 ∙ sym two.2
 
 one_next : (network : Network) (clauses : List (List Fact)) (view : View) (before : List Move) (move : Move) (a b : StepFault)
     → IsWrongNext network clauses view before move a

@@ -1,5 +1,5 @@
--- Decisions, as the checker keeps them: beside their list a table that tells where the first one like each stands.
-use Rattle.std.specs.Prelude.{◌≡◌, ℕ, ◌+◌, ◌*◌, ◌≤◌, List, length, slice_index_or, slice_get, Some, unwrap_or, All}
+-- Decisions, as the checker keeps them: beside their list a table that tells where the first one like each of lag 0 stands.
+use Rattle.std.specs.Prelude.{◌≡◌, ℕ, pos, ◌+◌, ◌*◌, ◌≤◌, List, length, slice_index_or, slice_get, Some, unwrap_or, All}
 use Rattle.tsn_model.specs.declared.Decision.{Decision}
 use Rattle.tsn_model.specs.declared.Side.{Side}
 use Rattle.tsn_model.specs.declared.Side.TheVariants.{Left, Right}
@@ -26,9 +26,9 @@ place_on network triple Right = place_by network triple.right triple.left triple
 abbrev pub place_of : Network → Decision → ℕ
 place_of network decision = place_on network decision.triple decision.side
 
--- for each decision of the list the table tells one that is equal, and stands no later
+-- for each decision of the list whose lag is 0 the table tells one that is equal, and stands no later
 pub record ArePlaced (network : Network) (list : List Decision) (places : List ℕ) : Type 0 where
   pub long : length places ≡ stream_count network * 2048
   pub conflicts : All (λ decision. IsConflict network decision.triple) list
-  pub placed : (k : ℕ) (decision : Decision) → slice_get list k ≡ Some decision
+  pub placed : (k : ℕ) (decision : Decision) → slice_get list k ≡ Some decision → decision.triple.lag ≡ pos 0
       → (slice_index_or places (place_of network decision) 0 ≤ k) × (slice_get list (slice_index_or places (place_of network decision) 0) ≡ Some decision)

@@ -1,21 +1,20 @@
 -- The first reason why an argument shows nothing of a plan.
 --     IsWrongFact                                      what is wrong with a fact of a clause
---     IsWrongStream, IsWrongChoice, IsWrongMove        what is wrong with a move on a view
+--     IsWrongFrame, IsWrongChoice, IsWrongMove         what is wrong with a move on a view
 --     IsWrongStep                                      what is wrong with a step
 --     IsArgumentFault, IsFirstFault                    the first fault of an argument, and of a plan and a certificate
 use Rattle.std.specs.Prelude.{◌≡◌, ◌≢◌, ◌⊎◌, ℕ, ◌<◌, ◌≤◌, List, [], ◌∷◌, length, pos, ◌+ℤ◌, ◌≤ℤ◌, ◌<ℤ◌, All, AllPairs, Contains}
 use Rattle.tsn_model.specs.declared.Decision.{Decision}
 use Rattle.tsn_model.specs.Network.{Network, stream_count}
-use Rattle.tsn_model.specs.Timing.{UsesLink}
+use Rattle.tsn_model.specs.declared.Frame.{Frame}
+use Rattle.tsn_model.specs.Certificate.{IsFrameOn}
 use Rattle.tsn_model.specs.Schedule.{IsConflict}
 use Rattle.tsn_model.specs.Arcs.{arc_of}
 use Rattle.tsn_model.specs.Argument as model
-use Rattle.tsn_model.specs.Argument.{from, until, order, done_from, done_until, IsFact, View, IsImpossible, first_head, last_end, work_on, AreOn, AreSome, go, turn, apply, arrive, put_last, put_first, pack, round, turned, left_open, clause_at, LeadsBy, weight_by, IsOutOfReach, AreAllowed, narrowed, first_ground, Known, begun, ended, IsRight, known_after, IsSettled}
+use Rattle.tsn_model.specs.Argument.{from, until, order, done_from, done_until, IsFact, View, IsImpossible, first_head, last_end, work_on, AreOn, AreSome, go, turn, apply, arrive, put_last, put_first, pack, round, follow, AsksNoMore, turned, left_open, clause_at, LeadsBy, weight_by, IsOutOfReach, AreAllowed, narrowed, first_ground, Known, begun, ended, IsRight, known_after, IsSettled}
 use Rattle.tsn_cert.specs.declared.plan.Plan.{Plan}
-use Rattle.tsn_cert.specs.declared.plan.Plan.TheVariants as plan
 use Rattle.tsn_argument.specs.Meaning.{steps_of}
 use Rattle.tsn_argument.specs.declared.argument.Argument.{Argument}
-use Rattle.tsn_argument.specs.declared.argument.Goal.{Goal}
 use Rattle.tsn_argument.specs.declared.certificate.Certificate.{Certificate}
 use Rattle.tsn_argument.specs.declared.certificate.Certificate.TheVariants.{Tree, Argument as Argued}
 use Rattle.tsn_check.specs.Faults as tree
@@ -40,35 +39,35 @@ IsWrongFact network (done_until v) fault = ⊥
 
 -- ---- moves
 
--- behind others the stream isn't on the link, or it is and stood before
-abbrev pub IsWrongStream : Network → ℕ → List ℕ → ℕ → StepFault → Type 0
-IsWrongStream network link before i fault =
-    ((fault ≡ kind.NotOnLink) × (UsesLink network i link → ⊥)) ⊎ ((fault ≡ kind.StreamRepeated) × UsesLink network i link × Contains before i)
+-- behind others the frame isn't on the link, or it is and stood before
+abbrev pub IsWrongFrame : Network → ℕ → List Frame → Frame → StepFault → Type 0
+IsWrongFrame network link before frame fault =
+    ((fault ≡ kind.NotOnLink) × (IsFrameOn network link frame → ⊥)) ⊎ ((fault ≡ kind.StreamRepeated) × IsFrameOn network link frame × Contains before frame)
 
--- the first of the streams that is wrong
-abbrev pub AreWrongOn : Network → ℕ → List ℕ → StepFault → Type 0
-AreWrongOn network link streams fault = IsFirstWrong (AreOn network link) (IsWrongStream network link) streams fault
+-- the first of the frames that is wrong
+abbrev pub AreWrongOn : Network → ℕ → List Frame → StepFault → Type 0
+AreWrongOn network link frames fault = IsFirstWrong (AreOn network link) (IsWrongFrame network link) frames fault
 
--- some of the streams, each once, or none
-pub record AreAmong (streams some : List ℕ) : Type 0 where
+-- some of the frames, each once, or none
+pub record AreAmong (frames some : List Frame) : Type 0 where
   pub different : AllPairs ◌≢◌ some
-  pub among : All (Contains streams) some
+  pub among : All (Contains frames) some
 
--- behind others the stream isn't one of the streams, or it is and stood before
-abbrev pub IsWrongChoice : List ℕ → List ℕ → ℕ → StepFault → Type 0
-IsWrongChoice streams before i fault =
-    ((fault ≡ kind.NotThere) × (Contains streams i → ⊥)) ⊎ ((fault ≡ kind.StreamRepeated) × Contains streams i × Contains before i)
+-- behind others the frame isn't one of the frames, or it is and stood before
+abbrev pub IsWrongChoice : List Frame → List Frame → Frame → StepFault → Type 0
+IsWrongChoice frames before frame fault =
+    ((fault ≡ kind.NotThere) × (Contains frames frame → ⊥)) ⊎ ((fault ≡ kind.StreamRepeated) × Contains frames frame × Contains before frame)
 
--- the choice is empty, or has a wrong stream
-abbrev pub AreWrongAmong : List ℕ → List ℕ → StepFault → Type 0
-AreWrongAmong streams some fault = ((fault ≡ kind.NotThere) × (some ≡ [])) ⊎ IsFirstWrong (AreAmong streams) (IsWrongChoice streams) some fault
+-- the choice is empty, or has a wrong frame
+abbrev pub AreWrongAmong : List Frame → List Frame → StepFault → Type 0
+AreWrongAmong frames some fault = ((fault ≡ kind.NotThere) × (some ≡ [])) ⊎ IsFirstWrong (AreAmong frames) (IsWrongChoice frames) some fault
 
--- a wrong stream of those that are placed, then a wrong one of the choice, then the inequality
-abbrev pub IsWrongPlacing : Network → ℕ → ℕ → List ℕ → List ℕ → Type 0 → StepFault → Type 0
-IsWrongPlacing network link j streams some Fits fault =
-    AreWrongOn network link (j ∷ streams) fault
-    ⊎ (AreOn network link (j ∷ streams) × AreWrongAmong streams some fault)
-    ⊎ (AreOn network link (j ∷ streams) × AreSome streams some × (fault ≡ kind.Fails) × (Fits → ⊥))
+-- a wrong frame of those that are placed, then a wrong one of the choice, then the inequality
+abbrev pub IsWrongPlacing : Network → ℕ → Frame → List Frame → List Frame → Type 0 → StepFault → Type 0
+IsWrongPlacing network link frame frames some Fits fault =
+    AreWrongOn network link (frame ∷ frames) fault
+    ⊎ (AreOn network link (frame ∷ frames) × AreWrongAmong frames some fault)
+    ⊎ (AreOn network link (frame ∷ frames) × AreSome frames some × (fault ≡ kind.Fails) × (Fits → ⊥))
 
 -- the orders are the view's, and lead back to where they begin
 abbrev pub GoRound : Network → View → List Decision → Type 0
@@ -83,15 +82,19 @@ IsWrongMove network clauses view (turn decision) fault =
 IsWrongMove network clauses view (apply k) fault =
     ((fault ≡ kind.NotThere) × (length clauses ≤ k)) ⊎ ((k < length clauses) × (fault ≡ kind.Fails) × (1 < length (left_open view (clause_at clauses k))))
 IsWrongMove network clauses view (arrive i) fault = (fault ≡ kind.NotOnLink) × (stream_count network ≤ i)
-IsWrongMove network clauses view (put_last link j streams some) fault =
-    IsWrongPlacing network link j streams some (last_end network view link streams <ℤ (first_head network view link (j ∷ streams) +ℤ pos (work_on network link (j ∷ streams)))) fault
-IsWrongMove network clauses view (put_first link j streams some) fault =
-    IsWrongPlacing network link j streams some (last_end network view link (j ∷ streams) <ℤ (first_head network view link streams +ℤ pos (work_on network link (j ∷ streams)))) fault
-IsWrongMove network clauses view (pack link streams) fault =
-    AreWrongOn network link streams fault
-    ⊎ (AreOn network link streams × (fault ≡ kind.Fails) × (last_end network view link streams <ℤ (first_head network view link streams +ℤ pos (work_on network link streams)) → ⊥))
+IsWrongMove network clauses view (put_last link frame frames some) fault =
+    IsWrongPlacing network link frame frames some (last_end network view link frames <ℤ (first_head network view link (frame ∷ frames) +ℤ pos (work_on network link (frame ∷ frames)))) fault
+IsWrongMove network clauses view (put_first link frame frames some) fault =
+    IsWrongPlacing network link frame frames some (last_end network view link (frame ∷ frames) <ℤ (first_head network view link frames +ℤ pos (work_on network link (frame ∷ frames)))) fault
+IsWrongMove network clauses view (pack link frames) fault =
+    AreWrongOn network link frames fault
+    ⊎ (AreOn network link frames × (fault ≡ kind.Fails) × (last_end network view link frames <ℤ (first_head network view link frames +ℤ pos (work_on network link frames)) → ⊥))
 IsWrongMove network clauses view (round decisions) fault =
     ((fault ≡ kind.NotThere) × (GoRound network view decisions → ⊥)) ⊎ (GoRound network view decisions × (fault ≡ kind.Fails) × (weight_by network decisions ≤ℤ pos 0))
+IsWrongMove network clauses view (follow decision weaker) fault =
+    ((fault ≡ kind.NotThere) × (Contains view.orders decision → ⊥))
+    ⊎ (Contains view.orders decision × (fault ≡ kind.NotConflict) × (IsConflict network weaker.triple → ⊥))
+    ⊎ (Contains view.orders decision × IsConflict network weaker.triple × (fault ≡ kind.Fails) × (AsksNoMore (arc_of network weaker) (arc_of network decision) → ⊥))
 
 -- behind others the move comes on an impossible view, or is wrong on the view there
 abbrev pub IsWrongNext : Network → List (List model.Fact) → View → List model.Move → model.Move → StepFault → Type 0

@@ -5,7 +5,7 @@ pub mod Numbers
 pub mod Seen
 pub mod News
 pub mod Decided
-pub mod Streams
+pub mod Frames
 pub mod State
 pub mod Motion
 pub mod Steps

@@ -50,12 +50,12 @@ FindsUnit view clause (Ok None) = left_open view clause ≡ []
 FindsUnit view clause (Ok (Some fact)) = (left_open view clause ≡ fact_of fact ∷ []) × Contains clause (fact_of fact)
 FindsUnit view clause (Err fault) = (fault ≡ kind.Fails) × (1 < length (left_open view clause))
 
--- the streams of a placing are right, or it is told what is wrong with them
+-- the frames of a placing are right, or it is told what is wrong with them
 abbrev pub FindsPlacing : Network → Placing → Result Unit StepFault → Type 0
-FindsPlacing network placing (Ok _) = AreOn network placing.link (placing.stream ∷ placing.others) × AreSome placing.others placing.some
+FindsPlacing network placing (Ok _) = AreOn network placing.link (placing.frame ∷ placing.others) × AreSome placing.others placing.some
 FindsPlacing network placing (Err fault) =
-    AreWrongOn network placing.link (placing.stream ∷ placing.others) fault
-    ⊎ (AreOn network placing.link (placing.stream ∷ placing.others) × AreWrongAmong placing.others placing.some fault)
+    AreWrongOn network placing.link (placing.frame ∷ placing.others) fault
+    ⊎ (AreOn network placing.link (placing.frame ∷ placing.others) × AreWrongAmong placing.others placing.some fault)
 
 -- the arc of a decision, where the view has it; it is short, and its streams are there
 pub record IsArcIn (network : Network) (view : View) (decision : Decision) (arc : Arc) : Type 0 where
@@ -63,8 +63,8 @@ pub record IsArcIn (network : Network) (view : View) (decision : Decision) (arc 
   pub is : arc ≡ arc_of network decision
   pub from : arc.from < stream_count network
   pub to : arc.to < stream_count network
-  pub low : pos 0 ≤ℤ (arc.weight +ℤ pos 100000000)
-  pub high : arc.weight ≤ℤ pos 100000000
+  pub low : pos 0 ≤ℤ (arc.weight +ℤ pos 1060000000)
+  pub high : arc.weight ≤ℤ pos 1060000000
 
 abbrev pub FindsArc : Network → View → Decision → Option Arc → Type 0
 FindsArc network view decision None = Contains view.orders decision → ⊥

@@ -1,5 +1,5 @@
-//! The decisions of a view, and whether one is among them, in a time that doesn't grow with their number.
-ghost use Rattle.std.specs.Prelude.{◌≡◌, ◌<◌, ◌*◌, ◌++◌, [], ◌∷◌, MatchBool, OnOk, IfOk, Contains};
+//! The decisions of a view, and whether one is among them: of lag 0 in a time that doesn't grow with their number.
+ghost use Rattle.std.specs.Prelude.{◌≡◌, ◌⊎◌, ◌<◌, ◌*◌, ◌++◌, [], ◌∷◌, pos, MatchBool, OnOk, IfOk, Contains};
 ghost use Rattle.tsn_model.specs.Network.{IsWellFormed, stream_count};
 ghost use Rattle.tsn_model.specs.Timing.{UsesLink};
 ghost use Rattle.tsn_model.specs.Schedule.{IsConflict};
@@ -7,13 +7,13 @@ ghost use Rattle.tsn_argue.specs.Decided.{place_by, place_of};
 
 use std::alloc::{AllocError, Global};
 use std::marker::Model;
-use tsn_model::{Decision, NoMemory, Side, Triple};
-use tsn_timing::Timing;
+use tsn_model::{Decision, NoMemory, Side};
+use tsn_timing::{Timing, is_conflict};
 
 /// How many places each stream has: one for each of its hops and each other stream.
 const PLACES: usize = 2048;
 
-/// The decisions of the ground, and behind them those of the view. A table tells where the first one like it stands.
+/// The decisions of the ground, and behind them those of the view. A table tells where the first one like one of lag 0 stands.
 #[derive(Drop)]
 pub struct Decided<'a> {
     timing: &'a Timing,
@@ -53,11 +53,25 @@ impl<'a> Decided<'a> {
     pub fn has(&self, decision: Decision) -> bool
         ensures { MatchBool result (Contains self.now.view decision) (Contains self.now.view decision → ⊥) }
     {
+        if decision.triple.lag != 0 {
+            return is_listed(self.list.as_slice(), decision);
+        }
         if !is_conflict(self.timing, decision.triple) {
             return false;
         }
         let first = self.places[place_of(self.timing, decision)];
         first < self.list.len() && self.list[first] == decision
+    }
+
+    /// Whether the table is to tell where the decision stands, once it is one of the view.
+    fn is_new(&self, decision: Decision) -> bool
+        ensures { MatchBool result ((decision.triple.lag ≡ pos 0) × (Contains self.now.view decision → ⊥))
+            ((decision.triple.lag ≡ pos 0 → ⊥) ⊎ Contains self.now.view decision) }
+    {
+        if decision.triple.lag != 0 {
+            return false;
+        }
+        !self.has(decision)
     }
 
     /// The view has one more decision.
@@ -67,7 +81,7 @@ impl<'a> Decided<'a> {
         ensures base { self.new.base ≡ self.old.base }
         ensures view { OnOk result (self.new.view ≡ self.old.view ++ decision ∷ []) }
     {
-        let is_new = !self.has(decision);
+        let is_new = self.is_new(decision);
         let place = place_of(self.timing, decision);
         let count = self.list.len();
         if let Err(error) = self.list.push(decision) {
@@ -98,14 +112,16 @@ impl<'a> Decided<'a> {
     }
 }
 
-/// Whether the triple is two different streams, the lesser one on the left, and a link that both use.
-pub fn is_conflict(timing: &Timing, triple: Triple) -> bool
-    ensures { MatchBool result (IsConflict timing.now triple) (IsConflict timing.now triple → ⊥) }
+/// Whether the list has the decision.
+fn is_listed(list: &[Decision], decision: Decision) -> bool
+    ensures { MatchBool result (Contains list.now decision) (Contains list.now decision → ⊥) }
 {
-    triple.left < triple.right
-        && triple.right < timing.streams()
-        && timing.hop_on(triple.left, triple.link).is_some()
-        && timing.hop_on(triple.right, triple.link).is_some()
+    for other in list {
+        if *other == decision {
+            return true;
+        }
+    }
+    false
 }
 
 /// The place of a decision in the table.

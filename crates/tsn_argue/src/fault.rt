@@ -14,9 +14,9 @@ pub enum StepFault {
     NotThere,
     /// The move's inequality fails, or the moves don't show the clause.
     Fails,
-    /// A stream stands twice.
+    /// A frame stands twice.
     StreamRepeated,
-    /// A stream isn't there or doesn't use the link.
+    /// A stream isn't there, doesn't send the frame or doesn't use the link.
     NotOnLink,
 }
 

@@ -1,141 +1,194 @@
-//! The streams of a move on a link: whether they are right, and what they come to.
-ghost use Rattle.std.specs.Prelude.{◌<◌, OnOk, ◌≡◌, ◌+◌, ◌≤◌, ◌≤ℤ◌, ◌∷◌, false, length, pos, All};
+//! The frames of a move on a link: whether they are right, and what they come to.
+ghost use Rattle.std.specs.Prelude.{◌<◌, OnOk, ◌≡◌, ◌≤◌, ◌≤ℤ◌, ◌∷◌, false, length, pos, All, MatchBool};
 ghost use Rattle.tsn_model.specs.declared.bounds.TheConstants.{MAX_OCCUPANCY};
-ghost use Rattle.tsn_model.specs.Timing.{UsesLink, occupancy, start_on};
+ghost use Rattle.tsn_model.specs.Timing.{UsesLink, occupancy};
+ghost use Rattle.tsn_model.specs.Certificate.{IsFrameOn, begin_on, end_on};
 ghost use Rattle.tsn_model.specs.Argument.{head_at, end_at, first_head, last_end, work_on};
 ghost use Rattle.tsn_argue.specs.State.{view_of, IsSound};
-ghost use Rattle.tsn_argue.specs.Streams.{FindsStream, FindsStreams, FindsChoice, FindsOne};
+ghost use Rattle.tsn_argue.specs.Seen.{Tells};
+ghost use Rattle.tsn_argue.specs.Frames.{FindsFrame, FindsFrames, FindsChoice, FindsOne};
 
 use crate::fault::StepFault;
 use crate::seen::Seen;
 use crate::view::View;
+use tsn_model::Frame;
 use tsn_timing::Timing;
 
-/// Whether a stream, behind others, uses the link and isn't one of the others.
-fn judge_stream(timing: &Timing, link: usize, seen: &Seen, stream: usize) -> Result<(), StepFault>
-    ensures { FindsStream timing.now link seen.now stream result }
+/// Whether the stream sends the frame, and uses the link.
+fn is_on(timing: &Timing, link: usize, frame: Frame) -> bool
+    ensures { MatchBool result (IsFrameOn timing.now link frame) (IsFrameOn timing.now link frame → ⊥) }
 {
-    if stream >= timing.streams() || timing.hop_on(stream, link).is_none() {
-        Err(StepFault::NotOnLink)
-    } else if seen.has(stream) {
-        Err(StepFault::StreamRepeated)
-    } else {
-        Ok(())
+    if frame.stream >= timing.streams() {
+        return false;
     }
+    if !timing.is_shift(frame.stream, frame.shift) {
+        return false;
+    }
+    timing.hop_on(frame.stream, link).is_some()
 }
 
-/// The streams, which are told by a mark each, if they use the link and are different; else what is wrong with the first
-/// that isn't right.
-pub fn judge_streams(
+/// Whether a frame, behind others, is on the link and isn't one of the others. Of these the first isn't marked.
+fn judge_frame(
     timing: &Timing,
     link: usize,
-    first: usize,
-    others: &[usize],
-) -> Result<Seen, StepFault>
-    ensures { FindsStreams timing.now link (first ∷ others.now) result }
+    first: Frame,
+    others: &[Frame],
+    seen: &Seen,
+    frame: Frame,
+) -> Result<(), StepFault>
+    requires { Tells seen.now others.now }
+    ensures { FindsFrame timing.now link (first ∷ others.now) frame result }
 {
     let _count = timing.streams();
-    let mut seen = Seen::none();
-    judge_stream(timing, link, &seen, first)?;
-    seen.add(first);
-    for stream in others {
-        judge_stream(timing, link, &seen, *stream)?;
-        seen.add(*stream);
+    if !is_on(timing, link, frame) {
+        return Err(StepFault::NotOnLink);
     }
-    Ok(seen)
-}
-
-/// Whether a stream, behind others, is one of these streams and none of the others. The streams stand behind a first one in a
-/// list of different ones, which the marks tell.
-fn judge_one(all: &Seen, first: usize, seen: &Seen, stream: usize) -> Result<(), StepFault>
-    ensures finds { FindsOne all.now first seen.now stream result }
-    ensures small { OnOk result (stream < 128) }
-{
-    if stream >= 128 || stream == first || !all.has(stream) {
-        Err(StepFault::NotThere)
-    } else if seen.has(stream) {
-        Err(StepFault::StreamRepeated)
-    } else {
-        Ok(())
+    if is_same(frame, first) {
+        return Err(StepFault::StreamRepeated);
     }
-}
-
-/// Whether some of the streams that stand behind the first one in a list of different ones, which the marks tell, are each
-/// among these once; else what is wrong with the first that isn't.
-pub fn judge_choice(all: &Seen, first: usize, some: &[usize]) -> Result<(), StepFault>
-    requires { 1 ≤ length some.now }
-    ensures { FindsChoice all.now first some.now result }
-{
-    let mut seen = Seen::none();
-    for stream in some {
-        judge_one(all, first, &seen, *stream)?;
-        seen.add(*stream);
+    if seen.has(others, frame) {
+        return Err(StepFault::StreamRepeated);
     }
     Ok(())
 }
 
-/// When a stream's frame starts on a link that it uses, counted from its offset, in nanoseconds.
-pub fn start_of(timing: &Timing, link: usize, stream: usize) -> i128
-    requires { UsesLink timing.now stream link }
-    ensures value { result ≡ pos (start_on timing.now stream link) }
-    ensures high { result ≤ℤ pos 1_000_000_000 }
+/// The frames behind the first, which are told by a mark each, if all are on the link and different; else what is wrong with
+/// the first that isn't right.
+pub fn judge_frames(
+    timing: &Timing,
+    link: usize,
+    first: Frame,
+    others: &[Frame],
+) -> Result<Seen, StepFault>
+    ensures { FindsFrames timing.now link first others.now result }
 {
-    let Some(hop) = timing.hop_on(stream, link) else {
-        unreachable!();
-    };
-    timing.start(stream, hop) as i128
+    let _count = timing.streams();
+    if !is_on(timing, link, first) {
+        return Err(StepFault::NotOnLink);
+    }
+    let mut seen = Seen::none();
+    for number in 0..others.len() {
+        let frame = others[number];
+        judge_frame(timing, link, first, &others[..number], &seen, frame)?;
+        seen.add(frame);
+    }
+    Ok(seen)
 }
 
-/// When a stream's occupancy of a link that it uses ends, counted from its offset, in nanoseconds.
-pub fn end_of(timing: &Timing, link: usize, stream: usize) -> i128
-    requires { UsesLink timing.now stream link }
-    ensures value { result ≡ pos (start_on timing.now stream link + occupancy timing.now stream link) }
+/// Whether a frame, behind others, is one of these frames and none of the others.
+fn judge_one(
+    frames: &[Frame],
+    all: &Seen,
+    before: &[Frame],
+    seen: &Seen,
+    frame: Frame,
+) -> Result<(), StepFault>
+    requires all { Tells all.now frames.now }
+    requires seen { Tells seen.now before.now }
+    ensures finds { FindsOne frames.now before.now frame result }
+    ensures small { OnOk result (frame.stream < 128) }
+{
+    if frame.stream >= 128 {
+        return Err(StepFault::NotThere);
+    }
+    if !all.has(frames, frame) {
+        return Err(StepFault::NotThere);
+    }
+    if seen.has(before, frame) {
+        return Err(StepFault::StreamRepeated);
+    }
+    Ok(())
+}
+
+/// Whether some of the frames, which are marked, are each among these once; else what is wrong with the first that isn't.
+pub fn judge_choice(frames: &[Frame], all: &Seen, some: &[Frame]) -> Result<(), StepFault>
+    requires some { 1 ≤ length some.now }
+    requires all { Tells all.now frames.now }
+    ensures { FindsChoice frames.now some.now result }
+{
+    let mut seen = Seen::none();
+    for number in 0..some.len() {
+        let frame = some[number];
+        judge_one(frames, all, &some[..number], &seen, frame)?;
+        seen.add(frame);
+    }
+    Ok(())
+}
+
+/// Whether the two are one frame.
+fn is_same(one: Frame, other: Frame) -> bool
+    ensures { MatchBool result (one ≡ other) (one ≡ other → ⊥) }
+{
+    one == other
+}
+
+/// When a frame starts on a link, counted from its stream's offset, in nanoseconds.
+pub fn begin_of(timing: &Timing, link: usize, frame: Frame) -> i128
+    requires { IsFrameOn timing.now link frame }
+    ensures value { result ≡ pos (begin_on timing.now link frame) }
     ensures high { result ≤ℤ pos 2_000_000_000 }
 {
-    let Some(hop) = timing.hop_on(stream, link) else {
+    // The limits of the network bound the shift.
+    let _cycle = timing.cycle();
+    let Some(hop) = timing.hop_on(frame.stream, link) else {
         unreachable!();
     };
-    (timing.start(stream, hop) + timing.occupancy(stream, hop)) as i128
+    (frame.shift + timing.start(frame.stream, hop)) as i128
 }
 
-/// The earliest start of a stream on a link that it uses, in nanoseconds.
-pub fn head(view: &View<'_>, link: usize, stream: usize) -> i128
+/// When a frame's occupancy of a link ends, counted from its stream's offset, in nanoseconds.
+pub fn end_of(timing: &Timing, link: usize, frame: Frame) -> i128
+    requires { IsFrameOn timing.now link frame }
+    ensures value { result ≡ pos (end_on timing.now link frame) }
+    ensures high { result ≤ℤ pos 2_000_000_000 }
+{
+    // The limits of the network bound the shift.
+    let _cycle = timing.cycle();
+    let Some(hop) = timing.hop_on(frame.stream, link) else {
+        unreachable!();
+    };
+    let begin = frame.shift + timing.start(frame.stream, hop);
+    (begin + timing.occupancy(frame.stream, hop)) as i128
+}
+
+/// The earliest start of a frame on a link, in nanoseconds.
+pub fn head(view: &View<'_>, link: usize, frame: Frame) -> i128
     requires sound { IsSound view.now }
     requires possible { view.now.crossed ≡ false }
-    requires uses { UsesLink view.now.timing.now stream link }
-    ensures value { result ≡ head_at view.now.timing.now (view_of view.now) link stream }
+    requires on { IsFrameOn view.now.timing.now link frame }
+    ensures value { result ≡ head_at view.now.timing.now (view_of view.now) link frame }
     ensures low { pos 0 ≤ℤ result }
     ensures high { result ≤ℤ pos 4_000_000_000 }
 {
     let _cycle = view.timing.cycle();
-    view.low.at(stream) + start_of(view.timing, link, stream)
+    view.low.at(frame.stream) + begin_of(view.timing, link, frame)
 }
 
-/// The latest end of a stream's occupancy of a link that it uses, in nanoseconds.
-pub fn end(view: &View<'_>, link: usize, stream: usize) -> i128
+/// The latest end of a frame's occupancy of a link, in nanoseconds.
+pub fn end(view: &View<'_>, link: usize, frame: Frame) -> i128
     requires sound { IsSound view.now }
     requires possible { view.now.crossed ≡ false }
-    requires uses { UsesLink view.now.timing.now stream link }
-    ensures value { result ≡ end_at view.now.timing.now (view_of view.now) link stream }
+    requires on { IsFrameOn view.now.timing.now link frame }
+    ensures value { result ≡ end_at view.now.timing.now (view_of view.now) link frame }
     ensures low { pos 0 ≤ℤ result }
     ensures high { result ≤ℤ pos 4_000_000_000 }
 {
     let _cycle = view.timing.cycle();
-    view.high.at(stream) + end_of(view.timing, link, stream)
+    view.high.at(frame.stream) + end_of(view.timing, link, frame)
 }
 
-/// Before this no stream of these starts on the link, in nanoseconds.
-pub fn first_head_with(view: &View<'_>, link: usize, first: usize, others: &[usize]) -> i128
+/// Before this no frame of these starts on the link, in nanoseconds.
+pub fn first_head_with(view: &View<'_>, link: usize, first: Frame, others: &[Frame]) -> i128
     requires sound { IsSound view.now }
     requires possible { view.now.crossed ≡ false }
-    requires on { All (λ i. UsesLink view.now.timing.now i link) (first ∷ others.now) }
+    requires on { All (IsFrameOn view.now.timing.now link) (first ∷ others.now) }
     ensures value { result ≡ first_head view.now.timing.now (view_of view.now) link (first ∷ others.now) }
     ensures low { pos 0 ≤ℤ result }
     ensures high { result ≤ℤ pos 4_000_000_000 }
 {
     let mut least = head(view, link, first);
-    for stream in others {
-        let next = head(view, link, *stream);
+    for frame in others {
+        let next = head(view, link, *frame);
         if next < least {
             least = next;
         }
@@ -143,18 +196,18 @@ pub fn first_head_with(view: &View<'_>, link: usize, first: usize, others: &[usi
     least
 }
 
-/// By this each of the streams is done with the link, in nanoseconds.
-pub fn last_end_with(view: &View<'_>, link: usize, first: usize, others: &[usize]) -> i128
+/// By this each of the frames is done with the link, in nanoseconds.
+pub fn last_end_with(view: &View<'_>, link: usize, first: Frame, others: &[Frame]) -> i128
     requires sound { IsSound view.now }
     requires possible { view.now.crossed ≡ false }
-    requires on { All (λ i. UsesLink view.now.timing.now i link) (first ∷ others.now) }
+    requires on { All (IsFrameOn view.now.timing.now link) (first ∷ others.now) }
     ensures value { result ≡ last_end view.now.timing.now (view_of view.now) link (first ∷ others.now) }
     ensures low { pos 0 ≤ℤ result }
     ensures high { result ≤ℤ pos 4_000_000_000 }
 {
     let mut most = end(view, link, first);
-    for stream in others {
-        let next = end(view, link, *stream);
+    for frame in others {
+        let next = end(view, link, *frame);
         if next > most {
             most = next;
         }
@@ -174,63 +227,63 @@ fn occupancy(timing: &Timing, link: usize, stream: usize) -> u64
     timing.occupancy(stream, hop)
 }
 
-/// How long the streams occupy the link, one after another, in nanoseconds.
-pub fn work_with(timing: &Timing, link: usize, first: usize, others: &[usize]) -> i128
-    requires on { All (λ i. UsesLink timing.now i link) (first ∷ others.now) }
-    requires few { length others.now ≤ 128 }
+/// How long the frames occupy the link, one after another, in nanoseconds.
+pub fn work_with(timing: &Timing, link: usize, first: Frame, others: &[Frame]) -> i128
+    requires on { All (IsFrameOn timing.now link) (first ∷ others.now) }
+    requires few { length others.now ≤ 1024 }
     ensures value { result ≡ pos (work_on timing.now link (first ∷ others.now)) }
     ensures low { pos 0 ≤ℤ result }
     ensures high { result ≤ℤ pos 1_000_000_000_000 }
 {
-    let mut work = occupancy(timing, link, first);
-    for stream in others {
-        work += occupancy(timing, link, *stream);
+    let mut work = occupancy(timing, link, first.stream);
+    for frame in others {
+        work += occupancy(timing, link, frame.stream);
     }
     work as i128
 }
 
-/// The same of streams without one that stands before them.
-pub fn first_head(view: &View<'_>, link: usize, streams: &[usize]) -> i128
+/// The same of frames without one that stands before them.
+pub fn first_head(view: &View<'_>, link: usize, frames: &[Frame]) -> i128
     requires sound { IsSound view.now }
     requires possible { view.now.crossed ≡ false }
-    requires some { 1 ≤ length streams.now }
-    requires on { All (λ i. UsesLink view.now.timing.now i link) streams.now }
-    ensures value { result ≡ first_head view.now.timing.now (view_of view.now) link streams.now }
+    requires some { 1 ≤ length frames.now }
+    requires on { All (IsFrameOn view.now.timing.now link) frames.now }
+    ensures value { result ≡ first_head view.now.timing.now (view_of view.now) link frames.now }
     ensures low { pos 0 ≤ℤ result }
     ensures high { result ≤ℤ pos 4_000_000_000 }
 {
-    let [first, others @ ..] = streams else {
+    let [first, others @ ..] = frames else {
         unreachable!();
     };
     first_head_with(view, link, *first, others)
 }
 
-/// The same of streams without one that stands before them.
-pub fn last_end(view: &View<'_>, link: usize, streams: &[usize]) -> i128
+/// The same of frames without one that stands before them.
+pub fn last_end(view: &View<'_>, link: usize, frames: &[Frame]) -> i128
     requires sound { IsSound view.now }
     requires possible { view.now.crossed ≡ false }
-    requires some { 1 ≤ length streams.now }
-    requires on { All (λ i. UsesLink view.now.timing.now i link) streams.now }
-    ensures value { result ≡ last_end view.now.timing.now (view_of view.now) link streams.now }
+    requires some { 1 ≤ length frames.now }
+    requires on { All (IsFrameOn view.now.timing.now link) frames.now }
+    ensures value { result ≡ last_end view.now.timing.now (view_of view.now) link frames.now }
     ensures low { pos 0 ≤ℤ result }
     ensures high { result ≤ℤ pos 4_000_000_000 }
 {
-    let [first, others @ ..] = streams else {
+    let [first, others @ ..] = frames else {
         unreachable!();
     };
     last_end_with(view, link, *first, others)
 }
 
-/// The same of streams without one that stands before them.
-pub fn work(timing: &Timing, link: usize, streams: &[usize]) -> i128
-    requires some { 1 ≤ length streams.now }
-    requires few { length streams.now ≤ 128 }
-    requires on { All (λ i. UsesLink timing.now i link) streams.now }
-    ensures value { result ≡ pos (work_on timing.now link streams.now) }
+/// The same of frames without one that stands before them.
+pub fn work(timing: &Timing, link: usize, frames: &[Frame]) -> i128
+    requires some { 1 ≤ length frames.now }
+    requires few { length frames.now ≤ 1024 }
+    requires on { All (IsFrameOn timing.now link) frames.now }
+    ensures value { result ≡ pos (work_on timing.now link frames.now) }
     ensures low { pos 0 ≤ℤ result }
     ensures high { result ≤ℤ pos 1_000_000_000_000 }
 {
-    let [first, others @ ..] = streams else {
+    let [first, others @ ..] = frames else {
         unreachable!();
     };
     work_with(timing, link, *first, others)

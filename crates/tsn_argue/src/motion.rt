@@ -1,22 +1,21 @@
 //! Whether a move may be made on a view, and what it shows.
-ghost use Rattle.std.specs.Prelude.{◌≡◌, ◌≤◌, [], ◌∷◌, List, length, map, false, All};
-ghost use Rattle.tsn_model.specs.Argument.{Fact as ModelFact, IsFact, go, turn, apply, arrive, put_last, put_first, pack, round, refuting};
+ghost use Rattle.std.specs.Prelude.{◌≡◌, ◌≤◌, [], ◌∷◌, List, length, map, false, All, MatchBool};
+ghost use Rattle.tsn_model.specs.Argument.{Fact as ModelFact, IsFact, go, turn, apply, arrive, put_last, put_first, pack, round, follow, refuting, AsksNoMore};
 ghost use Rattle.tsn_argument.specs.Meaning.{decision_of, clause_of, move_of};
 ghost use Rattle.tsn_argue.specs.State.{view_of, IsSound};
 ghost use Rattle.tsn_argue.specs.News.{news_of};
 ghost use Rattle.tsn_argue.specs.Motion.{facts_of, clauses_of, AreFacts, JudgesMove, FindsUnit, FindsPlacing, FindsRound, FindsArc};
 
-use crate::decided::is_conflict;
 use crate::fault::StepFault;
 use crate::link::{
-    end_of, first_head, first_head_with, judge_choice, judge_streams, last_end, last_end_with,
-    start_of, work, work_with,
+    begin_of, end_of, first_head, first_head_with, judge_choice, judge_frames, last_end,
+    last_end_with, work, work_with,
 };
 use crate::news::{News, turned};
 use crate::view::View;
 use tsn_argument::{Clause, Fact, Move, Order, Placing};
-use tsn_model::{Arc, Decision};
-use tsn_timing::arc_of;
+use tsn_model::{Arc, Decision, Frame};
+use tsn_timing::{arc_of, is_conflict};
 
 /// What a move shows: one fact, or two.
 #[derive(Clone, Copy)]
@@ -50,8 +49,9 @@ pub fn judge(view: &View<'_>, clauses: &[&Clause], motion: &Move) -> Result<Show
         Move::Arrive(stream) => judge_arrive(view, *stream),
         Move::Last(placing) => judge_last(view, placing),
         Move::First(placing) => judge_first(view, placing),
-        Move::Pack(link, streams) => judge_pack(view, *link, streams.list()),
+        Move::Pack(link, frames) => judge_pack(view, *link, frames.list()),
         Move::Round(orders) => judge_round(view, orders.list()),
+        Move::Follow(known, weaker) => judge_follow(view, known.decision(), weaker.decision()),
     }
 }
 
@@ -150,75 +150,71 @@ fn judge_arrive(view: &View<'_>, stream: usize) -> Result<Shown, StepFault>
     })
 }
 
-/// Whether the streams of a placing are right, whatever it comes to.
+/// Whether the frames of a placing are right, whatever it comes to.
 fn judge_placed(view: &View<'_>, placing: &Placing) -> Result<(), StepFault>
     ensures { FindsPlacing view.now.timing.now placing.now result }
 {
-    let all = judge_streams(
-        view.timing,
-        placing.link,
-        placing.stream,
-        placing.others.list(),
-    )?;
-    judge_choice(&all, placing.stream, placing.some.list())
+    let others = placing.others.list();
+    let all = judge_frames(view.timing, placing.link, placing.frame, others)?;
+    judge_choice(others, &all, placing.some.list())
 }
 
-/// The stream goes last, since the others can't all be done before what they need together.
+/// The frame goes last, since the others can't all be done before what they need together.
 fn judge_last(view: &View<'_>, placing: &Placing) -> Result<Shown, StepFault>
     requires sound { IsSound view.now }
     requires possible { view.now.crossed ≡ false }
     ensures { (clauses : List (List ModelFact)) → JudgesMove view.now.timing.now clauses (view_of view.now)
-        (put_last placing.now.link placing.now.stream placing.now.others placing.now.some) result }
+        (put_last placing.now.link placing.now.frame placing.now.others placing.now.some) result }
 {
     judge_placed(view, placing)?;
-    let Placing { link, stream, .. } = *placing;
+    let Placing { link, frame, .. } = *placing;
     let others = placing.others.list();
     let end = last_end(view, link, others);
-    let start = first_head_with(view, link, stream, others);
-    if end >= start + work_with(view.timing, link, stream, others) {
+    let start = first_head_with(view, link, frame, others);
+    if end >= start + work_with(view.timing, link, frame, others) {
         return Err(StepFault::Fails);
     }
     let some = placing.some.list();
     let free = first_head(view, link, some) + work(view.timing, link, some);
-    let before = start_of(view.timing, link, stream);
-    Ok(Shown::one(News::From(stream, free - before)))
+    let before = begin_of(view.timing, link, frame);
+    Ok(Shown::one(News::From(frame.stream, free - before)))
 }
 
-/// The stream goes first, since the others can't all begin so late that it fits behind one of them.
+/// The frame goes first, since the others can't all begin so late that it fits behind one of them.
 fn judge_first(view: &View<'_>, placing: &Placing) -> Result<Shown, StepFault>
     requires sound { IsSound view.now }
     requires possible { view.now.crossed ≡ false }
     ensures { (clauses : List (List ModelFact)) → JudgesMove view.now.timing.now clauses (view_of view.now)
-        (put_first placing.now.link placing.now.stream placing.now.others placing.now.some) result }
+        (put_first placing.now.link placing.now.frame placing.now.others placing.now.some) result }
 {
     judge_placed(view, placing)?;
-    let Placing { link, stream, .. } = *placing;
+    let Placing { link, frame, .. } = *placing;
     let others = placing.others.list();
-    let end = last_end_with(view, link, stream, others);
+    let end = last_end_with(view, link, frame, others);
     let start = first_head(view, link, others);
-    if end >= start + work_with(view.timing, link, stream, others) {
+    if end >= start + work_with(view.timing, link, frame, others) {
         return Err(StepFault::Fails);
     }
     let some = placing.some.list();
     let needed = last_end(view, link, some) - work(view.timing, link, some);
-    let until = end_of(view.timing, link, stream);
-    Ok(Shown::one(News::Until(stream, needed - until)))
+    let until = end_of(view.timing, link, frame);
+    Ok(Shown::one(News::Until(frame.stream, needed - until)))
 }
 
-/// Whether the streams have no room on the link.
-fn judge_pack(view: &View<'_>, link: usize, streams: &[usize]) -> Result<Shown, StepFault>
+/// Whether the frames have no room on the link.
+fn judge_pack(view: &View<'_>, link: usize, frames: &[Frame]) -> Result<Shown, StepFault>
     requires sound { IsSound view.now }
     requires possible { view.now.crossed ≡ false }
-    requires some { 1 ≤ length streams.now }
-    requires few { length streams.now ≤ 128 }
-    ensures { (clauses : List (List ModelFact)) → JudgesMove view.now.timing.now clauses (view_of view.now) (pack link streams.now) result }
+    requires some { 1 ≤ length frames.now }
+    requires few { length frames.now ≤ 1024 }
+    ensures { (clauses : List (List ModelFact)) → JudgesMove view.now.timing.now clauses (view_of view.now) (pack link frames.now) result }
 {
-    let [first, others @ ..] = streams else {
+    let [first, others @ ..] = frames else {
         unreachable!();
     };
-    judge_streams(view.timing, link, *first, others)?;
-    let end = last_end(view, link, streams);
-    if end < first_head(view, link, streams) + work(view.timing, link, streams) {
+    judge_frames(view.timing, link, *first, others)?;
+    let end = last_end(view, link, frames);
+    if end < first_head(view, link, frames) + work(view.timing, link, frames) {
         Ok(Shown::one(refuting(view)))
     } else {
         Err(StepFault::Fails)
@@ -262,6 +258,31 @@ fn weight_round(view: &View<'_>, orders: &[Order]) -> Option<i64>
         weight += arc.weight;
     }
     if at == start { Some(weight) } else { None }
+}
+
+/// By the arc of a decision of the view, which asks for no less than that of the other one does between the same streams.
+fn judge_follow(view: &View<'_>, known: Decision, weaker: Decision) -> Result<Shown, StepFault>
+    requires sound { IsSound view.now }
+    ensures { (clauses : List (List ModelFact)) → JudgesMove view.now.timing.now clauses (view_of view.now) (follow known weaker) result }
+{
+    let Some(arc) = arc_in(view, known) else {
+        return Err(StepFault::NotThere);
+    };
+    if !is_conflict(view.timing, weaker.triple) {
+        return Err(StepFault::NotConflict);
+    }
+    if asks_no_more(arc_of(view.timing, weaker), arc) {
+        Ok(Shown::one(News::Order(weaker)))
+    } else {
+        Err(StepFault::Fails)
+    }
+}
+
+/// Whether an arc asks for no more than another one between the same streams.
+fn asks_no_more(arc: Arc, other: Arc) -> bool
+    ensures { MatchBool result (AsksNoMore arc other) (AsksNoMore arc other → ⊥) }
+{
+    arc.from == other.from && arc.to == other.to && arc.weight <= other.weight
 }
 
 /// The arc of a decision that the view has.

@@ -9,7 +9,6 @@ ghost use Rattle.tsn_argue.specs.Motion.{clauses_of, facts_of, AreFacts};
 ghost use Rattle.tsn_argue.specs.Steps.{goal_of, IsAim, IsReady, IsFirst, capped_view, JudgesFact, JudgesFacts, TakesMove, TakesMoves, ShowsStep, TakesStep, KeepsClause, Reaches};
 
 use crate::aim::{Aim, Stop};
-use crate::decided::is_conflict;
 use crate::fault::StepFault;
 use crate::motion::{Shown, judge};
 use crate::news::News;
@@ -18,7 +17,7 @@ use std::alloc::{AllocError, Global};
 use tsn_argument::{Clause, Fact, Move, Step};
 use tsn_check::CheckFault;
 use tsn_model::NoMemory;
-use tsn_timing::Timing;
+use tsn_timing::{Timing, is_conflict};
 
 /// What is known between two steps: the view, which is the ground, and the clauses that were shown.
 #[derive(Drop)]

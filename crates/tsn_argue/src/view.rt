@@ -3,7 +3,8 @@ ghost use Rattle.std.specs.Prelude.{◌≡◌, ◌⊎◌, ◌<◌, ◌≤ℤ◌,
 ghost use Rattle.std.specs.List.{range_with_len};
 ghost use Rattle.tsn_model.specs.Network.{stream_count, release_of};
 ghost use Rattle.tsn_argue.specs.Steps.{goal_of, IsAim, IsFirstView, AreCrossed};
-ghost use Rattle.tsn_model.specs.Argument.{from, until, order, done_from, done_until, IsFact, contradicts, learned, greatest_flowspan, latest_offset};
+ghost use Rattle.tsn_model.specs.Argument.{from, until, order, done_from, done_until, IsFact, contradicts, learned, greatest_flowspan};
+ghost use Rattle.tsn_model.specs.Schedule.{latest_offset};
 ghost use Rattle.tsn_argue.specs.State.{view_of, base_of, IsSound, Becomes};
 ghost use Rattle.tsn_argue.specs.News.{news_of};
 
@@ -216,12 +217,12 @@ fn releases(alloc: Global, timing: &Timing) -> Result<Vec<i128>, AllocError>
 {
     let mut list = Vec::with_capacity(alloc, timing.streams())?;
     for stream in 0..timing.streams() {
-        list.push(timing.release(stream) as i128)?;
+        list.push(timing.window(stream).least as i128)?;
     }
     Ok(list)
 }
 
-/// The latest offset of each stream that is done within the cycle and arrives in time, in nanoseconds.
+/// The latest offset of each stream that is done within its period and arrives in time, in nanoseconds.
 fn latest_offsets(alloc: Global, timing: &Timing) -> Result<Vec<i128>, AllocError>
     ensures { IfOk result (λ v. v.items ≡ map (latest_offset timing.now) (range_with_len 0 (stream_count timing.now))) }
 {
@@ -232,14 +233,11 @@ fn latest_offsets(alloc: Global, timing: &Timing) -> Result<Vec<i128>, AllocErro
     Ok(list)
 }
 
-#[tactic(auto, unfolding(tsn_model::specs::Argument::latest_offset))]
 fn latest_offset(timing: &Timing, stream: usize) -> i128
     requires { stream < stream_count timing.now }
     ensures { result ≡ latest_offset timing.now stream }
 {
-    let ends = timing.cycle() as i128 - timing.span(stream) as i128;
-    let arrives = timing.latest(stream) as i128 - timing.arrival(stream) as i128;
-    if ends <= arrives { ends } else { arrives }
+    timing.window(stream).greatest as i128
 }
 
 /// Whether some least number is above the greatest one.

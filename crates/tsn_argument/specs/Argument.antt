@@ -1,13 +1,15 @@
--- The argument file: `{"format":3,"goal":"..","steps":[..],"target":T}`, each step a clause and moves.
+-- The argument file: `{"format":3,"goal":"..","steps":[..],"target":T}`, each step a clause and moves. A lag or a shift of 0 is left out, and has no other spelling.
 use Rattle.std.specs.Prelude.{ℕ, List, [], ◌∷◌, length, map, Bool, if◌then◌else◌, ◌&&◌, ◌==◌, nat_le, codes, Option, Some, None, option_map, Result}
 use Rattle.std.specs.List.{list_all}
+use Rattle.std.specs.Option.{option_or}
 use Rattle.std.specs.Str.{bytes_eq}
 use Rattle.serde_json.specs.Data.{Data, string, object, no_members, member}
 use Rattle.serde_json.specs.Find.{get, as_str}
-use Rattle.tsn_cert.specs.Json.{◌>>=◌, when, value_of, file_text, whole_number, numbers, elements, each, is_object_of, all_within, number_value, array_value}
+use Rattle.tsn_cert.specs.Json.{◌>>=◌, when, value_of, file_text, whole_number, elements, each, is_object_of, number_value, array_value}
+use Rattle.tsn_model.specs.declared.Frame.{Frame}
 use Rattle.tsn_cert.specs.Fault.{answer}
 use Rattle.tsn_cert.specs.Plan.{max_time}
-use Rattle.tsn_cert.specs.Cert.{max_number}
+use Rattle.tsn_cert.specs.Cert.{lag_parts, frame_parts, first_frame, max_number, lag_fits, frame_fits, lag_items}
 use Rattle.tsn_cert.specs.declared.fault.FileFault.{FileFault}
 use Rattle.tsn_argument.specs.declared.order.Order.{Order}
 use Rattle.tsn_argument.specs.declared.fact.Fact.{Fact}
@@ -22,13 +24,14 @@ use Rattle.tsn_argument.specs.declared.argument.Argument.{Argument}
 
 -- ---- the grammar
 
--- two streams and a link
+-- two streams, a link and a lag
 abbrev pub order_parts : List Data → Option Order
-order_parts (first ∷ second ∷ link ∷ []) = do
+order_parts (first ∷ second ∷ link ∷ lag) = do
   i ← whole_number first
   j ← whole_number second
   l ← whole_number link
-  Some (record { first = i; second = j; link = l })
+  z ← lag_parts lag
+  Some (record { first = i; second = j; link = l; lag = z })
 order_parts _ = None
 
 -- a stream and a time
@@ -71,15 +74,30 @@ clause_in d = do
   ds ← elements d
   each fact_in ds
 
--- the most streams or orders of a move
-abbrev pub max_listed : ℕ
-max_listed = 128
+abbrev pub frame_pair : List Data → Option Frame
+frame_pair (stream ∷ shift ∷ []) = frame_parts stream shift
+frame_pair _ = None
 
--- an array of 1 to 128 streams
-abbrev pub streams_of : Data → Option (List ℕ)
-streams_of d = do
-  streams ← numbers d
-  when (nat_le 1 (length streams) && nat_le (length streams) max_listed) (Some streams)
+-- a stream, whose shift is 0, or a stream and a shift
+abbrev pub frame_in : Data → Option Frame
+frame_in d = option_or (option_map first_frame (whole_number d)) (do
+  ds ← elements d
+  frame_pair ds)
+
+abbrev pub frame_list : Data → Option (List Frame)
+frame_list d = do
+  ds ← elements d
+  each frame_in ds
+
+-- the most frames of a move
+abbrev pub max_frames : ℕ
+max_frames = 1024
+
+-- an array of 1 to 1,024 frames
+abbrev pub frames_of : Data → Option (List Frame)
+frames_of d = do
+  frames ← frame_list d
+  when (nat_le 1 (length frames) && nat_le (length frames) max_frames) (Some frames)
 
 abbrev pub order_in : Data → Option Order
 order_in d = do
@@ -91,28 +109,32 @@ order_list d = do
   ds ← elements d
   each order_in ds
 
+-- the most orders of a move
+abbrev pub max_orders : ℕ
+max_orders = 128
+
 -- an array of 1 to 128 orders
 abbrev pub orders_of : Data → Option (List Order)
 orders_of d = do
   orders ← order_list d
-  when (nat_le 1 (length orders) && nat_le (length orders) max_listed) (Some orders)
+  when (nat_le 1 (length orders) && nat_le (length orders) max_orders) (Some orders)
 
--- a link, a stream, others and some of these
+-- a link, a frame, others and some of these
 abbrev pub placing_parts : List Data → Option Placing
-placing_parts (link ∷ stream ∷ others ∷ some ∷ []) = do
+placing_parts (link ∷ frame ∷ others ∷ some ∷ []) = do
   l ← whole_number link
-  j ← whole_number stream
-  os ← streams_of others
-  ss ← streams_of some
-  Some (record { link = l; stream = j; others = os; some = ss })
+  f ← frame_in frame
+  os ← frames_of others
+  ss ← frames_of some
+  Some (record { link = l; frame = f; others = os; some = ss })
 placing_parts _ = None
 
--- a link and streams
-abbrev pub pack_parts : List Data → Option (ℕ × List ℕ)
-pack_parts (link ∷ streams ∷ []) = do
+-- a link and frames
+abbrev pub pack_parts : List Data → Option (ℕ × List Frame)
+pack_parts (link ∷ frames ∷ []) = do
   l ← whole_number link
-  ss ← streams_of streams
-  Some (l, ss)
+  fs ← frames_of frames
+  Some (l, fs)
 pack_parts _ = None
 
 -- orders alone
@@ -120,14 +142,23 @@ abbrev pub round_parts : List Data → Option (List Order)
 round_parts (orders ∷ []) = orders_of orders
 round_parts _ = None
 
--- what stands behind the word of a move of several streams
+-- two orders
+abbrev pub follow_parts : List Data → Option (Order × Order)
+follow_parts (known ∷ weaker ∷ []) = do
+  k ← order_in known
+  w ← order_in weaker
+  Some (k, w)
+follow_parts _ = None
+
+-- what stands behind the word of a move of several frames or orders
 abbrev pub wide_move_parts : List ℕ → List Data → Option Move
 wide_move_parts word ds =
     if bytes_eq word (codes "last") then option_map form.Last (placing_parts ds)
     else (if bytes_eq word (codes "first") then option_map form.First (placing_parts ds)
     else (if bytes_eq word (codes "pack") then option_map (λ p. form.Pack p.0 p.1) (pack_parts ds)
     else (if bytes_eq word (codes "round") then option_map form.Round (round_parts ds)
-    else None)))
+    else (if bytes_eq word (codes "follow") then option_map (λ p. form.Follow p.0 p.1) (follow_parts ds)
+    else None))))
 
 -- what stands behind the word of a move
 abbrev pub move_parts : List ℕ → List Data → Option Move
@@ -204,7 +235,7 @@ argument_of d = when (is_object_of 4 d) (do
 -- ---- the limits
 
 abbrev pub order_fits : Order → Bool
-order_fits o = nat_le o.first max_number && nat_le o.second max_number && nat_le o.link max_number
+order_fits o = nat_le o.first max_number && nat_le o.second max_number && nat_le o.link max_number && lag_fits o.lag
 
 abbrev pub fact_fits : Fact → Bool
 fact_fits (fact.From stream time) = nat_le stream max_number && nat_le time max_time
@@ -214,7 +245,7 @@ fact_fits (fact.DoneFrom time) = nat_le time max_time
 fact_fits (fact.DoneUntil time) = nat_le time max_time
 
 abbrev pub placing_fits : Placing → Bool
-placing_fits p = nat_le p.link max_number && nat_le p.stream max_number && all_within max_number p.others && all_within max_number p.some
+placing_fits p = nat_le p.link max_number && frame_fits p.frame && list_all frame_fits p.others && list_all frame_fits p.some
 
 abbrev pub move_fits : Move → Bool
 move_fits (form.Go order) = order_fits order
@@ -223,13 +254,14 @@ move_fits (form.Use number) = nat_le number max_number
 move_fits (form.Arrive stream) = nat_le stream max_number
 move_fits (form.Last placing) = placing_fits placing
 move_fits (form.First placing) = placing_fits placing
-move_fits (form.Pack link streams) = nat_le link max_number && all_within max_number streams
+move_fits (form.Pack link frames) = nat_le link max_number && list_all frame_fits frames
 move_fits (form.Round orders) = list_all order_fits orders
+move_fits (form.Follow known weaker) = order_fits known && order_fits weaker
 
 abbrev pub step_fits : Step → Bool
 step_fits step = list_all fact_fits step.clause && list_all move_fits step.moves
 
--- no number of the file is above its limit
+-- each number of the file is within its limit
 abbrev pub argument_fits : Argument → Bool
 argument_fits a = nat_le a.target max_time && list_all step_fits a.steps
 
@@ -240,7 +272,7 @@ argument_in bytes = answer argument_of argument_fits (value_of bytes)
 -- ---- the printed form
 
 abbrev pub order_items : Order → List Data
-order_items o = number_value o.first ∷ number_value o.second ∷ number_value o.link ∷ []
+order_items o = number_value o.first ∷ number_value o.second ∷ number_value o.link ∷ lag_items o.lag
 
 abbrev pub order_value : Order → Data
 order_value order = array_value (order_items order)
@@ -248,8 +280,11 @@ order_value order = array_value (order_items order)
 abbrev pub orders_value : List Order → Data
 orders_value orders = array_value (map order_value orders)
 
-abbrev pub streams_value : List ℕ → Data
-streams_value streams = array_value (map number_value streams)
+abbrev pub frame_value : Frame → Data
+frame_value f = if f.shift == 0 then number_value f.stream else array_value (number_value f.stream ∷ number_value f.shift ∷ [])
+
+abbrev pub frames_value : List Frame → Data
+frames_value frames = array_value (map frame_value frames)
 
 -- a word, and what stands behind it
 abbrev pub worded_value : List ℕ → List Data → Data
@@ -266,7 +301,7 @@ abbrev pub clause_value : List Fact → Data
 clause_value clause = array_value (map fact_value clause)
 
 abbrev pub placing_items : Placing → List Data
-placing_items p = number_value p.link ∷ number_value p.stream ∷ streams_value p.others ∷ streams_value p.some ∷ []
+placing_items p = number_value p.link ∷ frame_value p.frame ∷ frames_value p.others ∷ frames_value p.some ∷ []
 
 abbrev pub move_value : Move → Data
 move_value (form.Go order) = worded_value (codes "go") (order_items order)
@@ -275,8 +310,9 @@ move_value (form.Use number) = worded_value (codes "use") (number_value number �
 move_value (form.Arrive stream) = worded_value (codes "arrive") (number_value stream ∷ [])
 move_value (form.Last placing) = worded_value (codes "last") (placing_items placing)
 move_value (form.First placing) = worded_value (codes "first") (placing_items placing)
-move_value (form.Pack link streams) = worded_value (codes "pack") (number_value link ∷ streams_value streams ∷ [])
+move_value (form.Pack link frames) = worded_value (codes "pack") (number_value link ∷ frames_value frames ∷ [])
 move_value (form.Round orders) = worded_value (codes "round") (orders_value orders ∷ [])
+move_value (form.Follow known weaker) = worded_value (codes "follow") (order_value known ∷ order_value weaker ∷ [])
 
 abbrev pub moves_value : List Move → Data
 moves_value moves = array_value (map move_value moves)

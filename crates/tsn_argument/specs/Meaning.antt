@@ -14,11 +14,11 @@ use Rattle.tsn_argument.specs.declared.motion.Move.{Move}
 use Rattle.tsn_argument.specs.declared.motion.Move.TheVariants as form
 use Rattle.tsn_argument.specs.declared.step.Step.{Step}
 
--- the first stream goes before the second: on the left is the one of the lesser number
+-- the first stream goes before the second: on the left is the one of the lesser number, and the lag is the right one's less the left one's
 abbrev pub decision_of : Order → Decision
 decision_of order =
-    if nat_le order.first order.second then record { triple = record { left = order.first; right = order.second; link = order.link }; side = Left }
-    else record { triple = record { left = order.second; right = order.first; link = order.link }; side = Right }
+    if nat_le order.first order.second then record { triple = record { left = order.first; right = order.second; link = order.link; lag = order.lag }; side = Left }
+    else record { triple = record { left = order.second; right = order.first; link = order.link; lag = order.lag }; side = Right }
 
 abbrev pub fact_of : Fact → model.Fact
 fact_of (fact.From i v) = model.from i (pos v)
@@ -35,10 +35,11 @@ move_of (form.Go order) = model.go (decision_of order)
 move_of (form.Turn order) = model.turn (decision_of order)
 move_of (form.Use k) = model.apply k
 move_of (form.Arrive i) = model.arrive i
-move_of (form.Last placing) = model.put_last placing.link placing.stream placing.others placing.some
-move_of (form.First placing) = model.put_first placing.link placing.stream placing.others placing.some
-move_of (form.Pack link streams) = model.pack link streams
+move_of (form.Last placing) = model.put_last placing.link placing.frame placing.others placing.some
+move_of (form.First placing) = model.put_first placing.link placing.frame placing.others placing.some
+move_of (form.Pack link frames) = model.pack link frames
 move_of (form.Round orders) = model.round (map decision_of orders)
+move_of (form.Follow known weaker) = model.follow (decision_of known) (decision_of weaker)
 
 abbrev pub step_of : Step → model.Step
 step_of step = record { clause = clause_of step.clause; moves = map move_of step.moves }

@@ -14,4 +14,4 @@ pub use certificate::Certificate;
 pub use fact::{Clause, Fact};
 pub use motion::{Move, Moves, Placing};
 pub use order::{Order, Orders};
-pub use step::{Step, Steps, Streams};
+pub use step::{Frames, Step, Steps};

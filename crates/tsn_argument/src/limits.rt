@@ -1,10 +1,9 @@
-//! Whether each number of an argument is within its limit; and that each part of one has a form in a file, since lists of streams and
+//! Whether each number of an argument is within its limit; and that each part of one has a form in a file, since lists of frames and
 //! of orders have no other lengths than there.
 ghost use Rattle.std.specs.Prelude.{◌≡◌, ◌&&◌, Some};
 ghost use Rattle.std.specs.List.{list_all};
-ghost use Rattle.tsn_cert.specs.Json.{all_within};
-ghost use Rattle.tsn_cert.specs.Cert.{max_number};
-ghost use Rattle.tsn_argument.specs.Argument.{order_fits, fact_fits, placing_fits, move_fits, step_fits, argument_fits, streams_of, streams_value, orders_of, orders_value, placing_parts, placing_items, move_in, move_value, moves_in, moves_value, step_in, step_value, steps_in, steps_value};
+ghost use Rattle.tsn_cert.specs.Cert.{frame_fits};
+ghost use Rattle.tsn_argument.specs.Argument.{order_fits, fact_fits, placing_fits, move_fits, step_fits, argument_fits, order_parts, order_items, order_list, fact_in, fact_value, clause_in, clause_value, frames_of, frames_value, orders_of, orders_value, placing_parts, placing_items, move_in, move_value, moves_in, moves_value, step_in, step_value, steps_in, steps_value};
 ghost use Rattle.tsn_argument.specs.Laws.{IsArgumentInGrammar};
 ghost use Rattle.tsn_argument.specs.declared.motion.Move.TheVariants as form;
 
@@ -12,14 +11,18 @@ use crate::argument::Argument;
 use crate::fact::Fact;
 use crate::motion::{Move, Placing};
 use crate::order::{Order, Orders};
-use crate::step::{Step, Streams};
+use crate::step::{Frames, Step};
 use tsn_cert::chain::MAX_NUMBER;
+use tsn_cert::limits;
 use tsn_cert::plan::MAX_TIME;
 
+#[tactic(auto, using(crate::proofs::Parts::order_back))]
 fn order_fits(order: &Order) -> bool
-    ensures { result ≡ order_fits order.now }
+    ensures fits { result ≡ order_fits order.now }
+    ensures grammar { order_parts (order_items order.now) ≡ Some order.now }
 {
-    order.first <= MAX_NUMBER && order.second <= MAX_NUMBER && order.link <= MAX_NUMBER
+    let lag = limits::lag_fits(order.lag);
+    order.first <= MAX_NUMBER && order.second <= MAX_NUMBER && order.link <= MAX_NUMBER && lag
 }
 
 fn both(first: bool, second: bool) -> bool
@@ -28,15 +31,28 @@ fn both(first: bool, second: bool) -> bool
     first && second
 }
 
+fn order_list_fits(orders: &[Order]) -> bool
+    ensures fits { result ≡ list_all order_fits orders.now }
+    ensures grammar { order_list (orders_value orders.now) ≡ Some orders.now }
+{
+    let mut all = true;
+    for order in orders {
+        all = both(all, order_fits(order));
+    }
+    all
+}
+
 fn orders_fit(orders: &Orders) -> bool
     ensures fits { result ≡ list_all order_fits orders.now }
     ensures grammar { orders_of (orders_value orders.now) ≡ Some orders.now }
 {
-    orders.list().iter().all(|order| order_fits(order))
+    order_list_fits(orders.list())
 }
 
+#[tactic(auto, using(crate::proofs::Parts::order_fact_back))]
 fn fact_fits(fact: &Fact) -> bool
-    ensures { result ≡ fact_fits fact.now }
+    ensures fits { result ≡ fact_fits fact.now }
+    ensures grammar { fact_in (fact_value fact.now) ≡ Some fact.now }
 {
     match fact {
         Fact::From(stream, time) => *stream <= MAX_NUMBER && *time <= MAX_TIME,
@@ -48,36 +64,50 @@ fn fact_fits(fact: &Fact) -> bool
 }
 
 fn facts_fit(facts: &[Fact]) -> bool
-    ensures { result ≡ list_all fact_fits facts.now }
+    ensures fits { result ≡ list_all fact_fits facts.now }
+    ensures grammar { clause_in (clause_value facts.now) ≡ Some facts.now }
 {
-    facts.iter().all(|fact| fact_fits(fact))
+    let mut all = true;
+    for fact in facts {
+        all = both(all, fact_fits(fact));
+    }
+    all
 }
 
-fn streams_fit(streams: &Streams) -> bool
-    ensures fits { result ≡ all_within max_number streams.now }
-    ensures grammar { streams_of (streams_value streams.now) ≡ Some streams.now }
+fn frames_fit(frames: &Frames) -> bool
+    ensures fits { result ≡ list_all frame_fits frames.now }
+    ensures grammar { frames_of (frames_value frames.now) ≡ Some frames.now }
 {
-    streams.list().iter().all(|stream| *stream <= MAX_NUMBER)
+    frames.list().iter().all(|frame| limits::frame_fits(*frame))
 }
 
 fn placing_fits(placing: &Placing) -> bool
     ensures fits { result ≡ placing_fits placing.now }
     ensures grammar { placing_parts (placing_items placing.now) ≡ Some placing.now }
 {
-    let others = streams_fit(&placing.others);
-    let some = streams_fit(&placing.some);
-    placing.link <= MAX_NUMBER && placing.stream <= MAX_NUMBER && others && some
+    let others = frames_fit(&placing.others);
+    let some = frames_fit(&placing.some);
+    placing.link <= MAX_NUMBER && limits::frame_fits(placing.frame) && others && some
 }
 
-fn pack_fits(link: usize, streams: &Streams) -> bool
-    ensures fits { result ≡ move_fits (form.Pack link streams.now) }
-    ensures grammar { move_in (move_value (form.Pack link streams.now)) ≡ Some (form.Pack link streams.now) }
+fn pack_fits(link: usize, frames: &Frames) -> bool
+    ensures fits { result ≡ move_fits (form.Pack link frames.now) }
+    ensures grammar { move_in (move_value (form.Pack link frames.now)) ≡ Some (form.Pack link frames.now) }
 {
-    let fits = streams_fit(streams);
+    let fits = frames_fit(frames);
     link <= MAX_NUMBER && fits
 }
 
-#[tactic(auto, using(crate::proofs::Parts::last_back, crate::proofs::Parts::first_back, crate::proofs::Parts::round_back))]
+#[tactic(auto, using(crate::proofs::Parts::listed_order_back, crate::proofs::Parts::follow_back))]
+fn follow_fits(known: &Order, weaker: &Order) -> bool
+    ensures fits { result ≡ move_fits (form.Follow known.now weaker.now) }
+    ensures grammar { move_in (move_value (form.Follow known.now weaker.now)) ≡ Some (form.Follow known.now weaker.now) }
+{
+    let fits = order_fits(weaker);
+    order_fits(known) && fits
+}
+
+#[tactic(auto, using(crate::proofs::Parts::go_back, crate::proofs::Parts::turn_back, crate::proofs::Parts::last_back, crate::proofs::Parts::first_back, crate::proofs::Parts::round_back))]
 fn move_fits(motion: &Move) -> bool
     ensures fits { result ≡ move_fits motion.now }
     ensures grammar { move_in (move_value motion.now) ≡ Some motion.now }
@@ -89,8 +119,9 @@ fn move_fits(motion: &Move) -> bool
         Move::Arrive(stream) => *stream <= MAX_NUMBER,
         Move::Last(placing) => placing_fits(placing),
         Move::First(placing) => placing_fits(placing),
-        Move::Pack(link, streams) => pack_fits(*link, streams),
+        Move::Pack(link, frames) => pack_fits(*link, frames),
         Move::Round(orders) => orders_fit(orders),
+        Move::Follow(known, weaker) => follow_fits(known, weaker),
     }
 }
 
@@ -110,7 +141,8 @@ fn step_fits(step: &Step) -> bool
     ensures grammar { step_in (step_value step.now) ≡ Some step.now }
 {
     let moves = moves_fit(step.moves.list());
-    facts_fit(step.clause.list()) && moves
+    let clause = facts_fit(step.clause.list());
+    both(clause, moves)
 }
 
 fn steps_fit(steps: &[Step]) -> bool

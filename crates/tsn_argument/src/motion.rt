@@ -1,17 +1,18 @@
 ghost use Rattle.std.specs.Prelude.{◌≡◌};
 
 use crate::order::{Order, Orders};
-use crate::step::Streams;
+use crate::step::Frames;
 use std::marker::Model;
+use tsn_model::Frame;
 
-/// That a stream goes last or first on a link, of itself and others, and by which of the others its offset is bounded.
+/// That a frame goes last or first on a link, of itself and others, and by which of the others its stream's offset is bounded.
 #[derive(Drop)]
 pub struct Placing {
     pub link: usize,
-    pub stream: usize,
-    pub others: Streams,
+    pub frame: Frame,
+    pub others: Frames,
     /// Some of the others.
-    pub some: Streams,
+    pub some: Frames,
 }
 
 /// What narrows a view.
@@ -25,14 +26,16 @@ pub enum Move {
     Use(usize),
     /// The flowspan is at least the stream's arrival.
     Arrive(usize),
-    /// The stream goes last.
+    /// The frame goes last.
     Last(Placing),
-    /// The stream goes first.
+    /// The frame goes first.
     First(Placing),
-    /// On this link there is no room for these streams.
-    Pack(usize, Streams),
+    /// On this link there is no room for these frames.
+    Pack(usize, Frames),
     /// The orders lead back to where they begin, later than they began.
     Round(Orders),
+    /// The first order is one of the view, and asks for the second one: of the same two streams, in the same direction, by no more.
+    Follow(Order, Order),
 }
 
 /// The moves of a step, one after another.

@@ -7,12 +7,15 @@ use tsn_model::{Decision, Side, Triple};
 /// The most orders of a round.
 pub const MAX_ORDERS: usize = 128;
 
-/// That one stream goes before another one on a link; by their numbers.
+/// That one stream's frame goes before another one's on a link; by their numbers.
 #[derive(Clone, Copy, Drop, PartialEq, Eq)]
 pub struct Order {
     pub first: usize,
     pub second: usize,
     pub link: usize,
+    /// By how much the frame of the stream of the greater number comes after the other one, were both offsets 0, in
+    /// nanoseconds.
+    pub lag: i64,
 }
 
 impl Order {
@@ -26,6 +29,7 @@ impl Order {
                     left: self.first,
                     right: self.second,
                     link: self.link,
+                    lag: self.lag,
                 },
                 side: Side::Left,
             }
@@ -35,6 +39,7 @@ impl Order {
                     left: self.second,
                     right: self.first,
                     link: self.link,
+                    lag: self.lag,
                 },
                 side: Side::Right,
             }

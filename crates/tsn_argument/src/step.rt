@@ -3,50 +3,52 @@ ghost use Rattle.std.specs.Prelude.{◌≡◌, ◌≤◌, length};
 use crate::fact::Clause;
 use crate::motion::Moves;
 use std::marker::Model;
+use tsn_model::Frame;
 
-/// The most streams of a move.
-pub const MAX_STREAMS: usize = 128;
+/// The most frames of a move.
+pub const MAX_FRAMES: usize = 1024;
 
-/// Streams of a move, by their numbers: 1 to 128 of them.
+/// Frames of a move: 1 to 1,024 of them.
 #[derive(Drop)]
-pub struct Streams {
-    list: Vec<usize>,
+pub struct Frames {
+    list: Vec<Frame>,
 }
 
-impl Model for Streams {
-    ghost use Rattle.std.specs.Prelude.{◌≤◌, List, ℕ, length};
+impl Model for Frames {
+    ghost use Rattle.std.specs.Prelude.{◌≤◌, List, length};
+    ghost use Rattle.tsn_model.specs.declared.Frame.{Frame};
 
-    ghost Value = { List ℕ };
+    ghost Value = { List Frame };
 
-    ghost view = { λ streams. streams.list.items };
+    ghost view = { λ frames. frames.list.items };
 
-    ghost invariant = { λ streams. (1 ≤ length streams.list.items) × (length streams.list.items ≤ 128) };
+    ghost invariant = { λ frames. (1 ≤ length frames.list.items) × (length frames.list.items ≤ 1024) };
 }
 
-impl Streams {
-    /// The streams of a list.
-    pub fn of(list: Vec<usize>) -> Streams
-        requires some_stream { 1 ≤ length list.items }
-        requires few_streams { length list.items ≤ MAX_STREAMS }
+impl Frames {
+    /// The frames of a list.
+    pub fn of(list: Vec<Frame>) -> Frames
+        requires some_frame { 1 ≤ length list.items }
+        requires few_frames { length list.items ≤ MAX_FRAMES }
         ensures { result ≡ list.items }
     {
-        Streams { list }
+        Frames { list }
     }
 
-    /// The streams, in order.
-    pub fn list(&self) -> &[usize]
-        ensures streams { result.now ≡ self.now }
-        ensures some_stream { 1 ≤ length result.now }
-        ensures few_streams { length result.now ≤ MAX_STREAMS }
+    /// The frames, in order.
+    pub fn list(&self) -> &[Frame]
+        ensures frames { result.now ≡ self.now }
+        ensures some_frame { 1 ≤ length result.now }
+        ensures few_frames { length result.now ≤ MAX_FRAMES }
     {
         self.list.as_slice()
     }
 
     /// Gives the list back.
-    pub fn into_list(self) -> Vec<usize>
+    pub fn into_list(self) -> Vec<Frame>
         ensures { result.items ≡ self }
     {
-        let Streams { list } = self;
+        let Frames { list } = self;
         list
     }
 }

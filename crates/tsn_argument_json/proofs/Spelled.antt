@@ -15,7 +15,7 @@ use Rattle.tsn_argument.specs.Argument.{worded_value}
 
 pub behind_spelled : (w : List ℕ) (ts : List Token) (ds : List Data) (end : List Token) → ((depth : ℕ) → SpellsEach (suc (suc depth)) ts ds end)
     → SpellsBehind w ts (worded_value w ds) end
-behind_spelled w ts ds end h depth rest e =
+behind_spelled w ts ds end h rest e depth =
     array_spelled (suc (suc depth)) (token.string w ∷ ts) (string w ∷ ds) end rest (ts, string_spelled (suc (suc depth)) w ts, h depth) e
 
 -- ---- members under the conversion to data

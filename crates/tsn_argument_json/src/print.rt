@@ -2,29 +2,57 @@
 ghost use Rattle.std.specs.Prelude.{◌≡◌, IfOk, OnOk, Some};
 ghost use Rattle.serde_json.specs.View.{view};
 ghost use Rattle.tsn_argument.specs.declared.motion.Move.TheVariants as form;
-ghost use Rattle.tsn_argument.specs.Argument.{worded_value, order_items, streams_of, streams_value, orders_of, orders_value, order_value, fact_value, clause_value, placing_parts, placing_items, move_in, move_value, moves_in, moves_value, step_in, step_value, steps_in, steps_value, goal_word, argument_of, argument_value};
+ghost use Rattle.tsn_argument.specs.Argument.{worded_value, order_parts, order_items, frame_value, frames_of, frames_value, order_in, order_list, orders_of, orders_value, order_value, fact_in, fact_value, clause_in, clause_value, placing_parts, placing_items, move_in, move_value, moves_in, moves_value, step_in, step_value, steps_in, steps_value, goal_word, argument_of, argument_value};
 
 use serde_json::{Value, json};
 use std::alloc::{AllocError, Global};
 use tsn_argument::argument::ARGUMENT_FORMAT;
-use tsn_argument::{Argument, Fact, Goal, Move, Order, Orders, Placing, Step, Streams};
+use tsn_argument::{Argument, Fact, Frames, Goal, Move, Order, Orders, Placing, Step};
+use tsn_model::Frame;
 use tsn_values::document;
 
-fn streams_value(alloc: Global, streams: &Streams) -> Result<Value, AllocError>
-    ensures value { IfOk result (λ v. view v ≡ streams_value streams.now) }
-    ensures reads_back { OnOk result (streams_of (streams_value streams.now) ≡ Some streams.now) }
+fn frame_value(alloc: Global, frame: Frame) -> Result<Value, AllocError>
+    ensures { IfOk result (λ v. view v ≡ frame_value frame) }
 {
-    document::array_of_indices(alloc, streams.list())
+    if frame.shift == 0 {
+        Ok(Value::from(frame.stream))
+    } else {
+        json!(in alloc; [frame.stream, frame.shift])
+    }
 }
 
-fn order_value(alloc: Global, order: Order) -> Result<Value, AllocError>
-    ensures { IfOk result (λ v. view v ≡ order_value order) }
+fn frame_list_value(alloc: Global, frames: &[Frame]) -> Result<Value, AllocError>
+    ensures { IfOk result (λ v. view v ≡ frames_value frames.now) }
 {
-    json!(in alloc; [order.first, order.second, order.link])
+    let mut items = Vec::with_capacity(alloc, frames.len())?;
+    for frame in frames {
+        items.push(frame_value(alloc, *frame)?)?;
+    }
+    Ok(Value::Array(items))
+}
+
+fn frames_value(alloc: Global, frames: &Frames) -> Result<Value, AllocError>
+    ensures value { IfOk result (λ v. view v ≡ frames_value frames.now) }
+    ensures reads_back { OnOk result (frames_of (frames_value frames.now) ≡ Some frames.now) }
+{
+    frame_list_value(alloc, frames.list())
+}
+
+#[tactic(auto, using(tsn_argument::proofs::Parts::order_back, tsn_argument::proofs::Parts::listed_order_back))]
+fn order_value(alloc: Global, order: Order) -> Result<Value, AllocError>
+    ensures value { IfOk result (λ v. view v ≡ order_value order) }
+    ensures reads_back { OnOk result (order_in (order_value order) ≡ Some order) }
+{
+    if order.lag == 0 {
+        json!(in alloc; [order.first, order.second, order.link])
+    } else {
+        json!(in alloc; [order.first, order.second, order.link, order.lag])
+    }
 }
 
 fn order_list_value(alloc: Global, orders: &[Order]) -> Result<Value, AllocError>
-    ensures { IfOk result (λ v. view v ≡ orders_value orders.now) }
+    ensures value { IfOk result (λ v. view v ≡ orders_value orders.now) }
+    ensures reads_back { OnOk result (order_list (orders_value orders.now) ≡ Some orders.now) }
 {
     let mut items = Vec::with_capacity(alloc, orders.len())?;
     for order in orders {
@@ -41,14 +69,22 @@ fn orders_value(alloc: Global, orders: &Orders) -> Result<Value, AllocError>
 }
 
 /// An array of a word and an order.
+#[tactic(auto, using(tsn_argument::proofs::Parts::order_back))]
 fn order_behind(alloc: Global, word: &str, order: Order) -> Result<Value, AllocError>
-    ensures { IfOk result (λ v. view v ≡ worded_value word.now (order_items order)) }
+    ensures value { IfOk result (λ v. view v ≡ worded_value word.now (order_items order)) }
+    ensures reads_back { OnOk result (order_parts (order_items order) ≡ Some order) }
 {
-    json!(in alloc; [word, order.first, order.second, order.link])
+    if order.lag == 0 {
+        json!(in alloc; [word, order.first, order.second, order.link])
+    } else {
+        json!(in alloc; [word, order.first, order.second, order.link, order.lag])
+    }
 }
 
+#[tactic(auto, using(tsn_argument::proofs::Parts::order_fact_back))]
 fn fact_value(alloc: Global, fact: &Fact) -> Result<Value, AllocError>
-    ensures { IfOk result (λ v. view v ≡ fact_value fact.now) }
+    ensures value { IfOk result (λ v. view v ≡ fact_value fact.now) }
+    ensures reads_back { OnOk result (fact_in (fact_value fact.now) ≡ Some fact.now) }
 {
     match fact {
         Fact::From(stream, time) => json!(in alloc; ["from", *stream, *time]),
@@ -60,7 +96,8 @@ fn fact_value(alloc: Global, fact: &Fact) -> Result<Value, AllocError>
 }
 
 fn clause_value(alloc: Global, facts: &[Fact]) -> Result<Value, AllocError>
-    ensures { IfOk result (λ v. view v ≡ clause_value facts.now) }
+    ensures value { IfOk result (λ v. view v ≡ clause_value facts.now) }
+    ensures reads_back { OnOk result (clause_in (clause_value facts.now) ≡ Some facts.now) }
 {
     let mut items = Vec::with_capacity(alloc, facts.len())?;
     for fact in facts {
@@ -75,18 +112,19 @@ fn placing_behind(alloc: Global, word: &str, placing: &Placing) -> Result<Value,
     ensures value { IfOk result (λ v. view v ≡ worded_value word.now (placing_items placing.now)) }
     ensures reads_back { OnOk result (placing_parts (placing_items placing.now) ≡ Some placing.now) }
 {
-    let others = streams_value(alloc, &placing.others)?;
-    let some = streams_value(alloc, &placing.some)?;
-    json!(in alloc; [word, placing.link, placing.stream, others, some])
+    let frame = frame_value(alloc, placing.frame)?;
+    let others = frames_value(alloc, &placing.others)?;
+    let some = frames_value(alloc, &placing.some)?;
+    json!(in alloc; [word, placing.link, frame, others, some])
 }
 
 #[tactic(auto, using(tsn_argument::proofs::Parts::pack_back))]
-fn pack_value(alloc: Global, link: usize, streams: &Streams) -> Result<Value, AllocError>
-    ensures value { IfOk result (λ v. view v ≡ move_value (form.Pack link streams.now)) }
-    ensures reads_back { OnOk result (move_in (move_value (form.Pack link streams.now)) ≡ Some (form.Pack link streams.now)) }
+fn pack_value(alloc: Global, link: usize, frames: &Frames) -> Result<Value, AllocError>
+    ensures value { IfOk result (λ v. view v ≡ move_value (form.Pack link frames.now)) }
+    ensures reads_back { OnOk result (move_in (move_value (form.Pack link frames.now)) ≡ Some (form.Pack link frames.now)) }
 {
-    let streams = streams_value(alloc, streams)?;
-    json!(in alloc; ["pack", link, streams])
+    let frames = frames_value(alloc, frames)?;
+    json!(in alloc; ["pack", link, frames])
 }
 
 #[tactic(auto, using(tsn_argument::proofs::Parts::round_back))]
@@ -98,7 +136,17 @@ fn round_value(alloc: Global, orders: &Orders) -> Result<Value, AllocError>
     json!(in alloc; ["round", orders])
 }
 
-#[tactic(auto, using(tsn_argument::proofs::Parts::last_back, tsn_argument::proofs::Parts::first_back))]
+#[tactic(auto, using(tsn_argument::proofs::Parts::follow_back))]
+fn follow_value(alloc: Global, known: Order, weaker: Order) -> Result<Value, AllocError>
+    ensures value { IfOk result (λ v. view v ≡ move_value (form.Follow known weaker)) }
+    ensures reads_back { OnOk result (move_in (move_value (form.Follow known weaker)) ≡ Some (form.Follow known weaker)) }
+{
+    let known = order_value(alloc, known)?;
+    let weaker = order_value(alloc, weaker)?;
+    json!(in alloc; ["follow", known, weaker])
+}
+
+#[tactic(auto, using(tsn_argument::proofs::Parts::go_back, tsn_argument::proofs::Parts::turn_back, tsn_argument::proofs::Parts::last_back, tsn_argument::proofs::Parts::first_back))]
 fn move_value(alloc: Global, motion: &Move) -> Result<Value, AllocError>
     ensures value { IfOk result (λ v. view v ≡ move_value motion.now) }
     ensures reads_back { OnOk result (move_in (move_value motion.now) ≡ Some motion.now) }
@@ -110,8 +158,9 @@ fn move_value(alloc: Global, motion: &Move) -> Result<Value, AllocError>
         Move::Arrive(stream) => json!(in alloc; ["arrive", *stream]),
         Move::Last(placing) => placing_behind(alloc, "last", placing),
         Move::First(placing) => placing_behind(alloc, "first", placing),
-        Move::Pack(link, streams) => pack_value(alloc, *link, streams),
+        Move::Pack(link, frames) => pack_value(alloc, *link, frames),
         Move::Round(orders) => round_value(alloc, orders),
+        Move::Follow(known, weaker) => follow_value(alloc, *known, *weaker),
     }
 }
 

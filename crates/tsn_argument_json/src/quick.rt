@@ -1,39 +1,48 @@
 //! A quick reading of an argument in the form in which it is written, with no value of the text in between. Where the text
 //! is written otherwise it gives up, and says nothing of the text.
-ghost use Rattle.std.specs.Prelude.{◌≡◌, ◌<◌, ℕ, suc, length, codes, [], ◌∷◌, Some, IfOk, OnOk};
-ghost use Rattle.json.specs.Token.{begin_array};
+ghost use Rattle.std.specs.Prelude.{◌≡◌, ◌<◌, ℕ, suc, List, length, codes, [], ◌∷◌, Some, IfOk, OnOk};
+ghost use Rattle.json.specs.Token.{Token, begin_array};
+ghost use Rattle.json.specs.Json.{after_end_array};
 ghost use Rattle.serde_json.specs.Data.{string};
 ghost use Rattle.serde_json.specs.Read.{read};
 ghost use Rattle.tsn_cert.specs.Json.{number_value, value_of};
 ghost use Rattle.tsn_cert.specs.Spelled.{Spells, SpellsEach};
-ghost use Rattle.tsn_argument.specs.Spelled.{SpellsBehind};
-ghost use Rattle.tsn_argument.specs.Argument.{order_items, order_value, fact_value, clause_value, streams_of, streams_value, orders_of, orders_value, placing_parts, placing_items, move_in, move_value, moves_in, moves_value, step_in, step_value, steps_in, steps_value, goal_word, argument_of, argument_value};
+ghost use Rattle.tsn_argument.specs.Spelled.{SpellsToEnd, SpellsBehind};
+ghost use Rattle.tsn_argument.specs.Argument.{order_parts, order_items, order_in, order_list, order_value, fact_in, fact_value, clause_in, clause_value, frame_value, frames_of, frames_value, orders_of, orders_value, placing_parts, placing_items, move_in, move_value, moves_in, moves_value, step_in, step_value, steps_in, steps_value, goal_word, argument_of, argument_value};
 
 use json::{Reader, Scratch};
 use std::alloc::Global;
 use tsn_argument::argument::ARGUMENT_FORMAT;
 use tsn_argument::order::MAX_ORDERS;
-use tsn_argument::step::MAX_STREAMS;
+use tsn_argument::step::MAX_FRAMES;
 use tsn_argument::{
-    Argument, Clause, Fact, Goal, Move, Moves, Order, Orders, Placing, Step, Steps, Streams,
+    Argument, Clause, Fact, Frames, Goal, Move, Moves, Order, Orders, Placing, Step, Steps,
 };
+use tsn_model::Frame;
 use tsn_values::tokens::{
-    self, Unread, close_array, close_object, index, key, number, open_array, open_object, word,
+    Unread, close_array, close_object, index, key, lag_and_end, number, number_or_array,
+    open_array, open_object, word,
 };
 
 // ---- facts
 
-/// Two streams and a link.
+/// Two streams, a link and a lag, with the end of their array.
+#[tactic(auto, using(tsn_argument::proofs::Parts::order_back))]
 fn order(reader: &mut Reader<'_>) -> Result<Order, Unread>
-    ensures { IfOk result (λ order. (depth : ℕ) → SpellsEach depth reader.old (order_items order) reader.new) }
+    ensures text { IfOk result (λ order. (end : List Token)
+        × ((depth : ℕ) → SpellsEach depth reader.old (order_items order) end)
+        × (after_end_array end ≡ Some reader.new)) }
+    ensures reads_back { IfOk result (λ order. order_parts (order_items order) ≡ Some order) }
 {
     let first = index(reader)?;
     let second = index(reader)?;
     let link = index(reader)?;
+    let lag = lag_and_end(reader)?;
     Ok(Order {
         first,
         second,
         link,
+        lag,
     })
 }
 
@@ -48,47 +57,52 @@ fn bound(reader: &mut Reader<'_>) -> Result<(usize, u64), Unread>
 }
 
 fn from_fact(reader: &mut Reader<'_>) -> Result<Fact, Unread>
-    ensures { IfOk result (λ fact. SpellsBehind (codes "from") reader.old (fact_value fact) reader.new) }
+    ensures text { IfOk result (λ fact. SpellsBehind (codes "from") reader.old (fact_value fact) reader.new) }
+    ensures reads_back { IfOk result (λ fact. fact_in (fact_value fact) ≡ Some fact) }
 {
     let found = bound(reader)?;
     Ok(Fact::From(found.0, found.1))
 }
 
 fn until_fact(reader: &mut Reader<'_>) -> Result<Fact, Unread>
-    ensures { IfOk result (λ fact. SpellsBehind (codes "until") reader.old (fact_value fact) reader.new) }
+    ensures text { IfOk result (λ fact. SpellsBehind (codes "until") reader.old (fact_value fact) reader.new) }
+    ensures reads_back { IfOk result (λ fact. fact_in (fact_value fact) ≡ Some fact) }
 {
     let found = bound(reader)?;
     Ok(Fact::Until(found.0, found.1))
 }
 
+#[tactic(auto, using(tsn_argument::proofs::Parts::order_fact_back))]
 fn order_fact(reader: &mut Reader<'_>) -> Result<Fact, Unread>
-    ensures { IfOk result (λ fact. SpellsBehind (codes "order") reader.old (fact_value fact) reader.new) }
+    ensures text { IfOk result (λ fact. SpellsToEnd (codes "order") reader.old (fact_value fact) reader.new) }
+    ensures reads_back { IfOk result (λ fact. fact_in (fact_value fact) ≡ Some fact) }
 {
     let found = order(reader)?;
     Ok(Fact::Order(found))
 }
 
 fn done_from_fact(reader: &mut Reader<'_>) -> Result<Fact, Unread>
-    ensures { IfOk result (λ fact. SpellsBehind (codes "done_from") reader.old (fact_value fact) reader.new) }
+    ensures text { IfOk result (λ fact. SpellsBehind (codes "done_from") reader.old (fact_value fact) reader.new) }
+    ensures reads_back { IfOk result (λ fact. fact_in (fact_value fact) ≡ Some fact) }
 {
     let found = number(reader)?;
     Ok(Fact::DoneFrom(found))
 }
 
 fn done_until_fact(reader: &mut Reader<'_>) -> Result<Fact, Unread>
-    ensures { IfOk result (λ fact. SpellsBehind (codes "done_until") reader.old (fact_value fact) reader.new) }
+    ensures text { IfOk result (λ fact. SpellsBehind (codes "done_until") reader.old (fact_value fact) reader.new) }
+    ensures reads_back { IfOk result (λ fact. fact_in (fact_value fact) ≡ Some fact) }
 {
     let found = number(reader)?;
     Ok(Fact::DoneUntil(found))
 }
 
-/// What stands behind the word of a fact.
-fn fact_behind(reader: &mut Reader<'_>, word: &str) -> Result<Fact, Unread>
-    ensures { IfOk result (λ fact. SpellsBehind word.now reader.old (fact_value fact) reader.new) }
+/// What stands behind the word of a fact on a number.
+fn bound_behind(reader: &mut Reader<'_>, word: &str) -> Result<Fact, Unread>
+    ensures text { IfOk result (λ fact. SpellsBehind word.now reader.old (fact_value fact) reader.new) }
+    ensures reads_back { IfOk result (λ fact. fact_in (fact_value fact) ≡ Some fact) }
 {
-    if word == "order" {
-        order_fact(reader)
-    } else if word == "from" {
+    if word == "from" {
         from_fact(reader)
     } else if word == "until" {
         until_fact(reader)
@@ -101,21 +115,44 @@ fn fact_behind(reader: &mut Reader<'_>, word: &str) -> Result<Fact, Unread>
     }
 }
 
-fn fact(reader: &mut Reader<'_>) -> Result<Fact, Unread>
-    ensures text { IfOk result (λ fact. (depth : ℕ)
-        → Spells (suc (suc (suc depth))) reader.old (fact_value fact) reader.new) }
-    ensures shorter { OnOk result (length reader.new < length reader.old) }
+/// The same, with the end of its array.
+fn bound_to_end(reader: &mut Reader<'_>, word: &str) -> Result<Fact, Unread>
+    ensures text { IfOk result (λ fact. SpellsToEnd word.now reader.old (fact_value fact) reader.new) }
+    ensures reads_back { IfOk result (λ fact. fact_in (fact_value fact) ≡ Some fact) }
 {
-    open_array(reader)?;
-    let name = word(reader)?;
-    let found = fact_behind(reader, name)?;
+    let found = bound_behind(reader, word)?;
     close_array(reader)?;
     Ok(found)
 }
 
+/// What stands behind the word of a fact, with the end of its array.
+fn fact_to_end(reader: &mut Reader<'_>, word: &str) -> Result<Fact, Unread>
+    ensures text { IfOk result (λ fact. SpellsToEnd word.now reader.old (fact_value fact) reader.new) }
+    ensures reads_back { IfOk result (λ fact. fact_in (fact_value fact) ≡ Some fact) }
+{
+    if word == "order" {
+        order_fact(reader)
+    } else {
+        bound_to_end(reader, word)
+    }
+}
+
+fn fact(reader: &mut Reader<'_>) -> Result<Fact, Unread>
+    ensures text { IfOk result (λ fact. (depth : ℕ)
+        → Spells (suc (suc (suc depth))) reader.old (fact_value fact) reader.new) }
+    ensures reads_back { IfOk result (λ fact. fact_in (fact_value fact) ≡ Some fact) }
+    ensures shorter { OnOk result (length reader.new < length reader.old) }
+{
+    open_array(reader)?;
+    let name = word(reader)?;
+    let found = fact_to_end(reader, name)?;
+    Ok(found)
+}
+
 fn fact_list(alloc: Global, reader: &mut Reader<'_>) -> Result<Vec<Fact>, Unread>
-    ensures { IfOk result (λ v. (depth : ℕ) → Spells (suc (suc (suc (suc depth))))
+    ensures text { IfOk result (λ v. (depth : ℕ) → Spells (suc (suc (suc (suc depth))))
         (begin_array ∷ reader.old) (clause_value v.items) reader.new) }
+    ensures reads_back { IfOk result (λ v. clause_in (clause_value v.items) ≡ Some v.items) }
 {
     let mut found = Vec::new(alloc);
     'facts: while !reader.take_end_array() {
@@ -126,8 +163,9 @@ fn fact_list(alloc: Global, reader: &mut Reader<'_>) -> Result<Vec<Fact>, Unread
 }
 
 fn clause(alloc: Global, reader: &mut Reader<'_>) -> Result<Clause, Unread>
-    ensures { IfOk result (λ clause. (depth : ℕ)
+    ensures text { IfOk result (λ clause. (depth : ℕ)
         → Spells (suc (suc (suc (suc depth)))) reader.old (clause_value clause) reader.new) }
+    ensures reads_back { IfOk result (λ clause. clause_in (clause_value clause) ≡ Some clause) }
 {
     open_array(reader)?;
     let found = fact_list(alloc, reader)?;
@@ -136,36 +174,76 @@ fn clause(alloc: Global, reader: &mut Reader<'_>) -> Result<Clause, Unread>
 
 // ---- moves
 
-#[tactic(auto, using(tsn_argument::proofs::Parts::streams_back))]
-fn streams(alloc: Global, reader: &mut Reader<'_>) -> Result<Streams, Unread>
-    ensures text { IfOk result (λ streams. (depth : ℕ)
-        → Spells (suc depth) reader.old (streams_value streams) reader.new) }
-    ensures reads_back { IfOk result (λ streams. streams_of (streams_value streams) ≡ Some streams) }
+/// A stream and a shift above 0, with the end of their array.
+fn pair_to_end(reader: &mut Reader<'_>) -> Result<Frame, Unread>
+    ensures { IfOk result (λ frame. (depth : ℕ)
+        → Spells (suc depth) (begin_array ∷ reader.old) (frame_value frame) reader.new) }
 {
-    open_array(reader)?;
-    let mut list = Vec::new(alloc);
-    tokens::numbers(reader, &mut list)?;
-    if list.is_empty() || list.len() > MAX_STREAMS {
+    let stream = index(reader)?;
+    let shift = number(reader)?;
+    close_array(reader)?;
+    if shift == 0 {
         return Err(Unread::OtherForm);
     }
-    Ok(Streams::of(list))
+    Ok(Frame { stream, shift })
+}
+
+fn frame(reader: &mut Reader<'_>) -> Result<Frame, Unread>
+    ensures text { IfOk result (λ frame. (depth : ℕ)
+        → Spells (suc depth) reader.old (frame_value frame) reader.new) }
+    ensures shorter { OnOk result (length reader.new < length reader.old) }
+{
+    match number_or_array(reader)? {
+        Some(stream) => Ok(Frame {
+            stream: stream as usize,
+            shift: 0,
+        }),
+        None => pair_to_end(reader),
+    }
+}
+
+fn frame_list(alloc: Global, reader: &mut Reader<'_>) -> Result<Vec<Frame>, Unread>
+    ensures { IfOk result (λ v. (depth : ℕ)
+        → Spells (suc (suc depth)) (begin_array ∷ reader.old) (frames_value v.items) reader.new) }
+{
+    let mut found = Vec::new(alloc);
+    'frames: while !reader.take_end_array() {
+        let one = frame(reader)?;
+        found.push(one)?;
+    }
+    Ok(found)
+}
+
+#[tactic(auto, using(tsn_argument::proofs::Parts::frames_back))]
+fn frames(alloc: Global, reader: &mut Reader<'_>) -> Result<Frames, Unread>
+    ensures text { IfOk result (λ frames. (depth : ℕ)
+        → Spells (suc (suc depth)) reader.old (frames_value frames) reader.new) }
+    ensures reads_back { IfOk result (λ frames. frames_of (frames_value frames) ≡ Some frames) }
+{
+    open_array(reader)?;
+    let found = frame_list(alloc, reader)?;
+    if found.is_empty() || found.len() > MAX_FRAMES {
+        return Err(Unread::OtherForm);
+    }
+    Ok(Frames::of(found))
 }
 
 /// An order as an element of a list.
 fn listed_order(reader: &mut Reader<'_>) -> Result<Order, Unread>
     ensures text { IfOk result (λ order. (depth : ℕ)
         → Spells (suc depth) reader.old (order_value order) reader.new) }
+    ensures reads_back { IfOk result (λ order. order_in (order_value order) ≡ Some order) }
     ensures shorter { OnOk result (length reader.new < length reader.old) }
 {
     open_array(reader)?;
     let found = order(reader)?;
-    close_array(reader)?;
     Ok(found)
 }
 
 fn order_list(alloc: Global, reader: &mut Reader<'_>) -> Result<Vec<Order>, Unread>
-    ensures { IfOk result (λ v. (depth : ℕ)
+    ensures text { IfOk result (λ v. (depth : ℕ)
         → Spells (suc (suc depth)) (begin_array ∷ reader.old) (orders_value v.items) reader.new) }
+    ensures reads_back { IfOk result (λ v. order_list (orders_value v.items) ≡ Some v.items) }
 {
     let mut found = Vec::new(alloc);
     'orders: while !reader.take_end_array() {
@@ -189,34 +267,36 @@ fn orders(alloc: Global, reader: &mut Reader<'_>) -> Result<Orders, Unread>
     Ok(Orders::of(found))
 }
 
-/// A link, a stream, others and some of these.
+/// A link, a frame, others and some of these.
 fn placing(alloc: Global, reader: &mut Reader<'_>) -> Result<Placing, Unread>
     ensures text { IfOk result (λ placing. (depth : ℕ)
-        → SpellsEach (suc depth) reader.old (placing_items placing) reader.new) }
+        → SpellsEach (suc (suc depth)) reader.old (placing_items placing) reader.new) }
     ensures reads_back { IfOk result (λ placing. placing_parts (placing_items placing) ≡ Some placing) }
 {
     let link = index(reader)?;
-    let stream = index(reader)?;
-    let others = streams(alloc, reader)?;
-    let some = streams(alloc, reader)?;
+    let frame = frame(reader)?;
+    let others = frames(alloc, reader)?;
+    let some = frames(alloc, reader)?;
     Ok(Placing {
         link,
-        stream,
+        frame,
         others,
         some,
     })
 }
 
+#[tactic(auto, using(tsn_argument::proofs::Parts::go_back))]
 fn go(reader: &mut Reader<'_>) -> Result<Move, Unread>
-    ensures text { IfOk result (λ motion. SpellsBehind (codes "go") reader.old (move_value motion) reader.new) }
+    ensures text { IfOk result (λ motion. SpellsToEnd (codes "go") reader.old (move_value motion) reader.new) }
     ensures reads_back { IfOk result (λ motion. move_in (move_value motion) ≡ Some motion) }
 {
     let found = order(reader)?;
     Ok(Move::Go(found))
 }
 
+#[tactic(auto, using(tsn_argument::proofs::Parts::turn_back))]
 fn turn(reader: &mut Reader<'_>) -> Result<Move, Unread>
-    ensures text { IfOk result (λ motion. SpellsBehind (codes "turn") reader.old (move_value motion) reader.new) }
+    ensures text { IfOk result (λ motion. SpellsToEnd (codes "turn") reader.old (move_value motion) reader.new) }
     ensures reads_back { IfOk result (λ motion. move_in (move_value motion) ≡ Some motion) }
 {
     let found = order(reader)?;
@@ -260,7 +340,7 @@ fn pack(alloc: Global, reader: &mut Reader<'_>) -> Result<Move, Unread>
     ensures reads_back { IfOk result (λ motion. move_in (move_value motion) ≡ Some motion) }
 {
     let link = index(reader)?;
-    let found = streams(alloc, reader)?;
+    let found = frames(alloc, reader)?;
     Ok(Move::Pack(link, found))
 }
 
@@ -272,17 +352,23 @@ fn round(alloc: Global, reader: &mut Reader<'_>) -> Result<Move, Unread>
     Ok(Move::Round(found))
 }
 
-/// What stands behind the word of a move.
+#[tactic(auto, using(tsn_argument::proofs::Parts::follow_back))]
+fn follow(reader: &mut Reader<'_>) -> Result<Move, Unread>
+    ensures text { IfOk result (λ motion. SpellsBehind (codes "follow") reader.old (move_value motion) reader.new) }
+    ensures reads_back { IfOk result (λ motion. move_in (move_value motion) ≡ Some motion) }
+{
+    let known = listed_order(reader)?;
+    let weaker = listed_order(reader)?;
+    Ok(Move::Follow(known, weaker))
+}
+
+/// What stands behind the word of a move that isn't of one order.
 fn move_behind(alloc: Global, reader: &mut Reader<'_>, word: &str) -> Result<Move, Unread>
     ensures text { IfOk result (λ motion. SpellsBehind word.now reader.old (move_value motion) reader.new) }
     ensures reads_back { IfOk result (λ motion. move_in (move_value motion) ≡ Some motion) }
 {
     if word == "use" {
         use_clause(reader)
-    } else if word == "go" {
-        go(reader)
-    } else if word == "turn" {
-        turn(reader)
     } else if word == "arrive" {
         arrive(reader)
     } else {
@@ -290,7 +376,7 @@ fn move_behind(alloc: Global, reader: &mut Reader<'_>, word: &str) -> Result<Mov
     }
 }
 
-/// What stands behind the word of a move of several streams.
+/// What stands behind the word of a move of several frames or orders.
 fn wide_move_behind(alloc: Global, reader: &mut Reader<'_>, word: &str) -> Result<Move, Unread>
     ensures text { IfOk result (λ motion. SpellsBehind word.now reader.old (move_value motion) reader.new) }
     ensures reads_back { IfOk result (λ motion. move_in (move_value motion) ≡ Some motion) }
@@ -303,8 +389,34 @@ fn wide_move_behind(alloc: Global, reader: &mut Reader<'_>, word: &str) -> Resul
         pack(alloc, reader)
     } else if word == "round" {
         round(alloc, reader)
+    } else if word == "follow" {
+        follow(reader)
     } else {
         Err(Unread::OtherForm)
+    }
+}
+
+/// What stands behind the word of a move that isn't of one order, with the end of its array.
+fn other_move_to_end(alloc: Global, reader: &mut Reader<'_>, word: &str) -> Result<Move, Unread>
+    ensures text { IfOk result (λ motion. SpellsToEnd word.now reader.old (move_value motion) reader.new) }
+    ensures reads_back { IfOk result (λ motion. move_in (move_value motion) ≡ Some motion) }
+{
+    let found = move_behind(alloc, reader, word)?;
+    close_array(reader)?;
+    Ok(found)
+}
+
+/// What stands behind the word of a move, with the end of its array.
+fn move_to_end(alloc: Global, reader: &mut Reader<'_>, word: &str) -> Result<Move, Unread>
+    ensures text { IfOk result (λ motion. SpellsToEnd word.now reader.old (move_value motion) reader.new) }
+    ensures reads_back { IfOk result (λ motion. move_in (move_value motion) ≡ Some motion) }
+{
+    if word == "go" {
+        go(reader)
+    } else if word == "turn" {
+        turn(reader)
+    } else {
+        other_move_to_end(alloc, reader, word)
     }
 }
 
@@ -316,8 +428,7 @@ fn listed_move(alloc: Global, reader: &mut Reader<'_>) -> Result<Move, Unread>
 {
     open_array(reader)?;
     let name = word(reader)?;
-    let found = move_behind(alloc, reader, name)?;
-    close_array(reader)?;
+    let found = move_to_end(alloc, reader, name)?;
     Ok(found)
 }
 

@@ -4,32 +4,34 @@ ghost use Rattle.serde_json.specs.View.{view};
 ghost use Rattle.tsn_cert.specs.Fault.{Reads};
 ghost use Rattle.tsn_argument.specs.declared.fact.Fact.TheVariants as fact;
 ghost use Rattle.tsn_argument.specs.declared.motion.Move.TheVariants as form;
-ghost use Rattle.tsn_argument.specs.Argument.{order_parts, bound_parts, number_part, fact_parts, fact_in, clause_in, streams_of, order_in, order_list, orders_of, placing_parts, pack_parts, round_parts, wide_move_parts, move_parts, move_in, moves_in, step_in, step_parts, steps_in, goal_of, goal_named, argument_of_values, argument_of};
+ghost use Rattle.tsn_argument.specs.Argument.{order_parts, bound_parts, number_part, fact_parts, fact_in, clause_in, frame_pair, frame_in, frame_list, frames_of, order_in, order_list, orders_of, placing_parts, pack_parts, round_parts, follow_parts, wide_move_parts, move_parts, move_in, moves_in, step_in, step_parts, steps_in, goal_of, goal_named, argument_of_values, argument_of};
 
 use serde_json::Value;
 use std::alloc::Global;
 use tsn_argument::argument::ARGUMENT_FORMAT;
 use tsn_argument::order::MAX_ORDERS;
-use tsn_argument::step::MAX_STREAMS;
+use tsn_argument::step::MAX_FRAMES;
 use tsn_argument::{
-    Argument, Clause, Fact, Goal, Move, Moves, Order, Orders, Placing, Step, Steps, Streams,
+    Argument, Clause, Fact, Frames, Goal, Move, Moves, Order, Orders, Placing, Step, Steps,
 };
 use tsn_cert::FileFault;
+use tsn_model::Frame;
 use tsn_values::document;
 
 // ---- facts
 
-/// Two streams and a link.
+/// Two streams, a link and a lag.
 fn order_from_parts(parts: &[Value]) -> Result<Order, FileFault>
     ensures { Reads (λ order. order) result (order_parts (map view parts.now)) }
 {
-    let [first, second, link] = parts else {
+    let [first, second, link, lag @ ..] = parts else {
         return Err(FileFault::WrongShape);
     };
     Ok(Order {
         first: document::index_from(first)?,
         second: document::index_from(second)?,
         link: document::index_from(link)?,
+        lag: document::lag_from_parts(lag)?,
     })
 }
 
@@ -134,15 +136,50 @@ fn clause_from(alloc: Global, value: &Value) -> Result<Clause, FileFault>
 
 // ---- moves
 
-/// The streams that the value is.
-fn streams_from(alloc: Global, value: &Value) -> Result<Streams, FileFault>
-    ensures { Reads (λ streams. streams) result (streams_of (view value.now)) }
+/// A stream and a shift.
+fn frame_from_pair(parts: &[Value]) -> Result<Frame, FileFault>
+    ensures { Reads (λ frame. frame) result (frame_pair (map view parts.now)) }
 {
-    let list = document::indices_from(alloc, value)?;
-    if list.is_empty() || list.len() > MAX_STREAMS {
+    let [stream, shift] = parts else {
+        return Err(FileFault::WrongShape);
+    };
+    document::frame_from_parts(stream, shift)
+}
+
+/// The frame that the value is.
+fn frame_from(value: &Value) -> Result<Frame, FileFault>
+    ensures { Reads (λ frame. frame) result (frame_in (view value.now)) }
+{
+    match value.as_u64() {
+        Some(stream) => Ok(Frame {
+            stream: stream as usize,
+            shift: 0,
+        }),
+        None => frame_from_pair(document::elements_from(value)?),
+    }
+}
+
+/// The frames that the value is, however many.
+fn frame_list_from(alloc: Global, value: &Value) -> Result<Vec<Frame>, FileFault>
+    ensures { Reads (λ v. v.items) result (frame_list (view value.now)) }
+{
+    let items = document::elements_from(value)?;
+    let mut found = Vec::with_capacity(alloc, items.len())?;
+    for item in items {
+        found.push(frame_from(item)?)?;
+    }
+    Ok(found)
+}
+
+/// The frames that the value is.
+fn frames_from(alloc: Global, value: &Value) -> Result<Frames, FileFault>
+    ensures { Reads (λ frames. frames) result (frames_of (view value.now)) }
+{
+    let list = frame_list_from(alloc, value)?;
+    if list.is_empty() || list.len() > MAX_FRAMES {
         return Err(FileFault::WrongShape);
     }
-    Ok(Streams::of(list))
+    Ok(Frames::of(list))
 }
 
 /// The order that the value is.
@@ -175,29 +212,29 @@ fn orders_from(alloc: Global, value: &Value) -> Result<Orders, FileFault>
     Ok(Orders::of(list))
 }
 
-/// A link, a stream, others and some of these.
+/// A link, a frame, others and some of these.
 fn placing_from_parts(alloc: Global, parts: &[Value]) -> Result<Placing, FileFault>
     ensures { Reads (λ placing. placing) result (placing_parts (map view parts.now)) }
 {
-    let [link, stream, others, some] = parts else {
+    let [link, frame, others, some] = parts else {
         return Err(FileFault::WrongShape);
     };
     Ok(Placing {
         link: document::index_from(link)?,
-        stream: document::index_from(stream)?,
-        others: streams_from(alloc, others)?,
-        some: streams_from(alloc, some)?,
+        frame: frame_from(frame)?,
+        others: frames_from(alloc, others)?,
+        some: frames_from(alloc, some)?,
     })
 }
 
-/// A link and streams.
-fn streams_from_parts(alloc: Global, parts: &[Value]) -> Result<(usize, Streams), FileFault>
+/// A link and frames.
+fn frames_from_parts(alloc: Global, parts: &[Value]) -> Result<(usize, Frames), FileFault>
     ensures { Reads (λ pack. pack) result (pack_parts (map view parts.now)) }
 {
-    let [link, streams] = parts else {
+    let [link, frames] = parts else {
         return Err(FileFault::WrongShape);
     };
-    Ok((document::index_from(link)?, streams_from(alloc, streams)?))
+    Ok((document::index_from(link)?, frames_from(alloc, frames)?))
 }
 
 /// Orders alone.
@@ -208,6 +245,18 @@ fn orders_from_part(alloc: Global, parts: &[Value]) -> Result<Orders, FileFault>
         return Err(FileFault::WrongShape);
     };
     orders_from(alloc, orders)
+}
+
+/// Two orders.
+fn order_pair_from_parts(parts: &[Value]) -> Result<(Order, Order), FileFault>
+    ensures { Reads (λ orders. orders) result (follow_parts (map view parts.now)) }
+{
+    let [known, weaker] = parts else {
+        return Err(FileFault::WrongShape);
+    };
+    let known = order_from(known)?;
+    let weaker = order_from(weaker)?;
+    Ok((known, weaker))
 }
 
 fn go_from_parts(parts: &[Value]) -> Result<Move, FileFault>
@@ -250,14 +299,22 @@ fn pack_from_parts(alloc: Global, parts: &[Value]) -> Result<Move, FileFault>
     ensures { Reads (λ motion. motion) result
         (option_map (λ p. form.Pack p.0 p.1) (pack_parts (map view parts.now))) }
 {
-    let (link, streams) = streams_from_parts(alloc, parts)?;
-    Ok(Move::Pack(link, streams))
+    let (link, frames) = frames_from_parts(alloc, parts)?;
+    Ok(Move::Pack(link, frames))
 }
 
 fn round_from_parts(alloc: Global, parts: &[Value]) -> Result<Move, FileFault>
     ensures { Reads (λ motion. motion) result (option_map form.Round (round_parts (map view parts.now))) }
 {
     Ok(Move::Round(orders_from_part(alloc, parts)?))
+}
+
+fn follow_from_parts(parts: &[Value]) -> Result<Move, FileFault>
+    ensures { Reads (λ motion. motion) result
+        (option_map (λ p. form.Follow p.0 p.1) (follow_parts (map view parts.now))) }
+{
+    let (known, weaker) = order_pair_from_parts(parts)?;
+    Ok(Move::Follow(known, weaker))
 }
 
 /// The move of this word.
@@ -277,7 +334,7 @@ fn move_from_parts(alloc: Global, word: &str, parts: &[Value]) -> Result<Move, F
     }
 }
 
-/// The move of this word, which is one of several streams.
+/// The move of this word, which is one of several frames or orders.
 fn wide_move_from_parts(alloc: Global, word: &str, parts: &[Value]) -> Result<Move, FileFault>
     ensures { Reads (λ motion. motion) result (wide_move_parts word.now (map view parts.now)) }
 {
@@ -289,6 +346,8 @@ fn wide_move_from_parts(alloc: Global, word: &str, parts: &[Value]) -> Result<Mo
         pack_from_parts(alloc, parts)
     } else if word == "round" {
         round_from_parts(alloc, parts)
+    } else if word == "follow" {
+        follow_from_parts(parts)
     } else {
         Err(FileFault::WrongShape)
     }

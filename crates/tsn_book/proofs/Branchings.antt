@@ -1,5 +1,5 @@
 -- Places by the splits that made them.
-use Rattle.std.proofs.Common.{◌≡◌, ℕ, zero, suc, ◌+◌, ◌*◌, ◌<◌, List, [], ◌∷◌, ◌++◌, map, length, get_or, set, All, refl, ap, ◌∙◌, arith}
+use Rattle.std.proofs.Common.{pos, ◌≡◌, ℕ, zero, suc, ◌+◌, ◌*◌, ◌<◌, List, [], ◌∷◌, ◌++◌, map, length, get_or, set, All, refl, ap, ◌∙◌, arith}
 use Rattle.std.specs.List.{flat_map}
 use Rattle.std.proofs.lemmas.List.{map-append, map-set, get_or_append_left, get_or-append-add}
 use Rattle.std.proofs.lemmas.List.Elements.{All-head, All-tail}
@@ -37,7 +37,7 @@ child_made (split ∷ splits) (suc number) side place is within below e d =
 pub status_stays : (splits more : List Branching) (mark : Mark) → IsStored (length splits) mark → status_of (splits ++ more) mark ≡ status_of splits mark
 status_stays splits more marked_open stored = refl
 status_stays splits more (marked_split number) stored =
-    let none : Branching = record { place = 0; triple = record { left = 0; right = 0; link = 0 }; event = 0 } in
+    let none : Branching = record { place = 0; triple = record { left = 0; right = 0; link = 0; lag = pos 0 }; event = 0 } in
     ap (λ (b : Branching). Split b.triple (2 * number + 1) b.event) (get_or_append_left splits more none number stored)
 status_stays splits more (marked_leaf event) stored = refl
 
@@ -55,7 +55,7 @@ pub split_statuses : (marks : List Mark) (splits : List Branching) → ArePlaces
 split_statuses marks splits places place number split is =
     let after = status_of (splits ++ split ∷ []) in
     let marked = set marks place (marked_split number) in
-    let none : Branching = record { place = 0; triple = record { left = 0; right = 0; link = 0 }; event = 0 } in
+    let none : Branching = record { place = 0; triple = record { left = 0; right = 0; link = 0; lag = pos 0 }; event = 0 } in
     let last : number ≡ length splits + 0 = omega (arith, is) in
     let read : split_at (splits ++ split ∷ []) number ≡ split = ap (split_at (splits ++ split ∷ [])) last ∙ get_or-append-add splits (split ∷ []) 0 none in
     let children : 2 * number + 1 ≡ length (origins_of splits) = omega (arith, is, length-origins_of splits) in

@@ -1,5 +1,5 @@
 -- The next node of a certificate that is spelled.
-use Rattle.std.proofs.Common.{◌≡◌, ◌+◌, ◌<◌, ℕ, List, ◌∷◌, drop, length, get_or, Option, sym, ap, ◌∙◌, subst}
+use Rattle.std.proofs.Common.{pos, ◌≡◌, ◌+◌, ◌<◌, ℕ, List, ◌∷◌, drop, length, get_or, Option, sym, ap, ◌∙◌, subst}
 use Rattle.std.specs.List.{slice_index_or}
 use Rattle.std.proofs.lemmas.List.{drop_more, get_or_default}
 use Rattle.std.proofs.lemmas.List.Elements.{All-head}
@@ -15,7 +15,7 @@ use Rattle.tsn_book.specs.Spelling.{left_nodes, numbered_node, IsSpelling}
 use Rattle.tsn_book.proofs.Preorder.{Taken, spelling_goes_on, nodes_go_on}
 
 nothing : Settled
-nothing = record { teller = 0; place = 0; look = Split (record { left = 0; right = 0; link = 0 }) }
+nothing = record { teller = 0; place = 0; look = Split (record { left = 0; right = 0; link = 0; lag = pos 0 }) }
 
 module _ {network : Network} {plan : Option Solution} {before : List Settled} (order : List ℕ) (given number : ℕ)
     (known : IsSpelling network plan before (drop given order)) (low : given < length order) (read : number ≡ get_or order given number) where

@@ -1,5 +1,5 @@
 -- A walk of which the first looks are settled, and the others wait.
-use Rattle.std.proofs.Common.{◌≡◌, ℕ, ◌+◌, ◌≤◌, ◌<◌, List, [], ◌∷◌, ◌++◌, All, map, length, take, drop, sym, ap, ◌∙◌, subst, arith, append_assoc}
+use Rattle.std.proofs.Common.{pos, ◌≡◌, ℕ, ◌+◌, ◌≤◌, ◌<◌, List, [], ◌∷◌, ◌++◌, All, map, length, take, drop, sym, ap, ◌∙◌, subst, arith, append_assoc}
 use Rattle.tsn_model.specs.declared.Decision.{Decision}
 use Rattle.tsn_model.specs.Network.{Network}
 use Rattle.tsn_model.specs.Search.{Event}
@@ -45,7 +45,7 @@ module _ {start now : Ledger} {teller : ℕ} {from walk : List Decision} {place 
   next_waits : start.tree.events.waiting ≡ partway.taken ++ next_of now.tree.events ∷ drop 1 now.tree.events.waiting
   next_waits =
       partway.all
-      ∙ ap (λ more. partway.taken ++ more) (first_waits now.tree.events.waiting (Split (record { left = 0; right = 0; link = 0 })) some)
+      ∙ ap (λ more. partway.taken ++ more) (first_waits now.tree.events.waiting (Split (record { left = 0; right = 0; link = 0; lag = pos 0 })) some)
 
   -- it is proved, where all are
   pub next_proof : All (λ event. HasProof start.tree.network event.path event.outcome × SplitsUndecided start.tree.network event.path event.outcome)

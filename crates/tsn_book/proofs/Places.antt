@@ -1,5 +1,5 @@
 -- Places and their paths: how paths grow, what a place's status tells of a path, and where a walk leaves the tree.
-use Rattle.std.proofs.Common.{◌≡◌, ◌≢◌, ℕ, ◌+◌, ◌≤◌, ◌<◌, List, [], ◌∷◌, ◌++◌, length, take, drop, get_or, Contains, Bool, true, false, refl, sym, ap, ◌∙◌, subst, arith, append_assoc, inl, inr, Some, None}
+use Rattle.std.proofs.Common.{pos, ◌≡◌, ◌≢◌, ℕ, ◌+◌, ◌≤◌, ◌<◌, List, [], ◌∷◌, ◌++◌, length, take, drop, get_or, Contains, Bool, true, false, refl, sym, ap, ◌∙◌, subst, arith, append_assoc, inl, inr, Some, None}
 use Rattle.std.specs.Prelude.{position, slice_get}
 use Rattle.std.specs.List.{flat_map, slice_index_or, position_or_len}
 use Rattle.std.proofs.lemmas.Bool.{cases_Bool, both_ways, cond-true, cond-false, cases_lt, lt-ltb, le-ltb}
@@ -154,7 +154,8 @@ no_position history path unsettled =
     let test : Settlement → Bool = λ s. path_eq s.event.path path in
     elim (cases_lt (position_or_len test history) (length history)) [
       | inl below ↦
-          let none : Settlement = record { teller = 0; event = record { path = []; outcome = split (record { left = 0; right = 0; link = 0 }) } } in
+          let undecided = split (record { left = 0; right = 0; link = 0; lag = pos 0 }) in
+          let none : Settlement = record { teller = 0; event = record { path = []; outcome = undecided } } in
           let first = get_or history (position_or_len test history) none in
           let same : first.event.path ≡ path = path_eq-true first.event.path path (passes_at_first test history none below) in
           absurd (both_ways (is_settled history path) unsettled

@@ -1,5 +1,5 @@
 -- The walk that spells a finished tree.
-use Rattle.std.proofs.Common.{◌≡◌, ◌≢◌, ℕ, ◌+◌, ◌<◌, List, [], ◌∷◌, ◌++◌, map, length, All, AllPairs, Contains, true, refl, sym, ap, ap₂, ◌∙◌, subst, arith, append_assoc, Option, Some}
+use Rattle.std.proofs.Common.{pos, ◌≡◌, ◌≢◌, ℕ, ◌+◌, ◌<◌, List, [], ◌∷◌, ◌++◌, map, length, All, AllPairs, Contains, true, refl, sym, ap, ap₂, ◌∙◌, subst, arith, append_assoc, Option, Some}
 use Rattle.std.specs.Prelude.{slice_get, IsPermutation}
 use Rattle.std.specs.List.{slice_index_or}
 use Rattle.std.proofs.lemmas.Bool.{both_ways}
@@ -425,7 +425,8 @@ nodes_numbered network plan origins events (number ∷ numbers) [] numbered =
 nodes_numbered network plan origins events (number ∷ numbers) (settlement ∷ settlements) numbered =
     let parts = numbers_head (history_of origins events) number numbers settlement settlements numbered in
     ap₂ (λ n ns. node_of network (planned plan) n ∷ ns)
-    (numbered_outcome origins events number settlement parts.0 (record { teller = 0; place = 0; look = FoundSplit (record { left = 0; right = 0; link = 0 }) }))
+    (numbered_outcome origins events number settlement parts.0
+    (record { teller = 0; place = 0; look = FoundSplit (record { left = 0; right = 0; link = 0; lag = pos 0 }) }))
     (nodes_numbered network plan origins events numbers settlements parts.1)
 
 module _ {network : Network} (origins : List Origin) (events : List Settled) (plan : Option Solution) (is : IsPlanOf network (history_of origins events) plan)
@@ -476,7 +477,7 @@ nodes_untouched network plan before after [] same = refl
 nodes_untouched network plan before after (number ∷ numbers) same =
     ap₂ (λ (e : Settled) ns. node_of network (planned plan) (outcome_of e.look) ∷ ns)
     (All-head (λ other. (d : Settled) → slice_index_or after other d ≡ slice_index_or before other d) number numbers same
-    (record { teller = 0; place = 0; look = FoundSplit (record { left = 0; right = 0; link = 0 }) }))
+    (record { teller = 0; place = 0; look = FoundSplit (record { left = 0; right = 0; link = 0; lag = pos 0 }) }))
     (nodes_untouched network plan before after numbers
     (All-tail (λ other. (d : Settled) → slice_index_or after other d ≡ slice_index_or before other d) number numbers same))
 
@@ -513,5 +514,5 @@ module _ (network : Network) (plan : Option Solution) (before after : List Settl
       → left_nodes network plan before (number ∷ numbers) ≡ node ∷ left_nodes network plan after numbers
   unfolding numbered_node
   nodes_go_on node is =
-      ap₂ (λ n ns. n ∷ ns) (sym (is (record { teller = 0; place = 0; look = FoundSplit (record { left = 0; right = 0; link = 0 }) })))
+      ap₂ (λ n ns. n ∷ ns) (sym (is (record { teller = 0; place = 0; look = FoundSplit (record { left = 0; right = 0; link = 0; lag = pos 0 }) })))
       (sym (nodes_untouched network plan before after numbers others_same))

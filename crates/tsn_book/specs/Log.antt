@@ -1,5 +1,5 @@
 -- What was settled, in pieces, and what waits to be settled.
-use Rattle.std.specs.Prelude.{◌≡◌, ℕ, ◌+◌, ◌≤◌, ◌^◌, List, [], ◌∷◌, length}
+use Rattle.std.specs.Prelude.{pos, ◌≡◌, ℕ, ◌+◌, ◌≤◌, ◌^◌, List, [], ◌∷◌, length}
 use Rattle.std.specs.List.{flat_map, slice_index_or}
 use Rattle.tsn_node.specs.declared.outcome.Look.{Look}
 use Rattle.tsn_node.specs.declared.outcome.Look.TheVariants.{Split}
@@ -17,7 +17,7 @@ look_of settled = settled.look
 
 -- the look that is settled next, where one waits
 abbrev pub next_of : Logged → Look
-next_of log = slice_index_or log.waiting 0 (Split (record { left = 0; right = 0; link = 0 }))
+next_of log = slice_index_or log.waiting 0 (Split (record { left = 0; right = 0; link = 0; lag = pos 0 }))
 
 abbrev pub items_of : Piece → List Settled
 items_of piece = piece.list.items

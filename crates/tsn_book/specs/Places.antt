@@ -1,5 +1,5 @@
 -- Places, as they are kept.
-use Rattle.std.specs.Prelude.{◌≡◌, ℕ, ◌+◌, ◌*◌, ◌<◌, List, [], ◌∷◌, length, All}
+use Rattle.std.specs.Prelude.{pos, ◌≡◌, ℕ, ◌+◌, ◌*◌, ◌<◌, List, [], ◌∷◌, length, All}
 use Rattle.std.specs.List.{flat_map, slice_index_or}
 use Rattle.tsn_model.specs.declared.Side.TheVariants.{Left, Right}
 use Rattle.tsn_book.specs.declared.statuses.Origin.{Origin}
@@ -24,7 +24,7 @@ abbrev pub origins_of : List Branching → List Origin
 origins_of splits = Root ∷ flat_map children_made splits
 
 abbrev pub split_at : List Branching → ℕ → Branching
-split_at splits number = slice_index_or splits number (record { place = 0; triple = record { left = 0; right = 0; link = 0 }; event = 0 })
+split_at splits number = slice_index_or splits number (record { place = 0; triple = record { left = 0; right = 0; link = 0; lag = pos 0 }; event = 0 })
 
 abbrev pub status_of : List Branching → Mark → Status
 status_of splits marked_open = Open

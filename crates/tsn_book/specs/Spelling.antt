@@ -2,7 +2,7 @@
 --     IsWalk                     the walk that finds the order: what was passed, and what waits
 --     IsOrder                    the numbers of the events, in the order of their paths
 --     left_nodes, IsSpelling     the nodes of events that are left to give, and what is known of these
-use Rattle.std.specs.Prelude.{◌≡◌, ◌≢◌, ℕ, ◌<◌, List, [], ◌∷◌, ◌++◌, map, length, All, AllPairs, IsPermutation, Option, Some, slice_get}
+use Rattle.std.specs.Prelude.{pos, ◌≡◌, ◌≢◌, ℕ, ◌<◌, List, [], ◌∷◌, ◌++◌, map, length, All, AllPairs, IsPermutation, Option, Some, slice_get}
 use Rattle.std.specs.List.{slice_index_or}
 use Rattle.tsn_model.specs.declared.Decision.{Decision}
 use Rattle.tsn_model.specs.Network.{Network}
@@ -64,7 +64,7 @@ pub record IsOrder (network : Network) (history : List Settlement) (numbers : Li
 -- the node of the event of that number
 unfoldable pub numbered_node : Network → Option Solution → List Settled → ℕ → Node
 numbered_node network plan events number =
-    node_of network (planned plan) (outcome_of (slice_index_or events number (record { teller = 0; place = 0; look = Split (record { left = 0; right = 0; link = 0 }) })).look)
+    node_of network (planned plan) (outcome_of (slice_index_or events number (record { teller = 0; place = 0; look = Split (record { left = 0; right = 0; link = 0; lag = pos 0 }) })).look)
 
 abbrev pub left_nodes : Network → Option Solution → List Settled → List ℕ → List Node
 left_nodes network plan events numbers = map (numbered_node network plan events) numbers

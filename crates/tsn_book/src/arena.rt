@@ -24,7 +24,7 @@ use std::alloc::{AllocError, Global};
 use tsn_forest::Forest;
 use tsn_node::outcome::Look;
 use tsn_node::{Decision, NoMemory, Node, Side, Triple};
-use tsn_timing::{Solved, Timing};
+use tsn_timing::{Solved, Timing, is_conflict};
 
 /// Where a walk along a path ends: at an open place, at one that an event settled, or outside the tree.
 #[derive(Clone, Copy)]
@@ -503,22 +503,6 @@ pub fn split_of(look: &Look) -> Option<Triple>
         Look::Tied { .. } => None,
         Look::Refuted(_) => None,
     }
-}
-
-/// Whether two different streams, the lower number first, both use the triple's link.
-fn is_conflict(network: &Timing, triple: Triple) -> bool
-    ensures { IsTrue result ↔ IsConflict network.now triple }
-{
-    if triple.left >= triple.right {
-        return false;
-    }
-    if triple.right >= network.streams() {
-        return false;
-    }
-    if network.hop_on(triple.left, triple.link).is_none() {
-        return false;
-    }
-    network.hop_on(triple.right, triple.link).is_some()
 }
 
 /// Whether the path decides the triple.

@@ -13,7 +13,7 @@ pub enum BookFault {
     /// As many events are settled as may be: that many.
     #[error("the limit of {0} events is met")]
     Limit(usize),
-    /// The split is on what isn't a link of two streams, the lesser one on the left.
+    /// The split is on what isn't a link of two streams and a lag of theirs, the lesser stream on the left.
     #[error("the split is on no conflict")]
     NotConflict,
     /// The split is on what the node's path decides.

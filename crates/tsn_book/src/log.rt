@@ -242,6 +242,7 @@ fn take_at(piece: &mut [Settled], at: usize) -> Look
         left: 0,
         right: 0,
         link: 0,
+        lag: 0,
     });
     mem::replace(&mut piece[at].look, nothing)
 }

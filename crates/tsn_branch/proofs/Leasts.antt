@@ -7,6 +7,7 @@ use Rattle.tsn_model.specs.declared.Decision.{Decision}
 use Rattle.tsn_model.specs.Network.{Network, Stream, IsWellFormed, stream_count, no_stream, stream_at, release_of}
 use Rattle.tsn_model.specs.declared.Violation.{Violation}
 use Rattle.tsn_model.specs.Schedule.{offset_of, IsValid, AreApart, IsFirstViolation}
+use Rattle.tsn_model.proofs.Limits.{period-le}
 use Rattle.tsn_model.proofs.Validity.{valid_from_parts, violation_refutes}
 use Rattle.tsn_model.specs.Arcs.{arcs_of, HoldsAll, start_of}
 use Rattle.tsn_model.specs.Certificate.{sum_on, positive_cycle}
@@ -62,12 +63,12 @@ module _ (network : Network) (path : List Decision) (lowest : LeastOffsets) (sol
       let few = formed.few_streams in
       omega arith
 
--- streams that are done within the cycle have small offsets
+-- streams that are done within their periods have small offsets
 pub small_offsets : (network : Network) (offsets : List ℕ) → IsWellFormed network → length offsets ≡ stream_count network → AllFit network offsets → All (λ offset. offset ≤ 1000000000) offsets
 small_offsets network offsets formed count fit k d below =
     let same = get_or_default offsets k d 0 below in
     let fits = (fit k (omega arith)).0 in
-    let cycle = formed.short_cycle in
+    let short = period-le network formed k in
     omega arith
 
 -- a closed chain of positive sum refutes the path

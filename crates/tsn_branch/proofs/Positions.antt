@@ -116,7 +116,7 @@ pub stands_up : (network : Network) (path : List Decision) (old new : Stack) (po
     → Stands network (record { path = take (length path - 1) path; stack = new; splits = take (length points - 1) points; found = after })
 stands_up network path old new points before after stands some same popped =
     let shorter : List Decision = take (length path - 1) path in
-    let none : Decision = record { triple = record { left = 0; right = 0; link = 0 }; side = Left } in
+    let none : Decision = record { triple = record { left = 0; right = 0; link = 0; lag = pos 0 }; side = Left } in
     let last : Decision = get_or shorter (length shorter - 1) none in
     let long = ap length stands.arcs ∙ length-arcs_of network shorter in
     let at : last ≡ get_or shorter (length shorter - 1) last = sym (get_or_default shorter (length shorter - 1) last none (omega arith)) in

@@ -9,11 +9,12 @@ use Rattle.tsn_model.specs.declared.Side.TheVariants.{Left, Right}
 use Rattle.tsn_model.specs.declared.Decision.{Decision}
 use Rattle.tsn_model.specs.Network.{Network, IsWellFormed}
 use Rattle.tsn_model.specs.Schedule.{flowspan, Overlaps}
-use Rattle.tsn_model.specs.Arcs.{arc_between, arc_on, arc_of, arcs_of, conflicts_of, Holds, HoldsAll}
+use Rattle.tsn_model.specs.Arcs.{arc_on, arc_of, arcs_of, conflicts_of, Holds, HoldsAll}
 use Rattle.tsn_model.specs.Certificate.{Leaf, late, overrun, positive_cycle, load, overload, late_bound, Overruns, Proves, HasBound, AreChains, ShowsAfter}
 use Rattle.tsn_model.specs.Search.{Outcome, split, solved, pruned, tied, refuted, Refutes}
 use Rattle.tsn_model.proofs.Conflicts.{conflict_listed}
 use Rattle.tsn_model.proofs.Lists.{All-unmap}
+use Rattle.tsn_model.proofs.Overlaps.{not_both_ways}
 use Rattle.tsn_model.proofs.Ties.{shown_chains, shown_after}
 use Rattle.tsn_timing.specs.Solution.{Solution, IsSolved}
 use Rattle.tsn_node.specs.Path.{IsUndecided}
@@ -21,19 +22,12 @@ use Rattle.tsn_branch.proofs.Shown.{entries_shown, busy_shown, load_shown}
 use Rattle.tsn_branch.specs.Look.{IsLook, IsRefutation, IsPruning, IsTie, ShowsFlowspan, SplitsAmong, PrunesFrom, SolvesBelow, TiesWith}
 use Rattle.tsn_node.specs.Right.{HasProof, SplitsUndecided}
 
--- offsets that hold the arc of one side put the two streams apart
+-- offsets that hold the arc of one side put the two frames apart
 held_apart : (network : Network) (offsets : List ℕ) (triple : Triple) (side : Side) → Holds offsets (arc_on network triple side) → Overlaps network offsets triple → ⊥
-unfolding arc_on arc_between
-held_apart network offsets triple Left held (t, in_left, in_right) =
-    let ends = in_left.not_ended in
-    let begins = in_right.begun in
-    absurd (omega (arith, ints, held, ends, begins))
-held_apart network offsets triple Right held (t, in_left, in_right) =
-    let ends = in_right.not_ended in
-    let begins = in_left.begun in
-    absurd (omega (arith, ints, held, ends, begins))
+held_apart network offsets triple Left held overlaps = not_both_ways network offsets triple overlaps (inl held)
+held_apart network offsets triple Right held overlaps = not_both_ways network offsets triple overlaps (inr held)
 
--- so a triple whose streams overlap isn't decided
+-- so a triple whose frames overlap isn't decided
 undecided : (network : Network) (path : List Decision) (offsets : List ℕ) (triple : Triple) → HoldsAll offsets (arcs_of network path) → Overlaps network offsets triple → IsUndecided path triple
 unfolding arcs_of arc_of
 undecided network path offsets triple held overlaps =

@@ -31,7 +31,7 @@ pub record Position : Type 0 where
   pub splits : List SplitPoint
   pub found : Option SplitPoint
 
--- by these offsets all streams are done within the cycle, the last at that instant, and the triple of that number is the first overlap
+-- by these offsets all streams are done in time, the last at that instant, and the triple of that number is the first overlap
 pub record IsSplitPointBy (network : Network) (offsets : List ℕ) (point : SplitPoint) : Type 0 where
   pub ended : Ended network offsets point.last point.end
   pub overlap : IsFirstOverlap network offsets (triple_at (conflicts_of network) point.triple)

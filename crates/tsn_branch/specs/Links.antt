@@ -18,11 +18,11 @@ users_of network link = filter (λ i. is_some (hop_on network i link)) (range_wi
 unfoldable pub shared_links : Network → List ℕ
 shared_links network = filter (λ link. nat_le 2 (length (users_of network link))) (range_with_len 0 (length network.links))
 
--- how long the link's streams occupy it, one after another
+-- how long the first frames of the link's streams occupy it, one after another
 unfoldable pub work_on : Network → ℕ → ℕ
 work_on network link = sum_by (λ i. occupancy network i link) (users_of network link)
 
--- how long after its occupancy of the link one of its streams arrives at the soonest; below 0 where the gap outlasts the arrival
+-- how long after its first frame's occupancy of the link one of its streams arrives at the soonest; below 0 where the gap outlasts the arrival
 unfoldable pub tail_on : Network → ℕ → ℤ
 tail_on network link = least (map (λ i. pos (arrival network i) -ℤ pos (start_on network i link + occupancy network i link)) (users_of network link))
 
@@ -30,7 +30,7 @@ tail_on network link = least (map (λ i. pos (arrival network i) -ℤ pos (start
 unfoldable pub head_by : Network → List ℕ → ℕ → ℤ
 head_by network offsets link = least (map (λ i. pos (offset_of offsets i + start_on network i link)) (users_of network link))
 
--- the instant before which the link's streams aren't all done with it, where none starts before its offset
+-- the instant before which the first frames of the link's streams aren't all done with it, where none starts before its offset
 unfoldable pub busy_by : Network → List ℕ → ℕ → ℤ
 busy_by network offsets link = head_by network offsets link +ℤ pos (work_on network link)
 
@@ -38,7 +38,7 @@ busy_by network offsets link = head_by network offsets link +ℤ pos (work_on ne
 unfoldable pub load_by : Network → List ℕ → ℕ → ℤ
 load_by network offsets link = busy_by network offsets link +ℤ tail_on network link
 
--- by these offsets the link may be done within the cycle, and its streams may arrive before the target
+-- by these offsets the link may be done with these frames within the cycle, and its streams may arrive before the target
 pub record IsUnloaded (network : Network) (offsets : List ℕ) (target link : ℕ) : Type 0 where
   pub within_cycle : busy_by network offsets link ≤ℤ pos network.cycle
   pub below_target : load_by network offsets link <ℤ pos target

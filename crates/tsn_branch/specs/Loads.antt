@@ -64,9 +64,9 @@ pub record IsEarly (n : ℕ) (user : User) : Type 0 where
   pub counted : user.stream < n
   pub early : user.start ≤ MAX_START
 
--- a user with the chain that shows its least offset
+-- a user's first frame with the chain that shows its least offset
 abbrev pub entry_by : LeastOffsets → User → Entry
-entry_by lowest user = record { stream = user.stream; chain = chain_of lowest user.stream }
+entry_by lowest user = record { frame = record { stream = user.stream; shift = 0 }; chain = chain_of lowest user.stream }
 
 -- the earliest instant at which one of the users starts by the offsets
 abbrev pub head_in : List ℕ → List User → ℤ

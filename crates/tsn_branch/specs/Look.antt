@@ -1,7 +1,7 @@
 -- What a look at a node says.
 --     AreLeast, HasNoOffsets                what the decisions of a path ask of the offsets
 --     IsDone, IsFirstOverrun, AllFit, IsFirstLast   when the streams are done by these
---     ShowsLink                             the entries of a link's streams
+--     first_frame, ShowsLink                the entries of a link's streams
 --     IsTie, IsUntied                       a tie with the best schedule
 --     IsLook                                the first case that holds, and what it holds
 --     SplitsAmong, PrunesFrom, SolvesBelow   what else is right of an outcome whatever was settled before
@@ -9,9 +9,10 @@
 use Rattle.std.specs.Prelude.{◌≡◌, ℕ, ◌+◌, ◌≤◌, ◌<◌, ◌⊎◌, List, length, map, take, All, Contains, Option, MatchOption, IsSomeAnd, pos, ◌≤ℤ◌, ◌<ℤ◌}
 use Rattle.tsn_model.specs.declared.Decision.{Decision}
 use Rattle.tsn_model.specs.declared.Triple.{Triple}
-use Rattle.tsn_model.specs.Network.{Network, stream_count, latest_of}
-use Rattle.tsn_model.specs.Timing.{arrival, span}
-use Rattle.tsn_model.specs.Schedule.{IsValid, flowspan, offset_of, IsConflict, FitsCycle, IsReleased, IsInTime, IsFirstOverlap, ComesBefore, IsNotAfter, common}
+use Rattle.tsn_model.specs.declared.Frame.{Frame}
+use Rattle.tsn_model.specs.Network.{Network, stream_count, period_of, latest_of}
+use Rattle.tsn_model.specs.Timing.{Sends, arrival, span}
+use Rattle.tsn_model.specs.Schedule.{IsValid, flowspan, offset_of, IsConflict, FitsPeriod, IsReleased, IsInTime, IsFirstOverlap, ComesBefore, IsNotAfter, common}
 use Rattle.tsn_model.specs.Arcs.{arcs_of, HoldsAll}
 use Rattle.tsn_model.specs.Certificate.{Leaf, late, overrun, positive_cycle, load, overload, Entry, LeadsTo, sum_on, Proves, HasBound, AreChains, ShowsAfter}
 use Rattle.tsn_model.specs.Search.{Outcome, split, solved, pruned, tied, refuted, Refutes, ShowsOffsets}
@@ -44,13 +45,13 @@ pub record IsShownBy (network : Network) (path : List Decision) (offsets : List 
 
 -- ---- when streams are done
 
--- stream i, put at its offset, is done within the cycle and arrives by its latest instant
+-- stream i, put at its offset, is done within its period and arrives by its latest instant
 abbrev pub IsDone : Network → List ℕ → ℕ → Type 0
-IsDone network offsets i = FitsCycle network offsets i × IsInTime network offsets i
+IsDone network offsets i = FitsPeriod network offsets i × IsInTime network offsets i
 
 -- or it isn't
 abbrev pub IsOverdue : Network → List ℕ → ℕ → Type 0
-IsOverdue network offsets i = (network.cycle < offset_of offsets i + span network i) ⊎ (latest_of network i < offset_of offsets i + arrival network i)
+IsOverdue network offsets i = (period_of network i < offset_of offsets i + span network i) ⊎ (latest_of network i < offset_of offsets i + arrival network i)
 
 -- the first stream that isn't
 pub record IsFirstOverrun (network : Network) (offsets : List ℕ) (i : ℕ) : Type 0 where
@@ -70,15 +71,20 @@ pub record IsFirstLast (network : Network) (offsets : List ℕ) (i : ℕ) : Type
 
 -- ---- links
 
--- the entries are of all the link's streams, in order, and each one's chain shows its offset
+-- a stream's first frame
+abbrev pub first_frame : ℕ → Frame
+first_frame i = record { stream = i; shift = 0 }
+
+-- the entries are of the first frames of all the link's streams, in order, and each one's chain shows its stream's offset
 pub record ShowsLink (network : Network) (path : List Decision) (offsets : List ℕ) (link : ℕ) (entries : List Entry) : Type 0 where
-  pub streams : map (λ entry. entry.stream) entries ≡ users_of network link
-  pub chains : All (λ entry. IsShownBy network path offsets entry.stream entry.chain) entries
+  pub frames : map (λ entry. entry.frame) entries ≡ map first_frame (users_of network link)
+  pub sent : All (λ entry. Sends network entry.frame.stream entry.frame.shift) entries
+  pub chains : All (λ entry. IsShownBy network path offsets entry.frame.stream entry.chain) entries
 
 -- ---- the cases
 
 -- a cycle shows that no offsets hold the path's arcs; or by the least ones a stream isn't done in time, as its chain shows;
--- or by these all streams fit the cycle, the flowspan is below the target, and the first loaded link is busy behind the cycle
+-- or by these all streams are done in time, the flowspan is below the target, and the first loaded link is busy behind the cycle
 abbrev pub IsRefutation : Network → List Decision → ℕ → Leaf → Type 0
 IsRefutation network path target (late i chain) = ⊥
 IsRefutation network path target (overrun i chain) = (offsets : List ℕ) × AreLeast network path offsets × IsFirstOverrun network offsets i × IsShownBy network path offsets i chain

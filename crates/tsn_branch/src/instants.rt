@@ -11,7 +11,7 @@ use tsn_timing::Timing;
 /// When the streams are done by a list of offsets.
 #[derive(Clone, Copy)]
 pub enum Ends {
-    /// This stream is the first that isn't done within the cycle, or arrives after its latest instant.
+    /// This stream is the first that isn't done within its period, or arrives after its latest instant.
     Overrun(usize),
     /// All streams are; this one is the first that arrives last, at this instant, in nanoseconds.
     Within { last: usize, end: u64 },
@@ -48,7 +48,7 @@ pub fn ends_after(timing: &Timing, offsets: &[u64], raised: &[usize], last: usiz
     Ends::Within { last, end }
 }
 
-/// The first stream that isn't done within the cycle, or arrives after its latest instant. The offsets may be of any size.
+/// The first stream that isn't done within its period, or arrives after its latest instant. The offsets may be of any size.
 fn first_overrun(timing: &Timing, offsets: &[u64]) -> Option<usize>
     requires { length offsets.now ≡ stream_count timing.now }
     ensures { MatchOption result (AllFit timing.now offsets.now) (IsFirstOverrun timing.now offsets.now) }
@@ -97,17 +97,16 @@ fn first_overrun_among(timing: &Timing, offsets: &[u64], raised: &[usize]) -> Op
     first
 }
 
-/// Whether a stream, put at its offset, isn't done within the cycle, or arrives after its latest instant.
+/// Whether a stream, put at its offset, isn't done within its period, or arrives after its latest instant.
+#[tactic(auto, unfolding(tsn_model::specs::Schedule::latest_offset))]
 fn overruns(timing: &Timing, offsets: &[u64], stream: usize) -> bool
     requires stream { stream < stream_count timing.now }
     requires count { length offsets.now ≡ stream_count timing.now }
     ensures { MatchBool result (IsOverdue timing.now offsets.now stream) (IsDone timing.now offsets.now stream) }
 {
-    let cycle = timing.cycle();
     let offset = offsets[stream];
-    offset > cycle
-        || offset + timing.span(stream) > cycle
-        || offset + timing.arrival(stream) > timing.latest(stream)
+    let greatest = timing.window(stream).greatest;
+    offset > 1_000_000_000 || offset as i64 > greatest
 }
 
 /// The lesser of two streams, of which the first may be missing.

@@ -27,7 +27,7 @@ use std::alloc::Global;
 use tsn_cert::{Chain, Entries, Leaf, LowerBound};
 use tsn_conflict::laws::parents_overlap_starts;
 use tsn_diff::{ArcStack, Feasibility, Least};
-use tsn_model::NoMemory;
+use tsn_model::{Frame, NoMemory};
 use tsn_node::outcome::Look;
 use tsn_timing::{Solved, Timing};
 
@@ -344,7 +344,7 @@ fn entries_at(
     Ok((table.link, entries_of(alloc, least, &table.users)?))
 }
 
-/// Streams, each with the chain that shows its least offset.
+/// The first frames of streams, each with the chain that shows its stream's least offset.
 pub fn entries_of(alloc: Global, least: &Least, users: &[User]) -> Result<Entries, NoMemory>
     requires some_user { 1 ≤ length users.now }
     requires few_users { length users.now ≤ 128 }
@@ -354,7 +354,11 @@ pub fn entries_of(alloc: Global, least: &Least, users: &[User]) -> Result<Entrie
 {
     let mut list = Vec::with_capacity(alloc, users.len())?;
     for user in users {
-        let entry = (user.stream, chain_to(alloc, least, user.stream)?);
+        let frame = Frame {
+            stream: user.stream,
+            shift: 0,
+        };
+        let entry = (frame, chain_to(alloc, least, user.stream)?);
         list.push(entry).map_err(|_| NoMemory)?;
     }
     Ok(Entries::of(list))

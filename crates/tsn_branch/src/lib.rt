@@ -36,18 +36,18 @@ use tsn_timing::{Solved, Timing};
 /// Looks at a node: the first of these cases that holds.
 ///
 /// 1. No offsets hold the arcs of its path: refuted by a cycle of them.
-/// 2. By the least offsets that do and put no stream before its release, some stream isn't done within the cycle, or
+/// 2. By the least offsets that do and put no stream before its release, some stream isn't done within its period, or
 ///    arrives after its latest instant: refuted by the first such stream.
 /// 3. By these the flowspan is at least the target: pruned with that bound, by the first stream that arrives then.
-/// 4. By these the streams of some shared link are busy on it behind the cycle, which refutes the node, or else for so long
-///    that the flowspan is at least the target, and the node is pruned with that bound. Of the first such link, all streams
-///    in order show it.
+/// 4. By these the first frames of some shared link's streams keep it busy behind the cycle: refuted. Or else they do for so
+///    long that the flowspan is at least the target: pruned with that bound. Of the first such link, the first frames of all
+///    streams in order show it.
 /// 5. Of the best schedule so far, if there is one: by these the flowspan, or else the load of a shared link, is at least that of
 ///    the best schedule, and they don't come before it in list order: tied with that bound, by the first stream that arrives
-///    then, or else all streams of the first such link. The chains go to the first stream at which the two lists differ, or else
-///    to the last.
-/// 6. By these no two streams overlap on a link: solved, with that flowspan and the chains of all streams.
-/// 7. Else the node is to be split on the first triple whose streams overlap.
+///    then, or else by the first frames on the first such link. The chains go to the first stream at which the two lists differ,
+///    or else to the last.
+/// 6. By these no two streams' frames overlap on a link: solved, with that flowspan and the chains of all streams.
+/// 7. Else the node is to be split on the first triple whose frames overlap.
 ///
 /// The target is in nanoseconds. The error says that there was no memory.
 pub fn look(

@@ -11,7 +11,7 @@ use tsn_model::NoMemory;
 use tsn_model::bounds::{MAX_OCCUPANCY, MAX_SPAN, MAX_START, MAX_WORK};
 use tsn_timing::Timing;
 
-/// A stream on a link, and when its frame starts there, in nanoseconds from its offset.
+/// A stream on a link, and when its first frame starts there, in nanoseconds from its offset.
 #[derive(Clone, Copy)]
 pub struct User {
     pub stream: usize,
@@ -24,10 +24,10 @@ pub struct LinkTable {
     pub link: usize,
     /// The streams, in order.
     pub users: Vec<User>,
-    /// How long the streams occupy the link, one after another.
+    /// How long the streams' first frames occupy the link, one after another.
     pub work: u64,
-    /// How long after its occupancy of the link one of the streams arrives at the soonest; below 0 where its gap outlasts
-    /// its arrival.
+    /// How long after its first frame's occupancy of the link one of the streams arrives at the soonest; below 0 where its gap
+    /// outlasts its arrival.
     pub tail: i64,
 }
 

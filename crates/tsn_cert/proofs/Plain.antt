@@ -1,12 +1,14 @@
--- Numbers within the limits of a file, and lists of what fits a limit, are plain values.
-use Rattle.std.proofs.Common.{◌≡◌, ◌<◌, ◌^◌, ℕ, List, [], ◌∷◌, Bool, true, map, arith}
-use Rattle.std.specs.Prelude.{nat_le}
+-- Numbers, lags and frames within the limits of a file, and lists of what fits a limit, are plain values.
+use Rattle.std.proofs.Common.{◌≡◌, ◌<◌, ◌^◌, ℕ, suc, pos, negsuc, List, [], ◌∷◌, Bool, true, false, map, arith}
+use Rattle.std.specs.Prelude.{ℤ, nat_le, if◌then◌else◌}
+use Rattle.std.specs.Ordering.{int_eq}
 use Rattle.std.specs.List.{list_all}
 use Rattle.std.proofs.lemmas.Bool.{and_parts, leb-true}
 use Rattle.serde_json.specs.Data.{Data}
-use Rattle.tsn_cert.specs.Json.{items_of_list, number_value, array_value, all_within}
+use Rattle.tsn_model.specs.declared.Frame.{Frame}
+use Rattle.tsn_cert.specs.Json.{items_of_list, number_value, signed_value, array_value, all_within}
 use Rattle.tsn_cert.specs.Plan.{max_time}
-use Rattle.tsn_cert.specs.Cert.{max_number}
+use Rattle.tsn_cert.specs.Cert.{max_number, max_lag, lag_fits, frame_fits, lag_items}
 use Rattle.tsn_cert.proofs.Written.{IsPlain, ArePlain}
 
 -- what fits some limit makes a plain value
@@ -28,3 +30,23 @@ time_plain n h = small_plain max_time n (omega arith) h
 
 pub numbers_plain : (ns : List ℕ) → all_within max_number ns ≡ true → IsPlain (array_value (map number_value ns))
 numbers_plain ns h = all_plain (λ n. nat_le n max_number) number_value number_plain ns h
+
+-- ---- lags and frames
+
+signed_plain : (lag : ℤ) → lag_fits lag ≡ true → IsPlain (signed_value lag)
+signed_plain (pos n) h = small_plain max_lag n (omega arith) h
+signed_plain (negsuc n) h = omega (arith, leb-true (suc n) max_lag h)
+
+lag_plain_if : (b : Bool) (lag : ℤ) → lag_fits lag ≡ true → ArePlain (items_of_list (if b then [] else signed_value lag ∷ []))
+lag_plain_if true lag h = tt
+lag_plain_if false lag h = (signed_plain lag h, tt)
+
+-- a lag, where it is written
+pub lag_plain : (lag : ℤ) → lag_fits lag ≡ true → ArePlain (items_of_list (lag_items lag))
+lag_plain lag h = lag_plain_if (int_eq lag (pos 0)) lag h
+
+pub stream_plain : (f : Frame) → frame_fits f ≡ true → IsPlain (number_value f.stream)
+stream_plain f h = number_plain f.stream (and_parts (nat_le f.stream max_number) (nat_le f.shift max_number) h).0
+
+pub shift_plain : (f : Frame) → frame_fits f ≡ true → IsPlain (number_value f.shift)
+shift_plain f h = number_plain f.shift (and_parts (nat_le f.stream max_number) (nat_le f.shift max_number) h).1

@@ -1,21 +1,22 @@
 -- What is printed of a value is read again as that value.
-use Rattle.std.proofs.Common.{◌≡◌, ◌≤◌, ◌<◌, ◌^◌, ℕ, List, [], ◌∷◌, ◌++◌, Bool, true, false, Some, IsUtf8, decimal, refl, sym, ap, ◌∙◌, arith, append-nil}
+use Rattle.std.proofs.Common.{◌≡◌, ◌≤◌, ◌<◌, ◌^◌, ℕ, pos, negsuc, List, [], ◌∷◌, ◌++◌, Bool, true, false, Some, IsUtf8, decimal, refl, sym, ap, ◌∙◌, arith, append-nil}
 use Rattle.std.specs.Prelude.{⊤, option_map, option_and_then}
+use Rattle.std.specs.Fmt.{signed_decimal}
 use Rattle.std.proofs.lemmas.Str.{IsUtf8-append, IsUtf8-nil, IsUtf8-from_ascii}
-use Rattle.std.proofs.lemmas.Fmt.{IsAscii-decimal}
+use Rattle.std.proofs.lemmas.Fmt.{IsAscii-decimal, IsAscii-signed}
 use Rattle.json.specs.Lex.{tokens}
 use Rattle.json.specs.Json as json
 use Rattle.json.specs.Print.{quoted}
 use Rattle.json.specs.Tree as tree
 use Rattle.json.specs.Tree.{json_tokens, HasNumbers, ItemsHaveNumbers, MembersHaveNumbers}
 use Rattle.json.proofs.Printed.Utf8.{are_ascii, IsUtf8-are_ascii, IsUtf8-quoted}
-use Rattle.json.proofs.Printed.Decimals.{IsNumber-decimal}
+use Rattle.json.proofs.Printed.Decimals.{IsNumber-decimal, IsNumber-signed_decimal}
 use Rattle.json.proofs.Printed.Tokens.{tokens-print}
 use Rattle.json.proofs.Printed.Trees.{value-json_tokens, ArePrintable-json_tokens}
 use Rattle.serde_json.specs.Data.{Data, null, boolean, number, string, array, object, unsigned, negative, float, Items, no_items, item, Members, no_members, member, put, depth, items_depth, members_depth}
 use Rattle.serde_json.specs.Read.{of_json, of_items, of_members, read, max_depth}
 use Rattle.serde_json.specs.Written.{outline, items_outline, members_outline, comma_if, compact_text, items_text, members_text}
-use Rattle.serde_json.proofs.Numbers.{number_of-decimal}
+use Rattle.serde_json.proofs.Numbers.{number_of-decimal, number_of-negative}
 use Rattle.serde_json.proofs.Texts.{print-outline}
 use Rattle.tsn_cert.specs.Json.{value_of, file_text}
 use Rattle.tsn_cert.proofs.JsonLemmas.{value_of-line_feed}
@@ -25,13 +26,14 @@ abbrev pub put_all : Members → Members → Members
 put_all no_members found = found
 put_all (member k d ms) found = put_all ms (put k d found)
 
--- whole numbers below 2^64, ASCII words, nothing, and arrays and objects of these, the keys in order
+-- whole numbers below 2^64, numbers below 0 from -2^63 on, ASCII words, nothing, and arrays and objects of these, the keys in order
 abbrev mutual
   pub IsPlain : Data → Type 0
   IsPlain null = ⊤
   IsPlain (boolean b) = ⊥
   IsPlain (number (unsigned n)) = n < 2 ^ 64
-  IsPlain (number (negative z)) = ⊥
+  IsPlain (number (negative (pos n))) = ⊥
+  IsPlain (number (negative (negsuc n))) = n < 2 ^ 63
   IsPlain (number (float x)) = ⊥
   IsPlain (string s) = are_ascii s ≡ true
   IsPlain (array ds) = ArePlain ds
@@ -50,7 +52,8 @@ mutual
   plain_read null h = refl
   plain_read (boolean b) h = absurd h
   plain_read (number (unsigned n)) h = ap (option_map number) (number_of-decimal n h)
-  plain_read (number (negative z)) h = absurd h
+  plain_read (number (negative (pos n))) h = absurd h
+  plain_read (number (negative (negsuc n))) h = ap (option_map number) (number_of-negative n h)
   plain_read (number (float x)) h = absurd h
   plain_read (string s) h = refl
   plain_read (array ds) h = ap (option_map array) (plain_items_read ds h)
@@ -73,7 +76,8 @@ mutual
   plain_numbers null h = tt
   plain_numbers (boolean b) h = absurd h
   plain_numbers (number (unsigned n)) h = IsNumber-decimal n h
-  plain_numbers (number (negative z)) h = absurd h
+  plain_numbers (number (negative (pos n))) h = absurd h
+  plain_numbers (number (negative (negsuc n))) h = IsNumber-signed_decimal (negsuc n) h
   plain_numbers (number (float x)) h = absurd h
   plain_numbers (string s) h = tt
   plain_numbers (array ds) h = plain_items_numbers ds h
@@ -118,7 +122,8 @@ mutual
   plain_utf8 null h = IsUtf8-are_ascii (110 ∷ 117 ∷ 108 ∷ 108 ∷ []) refl
   plain_utf8 (boolean b) h = absurd h
   plain_utf8 (number (unsigned n)) h = IsUtf8-from_ascii (decimal n) (IsAscii-decimal n h)
-  plain_utf8 (number (negative z)) h = absurd h
+  plain_utf8 (number (negative (pos n))) h = absurd h
+  plain_utf8 (number (negative (negsuc n))) h = IsUtf8-from_ascii (signed_decimal (negsuc n)) (IsAscii-signed (negsuc n) h)
   plain_utf8 (number (float x)) h = absurd h
   plain_utf8 (string s) h = IsUtf8-quoted s (IsUtf8-are_ascii s h)
   plain_utf8 (array ds) h = behind_byte 91 (items_text false ds) refl (plain_items_utf8 false ds h)

@@ -1,13 +1,14 @@
--- The certificate file: `{"format":F,"nodes":[..],"target":T}`, the nodes in preorder.
-use Rattle.std.specs.Prelude.{ℕ, List, [], ◌∷◌, length, map, Bool, true, false, not, if◌then◌else◌, ◌&&◌, ◌==◌, nat_le, codes, Option, Some, None, option_map, Result}
+-- The certificate file: `{"format":F,"nodes":[..],"target":T}`, the nodes in preorder. A lag or a shift of 0 is left out, and has no other spelling.
+use Rattle.std.specs.Prelude.{ℕ, ℤ, pos, unsigned_abs, List, [], ◌∷◌, ◌++◌, length, map, Bool, true, false, not, if◌then◌else◌, ◌&&◌, ◌==◌, nat_le, codes, Option, Some, None, option_map, Result}
 use Rattle.std.specs.List.{list_all}
+use Rattle.std.specs.Ordering.{int_eq}
 use Rattle.std.specs.Str.{bytes_eq}
 use Rattle.serde_json.specs.Data.{Data, string, object, no_members, member}
 use Rattle.serde_json.specs.Find.{get, as_str}
 use Rattle.tsn_model.specs.declared.Triple.{Triple}
+use Rattle.tsn_model.specs.declared.Frame.{Frame}
 use Rattle.tsn_model.specs.Certificate.{Node, split_node, leaf_node, tie_node, Leaf, late, overrun, positive_cycle, load, overload, Entry}
-use Rattle.tsn_cert.specs.Json.{◌>>=◌, when, value_of, file_text, whole_number, numbers, elements, each, is_object_of, all_within, number_value, array_value}
-use Rattle.tsn_cert.specs.Entry.{tree_entry}
+use Rattle.tsn_cert.specs.Json.{◌>>=◌, when, value_of, file_text, whole_number, signed_number, numbers, elements, each, is_object_of, all_within, number_value, signed_value, array_value}
 use Rattle.tsn_cert.specs.Fault.{answer}
 use Rattle.tsn_cert.specs.Plan.{max_time}
 use Rattle.tsn_cert.specs.declared.fault.FileFault.{FileFault}
@@ -34,13 +35,22 @@ reason_parts (stream ∷ chain ∷ []) = do
   Some (i, depths)
 reason_parts _ = None
 
--- two streams and a link
+-- what stands behind the link of a decision: its lag, where that isn't 0
+abbrev pub lag_parts : List Data → Option ℤ
+lag_parts [] = Some (pos 0)
+lag_parts (lag ∷ []) = do
+  z ← signed_number lag
+  when (not (int_eq z (pos 0))) (Some z)
+lag_parts _ = None
+
+-- two streams, a link and a lag
 abbrev pub triple_parts : List Data → Option Triple
-triple_parts (left ∷ right ∷ link ∷ []) = do
+triple_parts (left ∷ right ∷ link ∷ lag) = do
   i ← whole_number left
   j ← whole_number right
   l ← whole_number link
-  Some (record { left = i; right = j; link = l })
+  z ← lag_parts lag
+  Some (record { left = i; right = j; link = l; lag = z })
 triple_parts _ = None
 
 -- a chain alone
@@ -48,11 +58,33 @@ abbrev pub cycle_parts : List Data → Option (List ℕ)
 cycle_parts (chain ∷ []) = chain_of chain
 cycle_parts _ = None
 
--- a stream and a chain, as an entry
+-- a stream and a shift, which isn't 0
+abbrev pub frame_parts : Data → Data → Option Frame
+frame_parts stream shift = do
+  i ← whole_number stream
+  s ← whole_number shift
+  when (nat_le 1 s) (Some (record { stream = i; shift = s }))
+
+-- the frame of a stream whose shift is 0
+abbrev pub first_frame : ℕ → Frame
+first_frame stream = record { stream = stream; shift = 0 }
+
+-- a frame and a chain
+abbrev pub entry_parts : List Data → Option Entry
+entry_parts (stream ∷ chain ∷ []) = do
+  i ← whole_number stream
+  depths ← chain_of chain
+  Some (record { frame = first_frame i; chain = depths })
+entry_parts (stream ∷ shift ∷ chain ∷ []) = do
+  frame ← frame_parts stream shift
+  depths ← chain_of chain
+  Some (record { frame = frame; chain = depths })
+entry_parts _ = None
+
 abbrev pub entry_of : Data → Option Entry
 entry_of d = do
   ds ← elements d
-  option_map tree_entry (reason_parts ds)
+  entry_parts ds
 
 abbrev pub entry_list : Data → Option (List Entry)
 entry_list d = do
@@ -177,15 +209,25 @@ cert_of d = when (is_object_of 3 d) (do
 
 -- ---- the limits
 
--- the greatest number of a node
+-- the greatest number of a node, but for lags
 abbrev pub max_number : ℕ
 max_number = 4294967295
 
+-- the greatest size of a lag
+abbrev pub max_lag : ℕ
+max_lag = 999999999
+
+abbrev pub lag_fits : ℤ → Bool
+lag_fits lag = nat_le (unsigned_abs lag) max_lag
+
 abbrev pub triple_fits : Triple → Bool
-triple_fits t = nat_le t.left max_number && nat_le t.right max_number && nat_le t.link max_number
+triple_fits t = nat_le t.left max_number && nat_le t.right max_number && nat_le t.link max_number && lag_fits t.lag
+
+abbrev pub frame_fits : Frame → Bool
+frame_fits f = nat_le f.stream max_number && nat_le f.shift max_number
 
 abbrev pub entry_fits : Entry → Bool
-entry_fits e = nat_le e.stream max_number && all_within max_number e.chain
+entry_fits e = frame_fits e.frame && all_within max_number e.chain
 
 abbrev pub leaf_fits : Leaf → Bool
 leaf_fits (late stream chain) = nat_le stream max_number && all_within max_number chain
@@ -194,7 +236,7 @@ leaf_fits (positive_cycle chain) = all_within max_number chain
 leaf_fits (load link entries) = nat_le link max_number && list_all entry_fits entries
 leaf_fits (overload link entries) = nat_le link max_number && list_all entry_fits entries
 
--- no number of the node is above the limit
+-- each number of the node is within its limit
 abbrev pub node_fits : Node → Bool
 node_fits (split_node triple) = triple_fits triple
 node_fits (leaf_node proof) = leaf_fits proof
@@ -213,8 +255,16 @@ cert_in bytes = answer cert_of cert_fits (value_of bytes)
 abbrev pub chain_value : List ℕ → Data
 chain_value depths = array_value (map number_value depths)
 
+-- nothing where the lag is 0
+abbrev pub lag_items : ℤ → List Data
+lag_items lag = if int_eq lag (pos 0) then [] else signed_value lag ∷ []
+
+-- nothing where the shift is 0
+abbrev pub shift_items : ℕ → List Data
+shift_items shift = if shift == 0 then [] else number_value shift ∷ []
+
 abbrev pub entry_value : Entry → Data
-entry_value e = array_value (number_value e.stream ∷ chain_value e.chain ∷ [])
+entry_value e = array_value (number_value e.frame.stream ∷ (shift_items e.frame.shift ++ chain_value e.chain ∷ []))
 
 abbrev pub entries_value : List Entry → Data
 entries_value entries = array_value (map entry_value entries)
@@ -238,7 +288,7 @@ tie_value (load link entries) chains = array_value (string (codes "tieload") ∷
 tie_value (overload link entries) chains = array_value []
 
 abbrev pub node_value : Node → Data
-node_value (split_node t) = array_value (string (codes "branch") ∷ number_value t.left ∷ number_value t.right ∷ number_value t.link ∷ [])
+node_value (split_node t) = array_value (string (codes "branch") ∷ number_value t.left ∷ number_value t.right ∷ number_value t.link ∷ lag_items t.lag)
 node_value (leaf_node proof) = leaf_value proof
 node_value (tie_node proof chains) = tie_value proof chains
 

@@ -3,14 +3,15 @@ ghost use Rattle.tsn_cert.specs.Entry.{tree_entry};
 
 use crate::chain::Chain;
 use std::marker::Model;
+use tsn_model::Frame;
 
 /// The most entries of a leaf.
 pub const MAX_ENTRIES: usize = 128;
 
-/// The entries of a load or overload leaf, each a stream and a chain to it: 1 to 128 of them.
+/// The entries of a load or overload leaf, each a frame and a chain to its stream: 1 to 128 of them.
 #[derive(Drop)]
 pub struct Entries {
-    list: Vec<(usize, Chain)>,
+    list: Vec<(Frame, Chain)>,
 }
 
 impl Model for Entries {
@@ -27,7 +28,7 @@ impl Model for Entries {
 
 impl Entries {
     /// The entries of a list.
-    pub fn of(list: Vec<(usize, Chain)>) -> Entries
+    pub fn of(list: Vec<(Frame, Chain)>) -> Entries
         requires some_entry { 1 ≤ length list.items }
         requires few_entries { length list.items ≤ MAX_ENTRIES }
         ensures { result ≡ map tree_entry list.items }
@@ -36,7 +37,7 @@ impl Entries {
     }
 
     /// The entries, in order.
-    pub fn list(&self) -> &[(usize, Chain)]
+    pub fn list(&self) -> &[(Frame, Chain)]
         ensures entries { map tree_entry result.now ≡ self.now }
         ensures some_entry { 1 ≤ length result.now }
         ensures few_entries { length result.now ≤ MAX_ENTRIES }
@@ -45,7 +46,7 @@ impl Entries {
     }
 
     /// Gives the list back.
-    pub fn into_list(self) -> Vec<(usize, Chain)>
+    pub fn into_list(self) -> Vec<(Frame, Chain)>
         ensures { map tree_entry result.items ≡ self }
     {
         let Entries { list } = self;

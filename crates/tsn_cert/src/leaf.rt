@@ -18,7 +18,7 @@ pub enum LowerBound {
 pub enum Leaf {
     /// None has a lesser flowspan.
     Bound(LowerBound),
-    /// The stream ends behind the cycle: the chain's sum and its span are above the cycle.
+    /// The stream ends behind its period: the chain's sum and its span are above the period.
     Overrun(usize, Chain),
     /// The decisions contradict one another: the chain is closed, and its sum is above 0.
     Cycle(Chain),

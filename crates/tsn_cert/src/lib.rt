@@ -7,6 +7,7 @@ pub mod chains;
 pub mod entries;
 pub mod fault;
 pub mod leaf;
+pub mod limits;
 pub mod plan;
 
 pub use cert::{Cert, Format, Node, Nodes};

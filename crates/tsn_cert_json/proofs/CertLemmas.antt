@@ -1,7 +1,8 @@
 -- A printed certificate is read again.
-use Rattle.std.proofs.Common.{Result, Err, IfOk, IsOkAnd, OnOk, ◌≡◌, ◌≤◌, ◌<◌, ◌+◌, ℕ, List, [], ◌∷◌, ◌++◌, length, take, get_or, map, true, false, Option, Some, Ok, refl, sym, ap, ap₂, ◌∙◌, arith, lit≤, Vec}
+use Rattle.std.proofs.Common.{Result, Err, IfOk, IsOkAnd, OnOk, ◌≡◌, ◌≤◌, ◌<◌, ◌+◌, ℕ, List, [], ◌∷◌, ◌++◌, length, take, get_or, map, Bool, true, false, Option, Some, Ok, refl, sym, ap, ap₂, ◌∙◌, arith, lit≤, Vec, w64, FitsSigned}
 use Rattle.std.proofs.lemmas.Bool.Decides.{nat_tests}
-use Rattle.std.specs.Prelude.{option_and_then, option_map, nat_le, ◌&&◌}
+use Rattle.std.proofs.lemmas.Bool.{eqb-true}
+use Rattle.std.specs.Prelude.{option_and_then, option_map, nat_le, ◌&&◌, ◌==◌, if◌then◌else◌}
 use Rattle.std.proofs.lemmas.List.{take_more, map-append}
 use Rattle.serde_json.specs.Data.{Data, depth}
 use Rattle.serde_json.specs.Read.{max_depth}
@@ -9,14 +10,17 @@ use Rattle.serde_json.specs.Written.{has_float}
 use Rattle.std.specs.declared.alloc.Global.{Global}
 use Rattle.serde_json.specs.View.{view}
 use Rattle.serde_json.specs.declared.value.Value.{Value, Array}
+use Rattle.tsn_model.specs.declared.Triple.{Triple}
+use Rattle.tsn_model.specs.declared.Frame.{Frame}
 use Rattle.tsn_model.specs.Certificate.{Node, split_node, leaf_node, tie_node, Leaf, late, overrun, positive_cycle, load, overload, Entry}
 use Rattle.tsn_cert.specs.Json.{when, value_of, each, elements, number_value, array_value}
 use Rattle.tsn_cert.specs.Fault.{shaped, answer}
-use Rattle.tsn_cert.specs.Cert.{chain_list, chains_of, chains_value, tie_value, format_number, format_of, are_of, chain_of, entry_of, entry_list, entries_of, entries_value, node_of, nodes_of, cert_of, cert_fits, cert_in, chain_value, entry_value, leaf_value, node_value, nodes_value, cert_value}
+use Rattle.tsn_cert.specs.Cert.{chain_list, chains_of, chains_value, tie_value, format_number, format_of, are_of, chain_of, first_frame, triple_parts, lag_items, entry_of, entry_list, entries_of, entries_value, node_of, nodes_of, cert_of, cert_fits, cert_in, chain_value, entry_value, leaf_value, node_value, nodes_value, cert_value}
 use Rattle.tsn_cert.specs.declared.cert.Cert.{Cert}
 use Rattle.tsn_cert.specs.declared.cert.Format.{Format}
 use Rattle.tsn_cert.specs.declared.cert.Format.TheVariants.{One, Two}
 use Rattle.tsn_cert.proofs.JsonLemmas.{listed-items_of_list, each_push, taken_all, numbers-array_value, items_depth-le}
+use Rattle.tsn_cert.proofs.Lags.{triple_back, lag_depth, lag_no_float}
 use Rattle.tsn_values.proofs.JsonLemmas.{view-printed, no_float-items}
 
 -- ---- lists that are read again
@@ -76,8 +80,23 @@ overrun_back stream chain short = reason_back (λ r. leaf_node (overrun r.0 r.1)
 pub cycle_back : (chain : List ℕ) → length chain ≤ 128 → node_of (node_value (leaf_node (positive_cycle chain))) ≡ Some (leaf_node (positive_cycle chain))
 cycle_back chain short = ap (option_map (λ c. leaf_node (positive_cycle c))) (chain_back chain short)
 
+entry_back_if : (b : Bool) (e : Entry) → (e.frame.shift == 0) ≡ b → length e.chain ≤ 128
+    → entry_of (array_value (number_value e.frame.stream ∷ ((if b then [] else number_value e.frame.shift ∷ []) ++ chain_value e.chain ∷ []))) ≡ Some e
+entry_back_if true e is short =
+    ap (λ o. option_and_then (λ (c : List ℕ). Some (record { frame = first_frame e.frame.stream; chain = c })) o) (chain_back e.chain short)
+    ∙ ap (λ s. Some (record { frame = record { stream = e.frame.stream; shift = s }; chain = e.chain })) (sym (eqb-true e.frame.shift 0 is))
+entry_back_if false e is short =
+    let written : nat_le 1 e.frame.shift ≡ true = grind (arith, nat_tests, is) in
+    ap (λ b. option_and_then (λ (f : Frame). option_and_then (λ (c : List ℕ). Some (record { frame = f; chain = c })) (chain_of (chain_value e.chain))) (when b (Some e.frame))) written
+    ∙ ap (λ o. option_and_then (λ (c : List ℕ). Some (record { frame = e.frame; chain = c })) o) (chain_back e.chain short)
+
 pub entry_back : (e : Entry) → length e.chain ≤ 128 → entry_of (entry_value e) ≡ Some e
-entry_back e short = reason_back (λ r. record { stream = r.0; chain = r.1 }) e.stream e.chain short
+entry_back e short = entry_back_if (e.frame.shift == 0) e refl short
+
+pub branch_back : (t : Triple) → FitsSigned w64 t.lag → node_of (node_value (split_node t)) ≡ Some (split_node t)
+branch_back t fits =
+    ap (λ ds. option_map split_node (triple_parts (number_value t.left ∷ number_value t.right ∷ number_value t.link ∷ ds))) (listed-items_of_list (lag_items t.lag))
+    ∙ ap (option_map split_node) (triple_back t fits)
 
 pub entries_back : (es : List Entry) → 1 ≤ length es → length es ≤ 128 → entry_list (entries_value es) ≡ Some es → entries_of (entries_value es) ≡ Some es
 entries_back es some few back =
@@ -133,8 +152,13 @@ tie_load_back link es cs back chains =
 chain_no_float : (c : List ℕ) → has_float (chain_value c) ≡ false
 chain_no_float c = no_float-items number_value (λ n. refl) c
 
+entry_no_float_if : (b : Bool) (e : Entry)
+    → has_float (array_value (number_value e.frame.stream ∷ ((if b then [] else number_value e.frame.shift ∷ []) ++ chain_value e.chain ∷ []))) ≡ false
+entry_no_float_if true e = rw (chain_no_float e.chain) refl
+entry_no_float_if false e = rw (chain_no_float e.chain) refl
+
 entry_no_float : (e : Entry) → has_float (entry_value e) ≡ false
-entry_no_float e = rw (chain_no_float e.chain) refl
+entry_no_float e = entry_no_float_if (e.frame.shift == 0) e
 
 leaf_no_float : (l : Leaf) → has_float (leaf_value l) ≡ false
 leaf_no_float (late stream chain) = rw (chain_no_float chain) refl
@@ -151,15 +175,20 @@ tie_no_float (load link entries) cs = rw (no_float-items entry_value entry_no_fl
 tie_no_float (overload link entries) cs = refl
 
 pub node_no_float : (n : Node) → has_float (node_value n) ≡ false
-node_no_float (split_node t) = refl
+node_no_float (split_node t) = lag_no_float t.lag
 node_no_float (leaf_node l) = leaf_no_float l
 node_no_float (tie_node l cs) = tie_no_float l cs
 
 chain_depth : (c : List ℕ) → depth (chain_value c) ≤ 1
 chain_depth c = omega (arith, items_depth-le 0 number_value (λ n. omega arith) c)
 
+entry_depth_if : (b : Bool) (e : Entry)
+    → depth (array_value (number_value e.frame.stream ∷ ((if b then [] else number_value e.frame.shift ∷ []) ++ chain_value e.chain ∷ []))) ≤ 2
+entry_depth_if true e = omega (arith, chain_depth e.chain)
+entry_depth_if false e = omega (arith, chain_depth e.chain)
+
 entry_depth : (e : Entry) → depth (entry_value e) ≤ 2
-entry_depth e = omega (arith, chain_depth e.chain)
+entry_depth e = entry_depth_if (e.frame.shift == 0) e
 
 leaf_depth : (l : Leaf) → depth (leaf_value l) ≤ 4
 leaf_depth (late stream chain) = omega (arith, chain_depth chain)
@@ -176,7 +205,7 @@ tie_depth (load link entries) cs = omega (arith, items_depth-le 2 entry_value en
 tie_depth (overload link entries) cs = lit≤ tt
 
 node_depth : (n : Node) → depth (node_value n) ≤ 4
-node_depth (split_node t) = lit≤ tt
+node_depth (split_node t) = omega (arith, lag_depth t.lag)
 node_depth (leaf_node l) = leaf_depth l
 node_depth (tie_node l cs) = tie_depth l cs
 

@@ -1,14 +1,14 @@
 -- The values of plans and certificates are plain where their numbers are within the limits, so that what is printed is read again.
-use Rattle.std.proofs.Common.{◌≡◌, ℕ, List, [], ◌∷◌, true, map, Option, Some, refl, ap, ◌∙◌, lit<}
-use Rattle.std.specs.Prelude.{nat_le, ◌&&◌, All}
+use Rattle.std.proofs.Common.{◌≡◌, ℕ, List, [], ◌∷◌, ◌++◌, Bool, true, false, map, Option, Some, refl, ap, ◌∙◌, lit<}
+use Rattle.std.specs.Prelude.{nat_le, ◌&&◌, ◌==◌, if◌then◌else◌, All}
 use Rattle.std.specs.List.{list_all}
 use Rattle.std.proofs.lemmas.Bool.{and_parts}
 use Rattle.std.proofs.lemmas.List.Elements.{All-head, All-tail}
 use Rattle.serde_json.specs.Data.{Data}
 use Rattle.tsn_model.specs.Certificate.{Node, split_node, leaf_node, tie_node, Leaf, late, overrun, positive_cycle, load, overload, Entry}
-use Rattle.tsn_cert.specs.Json.{each, items_of_list, number_value, all_within}
+use Rattle.tsn_cert.specs.Json.{each, items_of_list, number_value, array_value, all_within}
 use Rattle.tsn_cert.specs.Plan.{max_time, plan_fits, plan_value}
-use Rattle.tsn_cert.specs.Cert.{max_number, entry_fits, leaf_fits, node_fits, cert_fits, chain_value, entry_value, leaf_value, tie_value, node_value, node_of, nodes_of, nodes_value, cert_value, format_number}
+use Rattle.tsn_cert.specs.Cert.{max_number, lag_fits, frame_fits, entry_fits, leaf_fits, node_fits, cert_fits, chain_value, entry_value, leaf_value, tie_value, node_value, node_of, nodes_of, nodes_value, cert_value, format_number}
 use Rattle.tsn_cert.specs.Laws.{AreInGrammar, PlanTextIsRead, CertTextIsRead}
 use Rattle.tsn_cert.specs.declared.cert.Cert.{Cert}
 use Rattle.tsn_cert.specs.declared.cert.Format.{Format}
@@ -19,7 +19,7 @@ use Rattle.tsn_cert.proofs.JsonLemmas.{listed-items_of_list}
 use Rattle.tsn_cert_json.proofs.PlanLemmas.{depth-plan_value, plan_in-printed}
 use Rattle.tsn_cert_json.proofs.CertLemmas.{depth-cert_value, cert_in-printed}
 use Rattle.tsn_cert.proofs.Written.{IsPlain, ArePlain, file_read}
-use Rattle.tsn_cert.proofs.Plain.{all_plain, number_plain, time_plain, numbers_plain}
+use Rattle.tsn_cert.proofs.Plain.{all_plain, number_plain, time_plain, numbers_plain, lag_plain, stream_plain, shift_plain}
 
 -- ---- plans
 
@@ -35,10 +35,17 @@ plan_text_read p fits = plan_in-printed _ p (file_read (plan_value p) (plan_plai
 
 -- ---- certificates
 
+entry_plain_if : (b : Bool) (e : Entry) → entry_fits e ≡ true
+    → IsPlain (array_value (number_value e.frame.stream ∷ ((if b then [] else number_value e.frame.shift ∷ []) ++ chain_value e.chain ∷ [])))
+entry_plain_if true e h =
+    let parts = and_parts (frame_fits e.frame) (all_within max_number e.chain) h in
+    (stream_plain e.frame parts.0, (numbers_plain e.chain parts.1, tt))
+entry_plain_if false e h =
+    let parts = and_parts (frame_fits e.frame) (all_within max_number e.chain) h in
+    (stream_plain e.frame parts.0, (shift_plain e.frame parts.0, (numbers_plain e.chain parts.1, tt)))
+
 entry_plain : (e : Entry) → entry_fits e ≡ true → IsPlain (entry_value e)
-entry_plain e h =
-    let parts = and_parts (nat_le e.stream max_number) (all_within max_number e.chain) h in
-    (number_plain e.stream parts.0, (numbers_plain e.chain parts.1, tt))
+entry_plain e h = entry_plain_if (e.frame.shift == 0) e h
 
 entries_plain : (es : List Entry) → list_all entry_fits es ≡ true → ArePlain (items_of_list (map entry_value es))
 entries_plain es h = all_plain entry_fits entry_value entry_plain es h
@@ -74,9 +81,10 @@ tie_plain (overload link entries) cs h hs = tt
 
 node_plain : (n : Node) → node_fits n ≡ true → IsPlain (node_value n)
 node_plain (split_node t) h =
-    let parts = and_parts (nat_le t.left max_number && nat_le t.right max_number) (nat_le t.link max_number) h in
+    let lag = and_parts (nat_le t.left max_number && nat_le t.right max_number && nat_le t.link max_number) (lag_fits t.lag) h in
+    let parts = and_parts (nat_le t.left max_number && nat_le t.right max_number) (nat_le t.link max_number) lag.0 in
     let streams = and_parts (nat_le t.left max_number) (nat_le t.right max_number) parts.0 in
-    (refl, (number_plain t.left streams.0, (number_plain t.right streams.1, (number_plain t.link parts.1, tt))))
+    (refl, (number_plain t.left streams.0, (number_plain t.right streams.1, (number_plain t.link parts.1, lag_plain t.lag lag.1))))
 node_plain (leaf_node l) h = leaf_plain l h
 node_plain (tie_node l cs) h =
     let parts = and_parts (leaf_fits l) (list_all (all_within max_number) cs) h in

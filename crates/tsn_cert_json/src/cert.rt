@@ -9,7 +9,7 @@ ghost use Rattle.tsn_cert.specs.Entry.{tree_entry};
 ghost use Rattle.tsn_cert.specs.Leaf.{bound_leaf, leaf_of};
 ghost use Rattle.tsn_cert.specs.Node.{tree_node};
 ghost use Rattle.tsn_cert.specs.Spelled.{unlimited_cert_in};
-ghost use Rattle.tsn_cert.specs.Cert.{chain_list, chains_of, tie_parts, tie_load_parts, chains_value, are_of, format_of, chain_of, reason_parts, triple_parts, cycle_parts, entry_of, entry_list, entries_of, load_parts, entry_fits, leaf_fits, entry_value, entries_value, node_parts, other_node_parts, node_of, nodes_of, cert_of_values, cert_of, cert_in, node_fits, max_number, cert_fits, chain_value, leaf_value, tie_value, node_value, nodes_value, cert_text};
+ghost use Rattle.tsn_cert.specs.Cert.{chain_list, chains_of, tie_parts, tie_load_parts, chains_value, are_of, format_of, chain_of, reason_parts, triple_parts, cycle_parts, entry_parts, entry_of, entry_list, entries_of, load_parts, triple_fits, entry_fits, leaf_fits, entry_value, entries_value, node_parts, other_node_parts, node_of, nodes_of, cert_of_values, cert_of, cert_in, node_fits, max_number, cert_fits, chain_value, leaf_value, tie_value, node_value, nodes_value, cert_text};
 
 use crate::quick;
 use serde_json::{ToValue, Value, json};
@@ -18,8 +18,8 @@ use tsn_cert::chain::{Chain, MAX_CHAIN, MAX_NUMBER};
 use tsn_cert::chains::{Chains, MAX_CHAINS};
 use tsn_cert::entries::{Entries, MAX_ENTRIES};
 use tsn_cert::plan::MAX_TIME;
-use tsn_cert::{Cert, FileFault, Format, Leaf, LowerBound, Node, Nodes};
-use tsn_model::{NoMemory, Triple};
+use tsn_cert::{Cert, FileFault, Format, Leaf, LowerBound, Node, Nodes, limits};
+use tsn_model::{Frame, NoMemory, Triple};
 use tsn_values::document;
 use tsn_values::tokens::Unread;
 
@@ -46,17 +46,18 @@ fn reason_from_parts(alloc: Global, parts: &[Value]) -> Result<(usize, Chain), F
     Ok((document::index_from(stream)?, chain_from(alloc, chain)?))
 }
 
-/// Two streams and a link.
+/// Two streams, a link and a lag.
 fn triple_from_parts(parts: &[Value]) -> Result<Triple, FileFault>
     ensures { Reads (λ triple. triple) result (triple_parts (map view parts.now)) }
 {
-    let [left, right, link] = parts else {
+    let [left, right, link, lag @ ..] = parts else {
         return Err(FileFault::WrongShape);
     };
     Ok(Triple {
         left: document::index_from(left)?,
         right: document::index_from(right)?,
         link: document::index_from(link)?,
+        lag: document::lag_from_parts(lag)?,
     })
 }
 
@@ -70,15 +71,53 @@ fn cycle_from_parts(alloc: Global, parts: &[Value]) -> Result<Chain, FileFault>
     chain_from(alloc, chain)
 }
 
+/// The entry of a stream's frame of shift 0.
+fn first_entry_from(
+    alloc: Global,
+    stream: &Value,
+    chain: &Value,
+) -> Result<(Frame, Chain), FileFault>
+    ensures { Reads tree_entry result (entry_parts (view stream.now ∷ view chain.now ∷ [])) }
+{
+    let stream = document::index_from(stream)?;
+    let chain = chain_from(alloc, chain)?;
+    Ok((Frame { stream, shift: 0 }, chain))
+}
+
+/// The entry of a stream's frame of another shift.
+fn later_entry_from(
+    alloc: Global,
+    stream: &Value,
+    shift: &Value,
+    chain: &Value,
+) -> Result<(Frame, Chain), FileFault>
+    ensures { Reads tree_entry result (entry_parts (view stream.now ∷ view shift.now ∷ view chain.now ∷ [])) }
+{
+    let frame = document::frame_from_parts(stream, shift)?;
+    let chain = chain_from(alloc, chain)?;
+    Ok((frame, chain))
+}
+
+/// A frame and a chain.
+fn entry_from_parts(alloc: Global, parts: &[Value]) -> Result<(Frame, Chain), FileFault>
+    ensures { Reads tree_entry result (entry_parts (map view parts.now)) }
+{
+    match parts {
+        [stream, chain] => first_entry_from(alloc, stream, chain),
+        [stream, shift, chain] => later_entry_from(alloc, stream, shift, chain),
+        _ => Err(FileFault::WrongShape),
+    }
+}
+
 /// The entry that the value is.
-fn entry_from(alloc: Global, value: &Value) -> Result<(usize, Chain), FileFault>
+fn entry_from(alloc: Global, value: &Value) -> Result<(Frame, Chain), FileFault>
     ensures { Reads tree_entry result (entry_of (view value.now)) }
 {
-    reason_from_parts(alloc, document::elements_from(value)?)
+    entry_from_parts(alloc, document::elements_from(value)?)
 }
 
 /// The entries that the value is, however many.
-fn entry_list_from(alloc: Global, value: &Value) -> Result<Vec<(usize, Chain)>, FileFault>
+fn entry_list_from(alloc: Global, value: &Value) -> Result<Vec<(Frame, Chain)>, FileFault>
     ensures { Reads (λ v. map tree_entry v.items) result (entry_list (view value.now)) }
 {
     let items = document::elements_from(value)?;
@@ -291,13 +330,13 @@ fn chain_fits(chain: &Chain) -> bool
     chain.fits()
 }
 
-fn entry_fits(entry: &(usize, Chain)) -> bool
+fn entry_fits(entry: &(Frame, Chain)) -> bool
     ensures { result ≡ entry_fits (tree_entry entry.now) }
 {
-    entry.0 <= MAX_NUMBER && chain_fits(&entry.1)
+    limits::frame_fits(entry.0) && chain_fits(&entry.1)
 }
 
-fn entries_fit(entries: &[(usize, Chain)]) -> bool
+fn entries_fit(entries: &[(Frame, Chain)]) -> bool
     ensures { result ≡ list_all (λ entry. entry_fits (tree_entry entry)) entries.now }
 {
     entries.iter().all(|entry| entry_fits(entry))
@@ -335,13 +374,20 @@ fn leaf_fits(leaf: &Leaf) -> bool
     }
 }
 
+fn triple_fits(triple: &Triple) -> bool
+    ensures { result ≡ triple_fits triple.now }
+{
+    triple.left <= MAX_NUMBER
+        && triple.right <= MAX_NUMBER
+        && triple.link <= MAX_NUMBER
+        && limits::lag_fits(triple.lag)
+}
+
 fn node_fits(node: &Node) -> bool
     ensures { result ≡ node_fits (tree_node node.now) }
 {
     match node {
-        Node::Branch(triple) => {
-            triple.left <= MAX_NUMBER && triple.right <= MAX_NUMBER && triple.link <= MAX_NUMBER
-        }
+        Node::Branch(triple) => triple_fits(triple),
         Node::Leaf(leaf) => leaf_fits(leaf),
         Node::Tie(bound, chains) => bound_fits(bound) && chains_fit(chains.list()),
     }
@@ -602,7 +648,7 @@ fn entries_value(alloc: Global, entries: &Entries) -> Result<Value, AllocError>
     entry_values(alloc, entries.list())
 }
 
-fn entry_values(alloc: Global, entries: &[(usize, Chain)]) -> Result<Value, AllocError>
+fn entry_values(alloc: Global, entries: &[(Frame, Chain)]) -> Result<Value, AllocError>
     ensures value { IfOk result (λ v. view v ≡ entries_value (map tree_entry entries.now)) }
     ensures reads_back { OnOk result
         (entry_list (entries_value (map tree_entry entries.now)) ≡ Some (map tree_entry entries.now)) }
@@ -614,26 +660,31 @@ fn entry_values(alloc: Global, entries: &[(usize, Chain)]) -> Result<Value, Allo
     Ok(Value::Array(items))
 }
 
-fn entry_value(alloc: Global, entry: &(usize, Chain)) -> Result<Value, AllocError>
+fn entry_value(alloc: Global, entry: &(Frame, Chain)) -> Result<Value, AllocError>
     ensures value { IfOk result (λ v. view v ≡ entry_value (tree_entry entry.now)) }
     ensures reads_back { OnOk result
         (entry_of (entry_value (tree_entry entry.now)) ≡ Some (tree_entry entry.now)) }
 {
-    let stream = Ok(Value::from(entry.0));
-    document::pair_value(alloc, stream, chain_value(alloc, &entry.1))
+    let frame = entry.0;
+    let chain = chain_value(alloc, &entry.1)?;
+    if frame.shift == 0 {
+        json!(in alloc; [frame.stream, chain])
+    } else {
+        json!(in alloc; [frame.stream, frame.shift, chain])
+    }
 }
 
+#[tactic(auto, using(crate::proofs::CertLemmas::branch_back))]
 fn branch_value(alloc: Global, triple: &Triple) -> Result<Value, AllocError>
-    ensures { IfOk result (λ v. view v ≡ node_value (split_node triple.now)) }
+    ensures value { IfOk result (λ v. view v ≡ node_value (split_node triple.now)) }
+    ensures reads_back { OnOk result
+        (node_of (node_value (split_node triple.now)) ≡ Some (split_node triple.now)) }
 {
-    let right = Ok(Value::from(triple.right));
-    two_part_value(
-        alloc,
-        "branch",
-        triple.left,
-        right,
-        Ok(Value::from(triple.link)),
-    )
+    if triple.lag == 0 {
+        json!(in alloc; ["branch", triple.left, triple.right, triple.link])
+    } else {
+        json!(in alloc; ["branch", triple.left, triple.right, triple.link, triple.lag])
+    }
 }
 
 fn chain_value(alloc: Global, chain: &Chain) -> Result<Value, AllocError>

@@ -1,14 +1,14 @@
 //! A quick reading of a certificate in the form in which it is written, with no value of the text in between. Where the
 //! text is written otherwise it gives up, and says nothing of the text.
-ghost use Rattle.std.specs.Prelude.{◌≡◌, ◌≤◌, ◌<◌, ℕ, suc, length, map, codes, [], ◌∷◌, Some, IfOk, OnOk, option_and_then};
-ghost use Rattle.json.specs.Token.{begin_array};
+ghost use Rattle.std.specs.Prelude.{◌≡◌, ◌≤◌, ◌<◌, ℕ, suc, length, map, codes, [], ◌∷◌, ◌++◌, Some, IfOk, OnOk, option_and_then};
+ghost use Rattle.json.specs.Token.{begin_array, string};
 ghost use Rattle.json.specs.Token as token;
 ghost use Rattle.serde_json.specs.Read.{read};
 ghost use Rattle.tsn_model.specs.Certificate.{late, overrun, load, overload};
 ghost use Rattle.tsn_cert.specs.Json.{number_value, value_of};
 ghost use Rattle.tsn_cert.specs.Entry.{tree_entry};
 ghost use Rattle.tsn_cert.specs.Node.{tree_node};
-ghost use Rattle.tsn_cert.specs.Cert.{chain_list, chains_of, chains_value, chain_value, entry_list, entries_of, entries_value, entry_value, entry_of, node_of, node_value, nodes_of, nodes_value, format_number, cert_of, cert_value};
+ghost use Rattle.tsn_cert.specs.Cert.{chain_list, chains_of, chains_value, chain_value, shift_items, entry_list, entries_of, entries_value, entry_value, entry_of, node_of, node_value, nodes_of, nodes_value, format_number, cert_of, cert_value};
 ghost use Rattle.tsn_cert.specs.Spelled.{Spells, SpellsEach, SpellsNode};
 
 use json::{Reader, Scratch};
@@ -17,14 +17,32 @@ use tsn_cert::chain::{Chain, MAX_CHAIN};
 use tsn_cert::chains::{Chains, MAX_CHAINS};
 use tsn_cert::entries::{Entries, MAX_ENTRIES};
 use tsn_cert::{Cert, Format, Leaf, LowerBound, Node, Nodes};
-use tsn_model::Triple;
+use tsn_model::{Frame, Triple};
 use tsn_values::tokens::{
-    self, Unread, close_array, close_object, index, key, number, open_array, open_object, word,
+    self, Unread, close_array, close_object, index, key, lag_and_end, number, number_or_array,
+    open_array, open_object, word,
 };
 
 // ---- chains
 
-/// A chain, by a list that is lent for its numbers.
+/// A chain behind its bracket, by a list that is lent for its numbers.
+fn opened_chain(
+    alloc: Global,
+    reader: &mut Reader<'_>,
+    list: &mut Vec<usize>,
+) -> Result<Chain, Unread>
+    ensures text { IfOk result (λ chain. (depth : ℕ)
+        → Spells (suc depth) (begin_array ∷ reader.old) (chain_value chain) reader.new) }
+    ensures short { IfOk result (λ chain. length chain ≤ MAX_CHAIN) }
+{
+    tokens::numbers(reader, list)?;
+    if list.len() > MAX_CHAIN {
+        return Err(Unread::OtherForm);
+    }
+    let found = Chain::of(alloc, list)?;
+    Ok(found)
+}
+
 fn chain(alloc: Global, reader: &mut Reader<'_>, list: &mut Vec<usize>) -> Result<Chain, Unread>
     ensures text { IfOk result (λ chain. (depth : ℕ)
         → Spells (suc depth) reader.old (chain_value chain) reader.new) }
@@ -32,11 +50,7 @@ fn chain(alloc: Global, reader: &mut Reader<'_>, list: &mut Vec<usize>) -> Resul
     ensures shorter { OnOk result (length reader.new < length reader.old) }
 {
     open_array(reader)?;
-    tokens::numbers(reader, list)?;
-    if list.len() > MAX_CHAIN {
-        return Err(Unread::OtherForm);
-    }
-    let found = Chain::of(alloc, list)?;
+    let found = opened_chain(alloc, reader, list)?;
     Ok(found)
 }
 
@@ -88,11 +102,32 @@ fn reason(
     Ok((stream, found))
 }
 
+/// A shift, where the array goes on with one, and a chain.
+fn shift_and_chain(
+    alloc: Global,
+    reader: &mut Reader<'_>,
+    list: &mut Vec<usize>,
+) -> Result<(u64, Chain), Unread>
+    ensures text { IfOk result (λ r. (depth : ℕ) → SpellsEach (suc depth) reader.old
+        (shift_items r.0 ++ chain_value r.1 ∷ []) reader.new) }
+    ensures short { IfOk result (λ r. length r.1 ≤ MAX_CHAIN) }
+{
+    let Some(shift) = number_or_array(reader)? else {
+        let first = opened_chain(alloc, reader, list)?;
+        return Ok((0, first));
+    };
+    if shift == 0 {
+        return Err(Unread::OtherForm);
+    }
+    let found = chain(alloc, reader, list)?;
+    Ok((shift, found))
+}
+
 fn entry(
     alloc: Global,
     reader: &mut Reader<'_>,
     list: &mut Vec<usize>,
-) -> Result<(usize, Chain), Unread>
+) -> Result<(Frame, Chain), Unread>
     ensures text { IfOk result (λ entry. (depth : ℕ)
         → Spells (suc (suc depth)) reader.old (entry_value (tree_entry entry)) reader.new) }
     ensures reads_back { IfOk result
@@ -100,16 +135,17 @@ fn entry(
     ensures shorter { OnOk result (length reader.new < length reader.old) }
 {
     open_array(reader)?;
-    let found = reason(alloc, reader, list)?;
+    let stream = index(reader)?;
+    let (shift, found) = shift_and_chain(alloc, reader, list)?;
     close_array(reader)?;
-    Ok(found)
+    Ok((Frame { stream, shift }, found))
 }
 
 fn entry_list(
     alloc: Global,
     reader: &mut Reader<'_>,
     list: &mut Vec<usize>,
-) -> Result<Vec<(usize, Chain)>, Unread>
+) -> Result<Vec<(Frame, Chain)>, Unread>
     ensures text { IfOk result (λ v. (depth : ℕ) → Spells (suc (suc (suc depth)))
         (begin_array ∷ reader.old) (entries_value (map tree_entry v.items)) reader.new) }
     ensures reads_back { IfOk result (λ v.
@@ -154,15 +190,23 @@ fn busy(
 
 // ---- nodes
 
-/// Two streams and a link, as a branch.
+/// Two streams, a link and a lag, as a branch, with the end of its array.
+#[tactic(auto, using(crate::proofs::CertLemmas::branch_back))]
 fn branch(reader: &mut Reader<'_>) -> Result<Node, Unread>
-    ensures text { IfOk result (λ node. SpellsNode (codes "branch") reader.old node reader.new) }
+    ensures text { IfOk result (λ node. (depth : ℕ) → Spells (suc (suc (suc (suc depth))))
+        (begin_array ∷ string (codes "branch") ∷ reader.old) (node_value (tree_node node)) reader.new) }
     ensures reads_back { IfOk result (λ node. node_of (node_value (tree_node node)) ≡ Some (tree_node node)) }
 {
     let left = index(reader)?;
     let right = index(reader)?;
     let link = index(reader)?;
-    Ok(Node::Branch(Triple { left, right, link }))
+    let lag = lag_and_end(reader)?;
+    Ok(Node::Branch(Triple {
+        left,
+        right,
+        link,
+        lag,
+    }))
 }
 
 fn late_node(alloc: Global, reader: &mut Reader<'_>, list: &mut Vec<usize>) -> Result<Node, Unread>
@@ -231,7 +275,7 @@ fn tie_load(alloc: Global, reader: &mut Reader<'_>, list: &mut Vec<usize>) -> Re
     Ok(Node::Tie(LowerBound::Load(found.0, found.1), more))
 }
 
-/// What stands behind the word of a node.
+/// What stands behind the word of a leaf or a tie.
 fn parts(
     alloc: Global,
     reader: &mut Reader<'_>,
@@ -241,9 +285,7 @@ fn parts(
     ensures text { IfOk result (λ node. SpellsNode word.now reader.old node reader.new) }
     ensures reads_back { IfOk result (λ node. node_of (node_value (tree_node node)) ≡ Some (tree_node node)) }
 {
-    if word == "branch" {
-        branch(reader)
-    } else if word == "late" {
+    if word == "late" {
         late_node(alloc, reader, list)
     } else if word == "overrun" {
         overrun_node(alloc, reader, list)
@@ -254,7 +296,7 @@ fn parts(
     }
 }
 
-/// What stands behind the word of a node on a link's load, or of a tie.
+/// The same on a link's load, or of a tie.
 fn other_parts(
     alloc: Global,
     reader: &mut Reader<'_>,
@@ -277,6 +319,40 @@ fn other_parts(
     }
 }
 
+/// A leaf or a tie behind its word, with the end of its array.
+fn ended_parts(
+    alloc: Global,
+    reader: &mut Reader<'_>,
+    list: &mut Vec<usize>,
+    word: &str,
+) -> Result<Node, Unread>
+    ensures text { IfOk result (λ node. (depth : ℕ) → Spells (suc (suc (suc (suc depth))))
+        (begin_array ∷ string word.now ∷ reader.old) (node_value (tree_node node)) reader.new) }
+    ensures reads_back { IfOk result (λ node. node_of (node_value (tree_node node)) ≡ Some (tree_node node)) }
+{
+    let found = parts(alloc, reader, list, word)?;
+    close_array(reader)?;
+    Ok(found)
+}
+
+/// What stands behind the word of a node, with the end of its array.
+fn node_behind(
+    alloc: Global,
+    reader: &mut Reader<'_>,
+    list: &mut Vec<usize>,
+    word: &str,
+) -> Result<Node, Unread>
+    ensures text { IfOk result (λ node. (depth : ℕ) → Spells (suc (suc (suc (suc depth))))
+        (begin_array ∷ string word.now ∷ reader.old) (node_value (tree_node node)) reader.new) }
+    ensures reads_back { IfOk result (λ node. node_of (node_value (tree_node node)) ≡ Some (tree_node node)) }
+{
+    if word == "branch" {
+        branch(reader)
+    } else {
+        ended_parts(alloc, reader, list, word)
+    }
+}
+
 fn node(alloc: Global, reader: &mut Reader<'_>, list: &mut Vec<usize>) -> Result<Node, Unread>
     ensures text { IfOk result (λ node. (depth : ℕ) → Spells (suc (suc (suc (suc depth))))
         reader.old (node_value (tree_node node)) reader.new) }
@@ -285,8 +361,7 @@ fn node(alloc: Global, reader: &mut Reader<'_>, list: &mut Vec<usize>) -> Result
 {
     open_array(reader)?;
     let name = word(reader)?;
-    let found = parts(alloc, reader, list, name)?;
-    close_array(reader)?;
+    let found = node_behind(alloc, reader, list, name)?;
     Ok(found)
 }
 

@@ -31,7 +31,7 @@ impl Look {
     }
 }
 
-/// How the bar of a stream's frame on a link is drawn.
+/// How the bars of a stream's frames on a link are drawn.
 pub fn look_of(sheet: Sheet<'_>, stream: usize, link: usize) -> Look {
     if sheet.marked.is_empty() {
         return Look::Plain;

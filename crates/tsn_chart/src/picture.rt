@@ -22,7 +22,7 @@ pub(crate) struct Sheet<'a> {
     pub(crate) offsets: &'a [u64],
     pub(crate) lists: &'a [GateList],
     pub(crate) shown: Shown,
-    /// The stream and the link of each frame that is marked.
+    /// The stream and the link of the frames that are marked.
     pub(crate) marked: &'a [(usize, usize)],
     /// How many lists are shown.
     pub(crate) rows: usize,
@@ -100,8 +100,8 @@ pub fn chart_of(
     marked_chart(alloc, problem, valid, lists, view, &[])
 }
 
-/// The picture as `chart_of` draws it, where some frames are marked, each by the number of its stream and of a link of its route:
-/// they have a dark outline, and all others are pale. Of a frame that isn't there nothing is drawn.
+/// The picture as `chart_of` draws it, where some frames are marked, by the numbers of their stream and of a link of its route:
+/// they have a dark outline, and all others are pale. Of frames that aren't there nothing is drawn.
 ///
 /// # Errors
 ///

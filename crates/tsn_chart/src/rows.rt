@@ -150,7 +150,7 @@ fn shade_of(octet: u8) -> &'static str {
     }
 }
 
-/// Writes the bars of a stream's frame on a row's link.
+/// Writes the bars of a stream's frames on a row's link.
 fn write_frames(text: &mut String, sheet: Sheet<'_>, framed: Framed) -> Result<(), AllocError>
     requires line { framed.line.number < length sheet.lists.now }
     requires stream { framed.stream < stream_count sheet.timing.now }
@@ -158,24 +158,28 @@ fn write_frames(text: &mut String, sheet: Sheet<'_>, framed: Framed) -> Result<(
     let link = sheet.lists[framed.line.number].link();
     for hop in 0..sheet.timing.hops(framed.stream) {
         if sheet.timing.route_link(framed.stream, hop) == link {
-            write_bar(text, sheet, framed, hop)?;
+            for shift in sheet.timing.shifts(framed.stream) {
+                write_bar(text, sheet, framed, hop, *shift)?;
+            }
         }
     }
     Ok(())
 }
 
-/// Writes the bar of a stream's frame on a hop, unless it is past the picture.
+/// Writes the bar of a stream's frame of a shift on a hop, unless it is past the picture.
 fn write_bar(
     text: &mut String,
     sheet: Sheet<'_>,
     framed: Framed,
     hop: usize,
+    shift: u64,
 ) -> Result<(), AllocError>
     requires stream { framed.stream < stream_count sheet.timing.now }
     requires hop { hop < hop_count sheet.timing.now framed.stream }
 {
     let stream = framed.stream;
-    let start = sheet.offsets[stream].saturating_add(sheet.timing.start(stream, hop));
+    let begin = sheet.offsets[stream].saturating_add(shift);
+    let start = begin.saturating_add(sheet.timing.start(stream, hop));
     let end = start.saturating_add(sheet.timing.occupancy(stream, hop));
     if start >= sheet.scale.until() {
         return Ok(());

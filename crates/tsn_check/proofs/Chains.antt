@@ -125,7 +125,10 @@ arcs-turns network (turn ∷ turns) right =
 
 -- what stands for a turn past the last one
 no_turn : Turn
-no_turn = record { decision = record { triple = record { left = 0; right = 0; link = 0 }; side = Left }; arc = record { from = 0; to = 0; weight = pos 0 } }
+no_turn = record {
+  decision = record { triple = record { left = 0; right = 0; link = 0; lag = pos 0 }; side = Left };
+  arc = record { from = 0; to = 0; weight = pos 0 };
+}
 
 module _ (network : Network) (turns : List Turn) (depths chain : List ℕ) where
   pub chain_to : (i : ℕ) → AreTurns network turns → depths ≡ chain → IsChainTo (arcs turns) depths i → IsChainTo (arcs_of network (decisions turns)) chain i

@@ -35,9 +35,9 @@ there_taken (first ∷ xs) k zero x below at = absurd (omega arith)
 there_taken (first ∷ xs) zero (suc m) x below at = at
 there_taken (first ∷ xs) (suc k) (suc m) x below at = there_taken xs k m x (omega arith) at
 
--- no stream is among others that it differs from
-none_repeated : (before : List Entry) (entry : Entry) → Any (λ other. other.stream ≡ entry.stream) before → All (λ other. other.stream ≢ entry.stream) before → ⊥
-none_repeated before entry some none = none some.0 some.1 some.2 (ap (λ e. e.stream) some.3 ∙ some.4)
+-- no frame is among others that it differs from
+none_repeated : (before : List Entry) (entry : Entry) → Any (λ other. other.frame ≡ entry.frame) before → All (λ other. other.frame ≢ entry.frame) before → ⊥
+none_repeated before entry some none = none some.0 some.1 some.2 (ap (λ e. e.frame) some.3 ∙ some.4)
 
 -- ---- of one node
 

@@ -1,6 +1,7 @@
 -- The numbers of right plans and of accepted trees are within the limits of a file.
 use Rattle.std.proofs.Common.{◌≡◌, ◌≤◌, ◌<◌, ◌+◌, ℕ, List, [], ◌∷◌, ◌++◌, Bool, true, length, map, get_or, Option, Some, None, refl, ap, ◌∙◌, subst, arith, length-append}
-use Rattle.std.specs.Prelude.{nat_le, ◌&&◌, All, IsSomeAnd}
+use Rattle.std.specs.Prelude.{ℤ, nat_le, ◌&&◌, All, IsSomeAnd, unsigned_abs}
+use Rattle.std.proofs.lemmas.Int.{ints}
 use Rattle.std.specs.List.{list_all}
 use Rattle.std.proofs.lemmas.Bool.{and_from, le-leb}
 use Rattle.std.proofs.lemmas.List.{length-map, get_or_default}
@@ -10,17 +11,19 @@ use Rattle.tsn_model.specs.declared.Decision.{Decision}
 use Rattle.tsn_model.specs.declared.Side.TheVariants.{Left, Right}
 use Rattle.tsn_model.specs.Network.{Network, IsWellFormed, stream_count}
 use Rattle.tsn_model.specs.Timing.{UsesLink}
-use Rattle.tsn_model.specs.Schedule.{flowspan, target_of}
+use Rattle.tsn_model.specs.Schedule.{IsLag, flowspan, target_of}
 use Rattle.tsn_model.specs.Arcs.{arc_of, arcs_of}
-use Rattle.tsn_model.specs.Certificate.{Leaf, late, overrun, positive_cycle, load, overload, Entry, LeadsTo, AreEntries, AreChains, Proves, Ties, Tree, leaf, tie, branch, Node, split_node, leaf_node, tie_node, IsNodeShown, AcceptsBy, preorder, decided}
+use Rattle.tsn_model.specs.Certificate.{Leaf, late, overrun, positive_cycle, load, overload, Entry, IsFrameOn, LeadsTo, AreEntries, AreChains, Proves, Ties, Tree, leaf, tie, branch, Node, split_node, leaf_node, tie_node, IsNodeShown, AcceptsBy, preorder, decided}
 use Rattle.tsn_model.proofs.Routes.{UsesLink-exists}
+use Rattle.tsn_model.proofs.Shifts.{period-le-cycle}
 use Rattle.tsn_model.proofs.Schedules.{flowspan-le-cycle, offsets_within}
 use Rattle.tsn_cert.specs.Json.{all_within}
 use Rattle.tsn_cert.specs.Plan.{max_time}
-use Rattle.tsn_cert.specs.Cert.{max_number, entry_fits, leaf_fits, node_fits}
+use Rattle.tsn_cert.specs.Cert.{max_number, max_lag, lag_fits, frame_fits, entry_fits, leaf_fits, node_fits}
 use Rattle.tsn_cert.specs.Laws.{IsInGrammar, AreInGrammar}
 use Rattle.tsn_cert.specs.declared.plan.Plan.{Plan}
 use Rattle.tsn_cert.specs.declared.plan.Plan.TheVariants as plan
+use Rattle.tsn_check.proofs.Shifts.{shift_short}
 use Rattle.tsn_check.specs.Plans.{offsets_in, IsPlanRight}
 use Rattle.tsn_check.specs.Certified.{leaf_target, tie_plan}
 use Rattle.tsn_check.specs.Limits.{RightPlansFit, CertifiedTreesFit}
@@ -67,6 +70,16 @@ module _ (network : Network) (formed : IsWellFormed network) where
       let exists = UsesLink-exists network i link formed uses in
       le-leb link max_number (omega arith)
 
+  -- the lag of two frames is less than a cycle
+  lag_within : (i j : ℕ) (lag : ℤ) → IsLag network i j lag → lag_fits lag ≡ true
+  lag_within i j lag is =
+      let before = is.not_after in
+      let behind = is.not_before in
+      let short = formed.short_cycle in
+      let left = period-le-cycle network i in
+      let right = period-le-cycle network j in
+      le-leb (unsigned_abs lag) max_lag (omega (arith, ints))
+
   module _ (path : List Decision) (low : length path ≤ max_number) where
     chain_fits : (chain : List ℕ) → All (λ place. place < length (arcs_of network path)) chain → all_within max_number chain ≡ true
     unfolding arcs_of
@@ -78,17 +91,32 @@ module _ (network : Network) (formed : IsWellFormed network) where
     lead_fits : (chain : List ℕ) (i : ℕ) → LeadsTo network path chain i → nat_le i max_number && all_within max_number chain ≡ true
     lead_fits chain i leads = and_from (nat_le i max_number) (all_within max_number chain) (stream_fits i leads.stream) (chain_fits chain leads.chain_to.places)
 
-    entries_fit : (entries : List Entry) → All (λ entry. LeadsTo network path entry.chain entry.stream) entries → list_all entry_fits entries ≡ true
-    entries_fit entries chains =
-        all_true entry_fits (λ entry. LeadsTo network path entry.chain entry.stream) (λ entry leads. lead_fits entry.chain entry.stream leads) entries chains
+    one_entry_fits : (link : ℕ) (entry : Entry) → IsFrameOn network link entry.frame → LeadsTo network path entry.chain entry.frame.stream
+        → entry_fits entry ≡ true
+    one_entry_fits link entry on leads =
+        let short = shift_short network entry.frame.stream entry.frame.shift formed on.sent leads.stream in
+        and_from (frame_fits entry.frame) (all_within max_number entry.chain)
+        (and_from (nat_le entry.frame.stream max_number) (nat_le entry.frame.shift max_number) (stream_fits entry.frame.stream leads.stream)
+        (le-leb entry.frame.shift max_number (omega arith)))
+        (chain_fits entry.chain leads.chain_to.places)
+
+    entries_fit : (link : ℕ) (entries : List Entry) → All (λ entry. IsFrameOn network link entry.frame) entries
+        → All (λ entry. LeadsTo network path entry.chain entry.frame.stream) entries → list_all entry_fits entries ≡ true
+    entries_fit link [] on chains = refl
+    entries_fit link (entry ∷ entries) on chains =
+        and_from (entry_fits entry) (list_all entry_fits entries)
+        (one_entry_fits link entry (All-head (λ (e : Entry). IsFrameOn network link e.frame) entry entries on)
+        (All-head (λ (e : Entry). LeadsTo network path e.chain e.frame.stream) entry entries chains))
+        (entries_fit link entries (All-tail (λ (e : Entry). IsFrameOn network link e.frame) entry entries on)
+        (All-tail (λ (e : Entry). LeadsTo network path e.chain e.frame.stream) entry entries chains))
 
     some_entries_fit : (link : ℕ) (entries : List Entry) → (entries ≡ [] → ⊥) → AreEntries network path link entries
         → nat_le link max_number && list_all entry_fits entries ≡ true
     some_entries_fit link [] some are = absurd (some refl)
     some_entries_fit link (entry ∷ entries) some are =
         and_from (nat_le link max_number) (list_all entry_fits (entry ∷ entries))
-        (link_fits entry.stream link (All-head (λ (e : Entry). UsesLink network e.stream link) entry entries are.on_link))
-        (entries_fit (entry ∷ entries) are.chains)
+        (link_fits entry.frame.stream link (All-head (λ (e : Entry). IsFrameOn network link e.frame) entry entries are.on_link).uses)
+        (entries_fit link (entry ∷ entries) are.on_link are.chains)
 
     chains_fit : (chains : List (List ℕ)) → AreChains network path chains → list_all (all_within max_number) chains ≡ true
     chains_fit chains are =
@@ -140,10 +168,12 @@ module _ (network : Network) (formed : IsWellFormed network) where
     shown_fits : (target : ℕ) (planned : Option (List ℕ)) (node : Node) → IsNodeShown network target planned path node → IsInGrammar node
         → node_fits node ≡ true
     shown_fits target planned (split_node triple) conflict has =
-        and_from (nat_le triple.left max_number && nat_le triple.right max_number) (nat_le triple.link max_number)
+        and_from (nat_le triple.left max_number && nat_le triple.right max_number && nat_le triple.link max_number) (lag_fits triple.lag)
+        (and_from (nat_le triple.left max_number && nat_le triple.right max_number) (nat_le triple.link max_number)
         (and_from (nat_le triple.left max_number) (nat_le triple.right max_number)
         (let before = conflict.ordered in let counted = conflict.counted in stream_fits triple.left (omega arith)) (stream_fits triple.right conflict.counted))
-        (link_fits triple.left triple.link conflict.left_uses)
+        (link_fits triple.left triple.link conflict.left_uses))
+        (lag_within triple.left triple.right triple.lag conflict.lag)
     shown_fits target planned (leaf_node proof) proves has = proved_fits target proof proves (leaf_entries proof has)
     shown_fits target planned (tie_node proof chains) ties has = tied_fits planned proof chains ties (tie_entries proof chains has)
 

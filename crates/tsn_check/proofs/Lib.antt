@@ -1,6 +1,7 @@
 mod Refusals
 mod Verdicts
 mod Loads
+pub mod Shifts
 mod Walks
 mod Chains
 mod Firsts

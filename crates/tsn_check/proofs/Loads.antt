@@ -1,9 +1,9 @@
 -- The entries of a leaf over a whole link, taken one after another.
-use Rattle.std.proofs.Common.{◌≡◌, ◌≢◌, ℕ, zero, suc, ◌+◌, ◌<◌, ◌≤◌, List, [], ◌∷◌, ◌++◌, map, length, take, get_or, All, Any, ℤ, pos, ◌+ℤ◌, ◌-ℤ◌, ◌≤ℤ◌, true, false, cond, Some, ◌==◌, refl, sym, ap, ◌∙◌, subst, arith, eqb-true, eq-eqb}
-use Rattle.std.specs.Prelude.{slice_get, int_lt}
+use Rattle.std.proofs.Common.{◌≡◌, ◌≢◌, ℕ, zero, suc, ◌+◌, ◌<◌, ◌≤◌, List, [], ◌∷◌, ◌++◌, map, length, take, get_or, All, Any, ℤ, pos, ◌+ℤ◌, ◌-ℤ◌, ◌≤ℤ◌, Bool, true, false, cond, Some, ◌==◌, refl, sym, ap, ap₂, ◌∙◌, subst, arith, eqb-true, eq-eqb}
+use Rattle.std.specs.Prelude.{slice_get, int_lt, ◌&&◌}
 use Rattle.std.specs.Int.{int_min}
 use Rattle.std.specs.List.{list_any}
-use Rattle.std.proofs.lemmas.Bool.{false≢true}
+use Rattle.std.proofs.lemmas.Bool.{false≢true, and_parts, and_from}
 use Rattle.std.proofs.lemmas.Int.{ints}
 use Rattle.std.proofs.lemmas.List.{get_or-map, length-map, length-append, length-take, take_more, take-map}
 use Rattle.std.proofs.lemmas.List.Elements.{All-map, All-push}
@@ -11,9 +11,10 @@ use Rattle.std.proofs.lemmas.List.Folds.{Any-from_list_any, list_any_at}
 use Rattle.std.proofs.lemmas.List.Sums.{sum_by-append}
 use Rattle.std.proofs.lemmas.List.Quantifiers.{all_pairs_push}
 use Rattle.tsn_model.specs.declared.Decision.{Decision}
+use Rattle.tsn_model.specs.declared.Frame.{Frame}
 use Rattle.tsn_model.specs.Network.{Network}
-use Rattle.tsn_model.specs.Timing.{occupancy, start_on, arrival, UsesLink}
-use Rattle.tsn_model.specs.Certificate.{Entry, LeadsTo, AreEntries, sum_on, least, head_of, tail_of, work_of, busy_until, load_bound}
+use Rattle.tsn_model.specs.Timing.{occupancy, arrival}
+use Rattle.tsn_model.specs.Certificate.{Entry, IsFrameOn, begin_on, end_on, LeadsTo, AreEntries, sum_on, least, head_of, tail_of, work_of, busy_until, load_bound}
 use Rattle.tsn_model.proofs.Lists.{least-map_push, least-one}
 use Rattle.tsn_cert.specs.Entry.{tree_entry}
 use Rattle.tsn_check.specs.Faults.{IsFirstWrong}
@@ -21,17 +22,33 @@ use Rattle.tsn_check.specs.Steps.{IsWrongEntry, IsRightEntry, IsLoad}
 use Rattle.tsn_check.specs.declared.load.LinkLoad.{LinkLoad}
 use Rattle.tsn_check.specs.declared.fault.NodeFault.{NodeFault}
 
--- ---- a stream among others
+-- ---- a frame among others
 
-pub repeated : (entries : List (ℕ × List ℕ)) (stream : ℕ) → list_any (λ entry. entry.0 == stream) entries ≡ true → Any (λ (other : Entry). other.stream ≡ stream) (map tree_entry entries)
-repeated entries stream found =
-    let at = Any-from_list_any (λ entry. entry.0 == stream) entries found in
-    (at.0, tree_entry at.1, omega (arith, at.2, length-map entries tree_entry), get_or-map tree_entry entries at.0 at.1 (tree_entry at.1) at.2 ∙ ap tree_entry at.3, eqb-true at.1.0 stream at.4)
+-- whether an entry is of the frame
+abbrev is_of : Frame → (Frame × List ℕ) → Bool
+is_of frame entry = entry.0.stream == frame.stream && entry.0.shift == frame.shift
 
-pub not_repeated : (entries : List (ℕ × List ℕ)) (stream : ℕ) → list_any (λ entry. entry.0 == stream) entries ≡ false → All (λ (other : Entry). other.stream ≢ stream) (map tree_entry entries)
-not_repeated entries stream none =
-    All-map (λ (other : Entry). other.stream ≢ stream) tree_entry entries (λ k d below same.
-    false≢true (sym none ∙ list_any_at (λ entry. entry.0 == stream) entries k d below (eq-eqb (get_or entries k d).0 stream same)))
+same_frame : (a b : Frame) → (a.stream == b.stream && a.shift == b.shift) ≡ true → a ≡ b
+same_frame a b e =
+    let parts = and_parts (a.stream == b.stream) (a.shift == b.shift) e in
+    ap₂ (λ (stream shift : ℕ). record { stream = stream; shift = shift }) (eqb-true a.stream b.stream parts.0) (eqb-true a.shift b.shift parts.1)
+
+frame_same : (a b : Frame) → a ≡ b → (a.stream == b.stream && a.shift == b.shift) ≡ true
+frame_same a b e =
+    and_from (a.stream == b.stream) (a.shift == b.shift) (eq-eqb a.stream b.stream (ap (λ f. f.stream) e)) (eq-eqb a.shift b.shift (ap (λ f. f.shift) e))
+
+pub repeated : (entries : List (Frame × List ℕ)) (frame : Frame) → list_any (is_of frame) entries ≡ true
+    → Any (λ (other : Entry). other.frame ≡ frame) (map tree_entry entries)
+repeated entries frame found =
+    let at = Any-from_list_any (is_of frame) entries found in
+    let there = get_or-map tree_entry entries at.0 at.1 (tree_entry at.1) at.2 ∙ ap tree_entry at.3 in
+    (at.0, tree_entry at.1, omega (arith, at.2, length-map entries tree_entry), there, same_frame at.1.0 frame at.4)
+
+pub not_repeated : (entries : List (Frame × List ℕ)) (frame : Frame) → list_any (is_of frame) entries ≡ false
+    → All (λ (other : Entry). other.frame ≢ frame) (map tree_entry entries)
+not_repeated entries frame none =
+    All-map (λ (other : Entry). other.frame ≢ frame) tree_entry entries (λ k d below same.
+    false≢true (sym none ∙ list_any_at (is_of frame) entries k d below (frame_same (get_or entries k d).0 frame same)))
 
 -- ---- the least of some numbers
 
@@ -42,9 +59,9 @@ lesser P x y least is p q = subst P (sym is) (elim (int_lt y x) as (λ b. P (con
 module _ (network : Network) (path : List Decision) (link : ℕ) where
   work-push : (entries : List Entry) (entry : Entry) → work_of network link (entries ++ entry ∷ []) ≡ work_of network link entries + work_of network link (entry ∷ [])
   unfolding work_of
-  work-push entries entry = sum_by-append (λ (e : Entry). occupancy network e.stream link) entries (entry ∷ [])
+  work-push entries entry = sum_by-append (λ (e : Entry). occupancy network e.frame.stream link) entries (entry ∷ [])
 
-  work-one : (entry : Entry) → work_of network link (entry ∷ []) ≡ occupancy network entry.stream link
+  work-one : (entry : Entry) → work_of network link (entry ∷ []) ≡ occupancy network entry.frame.stream link
   unfolding work_of
   work-one entry = omega arith
 
@@ -59,19 +76,19 @@ module _ (network : Network) (path : List Decision) (link : ℕ) where
 
   pub entries_push : (entries : List Entry) (entry : Entry) → AreEntries network path link entries → IsRightEntry network path link entries entry → AreEntries network path link (entries ++ entry ∷ [])
   entries_push entries entry are right = record {
-    different = all_pairs_push (λ (a b : Entry). a.stream ≢ b.stream) entries entry are.different right.other_stream;
-    on_link = All-push (λ (e : Entry). UsesLink network e.stream link) entries entry are.on_link right.on_link;
-    chains = All-push (λ (e : Entry). LeadsTo network path e.chain e.stream) entries entry are.chains right.leads;
+    different = all_pairs_push (λ (a b : Entry). a.frame ≢ b.frame) entries entry are.different right.other_frame;
+    on_link = All-push (λ (e : Entry). IsFrameOn network link e.frame) entries entry are.on_link right.on_link;
+    chains = All-push (λ (e : Entry). LeadsTo network path e.chain e.frame.stream) entries entry are.chains right.leads;
   }
 
   -- ---- what entries come to
 
   -- one entry
-  pub one_load : (entry : Entry) (found : LinkLoad) (sum : ℤ) (begin work end : ℕ) → sum ≡ sum_on network path entry.chain entry.stream → begin ≡ start_on network entry.stream link
-      → work ≡ occupancy network entry.stream link → end ≡ arrival network entry.stream → pos 0 ≤ℤ (sum +ℤ pos 12800000000) → sum ≤ℤ pos 13800000000
-      → begin ≤ 51584000 → work ≤ 1233600 → end ≤ 60000000
+  pub one_load : (entry : Entry) (found : LinkLoad) (sum : ℤ) (begin work end : ℕ) → sum ≡ sum_on network path entry.chain entry.frame.stream → begin ≡ begin_on network link entry.frame
+      → work ≡ occupancy network entry.frame.stream link → end ≡ arrival network entry.frame.stream → pos 0 ≤ℤ (sum +ℤ pos 135680000000) → sum ≤ℤ pos 136680000000
+      → begin ≤ 1080000000 → work ≤ 1233600 → end ≤ 80000000
       → found.head ≡ sum +ℤ pos begin → found.work ≡ work → found.tail ≡ pos end -ℤ pos (begin + work) → IsLoad network path link (entry ∷ []) found
-  unfolding least head_of tail_of
+  unfolding least head_of tail_of end_on
   one_load entry found sum begin work end adds begins works ends low high short_begin short_work short_end head is_work tail = record {
     head = head ∙ (λ i. adds i +ℤ pos (begins i));
     work = is_work ∙ works ∙ sym (work-one entry);
@@ -95,11 +112,11 @@ module _ (network : Network) (path : List Decision) (link : ℕ) where
         head = rw (least-map_push (head_of network path link) entries entry some) (head ∙ (λ i. int_min (is_all.head i) (next_head i)));
         work = work ∙ (λ i. is_all.work i + is_next.work i) ∙ sym (work-push entries entry);
         tail = rw (least-map_push (tail_of network link) entries entry some) (tail ∙ (λ i. int_min (is_all.tail i) (next_tail i)));
-        low_head = lesser (λ z. pos 0 ≤ℤ (z +ℤ pos 20000000000)) all.head next.head more.head head is_all.low_head is_next.low_head;
-        high_head = lesser (λ z. z ≤ℤ pos 20000000000) all.head next.head more.head head is_all.high_head is_next.high_head;
+        low_head = lesser (λ z. pos 0 ≤ℤ (z +ℤ pos 200000000000)) all.head next.head more.head head is_all.low_head is_next.low_head;
+        high_head = lesser (λ z. z ≤ℤ pos 200000000000) all.head next.head more.head head is_all.high_head is_next.high_head;
         short_work = omega (arith, ints, length-append entries (entry ∷ []));
-        low_tail = lesser (λ z. pos 0 ≤ℤ (z +ℤ pos 60000000)) all.tail next.tail more.tail tail is_all.low_tail is_next.low_tail;
-        high_tail = lesser (λ z. z ≤ℤ pos 60000000) all.tail next.tail more.tail tail is_all.high_tail is_next.high_tail;
+        low_tail = lesser (λ z. pos 0 ≤ℤ (z +ℤ pos 1100000000)) all.tail next.tail more.tail tail is_all.low_tail is_next.low_tail;
+        high_tail = lesser (λ z. z ≤ℤ pos 80000000) all.tail next.tail more.tail tail is_all.high_tail is_next.high_tail;
       }
 
   -- what a leaf with these entries shows
@@ -113,14 +130,14 @@ module _ (network : Network) (path : List Decision) (link : ℕ) where
 
   -- ---- and in the code
 
-  pub start_load : (entries : List (ℕ × List ℕ)) (first : ℕ × List ℕ) (all : LinkLoad) → 0 < length entries → first ≡ get_or entries 0 first → IsRightEntry network path link [] (tree_entry first)
+  pub start_load : (entries : List (Frame × List ℕ)) (first : Frame × List ℕ) (all : LinkLoad) → 0 < length entries → first ≡ get_or entries 0 first → IsRightEntry network path link [] (tree_entry first)
       → IsLoad network path link (tree_entry first ∷ []) all → AreEntries network path link (take 1 (map tree_entry entries)) × IsLoad network path link (take 1 (map tree_entry entries)) all
   start_load [] first all some is right loaded = absurd (omega arith)
   start_load (entry ∷ entries) first all some is right loaded =
       let both : AreEntries network path link (tree_entry first ∷ []) × IsLoad network path link (tree_entry first ∷ []) all = (entries_push [] (tree_entry first) no_entries right, loaded) in
       subst (λ e. AreEntries network path link (tree_entry e ∷ []) × IsLoad network path link (tree_entry e ∷ []) all) is both
 
-  pub more_load : (entries : List (ℕ × List ℕ)) (k : ℕ) (next : ℕ × List ℕ) (all found more : LinkLoad) → 0 < k → k < length entries → next ≡ get_or entries k next
+  pub more_load : (entries : List (Frame × List ℕ)) (k : ℕ) (next : Frame × List ℕ) (all found more : LinkLoad) → 0 < k → k < length entries → next ≡ get_or entries k next
       → AreEntries network path link (take k (map tree_entry entries)) → IsLoad network path link (take k (map tree_entry entries)) all
       → IsRightEntry network path link (map tree_entry (take k entries)) (tree_entry next) → IsLoad network path link (tree_entry next ∷ []) found
       → more.head ≡ int_min all.head found.head → more.work ≡ all.work + found.work → more.tail ≡ int_min all.tail found.tail
@@ -136,13 +153,13 @@ module _ (network : Network) (path : List Decision) (link : ℕ) where
         subst (λ es. IsLoad network path link es more) (sym longer) (load_push before (tree_entry next) all found more some_before loaded next_loaded head work tail),
       )
 
-  there_entry : (entries : List (ℕ × List ℕ)) (k : ℕ) (d : ℕ × List ℕ) → k < length entries → slice_get (map tree_entry entries) k ≡ Some (tree_entry (get_or entries k d))
+  there_entry : (entries : List (Frame × List ℕ)) (k : ℕ) (d : Frame × List ℕ) → k < length entries → slice_get (map tree_entry entries) k ≡ Some (tree_entry (get_or entries k d))
   there_entry [] k d below = absurd (omega arith)
   there_entry (entry ∷ entries) zero d below = refl
   there_entry (entry ∷ entries) (suc k) d below = there_entry entries k d (omega arith)
 
   -- the entry at k is the first that isn't right
-  pub wrong_there : (entries : List (ℕ × List ℕ)) (k : ℕ) (next : ℕ × List ℕ) (fault : NodeFault) → k < length entries → next ≡ get_or entries k next
+  pub wrong_there : (entries : List (Frame × List ℕ)) (k : ℕ) (next : Frame × List ℕ) (fault : NodeFault) → k < length entries → next ≡ get_or entries k next
       → AreEntries network path link (take k (map tree_entry entries)) → IsWrongEntry network path link fault (map tree_entry (take k entries)) (tree_entry next)
       → IsFirstWrong network path link (map tree_entry entries) (IsWrongEntry network path link fault)
   wrong_there entries k next fault below is right wrong = record {

@@ -4,10 +4,9 @@ use Rattle.std.specs.Prelude.{slice_get, IsSomeAnd}
 use Rattle.std.proofs.lemmas.List.{take-append-drop, length-drop, length-take, get_or-take}
 use Rattle.tsn_model.specs.declared.Decision.{Decision}
 use Rattle.tsn_model.specs.Network.{Network}
-use Rattle.tsn_model.specs.Certificate.{Leaf, late, overrun, positive_cycle, load, overload, Entry, LeadsTo, AreEntries, Proves, AreChains, Ties, Node, split_node, leaf_node, tie_node, IsNodeShown}
+use Rattle.tsn_model.specs.Certificate.{Leaf, late, overrun, positive_cycle, load, overload, Entry, IsFrameOn, LeadsTo, AreEntries, Proves, AreChains, Ties, Node, split_node, leaf_node, tie_node, IsNodeShown}
 use Rattle.tsn_model.specs.Places.{Fills, places_after}
 use Rattle.tsn_model.proofs.Places.{fills-append, right_from_fills}
-use Rattle.tsn_model.specs.Timing.{UsesLink}
 use Rattle.tsn_model.specs.Schedule.{flowspan}
 use Rattle.tsn_check.specs.Faults.{IsFirstWrong, IsOffLink, IsRepeated, HasChains, HasWrongEntry, BreaksChain, Stands, IsTreeFault}
 use Rattle.tsn_check.specs.Steps.{IsWrongEntry, IsRightEntry, HasFault}
@@ -64,17 +63,18 @@ module _ (network : Network) (path : List Decision) (link : ℕ) where
       let below = there_below entries k entry at in
       let is : get_or entries k entry ≡ entry = there_or entries k entry entry at in
       record {
-        on_link = subst (λ e. UsesLink network e.stream link) is (are.on_link k entry below);
-        other_stream = λ i d before same.
+        on_link = subst (λ e. IsFrameOn network link e.frame) is (are.on_link k entry below);
+        other_frame = λ i d before same.
             let within : i < k = omega (arith, length-take k entries) in
-            are.different i k d within below (ap (λ e. e.stream) (sym (get_or-take k entries i d within)) ∙ same ∙ ap (λ e. e.stream) (sym (there_or entries k entry d at)));
-        leads = subst (λ e. LeadsTo network path e.chain e.stream) is (are.chains k entry below);
+            are.different i k d within below
+            (ap (λ e. e.frame) (sym (get_or-take k entries i d within)) ∙ same ∙ ap (λ e. e.frame) (sym (there_or entries k entry d at)));
+        leads = subst (λ e. LeadsTo network path e.chain e.frame.stream) is (are.chains k entry below);
       }
 
   -- a wrong entry isn't right
   pub wrong_not_right : (before : List Entry) (entry : Entry) (fault : NodeFault) → IsWrongEntry network path link fault before entry → IsRightEntry network path link before entry → ⊥
   wrong_not_right before entry kinds.NotOnLink wrong right = wrong right.on_link
-  wrong_not_right before entry kinds.StreamRepeated wrong right = right.other_stream wrong.1.0 wrong.1.1 wrong.1.2 (ap (λ e. e.stream) wrong.1.3 ∙ wrong.1.4)
+  wrong_not_right before entry kinds.StreamRepeated wrong right = right.other_frame wrong.1.0 wrong.1.1 wrong.1.2 (ap (λ e. e.frame) wrong.1.3 ∙ wrong.1.4)
   wrong_not_right before entry kinds.ChainBroken wrong right = wrong.2 right.leads
   wrong_not_right before entry kinds.NotConflict wrong right = wrong
   wrong_not_right before entry kinds.BoundTooLow wrong right = wrong

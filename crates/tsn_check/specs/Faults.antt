@@ -6,10 +6,9 @@
 use Rattle.std.specs.Prelude.{◌≡◌, ◌≢◌, ◌⊎◌, ℕ, ◌<◌, List, [], ◌∷◌, length, take, slice_get, Option, Some, IsSomeAnd, All, Any}
 use Rattle.tsn_model.specs.declared.Decision.{Decision}
 use Rattle.tsn_model.specs.Network.{Network}
-use Rattle.tsn_model.specs.Timing.{UsesLink}
 use Rattle.tsn_model.specs.Schedule.{IsValid, flowspan, target_of, IsConflict}
 use Rattle.tsn_model.specs.Arcs.{arcs_of, IsClosedChain}
-use Rattle.tsn_model.specs.Certificate.{Leaf, late, overrun, positive_cycle, load, overload, Entry, LeadsTo, AreEntries, Proves, AreChains, Ties, Node, split_node, leaf_node, tie_node, IsNodeShown}
+use Rattle.tsn_model.specs.Certificate.{Leaf, late, overrun, positive_cycle, load, overload, Entry, IsFrameOn, LeadsTo, AreEntries, Proves, AreChains, Ties, Node, split_node, leaf_node, tie_node, IsNodeShown}
 use Rattle.tsn_cert.specs.declared.plan.Plan.{Plan}
 use Rattle.tsn_cert.specs.declared.plan.Plan.TheVariants as plan
 use Rattle.tsn_cert.specs.declared.cert.Cert.{Cert}
@@ -47,22 +46,22 @@ pub record IsFirstWrong (network : Network) (path : List Decision) (link : ℕ) 
   pub there : slice_get entries k ≡ Some entry
   pub wrong : Wrong (take k entries) entry
 
--- its stream isn't there or doesn't use the link
+-- its frame isn't sent, or its stream doesn't use the link
 abbrev pub IsOffLink : Network → ℕ → List Entry → Entry → Type 0
-IsOffLink network link before entry = UsesLink network entry.stream link → ⊥
+IsOffLink network link before entry = IsFrameOn network link entry.frame → ⊥
 
--- it is on the link, and its stream is that of an entry before it
+-- its frame is on the link, and is that of an entry before it
 abbrev pub IsRepeated : Network → ℕ → List Entry → Entry → Type 0
-IsRepeated network link before entry = UsesLink network entry.stream link × Any (λ other. other.stream ≡ entry.stream) before
+IsRepeated network link before entry = IsFrameOn network link entry.frame × Any (λ other. other.frame ≡ entry.frame) before
 
--- it is on the link, its stream is another than those before it, and its chain doesn't lead to the stream
+-- its frame is on the link and another than those before it, and its chain doesn't lead to its stream
 abbrev pub IsUnled : Network → List Decision → ℕ → List Entry → Entry → Type 0
 IsUnled network path link before entry =
-    UsesLink network entry.stream link × All (λ other. other.stream ≢ entry.stream) before × (LeadsTo network path entry.chain entry.stream → ⊥)
+    IsFrameOn network link entry.frame × All (λ other. other.frame ≢ entry.frame) before × (LeadsTo network path entry.chain entry.frame.stream → ⊥)
 
 -- ---- nodes
 
--- a branch on something other than two streams and a link of both
+-- a branch on something other than two streams, a link of both and a lag of theirs
 abbrev pub IsNoConflict : Network → Node → Type 0
 IsNoConflict network (split_node triple) = IsConflict network triple → ⊥
 IsNoConflict network (leaf_node proof) = ⊥
@@ -84,13 +83,13 @@ HasWrongEntry network path Wrong (positive_cycle chain) = ⊥
 HasWrongEntry network path Wrong (load link entries) = IsFirstWrong network path link entries (Wrong link)
 HasWrongEntry network path Wrong (overload link entries) = IsFirstWrong network path link entries (Wrong link)
 
--- a leaf over a link with an entry that isn't on it
+-- a leaf over a link with a frame that isn't on it
 abbrev pub IsNotOnLink : Network → List Decision → Node → Type 0
 IsNotOnLink network path (split_node triple) = ⊥
 IsNotOnLink network path (leaf_node proof) = HasWrongEntry network path (IsOffLink network) proof
 IsNotOnLink network path (tie_node proof chains) = HasWrongEntry network path (IsOffLink network) proof
 
--- a leaf over a link with a stream twice
+-- a leaf over a link with a frame twice
 abbrev pub IsStreamRepeated : Network → List Decision → Node → Type 0
 IsStreamRepeated network path (split_node triple) = ⊥
 IsStreamRepeated network path (leaf_node proof) = HasWrongEntry network path (IsRepeated network) proof

@@ -3,8 +3,7 @@ use Rattle.std.specs.Prelude.{◌≡◌, ◌≢◌, ℕ, ◌*◌, ◌≤◌, Lis
 use Rattle.tsn_model.specs.declared.Decision.{Decision}
 use Rattle.tsn_model.specs.declared.bounds.TheConstants.{MAX_OCCUPANCY, MAX_SPAN, MAX_WORK}
 use Rattle.tsn_model.specs.Network.{Network}
-use Rattle.tsn_model.specs.Timing.{UsesLink}
-use Rattle.tsn_model.specs.Certificate.{Entry, LeadsTo, AreEntries, sum_on, least, head_of, tail_of, work_of, Leaf, Proves, AreChains, Node, split_node, leaf_node, tie_node, IsNodeShown}
+use Rattle.tsn_model.specs.Certificate.{Entry, IsFrameOn, LeadsTo, AreEntries, sum_on, least, head_of, tail_of, work_of, Leaf, Proves, AreChains, Node, split_node, leaf_node, tie_node, IsNodeShown}
 use Rattle.tsn_conflict.specs.Kept.{Kept}
 use Rattle.tsn_check.specs.Faults.{IsNoConflict, IsNotOnLink, IsStreamRepeated, IsChainBroken, IsBoundTooLow, HasChains, HasWrongEntry, BreaksChain, IsFirstWrong, IsOffLink, IsRepeated, IsUnled}
 use Rattle.tsn_check.specs.declared.fault.NodeFault.{NodeFault}
@@ -45,8 +44,8 @@ FindsChains network path chains (Err fault) = (fault ≡ ChainBroken) × (AreCha
 pub record IsSumTo (network : Network) (path : List Decision) (chain : List ℕ) (i : ℕ) (sum : ℤ) : Type 0 where
   pub leads : LeadsTo network path chain i
   pub adds : sum ≡ sum_on network path chain i
-  pub low : pos 0 ≤ℤ (sum +ℤ pos 12800000000)
-  pub high : sum ≤ℤ pos 13800000000
+  pub low : pos 0 ≤ℤ (sum +ℤ pos 135680000000)
+  pub high : sum ≤ℤ pos 136680000000
 
 -- the sum is told, or that the chain isn't one to the stream
 abbrev pub FindsSum : Network → List Decision → List ℕ → ℕ → Result ℤ NodeFault → Type 0
@@ -62,21 +61,21 @@ IsWrongEntry network path link StreamRepeated before entry = IsRepeated network 
 IsWrongEntry network path link ChainBroken before entry = IsUnled network path link before entry
 IsWrongEntry network path link _ before entry = ⊥
 
--- the entry is on the link, has another stream than those before it, and its chain leads to its stream
+-- the entry's frame is on the link and another one than those before it, and its chain leads to its stream
 pub record IsRightEntry (network : Network) (path : List Decision) (link : ℕ) (before : List Entry) (entry : Entry) : Type 0 where
-  pub on_link : UsesLink network entry.stream link
-  pub other_stream : All (λ other. other.stream ≢ entry.stream) before
-  pub leads : LeadsTo network path entry.chain entry.stream
+  pub on_link : IsFrameOn network link entry.frame
+  pub other_frame : All (λ other. other.frame ≢ entry.frame) before
+  pub leads : LeadsTo network path entry.chain entry.frame.stream
 
 -- what some entries come to on the link
 pub record IsLoad (network : Network) (path : List Decision) (link : ℕ) (entries : List Entry) (found : LinkLoad) : Type 0 where
   pub head : found.head ≡ least (map (head_of network path link) entries)
   pub work : found.work ≡ work_of network link entries
   pub tail : found.tail ≡ least (map (tail_of network link) entries)
-  pub low_head : pos 0 ≤ℤ (found.head +ℤ pos 20000000000)
-  pub high_head : found.head ≤ℤ pos 20000000000
+  pub low_head : pos 0 ≤ℤ (found.head +ℤ pos 200000000000)
+  pub high_head : found.head ≤ℤ pos 200000000000
   pub short_work : found.work ≤ MAX_OCCUPANCY * length entries
-  pub low_tail : pos 0 ≤ℤ (found.tail +ℤ pos MAX_SPAN)
+  pub low_tail : pos 0 ≤ℤ (found.tail +ℤ pos 1100000000)
   pub high_tail : found.tail ≤ℤ pos MAX_SPAN
 
 -- the entry is right, and what it comes to is told, or what is wrong with it

@@ -21,7 +21,7 @@ pub enum CheckFault {
     /// The node stands after the tree's end.
     #[error("node {0} stands after the tree's end")]
     TreeTooLong(usize),
-    /// The node branches on what isn't a link of two streams, the lesser one on the left.
+    /// The node branches on what isn't a link of two streams, the lesser one on the left, and a lag of theirs.
     #[error("node {0} branches on no conflict")]
     NotConflict(usize),
     /// The leaf names a stream that isn't there, or its depths, or those of one of its entries, are no chain of its path that
@@ -31,10 +31,10 @@ pub enum CheckFault {
     /// The leaf's inequality fails.
     #[error("the bound of node {0} is too low")]
     BoundTooLow(usize),
-    /// An entry of the leaf has the stream of an entry before it.
+    /// An entry of the leaf has the frame of an entry before it.
     #[error("node {0} has a stream twice")]
     StreamRepeated(usize),
-    /// The stream of an entry of the leaf isn't there or doesn't use the leaf's link.
+    /// The frame of an entry of the leaf isn't sent, or its stream isn't there or doesn't use the leaf's link.
     #[error("node {0} has a stream that doesn't use its link")]
     NotOnLink(usize),
     /// A growth was refused. It may come in place of any other answer.

@@ -47,7 +47,8 @@ pub fn judge_late(
     Ok(sum + timing.arrival(stream) as i64 >= target as i64)
 }
 
-/// Whether the stream ends behind the cycle, or arrives after its latest instant.
+/// Whether the stream starts behind its window: it ends behind its period, or arrives after its latest instant.
+#[tactic(auto, unfolding(tsn_model::specs::Schedule::latest_offset))]
 pub fn judge_overrun(
     timing: &Timing,
     path: &[Turn],
@@ -58,8 +59,7 @@ pub fn judge_overrun(
     ensures { (target : ℕ) → FindsBound timing.now target (decisions path.now) (overrun stream chain.now) result }
 {
     let sum = sum_to(timing, path, stream, chain)?;
-    let past_cycle = sum + timing.span(stream) as i64 > timing.cycle() as i64;
-    Ok(past_cycle || sum + timing.arrival(stream) as i64 > timing.latest(stream) as i64)
+    Ok(sum > timing.window(stream).greatest)
 }
 
 /// Whether the closed chain's sum is above 0.

@@ -1,6 +1,8 @@
 //! The entries of a leaf over a whole link: whether they are right, and what they come to.
-ghost use Rattle.std.specs.Prelude.{◌≡◌, ◌≤◌, ◌==◌, ℕ, map};
+ghost use Rattle.std.specs.Prelude.{◌≡◌, ◌≤◌, ◌<◌, ◌+◌, ◌==◌, ◌&&◌, ℕ, map};
 ghost use Rattle.std.specs.List.{list_any};
+ghost use Rattle.tsn_model.specs.Network.{stream_count, hop_count};
+ghost use Rattle.tsn_model.specs.Timing.{Sends, start};
 ghost use Rattle.tsn_model.specs.Certificate.{load, overload};
 ghost use Rattle.tsn_cert.specs.Entry.{tree_entry};
 ghost use Rattle.tsn_check.specs.Turns.{AreTurns, decisions};
@@ -11,25 +13,39 @@ use crate::leaf::sum_to;
 use crate::path::Turn;
 use tsn_cert::plan::MAX_TIME;
 use tsn_cert::{Chain, Entries};
+use tsn_model::Frame;
 use tsn_timing::Timing;
 
 /// What some entries come to on their link, in nanoseconds.
 #[derive(Clone, Copy)]
 pub struct LinkLoad {
-    /// The earliest instant at which one of their streams may start on the link.
+    /// The earliest instant at which one of their frames may start on the link.
     pub head: i64,
-    /// How long the streams occupy the link.
+    /// How long the frames occupy the link.
     pub work: u64,
-    /// How long after its occupancy of the link one of the streams arrives at the soonest; below 0 where its gap outlasts
-    /// its arrival.
+    /// How long after the occupancy of the link by one of the frames its stream's first period is through at the soonest; below 0
+    /// where it is through before.
     pub tail: i64,
 }
 
-/// Whether one of the entries is of the stream.
-fn has_stream(entries: &[(usize, Chain)], stream: usize) -> bool
-    ensures { result ≡ list_any (λ entry. entry.0 == stream) entries.now }
+/// Whether one of the entries is of the frame.
+fn has_frame(entries: &[(Frame, Chain)], frame: Frame) -> bool
+    ensures { result ≡ list_any (λ entry. entry.0.stream == frame.stream && entry.0.shift == frame.shift) entries.now }
 {
-    entries.iter().any(|entry| entry.0 == stream)
+    entries.iter().any(|entry| entry.0.stream == frame.stream && entry.0.shift == frame.shift)
+}
+
+/// When a frame starts on a hop of its stream, counted from its stream's offset, in nanoseconds.
+fn begin_of(timing: &Timing, frame: Frame, hop: usize) -> u64
+    requires stream { frame.stream < stream_count timing.now }
+    requires sent { Sends timing.now frame.stream frame.shift }
+    requires hop { hop < hop_count timing.now frame.stream }
+    ensures value { result ≡ frame.shift + start timing.now frame.stream hop }
+    ensures bound { result ≤ 1_080_000_000 }
+{
+    // The limits of the network bound the shift.
+    let _limits = timing.cycle();
+    frame.shift + timing.start(frame.stream, hop)
 }
 
 /// What an entry behind others comes to on the link.
@@ -37,29 +53,33 @@ fn entry_load(
     timing: &Timing,
     path: &[Turn],
     link: usize,
-    before: &[(usize, Chain)],
-    entry: &(usize, Chain),
+    before: &[(Frame, Chain)],
+    entry: &(Frame, Chain),
 ) -> Result<LinkLoad, NodeFault>
     requires { AreTurns timing.now path.now }
     ensures { FindsEntry timing.now (decisions path.now) link (map tree_entry before.now) (tree_entry entry.now) result }
 {
-    let stream = entry.0;
+    let frame = entry.0;
+    let stream = frame.stream;
     if stream >= timing.streams() {
+        return Err(NodeFault::NotOnLink);
+    }
+    if !timing.is_shift(stream, frame.shift) {
         return Err(NodeFault::NotOnLink);
     }
     let Some(hop) = timing.hop_on(stream, link) else {
         return Err(NodeFault::NotOnLink);
     };
-    if has_stream(before, stream) {
+    if has_frame(before, frame) {
         return Err(NodeFault::StreamRepeated);
     }
     let sum = sum_to(timing, path, stream, &entry.1)?;
-    let start = timing.start(stream, hop);
+    let begin = begin_of(timing, frame, hop);
     let work = timing.occupancy(stream, hop);
     Ok(LinkLoad {
-        head: sum + start as i64,
+        head: sum + begin as i64,
         work,
-        tail: timing.arrival(stream) as i64 - (start + work) as i64,
+        tail: timing.arrival(stream) as i64 - (begin + work) as i64,
     })
 }
 
@@ -86,7 +106,7 @@ pub fn link_load(
     Ok(all)
 }
 
-/// Whether the streams keep the link busy for so long that one of them arrives at the target or after it.
+/// Whether the frames keep the link busy for so long that one of their streams arrives at the target or after it.
 pub fn judge_load(
     timing: &Timing,
     target: u64,
@@ -102,7 +122,7 @@ pub fn judge_load(
     Ok(all.head + all.work as i64 + all.tail >= target as i64)
 }
 
-/// Whether the streams keep the link busy behind the cycle.
+/// Whether the frames keep the link busy behind the cycle.
 pub fn judge_overload(
     timing: &Timing,
     path: &[Turn],

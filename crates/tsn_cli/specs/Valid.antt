@@ -1,5 +1,7 @@
 -- What `valid` answers.
-use Rattle.std.specs.Prelude.{◌⊎◌, ℕ, List, [], ◌∷◌, ◌++◌, codes, decimal}
+use Rattle.std.specs.Prelude.{◌⊎◌, ℕ, ℤ, pos, List, [], ◌∷◌, ◌++◌, codes, decimal, if◌then◌else◌}
+use Rattle.std.specs.Ordering.{int_eq}
+use Rattle.std.specs.Fmt.{signed_decimal}
 use Rattle.tsn_model.specs.declared.Violation.{Violation}
 use Rattle.tsn_model.specs.declared.Violation.TheVariants.{WrongCount, PastCycle, Overlap, Early, TooLate}
 use Rattle.tsn_model.specs.Network.{Network}
@@ -9,11 +11,15 @@ use Rattle.tsn_net.specs.Problem.{NamedNetwork}
 use Rattle.tsn_run.specs.Run.{Output, Command, IsLine}
 use Rattle.tsn_run.specs.Refusal.{RefusesNetwork}
 
+-- what follows the link of an overlap: its lag, where that isn't 0
+abbrev pub lag_text : ℤ → List ℕ
+lag_text lag = if int_eq lag (pos 0) then [] else codes " " ++ signed_decimal lag
+
 -- why the offsets are no valid schedule
 abbrev pub violation_text : Violation → List ℕ
 violation_text WrongCount = codes "V1"
 violation_text (PastCycle stream) = codes "V2 stream " ++ decimal stream
-violation_text (Overlap triple) = codes "V3 " ++ decimal triple.left ++ codes " " ++ decimal triple.right ++ codes " " ++ decimal triple.link
+violation_text (Overlap triple) = codes "V3 " ++ decimal triple.left ++ codes " " ++ decimal triple.right ++ codes " " ++ decimal triple.link ++ lag_text triple.lag
 violation_text (Early stream) = codes "V4 stream " ++ decimal stream
 violation_text (TooLate stream) = codes "V5 stream " ++ decimal stream
 

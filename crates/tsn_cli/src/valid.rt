@@ -82,7 +82,7 @@ fn judgement(alloc: Global, timing: &Timing, offsets: &[u64]) -> Result<Answer, 
     Ok(Answer { status, text })
 }
 
-/// A violation, printed with its number: `V1`, `V2 stream 0`, `V3 0 1 4`, `V4 stream 0`.
+/// A violation, printed with its number: `V1`, `V2 stream 0`, `V3 0 1 4`, `V3 0 1 4 -500`, `V4 stream 0`.
 #[derive(Clone, Copy)]
 struct Reason(Violation);
 
@@ -95,11 +95,34 @@ impl fmt::Display for Reason {
         match self.0 {
             Violation::WrongCount => write!(f, "V1"),
             Violation::PastCycle(stream) => write!(f, "V2 stream {stream}"),
-            Violation::Overlap(Triple { left, right, link }) => {
-                write!(f, "V3 {left} {right} {link}")
+            Violation::Overlap(triple) => {
+                let Triple {
+                    left,
+                    right,
+                    link,
+                    ..
+                } = triple;
+                write!(f, "V3 {left} {right} {link}{}", Behind(triple.lag))
             }
             Violation::Early(stream) => write!(f, "V4 stream {stream}"),
             Violation::TooLate(stream) => write!(f, "V5 stream {stream}"),
         }
+    }
+}
+
+/// What follows the link of an overlap: its lag, where that isn't 0.
+#[derive(Clone, Copy)]
+struct Behind(i64);
+
+impl fmt::Display for Behind {
+    ghost use Rattle.tsn_cli.specs.Valid.{lag_text};
+
+    ghost output = { λ lag. Some (lag_text lag.0) };
+
+    fn fmt<W: fmt::Write>(&self, f: &mut fmt::Formatter<W>) -> fmt::Result {
+        if self.0 == 0 {
+            return Ok(());
+        }
+        write!(f, " {}", self.0)
     }
 }

@@ -1,3 +1,4 @@
+pub mod Lagging
 pub mod Reading
 pub mod Triples
 pub mod Listed

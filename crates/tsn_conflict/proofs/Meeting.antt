@@ -1,18 +1,21 @@
--- Where the two streams of a triple meet, by the uses that are kept: an overlap of any network that they are kept of.
-use Rattle.std.proofs.Common.{◌≡◌, ℕ, ◌+◌, ◌-◌, ◌≤◌, ◌<◌, List, length, get_or, All, ap, ◌∙◌, arith}
+-- Where the two frames of a triple meet, by the uses that are kept: an overlap of any network that they are kept of.
+use Rattle.std.proofs.Common.{◌≡◌, ℕ, ◌<◌, ℤ, pos, List, length, get_or, All, ap, ◌∙◌, arith}
+use Rattle.std.specs.Prelude.{◌-ℤ◌, ◌<ℤ◌}
+use Rattle.std.proofs.lemmas.Int.{ints}
 use Rattle.std.proofs.lemmas.List.Elements.{Contains-get_or}
 use Rattle.tsn_model.specs.declared.Triple.{Triple}
 use Rattle.tsn_model.specs.Network.{Network}
+use Rattle.tsn_model.specs.Arcs.{arc_between, arc_on}
 use Rattle.tsn_model.specs.Timing.{occupancy, start_on}
 use Rattle.tsn_model.specs.Schedule.{IsConflict, Overlaps, offset_of}
-use Rattle.tsn_model.proofs.Overlaps.{overlap_from, overlap_to}
+use Rattle.tsn_model.proofs.Overlaps.{overlap_from}
 use Rattle.tsn_conflict.specs.declared.uses.Use.{Use}
 use Rattle.tsn_conflict.specs.declared.pairs.Pair.{Pair}
 use Rattle.tsn_conflict.specs.Kept.{Kept, use_in, AreConflictsOf}
 use Rattle.tsn_conflict.specs.Raised.{triple_at}
 use Rattle.tsn_conflict.specs.Pairs.{IsInUses, Meets, pair_in}
 use Rattle.tsn_conflict.proofs.Reading.{Reads, Reads-used}
-use Rattle.tsn_conflict.proofs.Listed.{conflict_kept}
+use Rattle.tsn_conflict.proofs.Listed.{conflict_kept, lag_bounds}
 
 -- ---- by the uses of a network
 
@@ -47,6 +50,7 @@ module _ (network : Network) (kept : Kept) (is : AreConflictsOf network kept) wh
       let found = read triple conflict in
       let streams = is.streams in
       let few = is.formed.few_streams in
+      let bounds = lag_bounds network triple is.formed conflict in
       record {
         few = omega arith;
         left_row = found.left.row_kept;
@@ -57,6 +61,8 @@ module _ (network : Network) (kept : Kept) (is : AreConflictsOf network kept) wh
         right_link = found.right.link_kept;
         right_early = omega arith;
         right_short = omega arith;
+        not_before = bounds.0;
+        not_after = bounds.1;
       }
 
   pub all_in_uses : All (IsInUses kept.uses) kept.triples
@@ -65,15 +71,33 @@ module _ (network : Network) (kept : Kept) (is : AreConflictsOf network kept) wh
   pub meets_from : (offsets : List ℕ) (triple : Triple) → IsConflict network triple → Overlaps network offsets triple → Meets kept.uses offsets triple
   meets_from offsets triple conflict overlaps =
       let found = read triple conflict in
-      let both = overlap_to network offsets triple.left triple.right triple.link (conflict, overlaps) in
-      let first = both.0 in
-      let second = both.1 in
-      record { left_begun = omega arith; right_begun = omega arith }
+      let lag = overlaps.is in
+      let left_start = found.left_start in
+      let left_occupancy = found.left_occupancy in
+      let right_start = found.right_start in
+      let right_occupancy = found.right_occupancy in
+      let left_begun = overlaps.by_left.begun in
+      let left_ends = overlaps.by_left.not_ended in
+      let right_begun = overlaps.by_right.begun in
+      let right_ends = overlaps.by_right.not_ended in
+      record {
+        left_begun = omega (arith, ints, lag, left_start, right_start, right_occupancy, left_begun, right_ends);
+        right_begun = omega (arith, ints, lag, left_start, right_start, left_occupancy, right_begun, left_ends);
+      }
 
   pub overlaps_from : (offsets : List ℕ) (triple : Triple) → IsConflict network triple → Meets kept.uses offsets triple → Overlaps network offsets triple
+  unfolding arc_on arc_between
   overlaps_from offsets triple conflict meets =
       let found = read triple conflict in
-      (overlap_from network offsets triple.left triple.right triple.link is.formed conflict.ordered conflict.counted conflict.left_uses conflict.right_uses (omega arith) (omega arith)).1
+      let left_start = found.left_start in
+      let left_occupancy = found.left_occupancy in
+      let right_start = found.right_start in
+      let right_occupancy = found.right_occupancy in
+      let left_begun = meets.left_begun in
+      let right_begun = meets.right_begun in
+      overlap_from network offsets triple is.formed conflict
+      (λ holds. omega (arith, ints, holds, left_start, left_occupancy, right_start, right_begun))
+      (λ holds. omega (arith, ints, holds, left_start, right_start, right_occupancy, left_begun))
 
 -- ---- by the bounds of the gap of the offsets
 
@@ -85,42 +109,30 @@ pub pair_in-right : (uses : List (List Use)) (triple : Triple) → (pair_in uses
 unfolding pair_in
 pair_in-right uses triple = omega arith
 
-module _ (uses : List (List Use)) (offsets : List ℕ) (triple : Triple) (gap : ℕ) where
-  -- the gap is the left offset less the right one, with the greatest offset added
-  pub record IsGap : Type 0 where
-    pub within : IsInUses uses triple
-    pub right_small : offset_of offsets triple.right ≤ 1000000000
-    pub value : gap + offset_of offsets triple.right ≡ offset_of offsets triple.left + 1000000000
+module _ (uses : List (List Use)) (offsets : List ℕ) (triple : Triple) (gap : ℤ) where
+  -- the gap is the left offset less the right one
+  abbrev pub IsGap : Type 0
+  IsGap = gap ≡ pos (offset_of offsets triple.left) -ℤ pos (offset_of offsets triple.right)
 
-  pub gap_meets : IsGap → (pair_in uses triple).above < gap → gap < (pair_in uses triple).below → Meets uses offsets triple
+  pub gap_meets : IsGap → (pair_in uses triple).above <ℤ gap → gap <ℤ (pair_in uses triple).below → Meets uses offsets triple
   unfolding pair_in
-  gap_meets is above below =
-      let within = is.within in
-      let value = is.value in
-      record { left_begun = omega arith; right_begun = omega arith }
+  gap_meets is above below = record { left_begun = omega (arith, ints, is, below); right_begun = omega (arith, ints, is, above) }
 
-  pub meets_above : IsGap → Meets uses offsets triple → (pair_in uses triple).above < gap
+  pub meets_above : IsGap → Meets uses offsets triple → (pair_in uses triple).above <ℤ gap
   unfolding pair_in
-  meets_above is meets =
-      let within = is.within in
-      let value = is.value in
-      omega arith
+  meets_above is meets = let begun = meets.right_begun in omega (arith, ints, is, begun)
 
-  pub meets_below : IsGap → Meets uses offsets triple → gap < (pair_in uses triple).below
+  pub meets_below : IsGap → Meets uses offsets triple → gap <ℤ (pair_in uses triple).below
   unfolding pair_in
-  meets_below is meets =
-      let within = is.within in
-      let value = is.value in
-      omega arith
+  meets_below is meets = let begun = meets.left_begun in omega (arith, ints, is, begun)
 
 -- the gap that is computed of a pair's offsets
-pub IsGap-from : (uses : List (List Use)) (offsets : List ℕ) (triple : Triple) (pair : Pair) → pair ≡ pair_in uses triple → IsInUses uses triple → length offsets ≡ length uses
-    → All (λ offset. offset ≤ 1000000000) offsets → IsGap uses offsets triple (get_or offsets pair.left 0 + 1000000000 - get_or offsets pair.right 0)
-IsGap-from uses offsets triple pair is within count small =
+pub IsGap-from : (uses : List (List Use)) (offsets : List ℕ) (triple : Triple) (pair : Pair) → pair ≡ pair_in uses triple
+    → IsGap uses offsets triple (pos (get_or offsets pair.left 0) -ℤ pos (get_or offsets pair.right 0))
+IsGap-from uses offsets triple pair is =
     let left : pair.left ≡ triple.left = ap (λ (p : Pair). p.left) is ∙ pair_in-left uses triple in
     let right : pair.right ≡ triple.right = ap (λ (p : Pair). p.right) is ∙ pair_in-right uses triple in
-    let left_offset = ap (λ i. get_or offsets i 0) left in
-    let right_offset = ap (λ i. get_or offsets i 0) right in
-    let row = within.right_row in
-    let right_small = small triple.right 0 (omega arith) in
-    record { within = within; right_small = right_small; value = omega arith }
+    (λ k. pos (get_or offsets (left k) 0) -ℤ pos (get_or offsets (right k) 0))
+
+pub pair_same : (pair other : Pair) → pair.left ≡ other.left → pair.right ≡ other.right → pair.above ≡ other.above → pair.below ≡ other.below → pair ≡ other
+pair_same pair other left right above below = λ k. record { left = left k; right = right k; above = above k; below = below k }

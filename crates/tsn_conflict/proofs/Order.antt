@@ -1,6 +1,7 @@
 -- The first overlap, by the order of the triples.
 use Rattle.std.proofs.Common.{◌≡◌, ℕ, ◌≤◌, ◌<◌, List, length, get_or, Contains, sym, ◌∙◌, subst, arith, inl, inr}
 use Rattle.std.proofs.lemmas.Bool.{cases_order}
+use Rattle.std.proofs.lemmas.Int.{ints}
 use Rattle.std.proofs.lemmas.List.{get_or_default}
 use Rattle.tsn_model.specs.declared.Triple.{Triple}
 use Rattle.tsn_model.specs.Network.{Network, IsWellFormed}
@@ -10,17 +11,24 @@ use Rattle.tsn_model.proofs.Conflicts.{conflict_listed, listed_conflict, conflic
 
 -- two triples aren't each before the other
 never_both : (a b : Triple) → TripleBefore a b → TripleBefore b a → ⊥
-never_both a b (inl x) (inl y) = omega arith
-never_both a b (inl x) (inr (inl (y, z))) = omega arith
-never_both a b (inl x) (inr (inr (y, z, w))) = omega arith
-never_both a b (inr (inl (x, u))) (inl y) = omega arith
-never_both a b (inr (inl (x, u))) (inr (inl (y, z))) = omega arith
-never_both a b (inr (inl (x, u))) (inr (inr (y, z, w))) = omega arith
-never_both a b (inr (inr (x, u, v))) (inl y) = omega arith
-never_both a b (inr (inr (x, u, v))) (inr (inl (y, z))) = omega arith
-never_both a b (inr (inr (x, u, v))) (inr (inr (y, z, w))) = omega arith
+never_both a b (inl x0) (inl y0) = omega arith
+never_both a b (inl x0) (inr (inl (y0, y1))) = omega arith
+never_both a b (inl x0) (inr (inr (inl (y0, y1, y2)))) = omega arith
+never_both a b (inl x0) (inr (inr (inr (y0, y1, y2, y3)))) = omega arith
+never_both a b (inr (inl (x0, x1))) (inl y0) = omega arith
+never_both a b (inr (inl (x0, x1))) (inr (inl (y0, y1))) = omega arith
+never_both a b (inr (inl (x0, x1))) (inr (inr (inl (y0, y1, y2)))) = omega arith
+never_both a b (inr (inl (x0, x1))) (inr (inr (inr (y0, y1, y2, y3)))) = omega arith
+never_both a b (inr (inr (inl (x0, x1, x2)))) (inl y0) = omega arith
+never_both a b (inr (inr (inl (x0, x1, x2)))) (inr (inl (y0, y1))) = omega arith
+never_both a b (inr (inr (inl (x0, x1, x2)))) (inr (inr (inl (y0, y1, y2)))) = omega arith
+never_both a b (inr (inr (inl (x0, x1, x2)))) (inr (inr (inr (y0, y1, y2, y3)))) = omega arith
+never_both a b (inr (inr (inr (x0, x1, x2, x3)))) (inl y0) = omega arith
+never_both a b (inr (inr (inr (x0, x1, x2, x3)))) (inr (inl (y0, y1))) = omega arith
+never_both a b (inr (inr (inr (x0, x1, x2, x3)))) (inr (inr (inl (y0, y1, y2)))) = omega arith
+never_both a b (inr (inr (inr (x0, x1, x2, x3)))) (inr (inr (inr (y0, y1, y2, y3)))) = omega (arith, ints)
 
--- the streams of the first n triples don't overlap
+-- the frames of the first n triples don't overlap
 abbrev pub AreApartBefore : Network → List ℕ → ℕ → Type 0
 AreApartBefore network offsets n = (k : ℕ) (d : Triple) → k < n → k < length (conflicts_of network) → Overlaps network offsets (get_or (conflicts_of network) k d) → ⊥
 

@@ -1,6 +1,7 @@
 -- What a look for the first overlap knows after some offsets were raised.
-use Rattle.std.proofs.Common.{◌≡◌, ℕ, ◌≤◌, ◌<◌, true, List, length, get_or, All, sym, ap, ◌∙◌, subst, arith, refl, eq-eqb}
+use Rattle.std.proofs.Common.{◌≡◌, ℕ, pos, ◌≤◌, ◌<◌, true, List, length, get_or, All, sym, ap, ◌∙◌, subst, arith, refl, eq-eqb}
 use Rattle.std.proofs.lemmas.Bool.{or_left, or_right}
+use Rattle.std.proofs.lemmas.Int.{ints}
 use Rattle.std.proofs.lemmas.List.{get_or_default}
 use Rattle.std.proofs.lemmas.List.Elements.{All-contains}
 use Rattle.tsn_model.specs.declared.Triple.{Triple}
@@ -65,9 +66,9 @@ premise_from_parent network kept parent offsets raised start is below first agre
     let right_begun = meets.right_begun in
     let left = agree _ none_raised.left in
     let right = agree _ none_raised.right in
-    let met : Meets kept.uses parent (triple_at kept.triples number) = record { left_begun = omega arith; right_begun = omega arith } in
+    let met : Meets kept.uses parent (triple_at kept.triples number) = record { left_begun = omega (arith, ints, left_begun, left, right); right_begun = omega (arith, ints, right_begun, left, right) } in
     let conflict = conflict_at network kept is number (omega arith) in
     let long = ap length is.triples in
     let order = subst (λ ts. TripleBefore (triple_at ts number) (triple_at ts start)) (sym is.triples)
-    (conflicts_ordered network number start (record { left = 0; right = 0; link = 0 }) before (omega arith)) in
+    (conflicts_ordered network number start (record { left = 0; right = 0; link = 0; lag = pos 0 }) before (omega arith)) in
     first.none_before (triple_at kept.triples number) order conflict (overlaps_from network kept is parent (triple_at kept.triples number) conflict met)

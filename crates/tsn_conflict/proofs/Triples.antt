@@ -1,17 +1,16 @@
 -- The list of conflicts, triple by triple.
-use Rattle.std.proofs.Common.{◌≡◌, ℕ, zero, suc, ◌+◌, ◌≤◌, ◌<◌, Bool, true, false, List, [], ◌∷◌, ◌++◌, length, map, filter, flat_map, is_some, refl, ap, ◌∙◌, arith, append-nil}
+use Rattle.std.proofs.Common.{◌≡◌, ℕ, ℤ, zero, suc, ◌+◌, ◌≤◌, ◌<◌, Bool, true, false, List, [], ◌∷◌, ◌++◌, length, map, filter, flat_map, is_some, refl, ap, ◌∙◌, arith, append-nil}
 use Rattle.std.specs.Prelude.{◌&&◌}
 use Rattle.std.specs.List.{range_with_len}
 use Rattle.std.proofs.lemmas.Bool.{lt-ltb, le-ltb, cond-true, cond-false}
 use Rattle.std.proofs.lemmas.Grind.{flat_map-append}
 use Rattle.std.proofs.lemmas.List.Elements.{filter-append}
-use Rattle.std.proofs.lemmas.List.FromFn.{filter_of_map_range_with_len_more}
 use Rattle.tsn_model.specs.declared.Triple.{Triple}
 use Rattle.tsn_model.specs.Network.{Network, stream_count}
 use Rattle.tsn_model.specs.Timing.{hop_on}
-use Rattle.tsn_model.specs.Arcs.{is_conflict, triples_of, conflicts_of}
+use Rattle.tsn_model.specs.Arcs.{is_conflict, lags_of, triples_of, conflicts_of}
 use Rattle.tsn_model.proofs.Lists.{range_more}
-use Rattle.tsn_conflict.specs.Rows.{triples_with, triples_left}
+use Rattle.tsn_conflict.specs.Rows.{triple_on, triples_on, triples_with, triples_left}
 
 -- what passes of the pieces of the first numbers, with one number more
 pub listed_more : (p : Triple → Bool) (f : ℕ → List Triple) (n : ℕ) → filter p (flat_map f (range_with_len 0 (n + 1))) ≡ filter p (flat_map f (range_with_len 0 n)) ++ filter p (f n)
@@ -21,17 +20,23 @@ listed_more p f n =
     ap (flat_map f) more ∙ flat_map-append f (range_with_len 0 n) (n ∷ []) ∙ ap (λ ys. flat_map f (range_with_len 0 n) ++ ys) (append-nil (f n)) in
     ap (filter p) pieces ∙ filter-append p (flat_map f (range_with_len 0 n)) (f n)
 
-none_pass : (p : Triple → Bool) (f : ℕ → Triple) (xs : List ℕ) → ((x : ℕ) → p (f x) ≡ false) → filter p (map f xs) ≡ []
-none_pass p f [] fails = refl
-none_pass p f (x ∷ xs) fails = cond-false (p (f x)) (f x ∷ filter p (map f xs)) (filter p (map f xs)) (fails x) ∙ none_pass p f xs fails
+none_pass : (p : Triple → Bool) (f : ℕ → List Triple) (xs : List ℕ) → ((x : ℕ) → filter p (f x) ≡ []) → filter p (flat_map f xs) ≡ []
+none_pass p f [] fail = refl
+none_pass p f (x ∷ xs) fail = filter-append p (f x) (flat_map f xs) ∙ ap (λ ts. ts ++ filter p (flat_map f xs)) (fail x) ∙ none_pass p f xs fail
 
-abbrev pub triple_on : ℕ → ℕ → ℕ → Triple
-triple_on i j link = record { left = i; right = j; link = link }
+none_of_link : (p : Triple → Bool) (f : ℤ → Triple) (lags : List ℤ) → ((lag : ℤ) → p (f lag) ≡ false) → filter p (map f lags) ≡ []
+none_of_link p f [] fails = refl
+none_of_link p f (lag ∷ lags) fails = cond-false (p (f lag)) (f lag ∷ filter p (map f lags)) (filter p (map f lags)) (fails lag) ∙ none_of_link p f lags fails
+
+all_of_link : (p : Triple → Bool) (f : ℤ → Triple) (lags : List ℤ) → ((lag : ℤ) → p (f lag) ≡ true) → filter p (map f lags) ≡ map f lags
+all_of_link p f [] passes = refl
+all_of_link p f (lag ∷ lags) passes =
+    cond-true (p (f lag)) (f lag ∷ filter p (map f lags)) (filter p (map f lags)) (passes lag) ∙ ap (λ ts. f lag ∷ ts) (all_of_link p f lags passes)
 
 module _ (network : Network) where
-  disordered : (i j link : ℕ) → j ≤ i → is_conflict network (triple_on i j link) ≡ false
+  disordered : (i j link : ℕ) (lag : ℤ) → j ≤ i → is_conflict network (triple_on i j link lag) ≡ false
   unfolding is_conflict
-  disordered i j link order = rw (le-ltb i j order) refl
+  disordered i j link lag order = rw (le-ltb i j order) refl
 
   -- a stream has no conflict with an earlier one as the right one
   pub none_earlier : (i n : ℕ) → n ≤ i + 1 → filter (is_conflict network) (triples_left network i n) ≡ []
@@ -41,34 +46,37 @@ module _ (network : Network) where
       ap (λ m. filter (is_conflict network) (triples_left network i m)) step
       ∙ listed_more (is_conflict network) (triples_with network i) n
       ∙ ap (λ ts. ts ++ filter (is_conflict network) (triples_with network i n)) (none_earlier i n (omega arith))
-      ∙ none_pass (is_conflict network) (triple_on i n) (range_with_len 0 (length network.links)) (λ link. disordered i n link (omega arith))
+      ∙ none_pass (is_conflict network) (triples_on network i n) (range_with_len 0 (length network.links))
+      (λ link. none_of_link (is_conflict network) (triple_on i n link) (lags_of network i n) (λ lag. disordered i n link lag (omega arith)))
 
-  both_use : (i j link : ℕ) → i < j → is_conflict network (triple_on i j link) ≡ is_some (hop_on network i link) && is_some (hop_on network j link)
+  both_use : (i j link : ℕ) (lag : ℤ) → i < j
+      → is_conflict network (triple_on i j link lag) ≡ is_some (hop_on network i link) && is_some (hop_on network j link)
   unfolding is_conflict
-  both_use i j link order = rw (lt-ltb i j order) refl
+  both_use i j link lag order = rw (lt-ltb i j order) refl
 
   -- the conflicts of two streams on the first links, with one link more
-  pub pair_taken : (i j link : ℕ) → i < j → is_some (hop_on network i link) ≡ true → is_some (hop_on network j link) ≡ true
-      → filter (is_conflict network) (map (triple_on i j) (range_with_len 0 (link + 1))) ≡ filter (is_conflict network) (map (triple_on i j) (range_with_len 0 link)) ++ triple_on i j link ∷ []
-  pair_taken i j link order first second =
-      let passes : is_conflict network (triple_on i j link) ≡ true = both_use i j link order ∙ rw (first, second) refl in
-      filter_of_map_range_with_len_more (is_conflict network) (triple_on i j) 0 link link (omega arith)
-      ∙ ap (λ ts. filter (is_conflict network) (map (triple_on i j) (range_with_len 0 link)) ++ ts) (cond-true _ (triple_on i j link ∷ []) [] passes)
+  abbrev pub pair_first : ℕ → ℕ → ℕ → List Triple
+  pair_first i j n = filter (is_conflict network) (flat_map (triples_on network i j) (range_with_len 0 n))
 
-  pair_skipped : (i j link : ℕ) → is_conflict network (triple_on i j link) ≡ false
-      → filter (is_conflict network) (map (triple_on i j) (range_with_len 0 (link + 1))) ≡ filter (is_conflict network) (map (triple_on i j) (range_with_len 0 link))
+  pub pair_taken : (i j link : ℕ) → i < j → is_some (hop_on network i link) ≡ true → is_some (hop_on network j link) ≡ true
+      → pair_first i j (link + 1) ≡ pair_first i j link ++ triples_on network i j link
+  pair_taken i j link order first second =
+      listed_more (is_conflict network) (triples_on network i j) link
+      ∙ ap (λ ts. pair_first i j link ++ ts)
+      (all_of_link (is_conflict network) (triple_on i j link) (lags_of network i j) (λ lag. both_use i j link lag order ∙ rw (first, second) refl))
+
+  pair_skipped : (i j link : ℕ) → ((lag : ℤ) → is_conflict network (triple_on i j link lag) ≡ false) → pair_first i j (link + 1) ≡ pair_first i j link
   pair_skipped i j link fails =
-      filter_of_map_range_with_len_more (is_conflict network) (triple_on i j) 0 link link (omega arith)
-      ∙ ap (λ ts. filter (is_conflict network) (map (triple_on i j) (range_with_len 0 link)) ++ ts) (cond-false _ (triple_on i j link ∷ []) [] fails)
+      listed_more (is_conflict network) (triples_on network i j) link
+      ∙ ap (λ ts. pair_first i j link ++ ts) (none_of_link (is_conflict network) (triple_on i j link) (lags_of network i j) fails)
       ∙ append-nil _
 
-  pub pair_skipped_left : (i j link : ℕ) → i < j → is_some (hop_on network i link) ≡ false
-      → filter (is_conflict network) (map (triple_on i j) (range_with_len 0 (link + 1))) ≡ filter (is_conflict network) (map (triple_on i j) (range_with_len 0 link))
-  pair_skipped_left i j link order first = pair_skipped i j link (both_use i j link order ∙ rw first refl)
+  pub pair_skipped_left : (i j link : ℕ) → i < j → is_some (hop_on network i link) ≡ false → pair_first i j (link + 1) ≡ pair_first i j link
+  pair_skipped_left i j link order first = pair_skipped i j link (λ lag. both_use i j link lag order ∙ rw first refl)
 
   pub pair_skipped_right : (i j link : ℕ) → i < j → is_some (hop_on network i link) ≡ true → is_some (hop_on network j link) ≡ false
-      → filter (is_conflict network) (map (triple_on i j) (range_with_len 0 (link + 1))) ≡ filter (is_conflict network) (map (triple_on i j) (range_with_len 0 link))
-  pair_skipped_right i j link order first second = pair_skipped i j link (both_use i j link order ∙ rw (first, second) refl)
+      → pair_first i j (link + 1) ≡ pair_first i j link
+  pair_skipped_right i j link order first second = pair_skipped i j link (λ lag. both_use i j link lag order ∙ rw (first, second) refl)
 
   -- the conflicts of the first streams as the left ones
   abbrev pub conflicts_first : ℕ → List Triple

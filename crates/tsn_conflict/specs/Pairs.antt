@@ -1,5 +1,5 @@
 -- Words of the private contracts: the table of what each triple's overlap needs, and where each stream's triples are.
-use Rattle.std.specs.Prelude.{◌≡◌, ℕ, ◌+◌, ◌-◌, ◌≤◌, ◌<◌, Bool, true, ◌||◌, ◌==◌, List, [], map, filter, length, slice_index_or}
+use Rattle.std.specs.Prelude.{◌≡◌, ℕ, ◌+◌, ◌≤◌, ◌<◌, ℤ, pos, ◌+ℤ◌, ◌-ℤ◌, ◌<ℤ◌, Bool, true, ◌||◌, ◌==◌, List, [], map, filter, length, slice_index_or}
 use Rattle.std.specs.List.{range_with_len}
 use Rattle.tsn_model.specs.declared.bounds.TheConstants.{MAX_OCCUPANCY, MAX_START}
 use Rattle.tsn_model.specs.declared.Triple.{Triple}
@@ -11,7 +11,7 @@ use Rattle.tsn_conflict.specs.declared.numbers.Numbers.{Numbers}
 use Rattle.tsn_conflict.specs.Kept.{Kept, use_in, AreConflictsOf}
 use Rattle.tsn_conflict.specs.Raised.{triple_at}
 
--- a triple's two uses of its link are kept, and no later or longer than a network's limits allow
+-- a triple's two uses of its link are kept, and no later or longer than a network's limits allow, nor is its lag greater
 pub record IsInUses (uses : List (List Use)) (triple : Triple) : Type 0 where
   pub few : length uses ≤ 128
   pub left_row : triple.left < length uses
@@ -22,21 +22,27 @@ pub record IsInUses (uses : List (List Use)) (triple : Triple) : Type 0 where
   pub right_link : triple.link < length (slice_index_or uses triple.right [])
   pub right_early : (use_in uses triple.right triple.link).start ≤ MAX_START
   pub right_short : (use_in uses triple.right triple.link).occupancy ≤ MAX_OCCUPANCY
+  pub not_before : pos 0 <ℤ (triple.lag +ℤ pos 1000000000)
+  pub not_after : triple.lag <ℤ pos 1000000000
 
--- by these offsets each stream of the triple starts on its link before the other one's occupancy ends
+-- by these offsets each of the triple's frames starts on its link before the other one's occupancy ends
 pub record Meets (uses : List (List Use)) (offsets : List ℕ) (triple : Triple) : Type 0 where
-  pub left_begun : offset_of offsets triple.left + (use_in uses triple.left triple.link).start
-      < offset_of offsets triple.right + (use_in uses triple.right triple.link).start + (use_in uses triple.right triple.link).occupancy
-  pub right_begun : offset_of offsets triple.right + (use_in uses triple.right triple.link).start
-      < offset_of offsets triple.left + (use_in uses triple.left triple.link).start + (use_in uses triple.left triple.link).occupancy
+  pub left_begun : pos (offset_of offsets triple.left + (use_in uses triple.left triple.link).start)
+      <ℤ (pos (offset_of offsets triple.right + (use_in uses triple.right triple.link).start + (use_in uses triple.right triple.link).occupancy) +ℤ triple.lag)
+  pub right_begun : (pos (offset_of offsets triple.right + (use_in uses triple.right triple.link).start) +ℤ triple.lag)
+      <ℤ pos (offset_of offsets triple.left + (use_in uses triple.left triple.link).start + (use_in uses triple.left triple.link).occupancy)
 
--- the streams of a triple, and between which bounds the gap of their offsets lies where they meet
+-- by how much the right frame starts on the link after the left one, were both offsets 0
+abbrev pub apart_in : List (List Use) → Triple → ℤ
+apart_in uses triple = (pos (use_in uses triple.right triple.link).start -ℤ pos (use_in uses triple.left triple.link).start) +ℤ triple.lag
+
+-- the streams of a triple, and between which bounds the left offset less the right one lies where its frames meet
 unfoldable pub pair_in : List (List Use) → Triple → Pair
 pair_in uses triple = record {
   left = triple.left;
   right = triple.right;
-  above = 1000000000 + (use_in uses triple.right triple.link).start - ((use_in uses triple.left triple.link).start + (use_in uses triple.left triple.link).occupancy);
-  below = 1000000000 + (use_in uses triple.right triple.link).start + (use_in uses triple.right triple.link).occupancy - (use_in uses triple.left triple.link).start;
+  above = apart_in uses triple -ℤ pos (use_in uses triple.left triple.link).occupancy;
+  below = apart_in uses triple +ℤ pos (use_in uses triple.right triple.link).occupancy;
 }
 
 -- whether a stream is on either side of a triple
@@ -66,9 +72,8 @@ pub record IsNextMeeting (kept : Kept) (offsets : List ℕ) (from number : ℕ) 
   pub meets : Meets kept.uses offsets (triple_at kept.triples number)
   pub apart : AreApartBetween kept offsets from number
 
--- it is kept of some network, and the tables are those of what is kept
-pub record IsTabled (kept : Kept) (pairs : List Pair) (numbers : List (List ℕ)) : Type 0 where
-  pub network : Network
+-- it is kept of the network, and the tables are those of what is kept
+pub record IsTabled (network : Network) (kept : Kept) (pairs : List Pair) (numbers : List (List ℕ)) : Type 0 where
   pub of_network : AreConflictsOf network kept
   pub pairs_made : pairs ≡ map (pair_in kept.uses) kept.triples
   pub numbers_made : numbers ≡ map (numbers_with kept.triples) (range_with_len 0 (length kept.uses))

@@ -1,7 +1,7 @@
 -- What a search that raised some offsets knows of the triples.
 --     triple_at            the triple of a number
 --     OnlyRaisedOverlap    before a number, only triples with a raised stream may overlap
-use Rattle.std.specs.Prelude.{ℕ, ◌<◌, List, Contains, slice_index_or}
+use Rattle.std.specs.Prelude.{ℕ, ◌<◌, pos, List, Contains, slice_index_or}
 use Rattle.tsn_model.specs.declared.Triple.{Triple}
 use Rattle.tsn_model.specs.Network.{Network}
 use Rattle.tsn_model.specs.Schedule.{Overlaps}
@@ -9,7 +9,7 @@ use Rattle.tsn_conflict.specs.Kept.{Kept, AreConflictsOf}
 
 -- the triple of a number
 abbrev pub triple_at : List Triple → ℕ → Triple
-triple_at triples number = slice_index_or triples number (record { left = 0; right = 0; link = 0 })
+triple_at triples number = slice_index_or triples number (record { left = 0; right = 0; link = 0; lag = pos 0 })
 
 -- neither stream of the triple is among the raised ones
 pub record HasNoneRaised (raised : List ℕ) (triple : Triple) : Type 0 where

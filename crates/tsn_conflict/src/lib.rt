@@ -4,6 +4,7 @@
 ghost use Rattle.std.specs.Prelude.{IfOk};
 ghost use Rattle.tsn_conflict.specs.Kept.{AreConflictsOf};
 
+mod lags;
 pub mod laws;
 mod listing;
 mod numbers;
@@ -30,7 +31,9 @@ pub fn conflicts(alloc: Global, timing: &Timing) -> Result<Conflicts, NoMemory>
     let triples = triples_of(alloc, timing, &rows)?;
     let pairs = pairs_of(alloc, &rows, &triples)?;
     let numbers = numbers_of(alloc, &triples, timing.streams())?;
+    let timing = timing.copy(alloc)?;
     Ok(Conflicts {
+        timing,
         rows,
         triples,
         pairs,

@@ -1,10 +1,11 @@
 //! The conflicts, in order.
-ghost use Rattle.std.specs.Prelude.{◌≡◌, ◌<◌, ◌++◌, IfOk, filter};
+ghost use Rattle.std.specs.Prelude.{◌≡◌, ◌<◌, ◌++◌, IfOk, filter, map};
 ghost use Rattle.tsn_model.specs.Network.{IsWellFormed, stream_count};
 ghost use Rattle.tsn_model.specs.Arcs.{is_conflict, conflicts_of};
 ghost use Rattle.tsn_conflict.specs.Kept.{uses_of};
-ghost use Rattle.tsn_conflict.specs.Rows.{uses_in, triples_with, triples_left};
+ghost use Rattle.tsn_conflict.specs.Rows.{uses_in, triple_on, triples_with, triples_left};
 
+use crate::lags::lags_of;
 use crate::uses::{Row, look_up};
 use std::alloc::{AllocError, Global};
 use tsn_model::Triple;
@@ -18,13 +19,14 @@ pub fn triples_of(alloc: Global, timing: &Timing, rows: &[Row]) -> Result<Vec<Tr
 {
     let mut triples = Vec::new(alloc);
     for left in 0..timing.streams() {
-        push_left(&mut triples, timing, rows, left)?;
+        push_left(alloc, &mut triples, timing, rows, left)?;
     }
     Ok(triples)
 }
 
 /// Adds the conflicts of a stream with the later ones.
 fn push_left(
+    alloc: Global,
     triples: &mut Vec<Triple>,
     timing: &Timing,
     rows: &[Row],
@@ -37,13 +39,14 @@ fn push_left(
         ≡ triples.old.items ++ filter (is_conflict timing.now) (triples_left timing.now left (stream_count timing.now))) }
 {
     for right in left + 1..timing.streams() {
-        push_pair(triples, timing, rows, left, right)?;
+        push_pair(alloc, triples, timing, rows, left, right)?;
     }
     Ok(())
 }
 
 /// Adds the conflicts of two streams.
 fn push_pair(
+    alloc: Global,
     triples: &mut Vec<Triple>,
     timing: &Timing,
     rows: &[Row],
@@ -57,12 +60,34 @@ fn push_pair(
     ensures { IfOk result (λ _. triples.new.items
         ≡ triples.old.items ++ filter (is_conflict timing.now) (triples_with timing.now left right)) }
 {
+    let lags = lags_of(alloc, timing, left, right)?;
     for link in 0..timing.links() {
         let first = look_up(rows, left, link);
         let second = look_up(rows, right, link);
         if first.occupancy > 0 && second.occupancy > 0 {
-            triples.push(Triple { left, right, link })?;
+            push_lags(triples, &lags, left, right, link)?;
         }
+    }
+    Ok(())
+}
+
+/// Adds a triple for each lag of two streams on a link.
+fn push_lags(
+    triples: &mut Vec<Triple>,
+    lags: &[i64],
+    left: usize,
+    right: usize,
+    link: usize,
+) -> Result<(), AllocError>
+    ensures { IfOk result (λ _. triples.new.items ≡ triples.old.items ++ map (triple_on left right link) lags.now) }
+{
+    for &lag in lags {
+        triples.push(Triple {
+            left,
+            right,
+            link,
+            lag,
+        })?;
     }
     Ok(())
 }

@@ -1,5 +1,5 @@
 //! The conflicts of a network, with the numbers that their arcs need.
-ghost use Rattle.std.specs.Prelude.{◌≡◌, ◌≤◌, ◌<◌, ◌↔◌, ◌≤ℤ◌, ℕ, pos, IsTrue, length, All, Contains, MatchOption};
+ghost use Rattle.std.specs.Prelude.{◌≡◌, ◌≤◌, ◌<◌, ◌↔◌, ◌+ℤ◌, ◌≤ℤ◌, ◌<ℤ◌, ℕ, pos, IsTrue, length, All, Contains, MatchOption};
 ghost use Rattle.std.proofs.Common.{neg_ℤ};
 ghost use Rattle.tsn_model.specs.Network.{Network, stream_count};
 ghost use Rattle.tsn_model.specs.Timing.{occupancy, UsesLink, start_on};
@@ -10,15 +10,17 @@ ghost use Rattle.tsn_conflict.specs.Raised.{triple_at, OnlyRaisedOverlap};
 ghost use Rattle.tsn_conflict.specs.Pairs.{AreApartBetween, IsApartBefore, IsInUses, IsNextMeeting, Meets, pair_in, numbers_with};
 
 use crate::numbers::Numbers;
-use crate::pairs::{GREATEST_OFFSET, Pair};
-use crate::uses::{Row, Use, has_link, look_up};
+use crate::pairs::Pair;
+use crate::uses::{Row, Use, look_up};
 use std::marker::Model;
 use tsn_model::bounds::{MAX_OCCUPANCY, MAX_START};
 use tsn_model::{Arc, Side, Triple};
+use tsn_timing::{Timing, is_conflict};
 
-/// The triples of two streams and a link that both use, with when each stream is on each link.
+/// The triples of two streams, a link that both use and a lag, with when each stream is on each link.
 #[derive(Drop)]
 pub struct Conflicts {
+    pub(crate) timing: Timing,
     pub(crate) rows: Vec<Row>,
     pub(crate) triples: Vec<Triple>,
     pub(crate) pairs: Vec<Pair>,
@@ -34,13 +36,13 @@ impl Model for Conflicts {
 
     ghost view = { λ conflicts. record { uses = uses_in conflicts.rows.items; triples = conflicts.triples.items } };
 
-    ghost invariant = { λ conflicts. IsTabled
+    ghost invariant = { λ conflicts. IsTabled conflicts.timing
         (record { uses = uses_in conflicts.rows.items; triples = conflicts.triples.items })
         conflicts.pairs.items (numbers_in conflicts.numbers.items) };
 }
 
 impl Conflicts {
-    /// The triples, by the left stream, then the right one, then the link.
+    /// The triples, by the left stream, then the right one, then the link, then the lag.
     pub fn triples(&self) -> &[Triple]
         ensures { result.now ≡ self.now.triples }
     {
@@ -51,29 +53,28 @@ impl Conflicts {
     pub fn has(&self, triple: Triple) -> bool
         ensures { IsTrue result ↔ Contains self.now.triples triple }
     {
-        if triple.left >= triple.right || triple.right >= self.rows.len() {
-            return false;
-        }
-        self.is_used(triple.left, triple.link) && self.is_used(triple.right, triple.link)
+        is_conflict(&self.timing, triple)
     }
 
-    /// What it asks of the offsets that this stream of the triple goes first on the link: the other one starts there
-    /// no earlier than its occupancy ends.
+    /// What it asks of the offsets that the frame of this stream of the triple goes first on the link: the other one's starts
+    /// there no earlier than its occupancy ends.
     pub fn arc(&self, triple: Triple, side: Side) -> Arc
         requires { Contains self.now.triples triple }
         ensures value { (network : Network) → AreConflictsOf network self.now → result ≡ arc_on network triple side }
         ensures from { result.from < length self.now.uses }
         ensures to { result.to < length self.now.uses }
-        ensures least { neg_ℤ (pos 100_000_000) ≤ℤ result.weight }
-        ensures most { result.weight ≤ℤ pos 100_000_000 }
+        ensures least { neg_ℤ (pos 1_060_000_000) ≤ℤ result.weight }
+        ensures most { result.weight ≤ℤ pos 1_060_000_000 }
     {
+        // The limits of the network bound the lag.
+        let _ = &self.timing;
         match side {
-            Side::Left => self.arc_between(triple.left, triple.right, triple.link),
-            Side::Right => self.arc_between(triple.right, triple.left, triple.link),
+            Side::Left => self.arc_between(triple.left, triple.right, triple.link, triple.lag),
+            Side::Right => self.arc_between(triple.right, triple.left, triple.link, -triple.lag),
         }
     }
 
-    /// The least triple whose two streams overlap on its link, for an offset of each stream, at most 1,000,000,000 ns.
+    /// The least triple whose frames overlap on its link, for an offset of each stream, at most 1,000,000,000 ns.
     pub fn first_violated(&self, offsets: &[u64]) -> Option<Triple>
         requires count { length offsets.now ≡ length self.now.uses }
         requires small { All (λ offset. offset ≤ 1_000_000_000) offsets.now }
@@ -84,7 +85,7 @@ impl Conflicts {
         Some(self.triples[number])
     }
 
-    /// The number of the least triple whose two streams overlap on its link, for an offset of each stream, at most
+    /// The number of the least triple whose frames overlap on its link, for an offset of each stream, at most
     /// 1,000,000,000 ns, where it's known that of the triples before number `start` only those with a raised stream may
     /// overlap. This reads the raised streams' triples alone before that number, and each triple from it on.
     pub fn first_violated_from(
@@ -108,7 +109,7 @@ impl Conflicts {
         self.meeting_from(offsets, start)
     }
 
-    /// Whether the two streams of the triple of a number overlap on its link, for an offset of each stream, at most
+    /// Whether the frames of the triple of a number overlap on its link, for an offset of each stream, at most
     /// 1,000,000,000 ns.
     pub fn is_violated(&self, offsets: &[u64], number: usize) -> bool
         requires count { length offsets.now ≡ length self.now.uses }
@@ -120,22 +121,24 @@ impl Conflicts {
         self.meets(offsets, number)
     }
 
-    /// The arc of stream `first` before stream `second` on a link that both use.
-    fn arc_between(&self, first: usize, second: usize, link: usize) -> Arc
+    /// The arc of a frame of stream `first` before one of stream `second`, that is later by the lag, on a link that both use.
+    fn arc_between(&self, first: usize, second: usize, link: usize, lag: i64) -> Arc
         requires first { (network : Network) → AreConflictsOf network self.now → UsesLink network first link }
         requires second { (network : Network) → AreConflictsOf network self.now → UsesLink network second link }
-        ensures value { (network : Network) → AreConflictsOf network self.now → result ≡ arc_between network first second link }
+        requires not_before { pos 0 <ℤ (lag +ℤ pos 1_000_000_000) }
+        requires not_after { lag <ℤ pos 1_000_000_000 }
+        ensures value { (network : Network) → AreConflictsOf network self.now → result ≡ arc_between network first second link lag }
         ensures from { result.from < length self.now.uses }
         ensures to { result.to < length self.now.uses }
-        ensures least { neg_ℤ (pos 100_000_000) ≤ℤ result.weight }
-        ensures most { result.weight ≤ℤ pos 100_000_000 }
+        ensures least { neg_ℤ (pos 1_060_000_000) ≤ℤ result.weight }
+        ensures most { result.weight ≤ℤ pos 1_060_000_000 }
     {
         let before = self.use_on(first, link);
         let after = self.use_on(second, link);
         Arc {
             from: first,
             to: second,
-            weight: (before.start + before.occupancy) as i64 - after.start as i64,
+            weight: (before.start + before.occupancy) as i64 - after.start as i64 - lag,
         }
     }
 
@@ -192,7 +195,7 @@ impl Conflicts {
         None
     }
 
-    /// Whether the two streams of the triple of a number overlap on its link.
+    /// Whether the frames of the triple of a number overlap on its link.
     fn meets(&self, offsets: &[u64], number: usize) -> bool
         requires count { length offsets.now ≡ length self.now.uses }
         requires small { All (λ offset. offset ≤ 1_000_000_000) offsets.now }
@@ -200,8 +203,8 @@ impl Conflicts {
         ensures { IsTrue result ↔ Meets self.now.uses offsets.now (triple_at self.now.triples number) }
     {
         let pair = self.pair_at(number);
-        let gap = offsets[pair.left as usize] + GREATEST_OFFSET - offsets[pair.right as usize];
-        u64::from(pair.above) < gap && gap < u64::from(pair.below)
+        let gap = offsets[pair.left as usize] as i64 - offsets[pair.right as usize] as i64;
+        i64::from(pair.above) < gap && gap < i64::from(pair.below)
     }
 
     /// What the overlap of the triple of a number needs.
@@ -231,12 +234,5 @@ impl Conflicts {
         ensures occupancy { (network : Network) → AreConflictsOf network self.now → result.occupancy ≡ occupancy network stream link }
     {
         look_up(&self.rows, stream, link)
-    }
-    /// Whether a stream uses a link, of any number.
-    fn is_used(&self, stream: usize, link: usize) -> bool
-        requires { stream < length self.now.uses }
-        ensures { (network : Network) → AreConflictsOf network self.now → IsTrue result ↔ UsesLink network stream link }
-    {
-        has_link(&self.rows, stream, link) && look_up(&self.rows, stream, link).occupancy > 0
     }
 }

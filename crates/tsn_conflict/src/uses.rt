@@ -1,5 +1,5 @@
 //! Which links a stream uses, and when.
-ghost use Rattle.std.specs.Prelude.{◌≡◌, ◌<◌, ◌↔◌, IsTrue, length, slice_index_or, List, [], map, IfOk};
+ghost use Rattle.std.specs.Prelude.{◌≡◌, ◌<◌, length, slice_index_or, List, [], map, IfOk};
 ghost use Rattle.std.specs.List.{range_with_len};
 ghost use Rattle.tsn_model.specs.Network.{stream_count};
 ghost use Rattle.tsn_conflict.specs.Kept.{use_at, use_in, uses_of};
@@ -60,14 +60,6 @@ pub fn rows_of(alloc: Global, timing: &Timing) -> Result<Vec<Row>, AllocError>
         rows.push(row_of(alloc, timing, stream)?)?;
     }
     Ok(rows)
-}
-
-/// Whether the row of a stream has the link.
-pub fn has_link(rows: &[Row], stream: usize, link: usize) -> bool
-    requires { stream < length (uses_in rows.now) }
-    ensures { IsTrue result ↔ (link < length (slice_index_or (uses_in rows.now) stream [])) }
-{
-    link < rows[stream].uses.len()
 }
 
 /// A stream's use of a link, as the rows have it.

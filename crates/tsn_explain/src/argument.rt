@@ -65,17 +65,26 @@ pub fn push_no_room(text: &mut TextBuilder, network: Network<'_>, stream: usize,
     text.push_str(" can't start before ");
     push_time(text, offset);
     let ends = sum(offset, network.span(stream));
-    if ends > network.cycle() {
+    if ends > network.period(stream) {
         text.push_str(", and would end at ");
         push_time(text, ends);
-        text.push_str(", past the cycle's end at ");
-        push_time(text, network.cycle())
+        push_past(text, network, network.period(stream))
     } else {
         text.push_str(", and would arrive at ");
         push_time(text, sum(offset, network.arrival(stream)));
         text.push_str(", past its latest instant ");
         push_time(text, network.latest(stream))
     }
+}
+
+/// Writes past which end that is.
+fn push_past(text: &mut TextBuilder, network: Network<'_>, period: i64) {
+    text.push_str(if period == network.cycle() {
+        ", past the cycle's end at "
+    } else {
+        ", past its period's end at "
+    });
+    push_time(text, period)
 }
 
 /// Writes how many steps there are, and how many of them are told.

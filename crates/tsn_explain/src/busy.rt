@@ -2,7 +2,7 @@
 use crate::load::Load;
 use crate::mention::{Mention, add_step};
 use crate::needs::Part;
-use crate::network::Network;
+use crate::network::{Network, first_frame};
 use crate::number::{
     NONE, count_at, count_up, counts, most, push_count, push_time, put_count, step_at,
 };
@@ -10,6 +10,7 @@ use crate::replay::Replay;
 use crate::view::{View, least_tail};
 use std::alloc::{AllocError, Global};
 use tsn_argument::{Argument, Step};
+use tsn_model::Frame;
 use tsn_text::{ListBuilder, TextBuilder};
 
 /// How many links are told.
@@ -99,7 +100,18 @@ impl Busy<'_> {
         Ok(uses)
     }
 
-    // The streams that most steps name on a link, by their numbers: those that at least half as many name as the first.
+    // The first frames of the streams that most steps name on a link, by their numbers: those that at least half as many name as the
+    // first.
+    fn frames_on(&mut self, link: usize, streams: usize) -> Result<Vec<Frame>, AllocError> {
+        let named = self.streams_on(link, streams)?;
+        let mut frames = ListBuilder::new(self.alloc);
+        for stream in &named {
+            frames.push(first_frame(*stream));
+        }
+        drop(named);
+        frames.finish()
+    }
+
     fn streams_on(&mut self, link: usize, streams: usize) -> Result<Vec<usize>, AllocError> {
         let mut uses = self.uses_of_streams(link, streams)?;
         let mut found = ListBuilder::new(self.alloc);
@@ -124,7 +136,7 @@ impl Busy<'_> {
     }
 
     fn push_link(&mut self, text: &mut TextBuilder, view: &View<'_>, link: usize, uses: usize) {
-        let Ok(streams) = self.streams_on(link, view.done()) else {
+        let Ok(frames) = self.frames_on(link, view.done()) else {
             return text.refuse();
         };
         push_count(text, uses);
@@ -133,7 +145,7 @@ impl Busy<'_> {
         } else {
             " steps: on "
         });
-        push_window(text, view, link, &streams)
+        push_window(text, view, link, &frames)
     }
 }
 
@@ -146,25 +158,25 @@ fn count_once(uses: &mut [usize], last: &mut [usize], place: usize, step: usize)
 }
 
 // Writes how long frames take on a link, and from when to when they may be there.
-fn push_window(text: &mut TextBuilder, view: &View<'_>, link: usize, streams: &[usize]) {
+fn push_window(text: &mut TextBuilder, view: &View<'_>, link: usize, frames: &[Frame]) {
     let network = view.network();
     let load = Load {
         link,
-        streams,
-        head: view.first_head(link, streams),
-        work: network.work(link, streams),
-        tail: least_tail(network, link, streams),
+        frames,
+        head: view.first_head(link, frames),
+        work: network.work(link, frames),
+        tail: least_tail(network, link, frames),
     };
     load.push_begin(text, network);
     text.push_str(", and the last one has to be through by ");
-    push_time(text, latest_end(view, link, streams));
+    push_time(text, latest_end(view, link, frames));
     text.push_str(".\n")
 }
 
 // By when the last of some frames is through on a link, where all is done in time.
-fn latest_end(view: &View<'_>, link: usize, streams: &[usize]) -> i64 {
+fn latest_end(view: &View<'_>, link: usize, frames: &[Frame]) -> i64 {
     let network = view.network();
-    let tail = least_tail(network, link, streams);
+    let tail = least_tail(network, link, frames);
     let done = view.high(view.done()).wrapping_sub(tail);
-    done.min(view.last_end(link, streams))
+    done.min(view.last_end(link, frames))
 }

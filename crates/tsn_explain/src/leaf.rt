@@ -3,12 +3,13 @@ use crate::argument::push_no_room;
 use crate::load::{Load, push_load};
 use crate::network::{Network, push_joint};
 use crate::number::{push_time, sum};
-use crate::path::{Path, streams_of};
+use crate::path::{Path, frames_of};
 use crate::round::{has_order, push_round};
 use crate::view::least_tail;
 use std::alloc::{AllocError, Global};
 use tsn_argument::Order;
 use tsn_cert::{Chain, Entries, Leaf, LowerBound, Node};
+use tsn_model::Frame;
 use tsn_text::{ListBuilder, TextBuilder};
 
 /// Writes what a leaf shows, where the decisions of the path to it hold.
@@ -67,14 +68,14 @@ fn push_shown(
         }
         Leaf::Cycle(chain) => push_closed(alloc, text, network, path, chain),
         Leaf::Overload(link, entries) => {
-            let Ok(streams) = streams_of(alloc, entries) else {
+            let Ok(frames) = frames_of(alloc, entries) else {
                 return text.refuse();
             };
-            let load = load_of(network, path, *link, entries, &streams);
+            let load = load_of(network, path, *link, entries, &frames);
             text.push_str("on ");
             load.push_begin(text, network);
             load.push_past(text, network.cycle());
-            drop(streams);
+            drop(frames);
         }
     }
 }
@@ -92,16 +93,16 @@ fn push_bound(
             push_late(text, network, *stream, offset)
         }
         LowerBound::Load(link, entries) => {
-            let Ok(streams) = streams_of(alloc, entries) else {
+            let Ok(frames) = frames_of(alloc, entries) else {
                 return text.refuse();
             };
             text.push_str("on ");
             push_load(
                 text,
                 network,
-                load_of(network, path, *link, entries, &streams),
+                load_of(network, path, *link, entries, &frames),
             );
-            drop(streams);
+            drop(frames);
         }
     }
 }
@@ -116,20 +117,20 @@ fn push_late(text: &mut TextBuilder, network: Network<'_>, stream: usize, offset
     text.push_str(" or later")
 }
 
-/// What the entries of a leaf come to on a link; the streams are theirs.
+/// What the entries of a leaf come to on a link; the frames are theirs.
 pub fn load_of<'a>(
     network: Network<'_>,
     path: &Path,
     link: usize,
     entries: &Entries,
-    streams: &'a [usize],
+    frames: &'a [Frame],
 ) -> Load<'a> {
     Load {
         link,
-        streams,
+        frames,
         head: path.head(network, link, entries),
-        work: network.work(link, streams),
-        tail: least_tail(network, link, streams),
+        work: network.work(link, frames),
+        tail: least_tail(network, link, frames),
     }
 }
 

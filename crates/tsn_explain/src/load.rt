@@ -1,14 +1,15 @@
 //! Frames that take a link up together, in words.
 use crate::network::Network;
 use crate::number::{less, push_time, sum};
+use tsn_model::Frame;
 use tsn_text::TextBuilder;
 
-/// Streams on a link: when the first of them can start there, how long they take it up together, and how long after its
+/// Frames on a link: when the first of them can start there, how long they take it up together, and how long after its
 /// occupancy the last of them arrives, in nanoseconds.
 #[derive(Clone, Copy)]
 pub struct Load<'a> {
     pub link: usize,
-    pub streams: &'a [usize],
+    pub frames: &'a [Frame],
     pub head: i64,
     pub work: i64,
     pub tail: i64,
@@ -26,14 +27,14 @@ impl Load<'_> {
     }
 
     fn is_one(self) -> bool {
-        self.streams.len() == 1
+        self.frames.len() == 1
     }
 
     /// Writes the link, how long the frames take, and from when on.
     pub fn push_begin(self, text: &mut TextBuilder, network: Network<'_>) {
         network.push_link(text, self.link);
         text.push_str(", ");
-        network.push_frames(text, self.streams);
+        network.push_frames(text, self.frames);
         text.push_str(if self.is_one() { " takes " } else { " take " });
         push_time(text, self.work);
         text.push_str(if self.is_one() {

@@ -1,9 +1,10 @@
 //! The frames that the steps of an argument name, and the links on which they name them.
 use crate::needs::Part;
 use tsn_argument::{Fact, Move, Order, Placing, Step};
+use tsn_model::Frame;
 use tsn_text::ListBuilder;
 
-/// A frame on a link.
+/// The frames of a stream on a link.
 #[derive(Clone, Copy)]
 pub struct Mention {
     pub stream: usize,
@@ -36,14 +37,16 @@ fn add_move(list: &mut ListBuilder<Mention>, motion: &Move) {
         Move::Go(order) | Move::Turn(order) => add_order(list, *order),
         Move::Use(_) | Move::Arrive(_) => {}
         Move::Last(placing) | Move::First(placing) => add_placing(list, placing),
-        Move::Pack(link, streams) => add_streams(list, *link, streams.list()),
+        Move::Pack(link, frames) => add_frames(list, *link, frames.list()),
         Move::Round(orders) => add_orders(list, orders.list()),
+        Move::Follow(known, weaker) => add_orders(list, &[*known, *weaker]),
     }
 }
 
 /// Adds the two frames of an order.
 pub fn add_order(list: &mut ListBuilder<Mention>, order: Order) {
-    add_streams(list, order.link, &[order.first, order.second])
+    add_stream(list, order.link, order.first);
+    add_stream(list, order.link, order.second)
 }
 
 fn add_orders(list: &mut ListBuilder<Mention>, orders: &[Order]) {
@@ -53,14 +56,18 @@ fn add_orders(list: &mut ListBuilder<Mention>, orders: &[Order]) {
 }
 
 fn add_placing(list: &mut ListBuilder<Mention>, placing: &Placing) {
-    add_streams(list, placing.link, &[placing.stream]);
-    add_streams(list, placing.link, placing.others.list())
+    add_stream(list, placing.link, placing.frame.stream);
+    add_frames(list, placing.link, placing.others.list())
 }
 
-/// Adds the frames of streams on a link.
-pub fn add_streams(list: &mut ListBuilder<Mention>, link: usize, streams: &[usize]) {
-    for stream in streams {
-        let stream = *stream;
-        list.push(Mention { stream, link });
+/// Adds the frames of a stream on a link.
+pub fn add_stream(list: &mut ListBuilder<Mention>, link: usize, stream: usize) {
+    list.push(Mention { stream, link });
+}
+
+/// Adds frames on a link.
+pub fn add_frames(list: &mut ListBuilder<Mention>, link: usize, frames: &[Frame]) {
+    for frame in frames {
+        add_stream(list, link, frame.stream);
     }
 }

@@ -1,12 +1,12 @@
 //! A network's times and names, where what isn't there has the time 0 and is called by its number.
-use crate::number::{less, signed, sum};
+use crate::number::{less, push_time, signed, sum};
 use tsn_argument::Order;
-use tsn_model::Link;
+use tsn_model::{Frame, Link};
 use tsn_net::Problem;
 use tsn_text::TextBuilder;
 use tsn_timing::Timing;
 
-/// The most names that are told of a set of streams.
+/// The most names that are told of a set of frames.
 const MOST_NAMED: usize = 12;
 
 /// A network and its times, in nanoseconds.
@@ -16,7 +16,7 @@ pub struct Network<'a> {
     pub timing: &'a Timing,
 }
 
-/// When a frame starts on a link, counted from its stream's offset, and how long it occupies it.
+/// When a stream's first frame starts on a link, counted from its offset, and how long a frame occupies it.
 #[derive(Clone, Copy)]
 struct Visit {
     start: i64,
@@ -52,8 +52,8 @@ impl Network<'_> {
     }
 
     /// When a frame starts on a link, counted from its stream's offset.
-    pub fn start(self, stream: usize, link: usize) -> i64 {
-        self.visit(stream, link).start
+    pub fn begin(self, frame: Frame, link: usize) -> i64 {
+        sum(signed(frame.shift), self.visit(frame.stream, link).start)
     }
 
     /// How long a frame occupies a link.
@@ -62,12 +62,11 @@ impl Network<'_> {
     }
 
     /// When a frame's occupancy of a link ends, counted from its stream's offset.
-    pub fn end(self, stream: usize, link: usize) -> i64 {
-        let visit = self.visit(stream, link);
-        sum(visit.start, visit.occupancy)
+    pub fn end(self, frame: Frame, link: usize) -> i64 {
+        sum(self.begin(frame, link), self.occupancy(frame.stream, link))
     }
 
-    /// When a frame arrives, counted from its stream's offset.
+    /// When the last frame of a period arrives, counted from its stream's offset.
     pub fn arrival(self, stream: usize) -> i64 {
         if stream < self.timing.streams() {
             signed(self.timing.arrival(stream))
@@ -76,7 +75,7 @@ impl Network<'_> {
         }
     }
 
-    /// When a frame has arrived and occupies no link any more, counted from its stream's offset.
+    /// When the frames of a period have arrived and occupy no link any more, counted from their stream's offset.
     pub fn span(self, stream: usize) -> i64 {
         if stream < self.timing.streams() {
             signed(self.timing.span(stream))
@@ -85,17 +84,18 @@ impl Network<'_> {
         }
     }
 
-    /// How long after its occupancy of a link a frame arrives.
-    pub fn tail(self, stream: usize, link: usize) -> i64 {
-        less(self.arrival(stream), self.end(stream, link))
+    /// How long after a frame's occupancy of a link its stream's first period is through.
+    pub fn tail(self, frame: Frame, link: usize) -> i64 {
+        less(self.arrival(frame.stream), self.end(frame, link))
     }
 
     /// By how much a stream that goes first on a link has to start before the other one.
     pub fn weight(self, order: Order) -> i64 {
-        less(
-            self.end(order.first, order.link),
-            self.start(order.second, order.link),
-        )
+        let apart = less(
+            self.end(first_frame(order.first), order.link),
+            self.begin(first_frame(order.second), order.link),
+        );
+        less(apart, later_of(order))
     }
 
     /// The least offset of a stream.
@@ -120,11 +120,32 @@ impl Network<'_> {
         signed(self.timing.cycle())
     }
 
-    /// The greatest offset of a stream that is done within the cycle and arrives in time.
+    /// The period of a stream.
+    pub fn period(self, stream: usize) -> i64 {
+        if stream < self.timing.streams() {
+            signed(self.timing.period(stream))
+        } else {
+            0
+        }
+    }
+
+    /// The last frame of a stream's first period.
+    pub fn last_frame(self, stream: usize) -> Frame {
+        if stream < self.timing.streams() {
+            let shift = self.timing.spread(stream);
+            Frame { stream, shift }
+        } else {
+            first_frame(stream)
+        }
+    }
+
+    /// The greatest offset of a stream that is done within its period and arrives in time.
     pub fn latest_offset(self, stream: usize) -> i64 {
-        let ends = less(self.cycle(), self.span(stream));
-        let arrives = less(self.latest(stream), self.arrival(stream));
-        ends.min(arrives)
+        if stream < self.timing.streams() {
+            self.timing.window(stream).greatest
+        } else {
+            0
+        }
     }
 
     /// The last link of a stream's route.
@@ -139,11 +160,11 @@ impl Network<'_> {
         last
     }
 
-    /// How long the frames of the streams occupy a link together.
-    pub fn work(self, link: usize, streams: &[usize]) -> i64 {
+    /// How long the frames occupy a link together.
+    pub fn work(self, link: usize, frames: &[Frame]) -> i64 {
         let mut work = 0;
-        for stream in streams {
-            work = sum(work, self.occupancy(*stream, link));
+        for frame in frames {
+            work = sum(work, self.occupancy(frame.stream, link));
         }
         work
     }
@@ -163,10 +184,20 @@ impl Network<'_> {
         }
     }
 
-    /// Writes the names of streams.
-    fn push_names(self, text: &mut TextBuilder, streams: &[usize]) {
-        let count = streams.len();
-        for (place, stream) in streams.iter().enumerate() {
+    /// Writes the name of a frame's stream, and by how much it is later than the stream's first one.
+    fn push_frame(self, text: &mut TextBuilder, frame: Frame) {
+        self.push_name(text, frame.stream);
+        if frame.shift > 0 {
+            text.push_str(" (");
+            push_time(text, signed(frame.shift));
+            text.push_str(" ns later)");
+        }
+    }
+
+    /// Writes the names of frames.
+    fn push_names(self, text: &mut TextBuilder, frames: &[Frame]) {
+        let count = frames.len();
+        for (place, frame) in frames.iter().enumerate() {
             if place == MOST_NAMED {
                 let others = count.wrapping_sub(place);
                 text.push_str(" and ");
@@ -176,18 +207,18 @@ impl Network<'_> {
             if place > 0 {
                 push_joint(text, place, count, "and");
             }
-            self.push_name(text, *stream);
+            self.push_frame(text, *frame);
         }
     }
 
     /// Writes 'the frame of' or 'the frames of' streams, and their names.
-    pub fn push_frames(self, text: &mut TextBuilder, streams: &[usize]) {
-        if streams.len() == 1 {
+    pub fn push_frames(self, text: &mut TextBuilder, frames: &[Frame]) {
+        if frames.len() == 1 {
             text.push_str("the frame of ");
         } else {
             text.push_str("the frames of ");
         }
-        self.push_names(text, streams)
+        self.push_names(text, frames)
     }
 
     /// Writes a directed link by its number, and the nodes that it joins.
@@ -221,10 +252,34 @@ impl Network<'_> {
         self.push_stream(text, order.first);
         text.push_str(" goes before ");
         self.push_stream(text, order.second);
+        push_later(text, later_of(order));
         let link = order.link;
         text.push_str(" on link ");
         text.push_count(link);
         self.push_ends(text, link, " (", ")")
+    }
+}
+
+/// The first frame of a stream.
+pub fn first_frame(stream: usize) -> Frame {
+    Frame { stream, shift: 0 }
+}
+
+/// By how much the frame of an order's second stream comes after that of its first, were both offsets 0.
+fn later_of(order: Order) -> i64 {
+    if order.first <= order.second {
+        order.lag
+    } else {
+        less(0, order.lag)
+    }
+}
+
+/// Writes which of a stream's frames it is, by how much it comes after another one.
+fn push_later(text: &mut TextBuilder, later: i64) {
+    if later != 0 {
+        text.push_str("'s frame ");
+        push_time(text, later.max(less(0, later)));
+        text.push_str(if later > 0 { " ns later" } else { " ns sooner" });
     }
 }
 

@@ -5,7 +5,7 @@ use crate::view::turned;
 use std::alloc::{AllocError, Global};
 use tsn_argument::Order;
 use tsn_cert::{Chain, Entries, Node};
-use tsn_model::Triple;
+use tsn_model::{Frame, Triple};
 use tsn_text::ListBuilder;
 
 /// A decision of a path.
@@ -56,6 +56,7 @@ impl Path {
             first: triple.left,
             second: triple.right,
             link: triple.link,
+            lag: triple.lag,
         };
         let is_left = true;
         self.list.push(Decided { order, is_left });
@@ -109,19 +110,19 @@ impl Path {
     /// The earliest start of one of the entries' frames on a link.
     pub fn head(&self, network: Network<'_>, link: usize, entries: &Entries) -> i64 {
         let mut least = i64::MAX;
-        for (stream, chain) in entries.list() {
-            let offset = self.offset(network, *stream, chain);
-            least = least.min(sum(offset, network.start(*stream, link)));
+        for (frame, chain) in entries.list() {
+            let offset = self.offset(network, frame.stream, chain);
+            least = least.min(sum(offset, network.begin(*frame, link)));
         }
         least
     }
 }
 
-/// The streams of entries.
-pub fn streams_of(alloc: Global, entries: &Entries) -> Result<Vec<usize>, AllocError> {
-    let mut streams = ListBuilder::new(alloc);
-    for (stream, _) in entries.list() {
-        streams.push(*stream);
+/// The frames of entries.
+pub fn frames_of(alloc: Global, entries: &Entries) -> Result<Vec<Frame>, AllocError> {
+    let mut frames = ListBuilder::new(alloc);
+    for (frame, _) in entries.list() {
+        frames.push(*frame);
     }
-    streams.finish()
+    frames.finish()
 }

@@ -4,14 +4,15 @@ use crate::number::{push_time, sum};
 use crate::view::View;
 use std::alloc::{AllocError, Global};
 use tsn_argument::Placing;
-use tsn_text::TextBuilder;
+use tsn_model::Frame;
+use tsn_text::{ListBuilder, TextBuilder};
 
 /// Writes that a frame goes last on a link, and why, up to what follows for its stream.
 pub fn push_last(alloc: Global, text: &mut TextBuilder, view: &View<'_>, placing: &Placing) {
-    let Placing { link, stream, .. } = placing;
+    let Placing { link, frame, .. } = placing;
     let others = placing.others.list();
     let some = placing.some.list();
-    let Ok(all) = with_stream(alloc, others, *stream) else {
+    let Ok(all) = with_frame(alloc, others, *frame) else {
         return text.refuse();
     };
     let head = view.first_head(*link, &all);
@@ -24,7 +25,7 @@ pub fn push_last(alloc: Global, text: &mut TextBuilder, view: &View<'_>, placing
     push_time(text, sum(head, work));
     text.push_str(" or later, past ");
     push_time(text, view.last_end(*link, others));
-    push_placed(text, view.network(), *stream, "last");
+    push_placed(text, view.network(), *frame, "last");
     if some.len() < others.len() {
         push_some(text, view.network(), *link, some, ", after ");
         text.push_str(" from ");
@@ -36,10 +37,10 @@ pub fn push_last(alloc: Global, text: &mut TextBuilder, view: &View<'_>, placing
 
 /// Writes that a frame goes first on a link, and why, up to what follows for its stream.
 pub fn push_first(alloc: Global, text: &mut TextBuilder, view: &View<'_>, placing: &Placing) {
-    let Placing { link, stream, .. } = placing;
+    let Placing { link, frame, .. } = placing;
     let others = placing.others.list();
     let some = placing.some.list();
-    let Ok(all) = with_stream(alloc, others, *stream) else {
+    let Ok(all) = with_frame(alloc, others, *frame) else {
         return text.refuse();
     };
     let end = view.last_end(*link, &all);
@@ -53,7 +54,7 @@ pub fn push_first(alloc: Global, text: &mut TextBuilder, view: &View<'_>, placin
     push_time(text, head);
     text.push_str(" or later and take until ");
     push_time(text, sum(head, work));
-    push_placed(text, view.network(), *stream, "first");
+    push_placed(text, view.network(), *frame, "first");
     if some.len() < others.len() {
         push_some(text, view.network(), *link, some, ", before ");
         text.push_str(" until ");
@@ -62,12 +63,22 @@ pub fn push_first(alloc: Global, text: &mut TextBuilder, view: &View<'_>, placin
     text.push_str(", and ")
 }
 
-// The streams with one more, by their numbers.
-fn with_stream(alloc: Global, others: &[usize], stream: usize) -> Result<Vec<usize>, AllocError> {
-    let mut all = others.to_vec(alloc)?;
-    all.push(stream)?;
-    all.sort()?;
-    Ok(all)
+// The frames with one more, by the numbers of their streams and then by their shifts.
+fn with_frame(alloc: Global, others: &[Frame], frame: Frame) -> Result<Vec<Frame>, AllocError> {
+    let mut keys = ListBuilder::new(alloc);
+    for other in others {
+        keys.push((other.stream, other.shift));
+    }
+    keys.push((frame.stream, frame.shift));
+    let mut keys = keys.finish()?;
+    keys.sort()?;
+    let mut all = ListBuilder::new(alloc);
+    for (stream, shift) in &keys {
+        let (stream, shift) = (*stream, *shift);
+        all.push(Frame { stream, shift });
+    }
+    drop(keys);
+    all.finish()
 }
 
 // Writes how long frames take on a link together, and says it.
@@ -75,13 +86,13 @@ fn push_together(
     text: &mut TextBuilder,
     network: Network<'_>,
     link: usize,
-    streams: &[usize],
+    frames: &[Frame],
 ) -> i64 {
-    let work = network.work(link, streams);
+    let work = network.work(link, frames);
     text.push_str("on ");
     network.push_link(text, link);
     text.push_str(", ");
-    network.push_frames(text, streams);
+    network.push_frames(text, frames);
     text.push_str(" take ");
     push_time(text, work);
     text.push_str(" ns together");
@@ -89,7 +100,7 @@ fn push_together(
 }
 
 // Writes that another frame would go last or first.
-fn push_other_end(text: &mut TextBuilder, network: Network<'_>, others: &[usize], end: &str) {
+fn push_other_end(text: &mut TextBuilder, network: Network<'_>, others: &[Frame], end: &str) {
     text.push_str(". If ");
     if others.len() > 1 {
         text.push_str("one of ");
@@ -100,10 +111,10 @@ fn push_other_end(text: &mut TextBuilder, network: Network<'_>, others: &[usize]
     text.push_str(", ")
 }
 
-// Writes that a stream's frame goes last or first.
-fn push_placed(text: &mut TextBuilder, network: Network<'_>, stream: usize, end: &str) {
+// Writes that a frame goes last or first.
+fn push_placed(text: &mut TextBuilder, network: Network<'_>, frame: Frame, end: &str) {
     text.push_str(". So ");
-    network.push_frames(text, &[stream]);
+    network.push_frames(text, &[frame]);
     text.push_str(" goes ");
     text.push_str(end)
 }
@@ -113,7 +124,7 @@ fn push_some(
     text: &mut TextBuilder,
     network: Network<'_>,
     link: usize,
-    some: &[usize],
+    some: &[Frame],
     word: &str,
 ) {
     text.push_str(word);

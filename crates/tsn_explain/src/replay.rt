@@ -5,6 +5,7 @@ use crate::number::{less, next, signed, step_at, sum};
 use crate::view::{Learned, View, opposite, turned};
 use std::alloc::{AllocError, Global};
 use tsn_argument::{Argument, Fact, Goal, Move, Order, Placing, Step};
+use tsn_model::Frame;
 use tsn_text::ListBuilder;
 
 /// An argument whose steps are made.
@@ -195,8 +196,9 @@ impl<'a> Replay<'a> {
             Move::Arrive(stream) => self.make_arrive(*stream),
             Move::Last(placing) => self.make_last(placing),
             Move::First(placing) => self.make_first(placing),
-            Move::Pack(link, streams) => self.make_pack(*link, streams.list()),
+            Move::Pack(link, frames) => self.make_pack(*link, frames.list()),
             Move::Round(orders) => self.make_round(orders.list()),
+            Move::Follow(known, weaker) => self.make_follow(*known, *weaker),
         }
     }
 
@@ -226,6 +228,11 @@ impl<'a> Replay<'a> {
         self.view.need_low(order.second);
         self.view.need_high(order.first);
         self.view.learn(Learned::Order(order))
+    }
+
+    fn make_follow(&mut self, known: Order, weaker: Order) {
+        self.view.need_order(known);
+        self.view.learn(Learned::Order(weaker))
     }
 
     fn make_use(&mut self, number: usize) {
@@ -284,55 +291,55 @@ impl<'a> Replay<'a> {
         }
     }
 
-    fn need_lows(&mut self, streams: &[usize]) {
-        for stream in streams {
-            self.view.need_low(*stream);
+    fn need_lows(&mut self, frames: &[Frame]) {
+        for frame in frames {
+            self.view.need_low(frame.stream);
         }
     }
 
-    fn need_highs(&mut self, streams: &[usize]) {
-        for stream in streams {
-            self.view.need_high(*stream);
+    fn need_highs(&mut self, frames: &[Frame]) {
+        for frame in frames {
+            self.view.need_high(frame.stream);
         }
     }
 
-    /// From when on the stream of a placing may start, where it goes last.
+    /// From when on the stream of a placing may start, where its frame goes last.
     pub fn from_last(&self, placing: &Placing) -> i64 {
         let some = placing.some.list();
         let network = self.view.network();
         let head = self.view.first_head(placing.link, some);
         let free = sum(head, network.work(placing.link, some));
-        less(free, network.start(placing.stream, placing.link))
+        less(free, network.begin(placing.frame, placing.link))
     }
 
     fn make_last(&mut self, placing: &Placing) {
-        self.view.need_low(placing.stream);
+        self.view.need_low(placing.frame.stream);
         self.need_lows(placing.others.list());
         self.need_highs(placing.others.list());
         let from = self.from_last(placing);
-        self.view.learn(Learned::From(placing.stream, from))
+        self.view.learn(Learned::From(placing.frame.stream, from))
     }
 
-    /// Until when the stream of a placing may start, where it goes first.
+    /// Until when the stream of a placing may start, where its frame goes first.
     pub fn until_first(&self, placing: &Placing) -> i64 {
         let some = placing.some.list();
         let network = self.view.network();
         let end = self.view.last_end(placing.link, some);
         let needed = less(end, network.work(placing.link, some));
-        less(needed, network.end(placing.stream, placing.link))
+        less(needed, network.end(placing.frame, placing.link))
     }
 
     fn make_first(&mut self, placing: &Placing) {
-        self.view.need_high(placing.stream);
+        self.view.need_high(placing.frame.stream);
         self.need_lows(placing.others.list());
         self.need_highs(placing.others.list());
         let until = self.until_first(placing);
-        self.view.learn(Learned::Until(placing.stream, until))
+        self.view.learn(Learned::Until(placing.frame.stream, until))
     }
 
-    fn make_pack(&mut self, _link: usize, streams: &[usize]) {
-        self.need_lows(streams);
-        self.need_highs(streams);
+    fn make_pack(&mut self, _link: usize, frames: &[Frame]) {
+        self.need_lows(frames);
+        self.need_highs(frames);
         self.refute()
     }
 

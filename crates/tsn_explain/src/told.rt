@@ -9,6 +9,7 @@ use crate::round::{has_order, push_round};
 use crate::view::{Crossing, Learned, View, least_tail, opposite, turned};
 use std::alloc::Global;
 use tsn_argument::{Fact, Goal, Move, Order, Placing};
+use tsn_model::Frame;
 use tsn_text::TextBuilder;
 
 /// Writes what a fact says.
@@ -161,8 +162,8 @@ fn push_crossing(text: &mut TextBuilder, view: &View<'_>) {
 struct Teller<'a> {
     alloc: Global,
     text: &'a mut TextBuilder,
-    // The streams whose arrival was bounded and isn't told yet.
-    limited: Vec<usize>,
+    // The last frames of the streams whose arrival was bounded and isn't told yet.
+    limited: Vec<Frame>,
     is_begun: bool,
     facts: &'a [Fact],
     // Before when the last move lets nothing be done.
@@ -193,8 +194,9 @@ impl Teller<'_> {
             Move::Use(number) => self.push_use(replay, *number),
             Move::Last(placing) => self.push_last(replay, placing),
             Move::First(placing) => self.push_first(replay, placing),
-            Move::Pack(link, streams) => self.push_pack(replay, *link, streams.list()),
+            Move::Pack(link, frames) => self.push_pack(replay, *link, frames.list()),
             Move::Round(orders) => self.push_round(replay, orders.list()),
+            Move::Follow(known, weaker) => self.push_follow(replay, *known, *weaker),
             Move::Arrive(_) => {}
         }
         replay.make(motion);
@@ -239,7 +241,7 @@ impl Teller<'_> {
             return;
         }
         if halves.second && replay.view.high(stream) < greatest {
-            self.limit(stream);
+            self.limit(replay.view.network().last_frame(stream));
         }
         if replay.view.crossing().is_some() {
             self.push_limited(replay);
@@ -247,17 +249,18 @@ impl Teller<'_> {
         }
     }
 
-    // The stream's arrival is to be told.
-    fn limit(&mut self, stream: usize) {
-        if self.limited.push(stream).is_err() {
+    // The frame's arrival is to be told.
+    fn limit(&mut self, frame: Frame) {
+        if self.limited.push(frame).is_err() {
             self.text.refuse();
         }
     }
 
-    /// Writes from when on a frame may arrive.
+    /// Writes from when on a stream's first period may have arrived.
     fn push_arrival(&mut self, replay: &Replay<'_>, stream: usize, low: i64) {
         self.push_then();
-        replay.view.network().push_frames(self.text, &[stream]);
+        let network = replay.view.network();
+        network.push_frames(self.text, &[network.last_frame(stream)]);
         self.text.push_str(" arrives at ");
         push_time(self.text, low);
         self.text.push_str(" or later")
@@ -316,6 +319,17 @@ impl Teller<'_> {
         push_time(self.text, view.high(order.first))
     }
 
+    fn push_follow(&mut self, replay: &Replay<'_>, known: Order, weaker: Order) {
+        let view = &replay.view;
+        if view.has(weaker) {
+            return;
+        }
+        self.push_then();
+        view.network().push_order(self.text, weaker);
+        self.text.push_str(", since ");
+        view.network().push_order(self.text, known)
+    }
+
     fn push_use(&mut self, replay: &Replay<'_>, number: usize) {
         let step = replay.step_of_clause(number);
         let view = &replay.view;
@@ -337,17 +351,21 @@ impl Teller<'_> {
 
     fn push_last(&mut self, replay: &Replay<'_>, placing: &Placing) {
         let from = replay.from_last(placing);
-        if from <= replay.view.low(placing.stream) {
+        if from <= replay.view.low(placing.frame.stream) {
             return;
         }
         self.push_then();
         push_last(self.alloc, self.text, &replay.view, placing);
-        push_fact(self.text, &replay.view, Learned::From(placing.stream, from))
+        push_fact(
+            self.text,
+            &replay.view,
+            Learned::From(placing.frame.stream, from),
+        )
     }
 
     fn push_first(&mut self, replay: &Replay<'_>, placing: &Placing) {
         let until = replay.until_first(placing);
-        if until >= replay.view.high(placing.stream) {
+        if until >= replay.view.high(placing.frame.stream) {
             return;
         }
         self.push_then();
@@ -355,19 +373,19 @@ impl Teller<'_> {
         push_fact(
             self.text,
             &replay.view,
-            Learned::Until(placing.stream, until),
+            Learned::Until(placing.frame.stream, until),
         )
     }
 
-    fn push_pack(&mut self, replay: &Replay<'_>, link: usize, streams: &[usize]) {
+    fn push_pack(&mut self, replay: &Replay<'_>, link: usize, frames: &[Frame]) {
         let view = &replay.view;
         let network = view.network();
         let load = Load {
             link,
-            streams,
-            head: view.first_head(link, streams),
-            work: network.work(link, streams),
-            tail: least_tail(network, link, streams),
+            frames,
+            head: view.first_head(link, frames),
+            work: network.work(link, frames),
+            tail: least_tail(network, link, frames),
         };
         self.push_then();
         self.text.push_str("on ");
@@ -376,7 +394,7 @@ impl Teller<'_> {
             push_load(self.text, network, load)
         } else {
             load.push_begin(self.text, network);
-            load.push_too_late(self.text, view.last_end(link, streams))
+            load.push_too_late(self.text, view.last_end(link, frames))
         }
     }
 

@@ -3,9 +3,10 @@ use crate::leaf::{load_of, push_leaf};
 use crate::load::{Load, push_load};
 use crate::network::Network;
 use crate::number::{count_at, count_up, counts, most, push_count, put_count};
-use crate::path::{Path, streams_of};
+use crate::path::{Path, frames_of};
 use std::alloc::{AllocError, Global};
 use tsn_cert::{Cert, Entries, Format, Leaf, LowerBound, Node};
+use tsn_model::Frame;
 use tsn_text::TextBuilder;
 
 /// The most nodes whose leaves are told one by one.
@@ -76,7 +77,7 @@ fn kind_of(node: &Node) -> usize {
     }
 }
 
-/// The link whose load rules a leaf out, with the loads of its streams where they bound the flowspan.
+/// The link whose load rules a leaf out, with the entries where they bound the flowspan.
 fn load_in(node: &Node) -> Option<(usize, Option<&Entries>)> {
     match node {
         Node::Leaf(Leaf::Bound(LowerBound::Load(link, entries))) => Some((*link, Some(entries))),
@@ -98,7 +99,7 @@ pub struct Tally {
 #[derive(Drop)]
 pub struct Least {
     pub link: usize,
-    pub streams: Vec<usize>,
+    pub frames: Vec<Frame>,
     head: i64,
     work: i64,
     tail: i64,
@@ -108,7 +109,7 @@ impl Least {
     fn none(alloc: Global) -> Least {
         Least {
             link: 0,
-            streams: Vec::new(alloc),
+            frames: Vec::new(alloc),
             head: 0,
             work: 0,
             tail: 0,
@@ -118,7 +119,7 @@ impl Least {
     fn load(&self) -> Load<'_> {
         Load {
             link: self.link,
-            streams: &self.streams,
+            frames: &self.frames,
             head: self.head,
             work: self.work,
             tail: self.tail,
@@ -126,7 +127,7 @@ impl Least {
     }
 
     fn is_there(&self) -> bool {
-        !self.streams.is_empty()
+        !self.frames.is_empty()
     }
 }
 
@@ -182,8 +183,8 @@ impl Tally {
         link: usize,
         entries: &Entries,
     ) -> Result<(), AllocError> {
-        let streams = streams_of(alloc, entries)?;
-        let load = load_of(network, path, link, entries, &streams);
+        let frames = frames_of(alloc, entries)?;
+        let load = load_of(network, path, link, entries, &frames);
         let Load {
             head,
             work,
@@ -193,13 +194,13 @@ impl Tally {
         if !self.least.is_there() || load.bound() < self.least.load().bound() {
             self.least = Least {
                 link,
-                streams,
+                frames,
                 head,
                 work,
                 tail,
             };
         } else {
-            drop(streams);
+            drop(frames);
         }
         Ok(())
     }

@@ -4,6 +4,7 @@ use crate::network::Network;
 use crate::number::{NONE, at, counts, less, next, put, put_count, signed, step_at, sum, zeros};
 use std::alloc::{AllocError, Global};
 use tsn_argument::{Fact, Order};
+use tsn_model::Frame;
 use tsn_text::ListBuilder;
 
 /// How many places of orders each stream has: one for each of its hops and each other stream.
@@ -24,6 +25,13 @@ pub struct Crossing {
     pub is_least: bool,
 }
 
+// An order whose lag isn't 0, and the move that it is from.
+#[derive(Clone, Copy)]
+struct Lagging {
+    order: Order,
+    source: usize,
+}
+
 // A number of the ground.
 #[derive(Clone, Copy)]
 struct Change {
@@ -39,8 +47,10 @@ pub struct View<'a> {
     // The least and the greatest number of each subject, and the moves that they are from.
     numbers: Vec<i64>,
     sources: Vec<usize>,
-    // For each order the move that it is from.
+    // For each order of lag 0 the move that it is from; then the others, and how many of these the ground has.
     orders: Vec<usize>,
+    lagging: ListBuilder<Lagging>,
+    kept: usize,
     // What differs from the ground.
     changes: ListBuilder<Change>,
     new_orders: ListBuilder<usize>,
@@ -67,6 +77,8 @@ impl<'a> View<'a> {
             numbers: zeros(alloc, places)?,
             sources: counts(alloc, NONE, places)?,
             orders: counts(alloc, NONE, streams.wrapping_mul(PLACES))?,
+            lagging: ListBuilder::new(alloc),
+            kept: 0,
             changes: ListBuilder::new(alloc),
             new_orders: ListBuilder::new(alloc),
             motion: NONE,
@@ -84,6 +96,7 @@ impl<'a> View<'a> {
             numbers,
             sources,
             orders,
+            lagging,
             changes,
             new_orders,
             needs,
@@ -94,6 +107,7 @@ impl<'a> View<'a> {
         drop(sources);
         drop(orders);
         drop(reads);
+        drop(lagging.finish()?);
         drop(changes.finish()?);
         drop(new_orders.finish()?);
         drop(needs.finish()?);
@@ -144,10 +158,27 @@ impl<'a> View<'a> {
 
     /// Whether the view has this order.
     pub fn has(&self, order: Order) -> bool {
-        match self.order_place(order) {
-            Some(place) => step_at(&self.orders, place) != NONE,
-            None => false,
+        self.source_of(order) != NONE
+    }
+
+    // The move that an order is from, or none.
+    fn source_of(&self, order: Order) -> usize {
+        if order.lag != 0 {
+            return self.source_of_lagging(order);
         }
+        match self.order_place(order) {
+            Some(place) => step_at(&self.orders, place),
+            None => NONE,
+        }
+    }
+
+    fn source_of_lagging(&self, order: Order) -> usize {
+        for lagging in self.lagging.list() {
+            if lagging.order == order {
+                return lagging.source;
+            }
+        }
+        NONE
     }
 
     fn order_place(&self, order: Order) -> Option<usize> {
@@ -197,13 +228,7 @@ impl<'a> View<'a> {
 
     /// The move under way needs the order.
     pub fn need_order(&mut self, order: Order) {
-        match self.order_place(order) {
-            Some(place) => {
-                let source = step_at(&self.orders, place);
-                self.need(source)
-            }
-            None => {}
-        }
+        self.need(self.source_of(order))
     }
 
     /// Whether the view leaves the fact no room.
@@ -256,12 +281,22 @@ impl<'a> View<'a> {
     }
 
     fn decide(&mut self, order: Order) {
+        if order.lag != 0 {
+            return self.decide_lagging(order);
+        }
         let Some(place) = self.order_place(order) else {
             return;
         };
         if step_at(&self.orders, place) == NONE {
             self.new_orders.push(place);
             put_count(&mut self.orders, place, self.motion);
+        }
+    }
+
+    fn decide_lagging(&mut self, order: Order) {
+        if !self.has(order) {
+            let source = self.motion;
+            self.lagging.push(Lagging { order, source });
         }
     }
 
@@ -291,6 +326,9 @@ impl<'a> View<'a> {
             put_count(&mut self.orders, *place, NONE);
         }
         self.new_orders.clear();
+        for _ in self.kept..self.lagging.list().len() {
+            self.lagging.pop();
+        }
         self.crossing = None;
     }
 
@@ -306,6 +344,7 @@ impl<'a> View<'a> {
     pub fn keep(&mut self) {
         self.changes.clear();
         self.new_orders.clear();
+        self.kept = self.lagging.list().len();
     }
 
     /// What the view learns where the fact of a clause holds.
@@ -319,21 +358,21 @@ impl<'a> View<'a> {
         }
     }
 
-    /// The earliest start of one of the streams on a link.
-    pub fn first_head(&self, link: usize, streams: &[usize]) -> i64 {
+    /// The earliest start of one of the frames on a link.
+    pub fn first_head(&self, link: usize, frames: &[Frame]) -> i64 {
         let mut least = i64::MAX;
-        for stream in streams {
-            let head = sum(self.low(*stream), self.network.start(*stream, link));
+        for frame in frames {
+            let head = sum(self.low(frame.stream), self.network.begin(*frame, link));
             least = least.min(head);
         }
         least
     }
 
-    /// The latest end of one of the streams' occupancy of a link.
-    pub fn last_end(&self, link: usize, streams: &[usize]) -> i64 {
+    /// The latest end of one of the frames' occupancy of a link.
+    pub fn last_end(&self, link: usize, frames: &[Frame]) -> i64 {
         let mut greatest = i64::MIN;
-        for stream in streams {
-            let end = sum(self.high(*stream), self.network.end(*stream, link));
+        for frame in frames {
+            let end = sum(self.high(frame.stream), self.network.end(*frame, link));
             greatest = greatest.max(end);
         }
         greatest
@@ -354,6 +393,7 @@ pub fn turned(order: Order) -> Order {
         first: order.second,
         second: order.first,
         link: order.link,
+        lag: order.lag,
     }
 }
 
@@ -366,11 +406,11 @@ pub fn opposite(fact: Learned) -> Learned {
     }
 }
 
-/// The least time between the streams' occupancy of a link and their arrival.
-pub fn least_tail(network: Network<'_>, link: usize, streams: &[usize]) -> i64 {
+/// The least time between the frames' occupancy of a link and their streams' arrival.
+pub fn least_tail(network: Network<'_>, link: usize, frames: &[Frame]) -> i64 {
     let mut least = i64::MAX;
-    for stream in streams {
-        least = least.min(network.tail(*stream, link));
+    for frame in frames {
+        least = least.min(network.tail(*frame, link));
     }
     least
 }

@@ -1,3 +1,4 @@
+pub mod Ascending
 pub mod Entries
 pub mod Occupancies
 pub mod Sweeping
@@ -11,5 +12,6 @@ pub mod Rooms
 pub mod Widening
 pub mod UniqueMerged
 pub mod Sparing
+pub mod SingleFrames
 pub mod SmallGates
 pub mod Exchanges

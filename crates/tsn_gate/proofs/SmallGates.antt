@@ -1,12 +1,13 @@
 -- The gates of the small network.
 use Rattle.std.proofs.Common.{◌≡◌, ◌≢◌, ℕ, zero, suc, ◌+◌, ◌*◌, ◌≤◌, ◌<◌, ◌⊎◌, IsBitSet, bit_and, refl, sym, ap, ◌∙◌, subst, arith, inl, inr, suc-ne-zero}
-use Rattle.tsn_model.specs.Network.{stream_at, octets_of, route_of, link_at}
-use Rattle.tsn_model.specs.Timing.{occupancy, transfer, hop_delay, hop_on, start_on, UsesLink}
+use Rattle.tsn_model.specs.Network.{stream_at, octets_of, turns_of, burst_of, route_of, link_at}
+use Rattle.tsn_model.specs.Timing.{occupancy, transfer, hop_delay, Sends, hop_on, start_on, UsesLink}
 use Rattle.tsn_model.specs.Schedule.{Occupies, offset_of}
 use Rattle.tsn_model.specs.Gates.{guard_of, InWindow, InGuard, IsWanted, closed_octet, scheduled_octet, background_octet}
 use Rattle.tsn_model.specs.Kept.{KeepsOctet, IsKept}
 use Rattle.tsn_model.specs.Examples.{small_network, small_offsets}
 use Rattle.tsn_gate.specs.Examples.{SmallGates, SmallKeptGates}
+use Rattle.tsn_gate.proofs.SingleFrames.{one_shift, sent_from_one}
 
 -- when each stream's window begins
 begins : (i : ℕ) → UsesLink small_network i 4
@@ -44,19 +45,37 @@ cycle_is : small_network.cycle ≡ 1000000
 unfolding small_network
 cycle_is = refl
 
+-- each stream sends one frame, at its offset
+sent_at : (i shift : ℕ) → UsesLink small_network i 4 → Sends small_network i shift → shift ≡ 0
+unfolding small_network stream_at turns_of burst_of route_of hop_on
+sent_at zero shift uses sent = one_shift small_network 0 shift refl refl sent
+sent_at (suc zero) shift uses sent = one_shift small_network 1 shift refl refl sent
+sent_at (suc (suc k)) shift uses sent = absurd (cc uses)
+
+first_frame : Sends small_network 0 0
+unfolding small_network stream_at turns_of burst_of
+first_frame = sent_from_one small_network 0 refl refl
+
+second_frame : Sends small_network 1 0
+unfolding small_network stream_at turns_of burst_of
+second_frame = sent_from_one small_network 1 refl refl
+
 -- the instants of the windows
 in_windows : (t : ℕ) → InWindow small_network small_offsets 4 t → (1626 ≤ t) × (t < 2970)
 in_windows t (i, uses, occupies) =
     let long = lasts i uses in
-    let begun = occupies.begun in
-    let not_ended = occupies.not_ended in
+    let begun = occupies.frame.begun in
+    let not_ended = occupies.frame.not_ended in
+    let at_offset = sent_at i occupies.shift uses occupies.sent in
     elim (begins i uses) [ inl first ↦ let at = first.1 in (omega arith, omega arith) | inr second ↦ let at = second.1 in (omega arith, omega arith) ]
 
 first_window : (t : ℕ) → 1626 ≤ t → t < 2298 → InWindow small_network small_offsets 4 t
-first_window t low high = let at = first_begins in let long = lasts 0 first_uses in (0, first_uses, record { begun = omega arith; not_ended = omega arith })
+first_window t low high = let at = first_begins in let long = lasts 0 first_uses in
+    (0, first_uses, record { shift = 0; sent = first_frame; frame = record { begun = omega arith; not_ended = omega arith } })
 
 second_window : (t : ℕ) → 2298 ≤ t → t < 2970 → InWindow small_network small_offsets 4 t
-second_window t low high = let at = second_begins in let long = lasts 1 second_uses in (1, second_uses, record { begun = omega arith; not_ended = omega arith })
+second_window t low high = let at = second_begins in let long = lasts 1 second_uses in
+    (1, second_uses, record { shift = 0; sent = second_frame; frame = record { begun = omega arith; not_ended = omega arith } })
 
 -- the instants of the guard, of the first cycle
 in_guards : (t : ℕ) → t < 1000000 → InGuard small_network small_offsets 4 t → (t < 2298) ⊎ (989290 ≤ t)
@@ -64,6 +83,7 @@ in_guards t below guard =
     let before = guard.not_begun in
     let near = guard.guarded in
     let whole = guard_is in
+    let at_offset = sent_at guard.stream guard.shift guard.uses guard.sent in
     let cycles : guard.cycles * small_network.cycle ≡ guard.cycles * 1000000 = ap (λ n. guard.cycles * n) cycle_is in
     elim (begins guard.stream guard.uses) [
       | inl first ↦ let at = first.1 in grind arith
@@ -74,14 +94,14 @@ this_guard : (t : ℕ) → t < 1626 → InGuard small_network small_offsets 4 t
 this_guard t high =
     let at = first_begins in
     let long = guard_is in
-    record { stream = 0; cycles = 0; uses = first_uses; not_begun = omega arith; guarded = omega arith }
+    record { stream = 0; shift = 0; cycles = 0; sent = first_frame; uses = first_uses; not_begun = omega arith; guarded = omega arith }
 
 next_guard : (t : ℕ) → 989290 ≤ t → t < 1000000 → InGuard small_network small_offsets 4 t
 next_guard t low high =
     let at = first_begins in
     let long = guard_is in
     let whole = cycle_is in
-    record { stream = 0; cycles = 1; uses = first_uses; not_begun = omega arith; guarded = omega arith }
+    record { stream = 0; shift = 0; cycles = 1; sent = first_frame; uses = first_uses; not_begun = omega arith; guarded = omega arith }
 
 pub small_gates : SmallGates
 small_gates = record {

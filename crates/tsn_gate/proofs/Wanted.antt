@@ -7,10 +7,12 @@ use Rattle.std.proofs.lemmas.List.Elements.{All-push}
 use Rattle.std.proofs.lemmas.List.Quantifiers.{all_pairs_push, Any-push}
 use Rattle.std.proofs.Math.Nat.{mod-lt}
 use Rattle.tsn_model.specs.declared.GateEntry.{GateEntry}
+use Rattle.tsn_model.specs.declared.Frame.{Frame}
 use Rattle.tsn_model.specs.Network.{Network, IsWellFormed}
 use Rattle.tsn_model.specs.Gates.{cycle_of, IsOctetAt, InWindow, InGuard, IsWanted, guard_of}
 use Rattle.tsn_model.specs.Bridge.{LinkGates, HasWantedGates}
-use Rattle.tsn_model.proofs.Routes.{UsesLink-exists}
+use Rattle.tsn_model.proofs.Routes.{UsesLink-counted, UsesLink-exists}
+use Rattle.tsn_model.proofs.Shifts.{first_sent}
 use Rattle.tsn_gate.specs.declared.windows.Window.{Window}
 use Rattle.tsn_gate.specs.Entries.{IsTimeline, IsGateList}
 use Rattle.tsn_gate.specs.Windows.{window_of, AreWindowsOf, InSomeWindow, InSomeGuard, IsWindowOctet, ShowsWindows}
@@ -25,26 +27,29 @@ module _ (network : Network) (offsets : List ℕ) (link : ℕ) (windows : List W
       let used = all.used k x inside in
       let begins = ap (λ (w : Window). w.start) (sym at ∙ used.2) in
       let ends = ap (λ (w : Window). w.end) (sym at ∙ used.2) in
-      (used.0, used.1, record { begun = omega arith; not_ended = omega arith })
+      (used.0.stream, used.1.uses, record { shift = used.0.shift; sent = used.1.sent; frame = record { begun = omega arith; not_ended = omega arith } })
 
   window_from : (t : ℕ) → InWindow network offsets link t → InSomeWindow windows t
   unfolding window_of
   window_from t (i, uses, occupies) =
-      let has = all.all_uses i uses in
-      (has.0, window_of network offsets link i, has.1, has.2, (occupies.begun, occupies.not_ended))
+      let frame : Frame = record { stream = i; shift = occupies.shift } in
+      let has = all.all_uses frame (record { sent = occupies.sent; uses = uses }) in
+      (has.0, window_of network offsets link frame, has.1, has.2, (occupies.frame.begun, occupies.frame.not_ended))
 
   guard_to : (t : ℕ) → InSomeGuard windows network.cycle (guard_of network link) t → InGuard network offsets link t
   unfolding window_of
   guard_to t (k, x, inside, at, (n, not_begun, guarded)) =
       let used = all.used k x inside in
       let begins = ap (λ (w : Window). w.start) (sym at ∙ used.2) in
-      record { stream = used.0; cycles = n; uses = used.1; not_begun = omega arith; guarded = omega arith }
+      let frame = used.0 in
+      record { stream = frame.stream; shift = frame.shift; cycles = n; sent = used.1.sent; uses = used.1.uses; not_begun = omega arith; guarded = omega arith }
 
   guard_from : (t : ℕ) → InGuard network offsets link t → InSomeGuard windows network.cycle (guard_of network link) t
   unfolding window_of
   guard_from t guard =
-      let has = all.all_uses guard.stream guard.uses in
-      (has.0, window_of network offsets link guard.stream, has.1, has.2, (guard.cycles, guard.not_begun, guard.guarded))
+      let frame : Frame = record { stream = guard.stream; shift = guard.shift } in
+      let has = all.all_uses frame (record { sent = guard.sent; uses = guard.uses }) in
+      (has.0, window_of network offsets link frame, has.1, has.2, (guard.cycles, guard.not_begun, guard.guarded))
 
   pub IsWanted-windows : (t octet : ℕ) → IsWindowOctet windows network.cycle (guard_of network link) t octet → IsWanted network offsets link t octet
   IsWanted-windows t octet (inl (inside, is)) = inl (window_to t inside, is)
@@ -55,7 +60,7 @@ module _ (network : Network) (offsets : List ℕ) (link : ℕ) (windows : List W
       → IsListOf network offsets link (record { link = link; entries = entries })
   IsListOf-windows entries some timeline shown = record {
     same_link = refl;
-    used = let first = all.used 0 (get_or windows 0 (record { start = 0; end = 0 })) some in (first.0, first.1);
+    used = let first = all.used 0 (get_or windows 0 (record { start = 0; end = 0 })) some in (first.0.stream, first.1.uses);
     wanted = record {
       wanted = λ t octet below at. IsWanted-windows t octet
           (subst (IsWindowOctet windows network.cycle (guard_of network link) t) (octet_at-is entries network.cycle t octet timeline.whole below at) (shown t below));
@@ -64,6 +69,15 @@ module _ (network : Network) (offsets : List ℕ) (link : ℕ) (windows : List W
       whole = timeline.whole;
     };
   }
+
+-- a link with no window is used by no stream, for each sends some frame
+pub none_used : (network : Network) (offsets : List ℕ) (link : ℕ) (windows : List Window) → IsWellFormed network
+    → AreWindowsOf network offsets link windows → length windows ≡ 0 → IsUsed network link → ⊥
+none_used network offsets link windows formed all none (i, uses) =
+    let sent = first_sent network i formed (UsesLink-counted network i link uses) in
+    let has = all.all_uses (record { stream = i; shift = 0 }) (record { sent = sent; uses = uses }) in
+    let inside = has.1 in
+    omega arith
 
 some_entries : (entries : List GateEntry) → 1 ≤ cycle_of entries → 0 < length entries
 some_entries [] lasts = absurd (omega (arith, cycle_of-nil))

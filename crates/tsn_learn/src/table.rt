@@ -140,13 +140,11 @@ fn order_of(left: usize, right: usize, conflict: Conflict, number: usize) -> Ord
 fn body_of(timing: &Timing, stream: usize) -> Body
     requires { stream < stream_count timing.now }
 {
-    let arrival = signed(timing.arrival(stream));
-    let done = less(signed(timing.cycle()), signed(timing.span(stream)));
-    let arrived = less(signed(timing.latest(stream)), arrival);
+    let window = timing.window(stream);
     Body {
-        release: signed(timing.release(stream)),
-        arrival,
-        latest: done.min(arrived),
+        release: signed(window.least),
+        arrival: signed(timing.arrival(stream)),
+        latest: window.greatest,
     }
 }
 

@@ -2,9 +2,11 @@
 use crate::need::{Needed, needed_for};
 use crate::view::{Made, make, make_go_by, narrow};
 use std::alloc::{AllocError, Global};
+use tsn_argument::step::MAX_FRAMES;
 use tsn_argument::{
-    Argument, Clause, Fact, Goal, Move, Moves, Orders, Placing as Placed, Step, Steps, Streams,
+    Argument, Clause, Fact, Frames, Goal, Move, Moves, Orders, Placing as Placed, Step, Steps,
 };
+use tsn_model::Frame;
 use tsn_solver::known::{Known, is_impossible};
 use tsn_solver::literal::Literal;
 use tsn_solver::number::{NONE, at, index, index_at, is_marked, mark, next, push, put_index, sum};
@@ -534,14 +536,14 @@ impl Writing<'_> {
 
     fn write_placing(&mut self, placing: Placing) -> Result<bool, AllocError> {
         let link = placing.link as usize;
-        let others = self.streams_of(link, placing.others)?;
-        let some = self.streams_of(link, placing.some)?;
+        let others = self.frames_of(link, placing.others)?;
+        let some = self.frames_of(link, placing.some)?;
         let (Some(others), Some(some)) = (others, some) else {
             return Ok(false);
         };
         let placed = Placed {
             link: self.known.table.link_number(link),
-            stream: self.known.table.visit(link, placing.place).stream,
+            frame: self.frame_of(link, placing.place),
             others,
             some,
         };
@@ -557,10 +559,10 @@ impl Writing<'_> {
             return Ok(false);
         };
         let link = packing.link as usize;
-        match self.streams_of(link, packing.streams)? {
-            Some(streams) => {
+        match self.frames_of(link, packing.streams)? {
+            Some(frames) => {
                 let number = self.known.table.link_number(link);
-                self.push_move(Move::Pack(number, streams))
+                self.push_move(Move::Pack(number, frames))
             }
             None => Ok(false),
         }
@@ -591,20 +593,28 @@ impl Writing<'_> {
         self.push_move(Move::Round(Orders::of(round)))
     }
 
-    // The streams of places on a link. None where there are none.
-    fn streams_of(&self, link: usize, places: Set) -> Result<Option<Streams>, AllocError> {
+    // The first frames of the streams of places on a link. None where there are none.
+    fn frames_of(&self, link: usize, places: Set) -> Result<Option<Frames>, AllocError> {
         let mut list = Vec::new(self.alloc);
         let mut rest = places;
         for _ in 0..128 {
             let Some(place) = rest.take() else {
                 break;
             };
-            push(&mut list, self.known.table.visit(link, place).stream)?;
+            push(&mut list, self.frame_of(link, place))?;
         }
-        if list.is_empty() || list.len() > 128 {
+        if list.is_empty() || list.len() > MAX_FRAMES {
             return Ok(None);
         }
-        Ok(Some(Streams::of(list)))
+        Ok(Some(Frames::of(list)))
+    }
+
+    // The first frame of the stream of a place on a link.
+    fn frame_of(&self, link: usize, place: usize) -> Frame {
+        Frame {
+            stream: self.known.table.visit(link, place).stream,
+            shift: 0,
+        }
     }
 
     fn fact(&self, literal: Literal) -> Fact {
@@ -640,6 +650,7 @@ fn left_first(order: &Order, link: usize) -> tsn_argument::Order {
         first: order.left,
         second: order.right,
         link,
+        lag: 0,
     }
 }
 
@@ -648,5 +659,6 @@ fn right_first(order: &Order, link: usize) -> tsn_argument::Order {
         first: order.right,
         second: order.left,
         link,
+        lag: 0,
     }
 }

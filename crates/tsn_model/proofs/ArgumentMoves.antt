@@ -1,5 +1,5 @@
 -- What a move shows holds of each valid schedule that fits the view.
-use Rattle.std.proofs.Common.{ℕ, ◌≤◌, ◌<◌, List, [], ◌∷◌, length, All, Contains, pos, ◌+ℤ◌, ◌-ℤ◌, ◌≤ℤ◌, sym, subst, arith, inl, inr}
+use Rattle.std.proofs.Common.{ap, ◌≡◌, ℕ, ◌≤◌, ◌<◌, List, [], ◌∷◌, length, All, Contains, pos, ◌+ℤ◌, ◌-ℤ◌, ◌≤ℤ◌, sym, subst, arith, inl, inr}
 use Rattle.std.specs.Prelude.{not}
 use Rattle.std.proofs.lemmas.Int.{ints}
 use Rattle.std.proofs.lemmas.Bool.{cases_Bool, not_from_false}
@@ -10,10 +10,11 @@ use Rattle.tsn_model.specs.declared.Side.TheVariants.{Left, Right}
 use Rattle.tsn_model.specs.declared.Decision.{Decision}
 use Rattle.tsn_model.specs.declared.Arc.{Arc}
 use Rattle.tsn_model.specs.Network.{Network, IsWellFormed, stream_count}
-use Rattle.tsn_model.specs.Timing.{arrival, UsesLink}
+use Rattle.tsn_model.specs.Timing.{arrival}
 use Rattle.tsn_model.specs.Schedule.{IsValid, IsConflict, offset_of}
 use Rattle.tsn_model.specs.Arcs.{arc_between, arc_on, arc_of, Holds}
-use Rattle.tsn_model.specs.Argument.{Fact, from, until, order, done_from, IsSo, SomeIsSo, turned, opposite, View, low_at, high_at, Fits, learned_all, contradicts, left_open, unit_of, Move, go, turn, apply, arrive, put_last, put_first, pack, round, LeadsBy, weight_by, IsOutOfReach, clause_at, IsAllowed, shown_by, shown, narrowed, AreAllowed}
+use Rattle.tsn_model.specs.Certificate.{IsFrameOn}
+use Rattle.tsn_model.specs.Argument.{Fact, from, until, order, done_from, IsSo, SomeIsSo, turned, opposite, View, low_at, high_at, Fits, learned_all, contradicts, left_open, unit_of, Move, go, turn, apply, arrive, put_last, put_first, pack, round, follow, LeadsBy, weight_by, IsOutOfReach, AsksNoMore, clause_at, IsAllowed, shown_by, shown, narrowed, AreAllowed}
 use Rattle.tsn_model.proofs.Lists.{Contains-nil, Contains-cons_cases, Contains-filter}
 use Rattle.tsn_model.proofs.Routes.{UsesLink-counted}
 use Rattle.tsn_model.proofs.Schedules.{arrival-le-flowspan}
@@ -96,6 +97,17 @@ module _ (network : Network) (formed : IsWellFormed network) (offsets : List ℕ
         (until i (view.done_high -ℤ pos (arrival network i)) ∷ []) (tt, omega (arith, ints, low, arrived))
         (one_so network offsets (until i (view.done_high -ℤ pos (arrival network i))) (is, omega (arith, ints, done, arrived)))
 
+    follow_sound : (decision weaker : Decision) → Contains view.orders decision → IsConflict network weaker.triple
+        → AsksNoMore (arc_of network weaker) (arc_of network decision) → IsSo network offsets (order weaker)
+    follow_sound decision weaker has conflict less =
+        let so = All-contains (λ d. IsSo network offsets (order d)) view.orders decision fits.orders has in
+        let met : (pos (offset_of offsets (arc_of network decision).from) +ℤ (arc_of network decision).weight) ≤ℤ pos
+        (offset_of offsets (arc_of network decision).to) = so.1 in
+        let begins : offset_of offsets (arc_of network weaker).from ≡ offset_of offsets (arc_of network decision).from = ap (offset_of offsets) less.begins in
+        let ends : offset_of offsets (arc_of network weaker).to ≡ offset_of offsets (arc_of network decision).to = ap (offset_of offsets) less.ends in
+        let fewer = less.weight in
+        (conflict, omega (arith, ints, met, begins, ends, fewer))
+
     -- offsets rise along decisions of the view by their weights at least
     along : (decisions : List Decision) → All (Contains view.orders) decisions → (i j : ℕ) → LeadsBy network i decisions j
         → (pos (offset_of offsets i) +ℤ weight_by network decisions) ≤ℤ pos (offset_of offsets j)
@@ -119,22 +131,24 @@ module _ (network : Network) (formed : IsWellFormed network) (offsets : List ℕ
     shown_sound clauses known (apply k) allowed =
         one_so network offsets (unit_of view (left_open view (clause_at clauses k))) (apply_sound (clause_at clauses k) (known k [] allowed.0) allowed.1)
     shown_sound clauses known (arrive i) allowed = arrive_sound i allowed
-    shown_sound clauses known (put_last link j streams some) allowed =
-        one_so network offsets (from j _) (
-          UsesLink-counted network j link (All-head (λ i. UsesLink network i link) j streams allowed.0.on_link),
-          last_sound network formed offsets valid link view fits j streams allowed.0 some allowed.1 allowed.2,
+    shown_sound clauses known (put_last link j frames some) allowed =
+        one_so network offsets (from j.stream _) (
+          UsesLink-counted network j.stream link (All-head (IsFrameOn network link) j frames allowed.0.on_link).uses,
+          last_sound network formed offsets valid link view fits j frames allowed.0 some allowed.1 allowed.2,
         )
-    shown_sound clauses known (put_first link j streams some) allowed =
-        one_so network offsets (until j _) (
-          UsesLink-counted network j link (All-head (λ i. UsesLink network i link) j streams allowed.0.on_link),
-          first_sound network formed offsets valid link view fits j streams allowed.0 some allowed.1 allowed.2,
+    shown_sound clauses known (put_first link j frames some) allowed =
+        one_so network offsets (until j.stream _) (
+          UsesLink-counted network j.stream link (All-head (IsFrameOn network link) j frames allowed.0.on_link).uses,
+          first_sound network formed offsets valid link view fits j frames allowed.0 some allowed.1 allowed.2,
         )
-    shown_sound clauses known (pack link streams) allowed = absurd (pack_sound network formed offsets valid link view fits streams allowed.0 allowed.1)
+    shown_sound clauses known (pack link frames) allowed = absurd (pack_sound network formed offsets valid link view fits frames allowed.0 allowed.1)
     shown_sound clauses known (round decisions) allowed =
         let i : ℕ = allowed.1.0 in
         let rises = along decisions allowed.0 i i allowed.1.1 in
         let above = allowed.2 in
         absurd (omega (arith, ints, rises, above))
+    shown_sound clauses known (follow decision weaker) allowed =
+        one_so network offsets (order weaker) (follow_sound decision weaker allowed.0 allowed.1 allowed.2)
 
   -- offsets that fit a view fit it after right moves
   pub Fits-narrowed : (clauses : List (List Fact)) → All (SomeIsSo network offsets) clauses → (moves : List Move) (view : View)

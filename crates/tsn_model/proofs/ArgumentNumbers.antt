@@ -7,8 +7,9 @@ use Rattle.std.proofs.lemmas.Bool.{cases_eq, cases_lt, cond_both}
 use Rattle.std.proofs.lemmas.List.{get_or-set_other, get_or-set_same, get_or_past, length-set}
 use Rattle.std.proofs.lemmas.List.FromFn.{get_or-map-range_with_len}
 use Rattle.tsn_model.specs.Network.{Network, stream_count, release_of}
-use Rattle.tsn_model.specs.Schedule.{flowspan}
-use Rattle.tsn_model.specs.Argument.{Goal, goal_first, goal_least, goal_none, Fact, from, until, order, done_from, done_until, View, low_at, high_at, IsImpossible, IsBounded, learned, learned_all, latest_offset, greatest_flowspan, first_ground, capped, settled}
+use Rattle.tsn_model.specs.Schedule.{flowspan, latest_offset}
+use Rattle.tsn_model.proofs.Shifts.{period-le-cycle}
+use Rattle.tsn_model.specs.Argument.{Goal, goal_first, goal_least, goal_none, Fact, from, until, order, done_from, done_until, View, low_at, high_at, IsImpossible, IsBounded, learned, learned_all, greatest_flowspan, first_ground, capped, settled}
 
 -- a higher number at one place leaves each at least as high
 raised-ge : (xs : List ℤ) (i j : ℕ) (v : ℤ) → get_or xs j (pos 0) ≤ℤ get_or (set xs i (int_max v (get_or xs i (pos 0)))) j (pos 0)
@@ -105,8 +106,9 @@ module _ (network : Network) where
   IsBounded-first goal within = record {
     low = λ i below. let is = get_or-map-range_with_len (λ i. pos (release_of network i)) 0 (stream_count network) i i (pos 0) below
         (omega arith) in omega (arith, ints, is);
-    high = λ i below. let is = get_or-map-range_with_len (latest_offset network) 0 (stream_count network) i i (pos 0) below (omega arith) in omega
-        (arith, ints, clamps, is);
+    high = λ i below. let is = get_or-map-range_with_len (latest_offset network) 0 (stream_count network) i i (pos 0) below (omega arith) in
+        let short = period-le-cycle network i in
+        omega (arith, ints, clamps, is, short);
     done_low = omega (arith, ints);
     done_high = within;
   }

@@ -3,6 +3,8 @@ use Rattle.std.proofs.Common.{◌≡◌, ℕ, ◌<◌, ◌⊎◌, List, [], ◌�
 use Rattle.std.specs.Prelude.{nat_eq, int_lt}
 use Rattle.std.specs.List.{list_any}
 use Rattle.std.specs.Int.{int_min, int_max}
+use Rattle.std.specs.Ordering.{int_eq}
+use Rattle.std.proofs.lemmas.Bool.Decides.{Decides-int_eq}
 use Rattle.std.proofs.lemmas.Int.{ints, clamps, by_lt_z}
 use Rattle.std.proofs.lemmas.Bool.{cases_eq, cases_lt, and_parts, or_cases, eqb-true}
 use Rattle.std.proofs.lemmas.List.{get_or-set_other, get_or-set_same, get_or_past, length-set}
@@ -24,6 +26,9 @@ use Rattle.tsn_model.proofs.Routes.{occupancy-pos}
 pub int_lt-true : (a b : ℤ) → int_lt a b ≡ true → a <ℤ b
 int_lt-true a b less = grind (arith, ints)
 
+int_eq-true : (a b : ℤ) → int_eq a b ≡ true → a ≡ b
+int_eq-true a b same = (Decides-int_eq a b).0 same
+
 side_eq-true : (a b : Side) → side_eq a b ≡ true → a ≡ b
 unfolding side_eq
 side_eq-true Left Left same = refl
@@ -34,15 +39,19 @@ side_eq-true Right Right same = refl
 pub decision_eq-true : (a b : Decision) → decision_eq a b ≡ true → a ≡ b
 unfolding decision_eq
 decision_eq-true a b same =
-    let sides = and_parts (nat_eq a.triple.left b.triple.left && nat_eq a.triple.right b.triple.right && nat_eq a.triple.link b.triple.link)
+    let sides = and_parts
+    (nat_eq a.triple.left b.triple.left && nat_eq a.triple.right b.triple.right && nat_eq a.triple.link b.triple.link && int_eq a.triple.lag b.triple.lag)
     (side_eq a.side b.side) same in
-    let links = and_parts (nat_eq a.triple.left b.triple.left && nat_eq a.triple.right b.triple.right) (nat_eq a.triple.link b.triple.link) sides.0 in
+    let lags = and_parts (nat_eq a.triple.left b.triple.left && nat_eq a.triple.right b.triple.right && nat_eq a.triple.link b.triple.link)
+    (int_eq a.triple.lag b.triple.lag) sides.0 in
+    let links = and_parts (nat_eq a.triple.left b.triple.left && nat_eq a.triple.right b.triple.right) (nat_eq a.triple.link b.triple.link) lags.0 in
     let streams = and_parts (nat_eq a.triple.left b.triple.left) (nat_eq a.triple.right b.triple.right) links.0 in
     let left = eqb-true a.triple.left b.triple.left streams.0 in
     let right = eqb-true a.triple.right b.triple.right streams.1 in
     let link = eqb-true a.triple.link b.triple.link links.1 in
+    let lag = int_eq-true a.triple.lag b.triple.lag lags.1 in
     let side = side_eq-true a.side b.side sides.1 in
-    λ i. record { triple = record { left = left i; right = right i; link = link i }; side = side i }
+    λ i. record { triple = record { left = left i; right = right i; link = link i; lag = lag i }; side = side i }
 
 -- where a fact holds of each element, it holds of one that passes, if any does
 passing : {X : Type 0} (P : X → Type 0) (test : X → Bool) (xs : List X) → All P xs → list_any test xs ≡ true → (x : X) × P x × (test x ≡ true)

@@ -6,11 +6,11 @@ use Rattle.std.proofs.lemmas.Bool.{cases_lt, cond_both}
 use Rattle.std.proofs.lemmas.List.FromFn.{get_or-map-range_with_len}
 use Rattle.std.proofs.lemmas.List.Elements.{All-nil, All-cons, All-head, All-tail, All-push}
 use Rattle.tsn_model.specs.Network.{Network, IsWellFormed, stream_count, release_of}
-use Rattle.tsn_model.specs.Schedule.{IsValid, offset_of, flowspan, IsOptimal, IsFirst, IsNotAfter, HasNoSchedule}
-use Rattle.tsn_model.specs.Argument.{Goal, goal_first, goal_least, goal_none, IsInQuestion, Fact, order, IsFact, IsSo, SomeIsSo, opposite, View, Fits, learned, latest_offset, greatest_flowspan, first_ground, capped, settled, Step, Known, begun, ended, IsRight, known_with, known_after, IsPlanAlone, Concludes, Argues}
+use Rattle.tsn_model.specs.Schedule.{IsValid, offset_of, flowspan, IsOptimal, IsFirst, IsNotAfter, HasNoSchedule, latest_offset}
+use Rattle.tsn_model.specs.Argument.{Goal, goal_first, goal_least, goal_none, IsInQuestion, Fact, order, IsFact, IsSo, SomeIsSo, opposite, View, Fits, learned, greatest_flowspan, first_ground, capped, settled, Step, Known, begun, ended, IsRight, known_with, known_after, IsPlanAlone, Concludes, Argues}
 use Rattle.tsn_model.proofs.Lists.{Contains-head, Contains-more, Contains-cons_cases, Contains-nil}
 use Rattle.tsn_model.proofs.ListOrder.{before_parts, ordered}
-use Rattle.tsn_model.proofs.Schedules.{flowspan-le-cycle, span-le-cycle}
+use Rattle.tsn_model.proofs.Schedules.{flowspan-le-cycle, span-le-period}
 use Rattle.tsn_model.proofs.ArgumentViews.{Fits-learned, Fits-learned_all, none_fits, either_way}
 use Rattle.tsn_model.proofs.ArgumentMoves.{Fits-narrowed}
 
@@ -81,7 +81,7 @@ module _ (network : Network) (formed : IsWellFormed network) (goal : Goal) (offs
         omega (arith, ints, is, released);
     high = λ i below.
         let is = get_or-map-range_with_len (latest_offset network) 0 (stream_count network) i i (pos 0) below (omega arith) in
-        let within = span-le-cycle network offsets i asked.valid below in
+        let within = span-le-period network offsets i asked.valid below in
         let in_time = asked.valid.in_time i below in
         omega (arith, ints, clamps, is, within, in_time);
     orders = All-nil (λ decision. IsSo network offsets (order decision));

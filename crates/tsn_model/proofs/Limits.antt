@@ -1,10 +1,12 @@
 -- How large the numbers of a network within its limits are.
-use Rattle.std.proofs.Common.{ℕ, ◌+◌, ◌*◌, ◌≤◌, ◌<◌, length, take, All, arith, mul-le-mul, mul-pos, length-take}
+use Rattle.std.proofs.Common.{ℕ, ◌+◌, ◌-◌, ◌*◌, ◌≤◌, map, ◌<◌, length, take, All, arith, mul-le-mul, mul-pos, length-take}
 use Rattle.std.proofs.lemmas.List.Sums.{sum_by-le}
-use Rattle.std.proofs.lemmas.List.Elements.{All-take, All-weaker}
-use Rattle.tsn_model.specs.Network.{Network, IsWellFormed, IsLink, IsStream, stream_count, no_stream, stream_at, octets_of, route_of, release_of, latest_of, hop_count, link_at, proc_at}
+use Rattle.std.proofs.lemmas.List.Elements.{All-take, All-weaker, All-map}
+use Rattle.tsn_model.specs.Network.{Network, IsWellFormed, IsLink, IsStream, stream_count, no_stream, stream_at, octets_of, turns_of, period_of, burst_of, route_of, release_of, latest_of, hop_count, link_at, proc_at}
+use Rattle.tsn_model.proofs.Lists.{greatest-le}
+use Rattle.tsn_model.proofs.Shifts.{part_below, place-le, turns-mul-le, period-le-cycle}
 use Rattle.tsn_model.proofs.Routes.{rate-pos}
-use Rattle.tsn_model.specs.Timing.{occupancy, transfer, hop_delay, start}
+use Rattle.tsn_model.specs.Timing.{occupancy, pace, spread, transfer, hop_delay, start}
 
 module _ (network : Network) (formed : IsWellFormed network) where
   stream_formed : (i : ℕ) → i < stream_count network → IsStream network (stream_at network i)
@@ -97,4 +99,46 @@ module _ (network : Network) (formed : IsWellFormed network) where
       let sum = sum_by-le (hop_delay network i) 3224000 (take k (route_of network i)) each in
       let short = length-take k (route_of network i) in
       let hops = hops-le i below in
+      omega arith
+
+  -- ---- the frames of a cycle
+
+  pub burst-le : (i : ℕ) → i < stream_count network → burst_of network i ≤ 16
+  unfolding burst_of
+  burst-le i below = (stream_formed i below).short_burst
+
+  pub pace-le : (i : ℕ) → i < stream_count network → pace network i ≤ 1233600
+  unfolding pace
+  pace-le i below =
+      greatest-le (map (occupancy network i) (route_of network i)) 1233600
+      (All-map (λ x. x ≤ 1233600) (occupancy network i) (route_of network i) (λ k d inside. occupancy-le i _ below (route_exists i below k d inside)))
+
+  pub spread-le : (i : ℕ) → i < stream_count network → spread network i ≤ 18504000
+  unfolding spread
+  spread-le i below =
+      let burst = burst-le i below in
+      let pace_le = pace-le i below in
+      let fewer : burst_of network i - 1 ≤ 15 = omega arith in
+      let product : (burst_of network i - 1) * pace network i ≤ 15 * 1233600 = mul-le-mul fewer pace_le in
+      omega arith
+
+  pub period-le : (i : ℕ) → period_of network i ≤ 1000000000
+  period-le i =
+      let short = formed.short_cycle in
+      let within = period-le-cycle network i in
+      omega arith
+
+  pub turn-le : (i turn : ℕ) → turn < turns_of network i → turn * period_of network i ≤ 1000000000
+  turn-le i turn below =
+      let short = formed.short_cycle in
+      let whole = turns-mul-le network i in
+      let part = part_below turn (turns_of network i) (period_of network i) below in
+      omega arith
+
+  pub shift-le : (i turn place : ℕ) → i < stream_count network → turn < turns_of network i → place < burst_of network i
+      → turn * period_of network i + place * pace network i ≤ 1018504000
+  shift-le i turn place counted in_cycle in_burst =
+      let begin = turn-le i turn in_cycle in
+      let within = place-le network i place in_burst in
+      let whole = spread-le i counted in
       omega arith

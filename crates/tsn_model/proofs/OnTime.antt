@@ -8,13 +8,13 @@ use Rattle.std.proofs.lemmas.Bool.{cases_lt, cases_eq, cases_order, cond-true}
 use Rattle.std.proofs.lemmas.List.Elements.{All-contains, Contains-append_cases}
 use Rattle.std.proofs.lemmas.List.Sums.{position_or_len_is}
 use Rattle.tsn_model.specs.Network.{Network, IsWellFormed, IsRoute, stream_count, no_stream, stream_at, octets_of, route_of, hop_count, route_link, link_at, nodes_along}
-use Rattle.tsn_model.specs.Timing.{occupancy, transfer, hop_delay, start, hop_end, hop_on, UsesLink, start_on}
-use Rattle.tsn_model.specs.Schedule.{IsValid, offset_of, Occupies}
+use Rattle.tsn_model.specs.Timing.{occupancy, transfer, hop_delay, Sends, start, hop_on, UsesLink, start_on}
+use Rattle.tsn_model.specs.Schedule.{IsValid, offset_of, FrameOccupies, Occupies}
 use Rattle.tsn_model.specs.Gates.{IsOctetAt, InWindow, InGuard, IsWanted, guard_of}
 use Rattle.tsn_model.specs.Bridge.{LinkGates, BackgroundOpen, Passage, ScheduledStart, BackgroundStart, BridgeRun, WireUse, link_of, length_of, scheduled_use, background_use, wire_uses, IsPassage, StartedAt, NotStartedBefore, IsReady, FitsAt, IsQueuedBefore, IsBlocked, IsBridgeRun, HasWantedGates, planned, StartsOnTime}
 use Rattle.tsn_model.specs.Kept.{KeepsOctet, IsKept, KeepsWantedGates}
 use Rattle.tsn_model.proofs.Lists.{AllPairs-tail, Contains-cons_cases, Contains-nil, Contains-head, Contains-more, from_map}
-use Rattle.tsn_model.proofs.Routes.{rate-pos, occupancy-pos, start-more, start-zero}
+use Rattle.tsn_model.proofs.Routes.{rate-pos, occupancy-pos, start-more, start-zero, window-le-cycle, frames_apart}
 
 -- ---- passages that started
 
@@ -25,7 +25,10 @@ passage_cases a b = elim (cases_eq a.stream b.stream) [
     | inr differ ↦ inr (λ same. differ (ap (λ (p : Passage). p.cycle) same))
     | inl cycle ↦ elim (cases_eq a.hop b.hop) [
       | inr differ ↦ inr (λ same. differ (ap (λ (p : Passage). p.hop) same))
-      | inl hop ↦ inl (λ i. record { stream = stream i; cycle = cycle i; hop = hop i })
+      | inl hop ↦ elim (cases_eq a.shift b.shift) [
+        | inr differ ↦ inr (λ same. differ (ap (λ (p : Passage). p.shift) same))
+        | inl shift ↦ inl (λ i. record { stream = stream i; shift = shift i; cycle = cycle i; hop = hop i })
+      ]
     ]
   ]
 ]
@@ -144,7 +147,7 @@ module _ (network : Network) (formed : IsWellFormed network) (offsets : List ℕ
     (cycles : ℕ) (run : BridgeRun) (is : IsBridgeRun network offsets gates cycles run) where
   -- when a passage starts, counted from its cycle's start
   abbrev phase_of : Passage → ℕ
-  phase_of p = offset_of offsets p.stream + start network p.stream p.hop
+  phase_of p = offset_of offsets p.stream + p.shift + start network p.stream p.hop
 
   planned_is : (p : Passage) → planned network offsets p ≡ p.cycle * network.cycle + phase_of p
   unfolding planned
@@ -152,8 +155,12 @@ module _ (network : Network) (formed : IsWellFormed network) (offsets : List ℕ
 
   -- its window ends within the cycle, and isn't empty
   window_ends : (p : Passage) → IsPassage network cycles p → phase_of p + length_of network p ≤ network.cycle
-  unfolding length_of link_of hop_end
-  window_ends p passage = let ended = valid.ended p.stream p.hop passage.stream passage.hop in omega (arith, ended)
+  unfolding length_of link_of
+  window_ends p passage =
+      let at = hop_start network formed p.stream passage.stream p.hop passage.hop in
+      let ends = window-le-cycle network offsets p.stream p.shift (route_link network p.stream p.hop) valid passage.sent
+      (hop_uses network formed p.stream passage.stream p.hop passage.hop) in
+      omega (arith, at, ends)
 
   window_some : (p : Passage) → IsPassage network cycles p → 0 < length_of network p
   unfolding length_of link_of
@@ -164,11 +171,15 @@ module _ (network : Network) (formed : IsWellFormed network) (offsets : List ℕ
   uses p passage = hop_uses network formed p.stream passage.stream p.hop passage.hop
 
   -- an instant of its window, in the cycle
-  occupies : (p : Passage) → IsPassage network cycles p → (w : ℕ) → phase_of p ≤ w → w < phase_of p + length_of network p → Occupies network offsets p.stream (link_of network p) w
+  frame_occupies : (p : Passage) → IsPassage network cycles p → (w : ℕ) → phase_of p ≤ w → w < phase_of p + length_of network p
+      → FrameOccupies network offsets p.stream p.shift (link_of network p) w
   unfolding length_of link_of
-  occupies p passage w begun ends =
+  frame_occupies p passage w begun ends =
       let at = hop_start network formed p.stream passage.stream p.hop passage.hop in
       record { begun = omega arith; not_ended = omega arith }
+
+  occupies : (p : Passage) → IsPassage network cycles p → (w : ℕ) → phase_of p ≤ w → w < phase_of p + length_of network p → Occupies network offsets p.stream (link_of network p) w
+  occupies p passage w begun ends = record { shift = p.shift; sent = passage.sent; frame = frame_occupies p passage w begun ends }
 
   -- ---- starts aren't early
 
@@ -185,7 +196,7 @@ module _ (network : Network) (formed : IsWellFormed network) (offsets : List ℕ
       let same : start network p.stream p.hop ≡ start network p.stream (before + 1) = ap (start network p.stream) next in
       omega arith
 
-  planned_first : (p : Passage) → p.hop ≡ 0 → planned network offsets p ≡ p.cycle * network.cycle + offset_of offsets p.stream
+  planned_first : (p : Passage) → p.hop ≡ 0 → planned network offsets p ≡ p.cycle * network.cycle + offset_of offsets p.stream + p.shift
   unfolding planned
   planned_first p first =
       let same : start network p.stream p.hop ≡ start network p.stream 0 = ap (start network p.stream) first in
@@ -260,8 +271,9 @@ module _ (network : Network) (formed : IsWellFormed network) (offsets : List ℕ
   unfolding link_of
   hop_link p q stream same = ap (λ i. route_link network i p.hop) (sym stream) ∙ same
 
-  planned_same : (p q : Passage) → p.stream ≡ q.stream → p.cycle ≡ q.cycle → p.hop ≡ q.hop → planned network offsets p ≡ planned network offsets q
-  planned_same p q stream cycle hop = ap (planned network offsets) (λ i. record { stream = stream i; cycle = cycle i; hop = hop i })
+  planned_same : (p q : Passage) → p.stream ≡ q.stream → p.shift ≡ q.shift → p.cycle ≡ q.cycle → p.hop ≡ q.hop
+      → planned network offsets p ≡ planned network offsets q
+  planned_same p q stream shift cycle hop = ap (planned network offsets) (λ i. record { stream = stream i; shift = shift i; cycle = cycle i; hop = hop i })
 
   same_window : (p q : Passage) → IsPassage network cycles p → IsPassage network cycles q → link_of network p ≡ link_of network q → (u : ℕ)
       → planned network offsets p ≤ u → u < planned network offsets p + length_of network p → planned network offsets q ≤ u → u < planned network offsets q + length_of network q
@@ -279,7 +291,15 @@ module _ (network : Network) (formed : IsWellFormed network) (offsets : List ℕ
             let in_stream : route_link network q.stream p.hop ≡ route_link network q.stream q.hop = hop_link p q stream link in
             let hop_below : p.hop < hop_count network q.stream = subst (λ i. p.hop < hop_count network i) stream p_passage.hop in
             let hop = hop_once network formed q.stream q_passage.stream p.hop q.hop hop_below q_passage.hop in_stream in
-            (stream, planned_same p q stream cycle hop)
+            elim (cases_eq p.shift q.shift) [
+              | inl shift ↦ (stream, planned_same p q stream shift cycle hop)
+              | inr differ ↦
+                  absurd (frames_apart network offsets q.stream p.shift q.shift (link_of network q) valid (uses q q_passage)
+                  (subst (λ i. Sends network i p.shift) stream p_passage.sent) q_passage.sent differ (u - p.cycle * network.cycle)
+                  (subst (λ l. FrameOccupies network offsets q.stream p.shift l (u - p.cycle * network.cycle)) link
+                  (subst (λ i. FrameOccupies network offsets i p.shift (link_of network p) (u - p.cycle * network.cycle)) stream (frame_occupies p p_passage (u - p.cycle * network.cycle) (omega arith) (omega arith))))
+                  (frame_occupies q q_passage (u - p.cycle * network.cycle) (omega arith) (omega arith)))
+            ]
         | inr differ ↦
             absurd (valid.disjoint p.stream q.stream (link_of network p) (u - p.cycle * network.cycle) differ (uses p p_passage)
             (subst (UsesLink network q.stream) (sym link) (uses q q_passage))
@@ -314,6 +334,8 @@ module _ (network : Network) (formed : IsWellFormed network) (offsets : List ℕ
       ap (λ c. c * network.cycle) cycles_are ∙ add-mul (u / network.cycle) (p.cycle - u / network.cycle) network.cycle in
       record {
         stream = p.stream;
+        shift = p.shift;
+        sent = passage.sent;
         cycles = p.cycle - u / network.cycle;
         uses = uses p passage;
         not_begun = omega arith;
@@ -351,7 +373,8 @@ module _ (network : Network) (formed : IsWellFormed network) (offsets : List ℕ
       let plan = planned_next p k passage next in
       let below = passage.hop in
       let q : Passage = record p { hop = k } in
-      let q_passage : IsPassage network cycles (record p { hop = k }) = record { stream = passage.stream; cycle = passage.cycle; hop = omega arith } in
+      let q_passage : IsPassage network cycles
+      (record p { hop = k }) = record { stream = passage.stream; sent = passage.sent; cycle = passage.cycle; hop = omega arith } in
       let delay = hop_delay-pos network formed p.stream passage.stream k (omega arith) in
       inr (k, planned network offsets (record p { hop = k }), next, earlier (record p { hop = k }) q_passage (omega arith), plan)
 

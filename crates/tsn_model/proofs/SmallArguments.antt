@@ -5,43 +5,48 @@ use Rattle.std.proofs.lemmas.Int.{ints}
 use Rattle.std.proofs.lemmas.Bool.{and_parts}
 use Rattle.std.proofs.lemmas.List.Elements.{All-nil, All-cons}
 use Rattle.std.proofs.lemmas.List.Kept.{AllPairs-cons}
-use Rattle.tsn_model.specs.Network.{stream_at, octets_of, route_of, release_of, latest_of, link_at}
-use Rattle.tsn_model.specs.Timing.{occupancy, transfer, hop_delay, start, arrival, hop_end, span, greatest, hop_on, start_on, UsesLink}
-use Rattle.tsn_model.specs.Schedule.{offset_of, flowspan}
+use Rattle.tsn_model.specs.declared.Frame.{Frame}
+use Rattle.tsn_model.specs.Network.{IsWellFormed, stream_at, period_of, turns_of, burst_of, octets_of, route_of, release_of, latest_of, link_at}
+use Rattle.tsn_model.specs.Timing.{occupancy, transfer, hop_delay, pace, spread, start, arrival, hop_end, span, greatest, hop_on, start_on, UsesLink}
+use Rattle.tsn_model.specs.Schedule.{offset_of, flowspan, latest_offset}
 use Rattle.tsn_model.specs.Arcs.{arc_between, arc_on, arc_of}
-use Rattle.tsn_model.specs.Certificate.{least}
+use Rattle.tsn_model.specs.Certificate.{least, IsFrameOn, begin_on, end_on}
 use Rattle.tsn_model.specs.Search.{side_eq, decision_eq}
-use Rattle.tsn_model.specs.Argument.{goal_first, goal_least, goal_none, order, done_from, IsFact, IsImpossible, other_side, turned, opposite, learned, learned_all, refuting, contradicts, left_open, unit_of, head_at, end_at, most, first_head, last_end, work_on, AreOn, AreSome, weight_by, shown_by, shown, narrowed, latest_offset, greatest_flowspan, first_ground, capped, settled, begun, ended, known_with, known_after, IsInQuestion, Step, Argues}
-use Rattle.tsn_model.specs.Examples.{star_network, small_network, short_network, shared, small_offsets, left_goes, right_goes, first_steps, least_steps, none_steps, far_steps, early_steps, SmallArguments}
+use Rattle.tsn_model.specs.Argument.{goal_first, goal_least, goal_none, order, done_from, IsFact, IsImpossible, other_side, turned, opposite, learned, learned_all, refuting, contradicts, left_open, unit_of, head_at, end_at, most, first_head, last_end, work_on, AreOn, AreSome, weight_by, shown_by, shown, narrowed, greatest_flowspan, first_ground, capped, settled, begun, ended, known_with, known_after, IsInQuestion, Step, Argues}
+use Rattle.tsn_model.specs.Examples.{first_frame, star_network, small_network, short_network, shared, small_offsets, left_goes, right_goes, first_steps, least_steps, none_steps, far_steps, early_steps, SmallArguments}
 use Rattle.tsn_model.proofs.Lists.{Contains-head, Contains-more}
-use Rattle.tsn_model.proofs.Small.{small_formed, small_valid, shared_conflict}
+use Rattle.tsn_model.proofs.Small.{small_formed, short_formed, small_valid, shared_conflict, first_on, frames_differ}
 use Rattle.tsn_model.proofs.Arguments.{int_le-true, argues, plan_alone, argued_none}
 
-one_alone : (i : ℕ) → AllPairs ◌≢◌ (i ∷ [])
-one_alone i = AllPairs-cons ◌≢◌ i [] (All-nil (λ j. i ≢ j)) (λ a b d order below. absurd (omega arith))
+one_alone : (frame : Frame) → AllPairs ◌≢◌ (frame ∷ [])
+one_alone frame = AllPairs-cons ◌≢◌ frame [] (All-nil (λ other. frame ≢ other)) (λ a b d order below. absurd (omega arith))
 
-two_on : (cycle i j : ℕ) → i ≢ j → UsesLink (star_network cycle) i 4 → UsesLink (star_network cycle) j 4 → AreOn (star_network cycle) 4 (i ∷ j ∷ [])
-two_on cycle i j differ i_uses j_uses = record {
-  different = AllPairs-cons ◌≢◌ i (j ∷ []) (All-cons (λ k. i ≢ k) j [] differ (All-nil (λ k. i ≢ k))) (one_alone j);
-  on_link = All-cons (λ k. UsesLink (star_network cycle) k 4) i (j ∷ []) i_uses
-      (All-cons (λ k. UsesLink (star_network cycle) k 4) j [] j_uses (All-nil (λ k. UsesLink (star_network cycle) k 4)));
+two_on : (cycle : ℕ) (a b : Frame) → a ≢ b → IsFrameOn (star_network cycle) 4 a → IsFrameOn (star_network cycle) 4 b → AreOn (star_network cycle) 4 (a ∷ b ∷ [])
+two_on cycle a b differ a_on b_on = record {
+  different = AllPairs-cons ◌≢◌ a (b ∷ []) (All-cons (λ other. a ≢ other) b [] differ (All-nil (λ other. a ≢ other))) (one_alone b);
+  on_link = All-cons (IsFrameOn (star_network cycle) 4) a (b ∷ []) a_on
+      (All-cons (IsFrameOn (star_network cycle) 4) b [] b_on (All-nil (IsFrameOn (star_network cycle) 4)));
 }
 
 uses : (cycle : ℕ) → UsesLink (star_network cycle) 0 4 × UsesLink (star_network cycle) 1 4
 unfolding stream_at route_of hop_on
 uses cycle = (refl, refl)
 
-forth : (cycle : ℕ) → AreOn (star_network cycle) 4 (0 ∷ 1 ∷ [])
-forth cycle = two_on cycle 0 1 (λ same. omega arith) (uses cycle).0 (uses cycle).1
+forth : (cycle : ℕ) → IsWellFormed (star_network cycle) → AreOn (star_network cycle) 4 (first_frame 0 ∷ first_frame 1 ∷ [])
+forth cycle formed =
+    two_on cycle (first_frame 0) (first_frame 1) (frames_differ 0 1 (λ same. omega arith)) (first_on cycle 0 formed (omega arith) (uses cycle).0)
+    (first_on cycle 1 formed (omega arith) (uses cycle).1)
 
-back : (cycle : ℕ) → AreOn (star_network cycle) 4 (1 ∷ 0 ∷ [])
-back cycle = two_on cycle 1 0 (λ same. omega arith) (uses cycle).1 (uses cycle).0
+back : (cycle : ℕ) → IsWellFormed (star_network cycle) → AreOn (star_network cycle) 4 (first_frame 1 ∷ first_frame 0 ∷ [])
+back cycle formed =
+    two_on cycle (first_frame 1) (first_frame 0) (frames_differ 1 0 (λ same. omega arith)) (first_on cycle 1 formed (omega arith) (uses cycle).1)
+    (first_on cycle 0 formed (omega arith) (uses cycle).0)
 
-all_some : (i : ℕ) → AreSome (i ∷ []) (i ∷ [])
-all_some i = record {
+all_some : (frame : Frame) → AreSome (frame ∷ []) (frame ∷ [])
+all_some frame = record {
   one = omega arith;
-  different = one_alone i;
-  among = All-cons (Contains (i ∷ [])) i [] (Contains-head i []) (All-nil (Contains (i ∷ [])));
+  different = one_alone frame;
+  among = All-cons (Contains (frame ∷ [])) frame [] (Contains-head frame []) (All-nil (Contains (frame ∷ [])));
 }
 
 -- a view of two streams that isn't impossible
@@ -69,7 +74,7 @@ planned (suc zero) below = omega (arith, ints)
 planned (suc (suc k)) below = absurd (omega arith)
 
 first_argued : Argues small_network (goal_first small_offsets) first_steps
-unfolding first_steps small_network small_offsets stream_at octets_of route_of release_of latest_of link_at occupancy transfer hop_delay start arrival hop_end span greatest start_on flowspan least opposite learned learned_all head_at end_at most first_head last_end work_on shown narrowed latest_offset greatest_flowspan first_ground capped settled begun ended known_with known_after
+unfolding first_steps small_network small_offsets stream_at octets_of route_of release_of latest_of link_at occupancy transfer hop_delay start arrival hop_end span greatest start_on flowspan least opposite learned learned_all head_at end_at most first_head last_end work_on shown narrowed latest_offset greatest_flowspan first_ground capped settled begun ended known_with known_after spread burst_of pace period_of begin_on end_on turns_of
 first_argued = (
   record {
     open_ground = is_open 1000000 _ _ _ _ _ _ refl;
@@ -77,7 +82,7 @@ first_argued = (
     moves = (
       is_open 1000000 _ _ _ _ _ _ refl,
       omega arith,
-      (is_open 1000000 _ _ _ _ _ _ refl, omega arith, (is_open 1000000 _ _ _ _ _ _ refl, (forth 1000000, all_some 1, omega (arith, ints)), tt)),
+      (is_open 1000000 _ _ _ _ _ _ refl, omega arith, (is_open 1000000 _ _ _ _ _ _ refl, (forth 1000000 small_formed, all_some (first_frame 1), omega (arith, ints)), tt)),
     );
     shows = inr (inl (0, omega arith, omega (arith, ints)));
   },
@@ -85,7 +90,7 @@ first_argued = (
     record {
       open_ground = is_open 1000000 _ _ _ _ _ _ refl;
       facts = All-nil (IsFact small_network);
-      moves = (is_open 1000000 _ _ _ _ _ _ refl, (back 1000000, all_some 0, omega (arith, ints)), tt);
+      moves = (is_open 1000000 _ _ _ _ _ _ refl, (back 1000000 small_formed, all_some (first_frame 0), omega (arith, ints)), tt);
       shows = inl refl;
     },
     inr (omega (arith, ints), planned),
@@ -93,19 +98,19 @@ first_argued = (
 )
 
 none_argued : Argues short_network goal_none none_steps
-unfolding none_steps short_network stream_at octets_of route_of release_of latest_of link_at occupancy transfer hop_delay start arrival hop_end span greatest start_on least learned learned_all refuting head_at end_at most first_head last_end work_on shown narrowed latest_offset greatest_flowspan first_ground settled begun ended known_with known_after
+unfolding none_steps short_network stream_at octets_of route_of release_of latest_of link_at occupancy transfer hop_delay start arrival hop_end span greatest start_on least learned learned_all refuting head_at end_at most first_head last_end work_on shown narrowed latest_offset greatest_flowspan first_ground settled begun ended known_with known_after spread burst_of pace period_of begin_on end_on turns_of
 none_argued = (
   record {
     open_ground = is_open 2969 _ _ _ _ _ _ refl;
     facts = All-nil (IsFact short_network);
-    moves = (is_open 2969 _ _ _ _ _ _ refl, (forth 2969, omega (arith, ints)), tt);
+    moves = (is_open 2969 _ _ _ _ _ _ refl, (forth 2969 short_formed, omega (arith, ints)), tt);
     shows = inl refl;
   },
   inl (inr (omega (arith, ints))),
 )
 
 least_argued : Argues small_network (goal_least small_offsets) least_steps
-unfolding least_steps left_goes right_goes small_network shared small_offsets stream_at octets_of route_of release_of latest_of link_at occupancy transfer hop_delay start arrival hop_end span greatest start_on flowspan arc_of arc_on arc_between decision_eq side_eq other_side turned opposite learned learned_all refuting contradicts left_open unit_of weight_by shown_by shown narrowed latest_offset greatest_flowspan first_ground settled begun ended known_with known_after
+unfolding least_steps left_goes right_goes small_network shared small_offsets stream_at octets_of route_of release_of latest_of link_at occupancy transfer hop_delay start arrival hop_end span greatest start_on flowspan arc_of arc_on arc_between decision_eq side_eq other_side turned opposite learned learned_all refuting contradicts left_open unit_of weight_by shown_by shown narrowed latest_offset greatest_flowspan first_ground settled begun ended known_with known_after spread burst_of pace period_of begin_on end_on turns_of
 least_argued = (
   record {
     open_ground = is_open 1000000 _ _ _ _ _ _ refl;
@@ -153,7 +158,7 @@ least_argued = (
 
 -- both streams are done by 2970, and need no longer
 too_far : Argues small_network (goal_first small_offsets) far_steps → ⊥
-unfolding far_steps small_network small_offsets stream_at octets_of route_of release_of latest_of link_at occupancy transfer hop_delay start arrival hop_end span greatest start_on flowspan least opposite learned learned_all head_at end_at most first_head last_end work_on shown narrowed latest_offset greatest_flowspan first_ground settled begun
+unfolding far_steps small_network small_offsets stream_at octets_of route_of release_of latest_of link_at occupancy transfer hop_delay start arrival hop_end span greatest start_on flowspan least opposite learned learned_all head_at end_at most first_head last_end work_on shown narrowed latest_offset greatest_flowspan first_ground settled begun spread burst_of pace period_of begin_on end_on turns_of
 too_far argued =
     let last = argued.0.moves.2.2.1.2 in
     absurd (omega (arith, ints, last))
@@ -166,14 +171,14 @@ too_early argued =
     absurd (omega arith)
 
 too_long : Argues (star_network 2970) goal_none none_steps → ⊥
-unfolding none_steps stream_at octets_of route_of release_of latest_of link_at occupancy transfer hop_delay start arrival hop_end span greatest start_on least learned_all head_at end_at most first_head last_end work_on latest_offset greatest_flowspan first_ground begun
+unfolding none_steps stream_at octets_of route_of release_of latest_of link_at occupancy transfer hop_delay start arrival hop_end span greatest start_on least learned_all head_at end_at most first_head last_end work_on latest_offset greatest_flowspan first_ground begun spread burst_of pace period_of begin_on end_on turns_of
 too_long argued =
     let room = argued.0.moves.1.1 in
     absurd (omega (arith, ints, room))
 
 -- the small network's plan comes before the other one of its flowspan
 before_later : IsInQuestion small_network (goal_first (672 ∷ 0 ∷ [])) small_offsets
-unfolding small_network small_offsets stream_at octets_of route_of link_at occupancy transfer hop_delay start arrival greatest flowspan
+unfolding small_network small_offsets stream_at octets_of route_of link_at occupancy transfer hop_delay start arrival greatest flowspan spread burst_of pace
 before_later = record { valid = small_valid; against = inr (refl, inr (0, omega arith, omega arith, refl, omega arith)) }
 
 later : (steps : List Step) → Argues small_network (goal_first (672 ∷ 0 ∷ [])) steps → ⊥
@@ -186,7 +191,7 @@ later steps argued =
 
 -- and undercuts one whose second stream starts 1 ns later
 undercuts : IsInQuestion small_network (goal_least (0 ∷ 673 ∷ [])) small_offsets
-unfolding small_network small_offsets stream_at octets_of route_of link_at occupancy transfer hop_delay start arrival greatest flowspan
+unfolding small_network small_offsets stream_at octets_of route_of link_at occupancy transfer hop_delay start arrival greatest flowspan spread burst_of pace
 undercuts = record { valid = small_valid; against = omega arith }
 
 pub small_arguments : SmallArguments

@@ -3,24 +3,25 @@
 --     Fact, IsFact, Says, IsSo, SomeIsSo, opposite     what may be said of offsets
 --     View, Fits, IsImpossible, IsBounded          what is known of the offsets
 --     learned, refuting, contradicts               a view with one more fact
---     first_head, last_end, work_on, AreOn, AreSome     streams on a link
---     Move, IsAllowed, shown                       a move: when it may be made, and the facts that it shows
+--     first_head, last_end, work_on, AreOn, AreSome     frames on a link
+--     Move, AsksNoMore, IsAllowed, shown                       a move: when it may be made, and the facts that it shows
 --     narrowed, AreAllowed                         moves one after another
 --     first_ground, settled                        the view that every schedule in question fits
 --     Step, Known, IsRight, known_after            a step: what makes it right, and what is known after it
 --     IsSettled, Argues                            what makes an argument right
-use Rattle.std.specs.Prelude.{◌≡◌, ◌≢◌, ℕ, ◌+◌, ◌≤◌, ◌<◌, ◌⊎◌, List, [], ◌∷◌, ◌++◌, map, length, slice_index_or, slice_set, ℤ, pos, ◌+ℤ◌, ◌-ℤ◌, ◌≤ℤ◌, ◌<ℤ◌, int_lt, int_le, Bool, not, if◌then◌else◌, filter, fold, sum_by, All, AllPairs, Contains}
+use Rattle.std.specs.Prelude.{◌≡◌, ◌≢◌, ℕ, ◌≤◌, ◌<◌, ◌⊎◌, List, [], ◌∷◌, ◌++◌, map, length, slice_index_or, slice_set, ℤ, pos, ◌+ℤ◌, ◌-ℤ◌, ◌≤ℤ◌, ◌<ℤ◌, int_lt, int_le, Bool, not, if◌then◌else◌, filter, fold, sum_by, All, AllPairs, Contains}
 use Rattle.std.specs.List.{range_with_len, list_any}
 use Rattle.std.specs.Int.{int_min, int_max}
+use Rattle.tsn_model.specs.declared.Frame.{Frame}
 use Rattle.tsn_model.specs.declared.Side.{Side}
 use Rattle.tsn_model.specs.declared.Side.TheVariants.{Left, Right}
 use Rattle.tsn_model.specs.declared.Decision.{Decision}
 use Rattle.tsn_model.specs.declared.Arc.{Arc}
-use Rattle.tsn_model.specs.Network.{Network, stream_count, release_of, latest_of}
-use Rattle.tsn_model.specs.Timing.{occupancy, arrival, span, UsesLink, start_on}
-use Rattle.tsn_model.specs.Schedule.{IsValid, IsConflict, IsNotAfter, offset_of, flowspan}
+use Rattle.tsn_model.specs.Network.{Network, stream_count, release_of}
+use Rattle.tsn_model.specs.Timing.{occupancy, arrival}
+use Rattle.tsn_model.specs.Schedule.{IsValid, IsConflict, IsNotAfter, offset_of, flowspan, latest_offset}
 use Rattle.tsn_model.specs.Arcs.{arc_of, Holds}
-use Rattle.tsn_model.specs.Certificate.{least}
+use Rattle.tsn_model.specs.Certificate.{least, IsFrameOn, begin_on, end_on}
 use Rattle.tsn_model.specs.Search.{decision_eq}
 
 -- ---- goals
@@ -163,54 +164,55 @@ unfoldable pub unit_of : View → List Fact → Fact
 unit_of view [] = refuting view
 unit_of view (fact ∷ facts) = fact
 
--- ---- streams on a link
+-- ---- frames on a link
 
--- the earliest start of a stream on the link, and the latest end of its occupancy there
-unfoldable pub head_at : Network → View → ℕ → ℕ → ℤ
-head_at network view link i = low_at view i +ℤ pos (start_on network i link)
+-- the earliest start of a frame on the link, and the latest end of its occupancy there
+unfoldable pub head_at : Network → View → ℕ → Frame → ℤ
+head_at network view link frame = low_at view frame.stream +ℤ pos (begin_on network link frame)
 
-unfoldable pub end_at : Network → View → ℕ → ℕ → ℤ
-end_at network view link i = high_at view i +ℤ pos (start_on network i link + occupancy network i link)
+unfoldable pub end_at : Network → View → ℕ → Frame → ℤ
+end_at network view link frame = high_at view frame.stream +ℤ pos (end_on network link frame)
 
 -- the greatest of some signed numbers, 0 where there is none
 unfoldable pub most : List ℤ → ℤ
 most [] = pos 0
 most (x ∷ xs) = fold int_max x xs
 
--- before its head no stream of these starts on the link, and by its end each is done with it
-unfoldable pub first_head : Network → View → ℕ → List ℕ → ℤ
-first_head network view link streams = least (map (head_at network view link) streams)
+-- before its head no frame of these starts on the link, and by its end each is done with it
+unfoldable pub first_head : Network → View → ℕ → List Frame → ℤ
+first_head network view link frames = least (map (head_at network view link) frames)
 
-unfoldable pub last_end : Network → View → ℕ → List ℕ → ℤ
-last_end network view link streams = most (map (end_at network view link) streams)
+unfoldable pub last_end : Network → View → ℕ → List Frame → ℤ
+last_end network view link frames = most (map (end_at network view link) frames)
 
--- how long the streams occupy the link, one after another
-unfoldable pub work_on : Network → ℕ → List ℕ → ℕ
-work_on network link streams = sum_by (λ i. occupancy network i link) streams
+-- how long the frames occupy the link, one after another
+unfoldable pub work_on : Network → ℕ → List Frame → ℕ
+work_on network link frames = sum_by (λ frame. occupancy network frame.stream link) frames
 
--- different streams that use the link
-pub record AreOn (network : Network) (link : ℕ) (streams : List ℕ) : Type 0 where
-  pub different : AllPairs ◌≢◌ streams
-  pub on_link : All (λ i. UsesLink network i link) streams
+-- different frames that use the link
+pub record AreOn (network : Network) (link : ℕ) (frames : List Frame) : Type 0 where
+  pub different : AllPairs ◌≢◌ frames
+  pub on_link : All (IsFrameOn network link) frames
 
--- at least one of the streams, each once
-pub record AreSome (streams some : List ℕ) : Type 0 where
+-- at least one of the frames, each once
+pub record AreSome (frames some : List Frame) : Type 0 where
   pub one : 0 < length some
   pub different : AllPairs ◌≢◌ some
-  pub among : All (Contains streams) some
+  pub among : All (Contains frames) some
 
 -- ---- moves
 
--- the forms of a move: by a decision's arc, by a decision's arc that can't be met, by a clause, by an arrival; a stream goes last or first of some on a link, some don't fit on it, or decisions go round
+-- the forms of a move: by a decision's arc, by a decision's arc that can't be met, by a clause, by an arrival; a frame goes last or first of some on a link, some don't fit on it, or decisions go round; one decision follows from another
 pub data Move : Type 0 where
   go : Decision → Move
   turn : Decision → Move
   apply : ℕ → Move
   arrive : ℕ → Move
-  put_last : ℕ → ℕ → List ℕ → List ℕ → Move
-  put_first : ℕ → ℕ → List ℕ → List ℕ → Move
-  pack : ℕ → List ℕ → Move
+  put_last : ℕ → Frame → List Frame → List Frame → Move
+  put_first : ℕ → Frame → List Frame → List Frame → Move
+  pack : ℕ → List Frame → Move
   round : List Decision → Move
+  follow : Decision → Decision → Move
 
 -- the arcs of the decisions lead from one stream to another
 abbrev pub LeadsBy : Network → ℕ → List Decision → ℕ → Type 0
@@ -226,6 +228,12 @@ weight_by network (decision ∷ decisions) = (arc_of network decision).weight +�
 abbrev pub IsOutOfReach : View → Arc → Type 0
 IsOutOfReach view arc = high_at view arc.to <ℤ (low_at view arc.from +ℤ arc.weight)
 
+-- the arc asks for no more than the other one, between the same streams
+pub record AsksNoMore (arc other : Arc) : Type 0 where
+  pub begins : arc.from ≡ other.from
+  pub ends : arc.to ≡ other.to
+  pub weight : arc.weight ≤ℤ other.weight
+
 -- the clause of that number
 abbrev pub clause_at : List (List Fact) → ℕ → List Fact
 clause_at clauses k = slice_index_or clauses k []
@@ -236,12 +244,14 @@ IsAllowed network clauses view (go decision) = Contains view.orders decision
 IsAllowed network clauses view (turn decision) = IsConflict network decision.triple × IsOutOfReach view (arc_of network (turned decision))
 IsAllowed network clauses view (apply k) = (k < length clauses) × (length (left_open view (clause_at clauses k)) ≤ 1)
 IsAllowed network clauses view (arrive i) = i < stream_count network
-IsAllowed network clauses view (put_last link j streams some) =
-    AreOn network link (j ∷ streams) × AreSome streams some × (last_end network view link streams <ℤ (first_head network view link (j ∷ streams) +ℤ pos (work_on network link (j ∷ streams))))
-IsAllowed network clauses view (put_first link j streams some) =
-    AreOn network link (j ∷ streams) × AreSome streams some × (last_end network view link (j ∷ streams) <ℤ (first_head network view link streams +ℤ pos (work_on network link (j ∷ streams))))
-IsAllowed network clauses view (pack link streams) = AreOn network link streams × (last_end network view link streams <ℤ (first_head network view link streams +ℤ pos (work_on network link streams)))
+IsAllowed network clauses view (put_last link frame frames some) =
+    AreOn network link (frame ∷ frames) × AreSome frames some × (last_end network view link frames <ℤ (first_head network view link (frame ∷ frames) +ℤ pos (work_on network link (frame ∷ frames))))
+IsAllowed network clauses view (put_first link frame frames some) =
+    AreOn network link (frame ∷ frames) × AreSome frames some × (last_end network view link (frame ∷ frames) <ℤ (first_head network view link frames +ℤ pos (work_on network link (frame ∷ frames))))
+IsAllowed network clauses view (pack link frames) = AreOn network link frames × (last_end network view link frames <ℤ (first_head network view link frames +ℤ pos (work_on network link frames)))
 IsAllowed network clauses view (round decisions) = All (Contains view.orders) decisions × ((i : ℕ) × LeadsBy network i decisions i) × (pos 0 <ℤ weight_by network decisions)
+IsAllowed network clauses view (follow decision weaker) =
+    Contains view.orders decision × IsConflict network weaker.triple × AsksNoMore (arc_of network weaker) (arc_of network decision)
 
 -- what an arc shows of the streams where it begins and ends
 unfoldable pub shown_by : View → Arc → List Fact
@@ -253,11 +263,13 @@ shown network clauses view (go decision) = shown_by view (arc_of network decisio
 shown network clauses view (turn decision) = order decision ∷ []
 shown network clauses view (apply k) = unit_of view (left_open view (clause_at clauses k)) ∷ []
 shown network clauses view (arrive i) = done_from (low_at view i +ℤ pos (arrival network i)) ∷ until i (view.done_high -ℤ pos (arrival network i)) ∷ []
-shown network clauses view (put_last link j streams some) = from j ((first_head network view link some +ℤ pos (work_on network link some)) -ℤ pos (start_on network j link)) ∷ []
-shown network clauses view (put_first link j streams some) =
-    until j ((last_end network view link some -ℤ pos (work_on network link some)) -ℤ pos (start_on network j link + occupancy network j link)) ∷ []
-shown network clauses view (pack link streams) = refuting view ∷ []
+shown network clauses view (put_last link frame frames some) =
+    from frame.stream ((first_head network view link some +ℤ pos (work_on network link some)) -ℤ pos (begin_on network link frame)) ∷ []
+shown network clauses view (put_first link frame frames some) =
+    until frame.stream ((last_end network view link some -ℤ pos (work_on network link some)) -ℤ pos (end_on network link frame)) ∷ []
+shown network clauses view (pack link frames) = refuting view ∷ []
 shown network clauses view (round decisions) = refuting view ∷ []
+shown network clauses view (follow decision weaker) = order weaker ∷ []
 
 -- the view after some moves
 unfoldable pub narrowed : Network → List (List Fact) → View → List Move → View
@@ -271,10 +283,6 @@ AreAllowed network clauses view (move ∷ moves) =
     (IsImpossible network view → ⊥) × IsAllowed network clauses view move × AreAllowed network clauses (learned_all view (shown network clauses view move)) moves
 
 -- ---- the ground
-
--- the latest offset of a stream that is done within the cycle and arrives by its latest instant
-unfoldable pub latest_offset : Network → ℕ → ℤ
-latest_offset network i = int_min (pos network.cycle -ℤ pos (span network i)) (pos (latest_of network i) -ℤ pos (arrival network i))
 
 -- the greatest flowspan in question
 unfoldable pub greatest_flowspan : Network → Goal → ℤ

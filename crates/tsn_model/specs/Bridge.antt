@@ -6,7 +6,7 @@
 --     StartsOnTime                                    no scheduled frame waits
 use Rattle.std.specs.Prelude.{◌≡◌, ◌≢◌, ℕ, ◌+◌, ◌*◌, ◌%◌, ◌≤◌, ◌<◌, ◌⊎◌, List, [], ◌++◌, map, length, slice_index_or, All, AllPairs, Any, Contains, IsBitSet, bit_and}
 use Rattle.tsn_model.specs.Network.{Network, stream_count, hop_count, route_link, link_at}
-use Rattle.tsn_model.specs.Timing.{occupancy, hop_delay, start, UsesLink}
+use Rattle.tsn_model.specs.Timing.{occupancy, hop_delay, Sends, start, UsesLink}
 use Rattle.tsn_model.specs.Schedule.{offset_of}
 use Rattle.tsn_model.specs.declared.GateEntry.{GateEntry}
 use Rattle.tsn_model.specs.Gates.{IsOctetAt, IsWanted}
@@ -29,9 +29,10 @@ BackgroundOpen gates link t = GatesAt gates link t (λ octet. bit_and octet 0x7F
 
 -- ---- runs
 
--- the frame that a stream sends in a cycle, on a hop of its route
+-- the frame of that shift that a stream sends in a cycle, on a hop of its route
 pub record Passage : Type 0 where
   pub stream : ℕ
+  pub shift : ℕ
   pub cycle : ℕ
   pub hop : ℕ
 
@@ -81,6 +82,7 @@ AreDisjoint a b = a.link ≡ b.link → (t : ℕ) → a.from ≤ t → t < a.unt
 -- the passage is one of the network's, in a run of that many cycles
 pub record IsPassage (network : Network) (cycles : ℕ) (passage : Passage) : Type 0 where
   pub stream : passage.stream < stream_count network
+  pub sent : Sends network passage.stream passage.shift
   pub cycle : passage.cycle < cycles
   pub hop : passage.hop < hop_count network passage.stream
 
@@ -92,10 +94,10 @@ StartedAt run passage t = Contains run.scheduled (record { passage = passage; ti
 abbrev pub NotStartedBefore : BridgeRun → Passage → ℕ → Type 0
 NotStartedBefore run passage t = (s : ℕ) → StartedAt run passage s → t ≤ s
 
--- the passage may start from instant t on: at its offset on the first hop, and on the next as the timing says from its actual start
+-- the passage may start from instant t on: at its offset and shift on the first hop, and on the next as the timing says from its actual start
 abbrev pub IsReady : Network → List ℕ → BridgeRun → Passage → ℕ → Type 0
 IsReady network offsets run passage t =
-    ((passage.hop ≡ 0) × (t ≡ passage.cycle * network.cycle + offset_of offsets passage.stream))
+    ((passage.hop ≡ 0) × (t ≡ passage.cycle * network.cycle + offset_of offsets passage.stream + passage.shift))
     ⊎ ((before : ℕ) × (s : ℕ) × (passage.hop ≡ before + 1) × StartedAt run (record passage { hop = before }) s
     × (t ≡ s + hop_delay network passage.stream (route_link network passage.stream before)))
 
@@ -137,7 +139,7 @@ pub record HasWantedGates (network : Network) (offsets : List ℕ) (gates : List
 
 -- when the schedule plans a passage to start
 unfoldable pub planned : Network → List ℕ → Passage → ℕ
-planned network offsets passage = passage.cycle * network.cycle + offset_of offsets passage.stream + start network passage.stream passage.hop
+planned network offsets passage = passage.cycle * network.cycle + offset_of offsets passage.stream + passage.shift + start network passage.stream passage.hop
 
 -- each scheduled frame starts on each hop at its planned instant, which is as soon as it is ready
 abbrev pub StartsOnTime : Network → List ℕ → ℕ → BridgeRun → Type 0

@@ -4,7 +4,7 @@
 use Rattle.std.specs.Prelude.{◌≡◌, ℕ, ◌+◌, ◌*◌, ◌%◌, ◌≤◌, ◌<◌, ◌⊎◌, List, ◌∷◌, ◌++◌, sum_by}
 use Rattle.tsn_model.specs.declared.GateEntry.{GateEntry}
 use Rattle.tsn_model.specs.Network.{Network, link_at}
-use Rattle.tsn_model.specs.Timing.{UsesLink, start_on}
+use Rattle.tsn_model.specs.Timing.{Sends, UsesLink, start_on}
 use Rattle.tsn_model.specs.Schedule.{offset_of, Occupies}
 
 -- the time after which the list repeats
@@ -42,10 +42,12 @@ InWindow network offsets link t = (i : ℕ) × UsesLink network i link × Occupi
 -- a window of this cycle or a later one begins after instant t, and no later than the guard's length after it
 pub record InGuard (network : Network) (offsets : List ℕ) (link t : ℕ) : Type 0 where
   pub stream : ℕ
+  pub shift : ℕ
   pub cycles : ℕ
+  pub sent : Sends network stream shift
   pub uses : UsesLink network stream link
-  pub not_begun : t < offset_of offsets stream + start_on network stream link + cycles * network.cycle
-  pub guarded : offset_of offsets stream + start_on network stream link + cycles * network.cycle ≤ t + guard_of network link
+  pub not_begun : t < offset_of offsets stream + shift + start_on network stream link + cycles * network.cycle
+  pub guarded : offset_of offsets stream + shift + start_on network stream link + cycles * network.cycle ≤ t + guard_of network link
 
 -- the gates that the schedule asks for on the link at instant t of the cycle: in a window the scheduled class, else in a guard none, else the background
 abbrev pub IsWanted : Network → List ℕ → ℕ → ℕ → ℕ → Type 0

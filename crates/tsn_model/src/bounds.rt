@@ -28,11 +28,20 @@ pub const MAX_TRANSFER: u64 = (MAX_OCTETS + PREAMBLE_OCTETS) * MAX_OCTET_TIME + 
 /// 1,000,000.
 pub const MAX_HOP_DELAY: u64 = MAX_TRANSFER + 1_000_000;
 
-/// The latest start on a hop, counted from the stream's offset: a route has at most 16 hops.
+/// The most frames that a stream sends in a period.
+pub const MAX_BURST: u64 = 16;
+
+/// The longest from the first frame of a period to the last.
+pub const MAX_SPREAD: u64 = (MAX_BURST - 1) * MAX_OCCUPANCY;
+
+/// The latest start on a hop, counted from a frame's start on the first one: a route has at most 16 hops.
 pub const MAX_START: u64 = 16 * MAX_HOP_DELAY;
 
 /// The latest arrival and the latest end of an occupancy, counted from the stream's offset, are below this.
-pub const MAX_SPAN: u64 = 60_000_000;
+pub const MAX_SPAN: u64 = 80_000_000;
 
-/// The longest that all streams together, at most 128, occupy a link.
-pub const MAX_WORK: u64 = 128 * MAX_OCCUPANCY;
+/// The most frames that all streams together send in a cycle.
+pub const MAX_FRAMES: u64 = 1024;
+
+/// The longest that all frames of a cycle together occupy a link.
+pub const MAX_WORK: u64 = MAX_FRAMES * MAX_OCCUPANCY;

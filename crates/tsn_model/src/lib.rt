@@ -30,12 +30,22 @@ pub struct Link {
     pub propagation: u64,
 }
 
-/// Two streams, `left` below `right`, and a link that both use.
+/// Two streams, `left` below `right`, a link that both use, and by how much some frame of `right` comes after one of `left`,
+/// were all offsets 0.
 #[derive(Clone, Copy, PartialEq, Eq)]
 pub struct Triple {
     pub left: usize,
     pub right: usize,
     pub link: usize,
+    /// In nanoseconds; below 0 where it comes before.
+    pub lag: i64,
+}
+
+/// A frame that a stream sends each cycle, by how long after the stream's offset, in nanoseconds.
+#[derive(Clone, Copy, PartialEq, Eq)]
+pub struct Frame {
+    pub stream: usize,
+    pub shift: u64,
 }
 
 /// What one of those who search did.

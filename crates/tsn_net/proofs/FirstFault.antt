@@ -1,12 +1,12 @@
 -- The fault of a document is the least condition that holds, at the first place where it holds.
-use Rattle.std.proofs.Common.{◌≡◌, ℕ, zero, suc, ◌+◌, ◌-◌, ◌<◌, ◌≤◌, ◌⊎◌, inl, inr, Bool, true, false, cond, List, [], ◌∷◌, length, get_or, map, Option, Some, None, option_map, refl, ap, sym, ◌∙◌, subst, arith}
+use Rattle.std.proofs.Common.{◌≡◌, ◌/◌, ℕ, zero, suc, ◌+◌, ◌-◌, ◌<◌, ◌≤◌, ◌⊎◌, inl, inr, Bool, true, false, cond, List, [], ◌∷◌, length, get_or, map, Option, Some, None, option_map, refl, ap, sym, ◌∙◌, subst, arith}
 use Rattle.std.specs.List.{find, range_with_len}
 use Rattle.std.specs.Option.{option_or}
 use Rattle.std.proofs.Math.Nat.{eq-or-lt_of_le}
 use Rattle.std.proofs.lemmas.Bool.{false≢true, cases_lt}
 use Rattle.std.proofs.lemmas.Option.{same_Some}
 use Rattle.tsn_net.specs.declared.fault.Code.{Code}
-use Rattle.tsn_net.specs.declared.fault.Code.TheVariants.{NotToml, MissingKey, WrongKind, UnknownKey, Limit, DuplicateName, UnknownName, BadRate, DuplicateCable, BadRoute, NoCable, NoStream, Memory}
+use Rattle.tsn_net.specs.declared.fault.Code.TheVariants.{NotToml, MissingKey, WrongKind, UnknownKey, Limit, DuplicateName, UnknownName, BadRate, DuplicateCable, BadRoute, NoCable, NoStream, Memory, BadPeriod}
 use Rattle.tsn_net.specs.declared.fault.Place.{Place}
 use Rattle.tsn_net.specs.declared.fault.Place.TheVariants.{Text, Top, Node, Cable, Stream}
 use Rattle.tsn_net.specs.declared.fault.NetFault.{NetFault}
@@ -169,11 +169,11 @@ least_some (c ∷ cs) d fault h =
       | inr later ↦ after c cs d fault (map_none at (first_place c d) later.0) (least_some cs d fault later.1)
     ]
 
--- a code is that of a condition, by its place among the codes
+-- a code is that of a condition, by its place among the codes; behind the eleventh a number is left out
 record IsCondition (code : Code) : Type 0 where
   number : ℕ
-  within : number < 11
-  is : code_number code ≡ number + 2
+  within : number < 12
+  is : code_number code ≡ number + 2 + number / 11
   at : get_or conditions number NotToml ≡ code
 
 code_cases : (code : Code) → (code ≡ NotToml) ⊎ ((code ≡ Memory) ⊎ IsCondition code)
@@ -190,8 +190,9 @@ code_cases DuplicateCable = inr (inr (record { number = 7; within = omega arith;
 code_cases BadRoute = inr (inr (record { number = 8; within = omega arith; is = refl; at = refl }))
 code_cases NoCable = inr (inr (record { number = 9; within = omega arith; is = refl; at = refl }))
 code_cases NoStream = inr (inr (record { number = 10; within = omega arith; is = refl; at = refl }))
+code_cases BadPeriod = inr (inr (record { number = 11; within = omega arith; is = refl; at = refl }))
 
-number_in_order : (i : ℕ) → i < 11 → code_number (get_or conditions i NotToml) ≡ i + 2
+number_in_order : (i : ℕ) → i < 12 → code_number (get_or conditions i NotToml) ≡ i + 2 + i / 11
 number_in_order zero h = refl
 number_in_order (suc zero) h = refl
 number_in_order (suc (suc zero)) h = refl
@@ -203,9 +204,16 @@ number_in_order (suc (suc (suc (suc (suc (suc (suc zero))))))) h = refl
 number_in_order (suc (suc (suc (suc (suc (suc (suc (suc zero)))))))) h = refl
 number_in_order (suc (suc (suc (suc (suc (suc (suc (suc (suc zero))))))))) h = refl
 number_in_order (suc (suc (suc (suc (suc (suc (suc (suc (suc (suc zero)))))))))) h = refl
-number_in_order (suc (suc (suc (suc (suc (suc (suc (suc (suc (suc (suc i))))))))))) h = absurd (omega arith)
+number_in_order (suc (suc (suc (suc (suc (suc (suc (suc (suc (suc (suc zero))))))))))) h = refl
+number_in_order (suc (suc (suc (suc (suc (suc (suc (suc (suc (suc (suc (suc i)))))))))))) h = absurd (omega arith)
 
-code_by_number : (code : Code) → get_or (NotToml ∷ conditions) (code_number code - 1) Memory ≡ code
+-- the codes by their numbers
+abbrev codes_in_order : List Code
+codes_in_order =
+    NotToml ∷ MissingKey ∷ WrongKind ∷ UnknownKey ∷ Limit ∷ DuplicateName ∷ UnknownName ∷ BadRate ∷ DuplicateCable ∷ BadRoute ∷ NoCable ∷ NoStream
+    ∷ Memory ∷ BadPeriod ∷ []
+
+code_by_number : (code : Code) → get_or codes_in_order (code_number code - 1) NotToml ≡ code
 code_by_number NotToml = refl
 code_by_number MissingKey = refl
 code_by_number WrongKind = refl
@@ -219,9 +227,10 @@ code_by_number BadRoute = refl
 code_by_number NoCable = refl
 code_by_number NoStream = refl
 code_by_number Memory = refl
+code_by_number BadPeriod = refl
 
 same_code : (a b : Code) → code_number a ≡ code_number b → a ≡ b
-same_code a b same = sym (code_by_number a) ∙ ap (λ n. get_or (NotToml ∷ conditions) (n - 1) Memory) same ∙ code_by_number b
+same_code a b same = sym (code_by_number a) ∙ ap (λ n. get_or codes_in_order (n - 1) NotToml) same ∙ code_by_number b
 
 abbrev place_by_number : ℕ → ℕ → Place
 place_by_number zero n = Text
@@ -265,7 +274,7 @@ module _ (d : Document) where
   least_is_first : (fault : NetFault) → IsLeast conditions d fault → IsFirstFault d fault
   least_is_first fault l =
       let first = first_place-first fault.code d fault.place l.place in
-      let number : code_number fault.code ≡ l.number + 2 = ap code_number l.code ∙ number_in_order l.number l.within in
+      let number : code_number fault.code ≡ l.number + 2 + l.number / 11 = ap code_number l.code ∙ number_in_order l.number l.within in
       record {
         there = first.there;
         holding = first.holding;

@@ -6,7 +6,7 @@ use Rattle.tsn_cert.specs.declared.plan.Plan.{Plan}
 use Rattle.tsn_cert.specs.declared.plan.Plan.TheVariants as plan
 use Rattle.tsn_model.proofs.Schedules.{flowspan-le-cycle}
 use Rattle.tsn_check.specs.Plans.{IsOptimalPlan, IsPlanRight, offsets_in, span_in}
-use Rattle.tsn_check.specs.declared.verdict.Verdict.TheVariants.{Optimal, First, NoSchedule}
+use Rattle.tsn_check.specs.declared.verdict.Verdict.TheVariants.{Optimal, NoSchedule}
 use Rattle.tsn_argument.specs.declared.argument.Argument.{Argument}
 use Rattle.tsn_argument.specs.declared.argument.Goal.{Goal}
 use Rattle.tsn_argument.specs.declared.argument.Goal.TheVariants as aim

@@ -1,7 +1,8 @@
 //! What is wrong with the value of a certificate file of format 3.
 
-use crate::certificate::push_large_target;
-use crate::json::{elements_at, number_at, push_wrong_keys};
+use crate::certificate::{push_large_number, push_large_target};
+use crate::json::{elements_at, elements_of, number_at, push_wrong_keys};
+use crate::lags::has_lag;
 use serde_json::Value;
 use std::alloc::Global;
 use tsn_argument_json::argument_from_json;
@@ -86,41 +87,41 @@ fn push_step(alloc: Global, text: &mut TextBuilder, step: &Value, fault: FileFau
     if let Some(number) = fact {
         text.push_str(", fact ");
         text.push_count(number);
+        push_fault(text, facts.get(number), fault);
     } else {
         push_first_move(alloc, text, moves, fault);
     }
-    push_fault(text, fault);
 }
 
-/// Writes which move is the first with this fault.
+/// Writes which move is the first with this fault, and the fault.
 fn push_first_move(alloc: Global, text: &mut TextBuilder, moves: &[Value], fault: FileFault) {
     let Ok(found) = first_move(alloc, moves, fault) else {
         return text.refuse();
     };
-    if let Some(number) = found {
-        text.push_str(", move ");
-        text.push_count(number);
-    }
-}
-
-fn elements_of(value: &Value) -> Option<&[Value]> {
-    match value.as_array() {
-        Some(elements) => Some(elements.as_slice()),
-        None => None,
-    }
+    let Some(number) = found else {
+        return push_fault(text, None, fault);
+    };
+    text.push_str(", move ");
+    text.push_count(number);
+    push_fault(text, moves.get(number), fault)
 }
 
 fn push_no_step(text: &mut TextBuilder) {
     text.push_str(" has to be an array of two arrays, of facts and of moves")
 }
 
-fn push_fault(text: &mut TextBuilder, fault: FileFault) {
-    if fault == FileFault::NumberTooLarge {
-        text.push_str(" has a time above ");
-        text.push_number(MAX_TIME);
-        text.push_str(", or another number above 4294967295");
-    } else {
-        text.push_str(" has none of the forms of format 3")
+/// Writes the fault of a fact or a move.
+fn push_fault(text: &mut TextBuilder, part: Option<&Value>, fault: FileFault) {
+    if fault != FileFault::NumberTooLarge {
+        return text.push_str(" has none of the forms of format 3");
+    }
+    match part {
+        Some(part) if has_lag(part) => push_large_number(text, true),
+        _ => {
+            text.push_str(" has a time above ");
+            text.push_number(MAX_TIME);
+            text.push_str(", or another number above 4294967295");
+        }
     }
 }
 

@@ -1,5 +1,6 @@
 //! By how much a leaf of a certificate misses what it has to show.
 
+use crate::offsets::past_end;
 use std::alloc::Global;
 use tsn_cert::{Cert, Format, Leaf, Node, Plan};
 use tsn_check::{Bound, bound_at};
@@ -98,14 +99,15 @@ fn push_overrun(text: &mut TextBuilder, timing: &Timing, node: &Node, end: i64, 
     if *stream >= timing.streams() {
         return;
     }
-    let cycle = timing.cycle();
+    let period = timing.period(*stream);
     let latest = timing.latest(*stream);
     text.push_str("the bound ");
     text.push_signed(end);
     text.push_str(" of stream ");
     text.push_count(*stream);
-    text.push_str("'s end isn't past the cycle's end at ");
-    text.push_number(cycle);
+    text.push_str("'s end isn't");
+    text.push_str(past_end(timing, *stream));
+    text.push_number(period);
     text.push_str(", nor the bound ");
     text.push_signed(arrival);
     text.push_str(" of its arrival past its latest instant ");

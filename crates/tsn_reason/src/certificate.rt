@@ -2,12 +2,14 @@
 
 use crate::argument_file::push_argument_value;
 use crate::json::{elements_at, number_at, push_not_json, push_wrong_keys};
+use crate::lags::has_lag;
 use crate::text::line_of;
 use crate::{File, Reason};
 use serde_json::Value;
 use std::alloc::Global;
 use tsn_argument::argument::ARGUMENT_FORMAT;
 use tsn_cert::FileFault;
+use tsn_cert::limits::MAX_LAG;
 use tsn_cert::plan::MAX_TIME;
 use tsn_cert_json::cert_from_json;
 use tsn_model::NoMemory;
@@ -90,7 +92,8 @@ fn push_first_node(
             return text.refuse();
         };
         if found == Some(fault) {
-            return push_node(text, format, number, fault);
+            push_node_number(text, number);
+            return push_fault(text, format, node, fault);
         }
     }
 }
@@ -107,14 +110,27 @@ fn fault_of_node(alloc: Global, format: u64, node: &Value) -> Result<Option<File
     }
 }
 
-fn push_node(text: &mut TextBuilder, format: u64, number: usize, fault: FileFault) {
+fn push_node_number(text: &mut TextBuilder, number: usize) {
     text.push_str("node ");
     text.push_count(number);
-    text.push(' ');
+}
+
+fn push_fault(text: &mut TextBuilder, format: u64, node: &Value, fault: FileFault) {
     if fault == FileFault::NumberTooLarge {
-        text.push_str("has a number above 4294967295");
+        push_large_number(text, has_lag(node));
     } else {
-        text.push_str("has none of the forms of format ");
+        text.push_str(" has none of the forms of format ");
         text.push_number(format);
+    }
+}
+
+/// Writes that a number is too large, where a lag among them may be.
+pub fn push_large_number(text: &mut TextBuilder, has_lag: bool) {
+    if has_lag {
+        text.push_str(" has a lag whose size is above ");
+        text.push_number(MAX_LAG);
+        text.push_str(", or another number above 4294967295");
+    } else {
+        text.push_str(" has a number above 4294967295");
     }
 }

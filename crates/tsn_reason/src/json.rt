@@ -66,10 +66,15 @@ pub fn number_at(value: &Value, key: &str) -> Option<u64> {
 /// The elements of the array at a key, where there is one.
 pub fn elements_at<'a>(value: &'a Value, key: &str) -> Option<&'a [Value]> {
     match value.get(key) {
-        Some(found) => match found.as_array() {
-            Some(elements) => Some(elements.as_slice()),
-            None => None,
-        },
+        Some(found) => elements_of(found),
+        None => None,
+    }
+}
+
+/// The elements of the array that the value is, where it is one.
+pub fn elements_of(value: &Value) -> Option<&[Value]> {
+    match value.as_array() {
+        Some(elements) => Some(elements.as_slice()),
         None => None,
     }
 }

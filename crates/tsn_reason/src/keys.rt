@@ -11,7 +11,9 @@ fn keys_at(place: Place) -> &'static [&'static str] {
     match place {
         Place::Node(_) => &["name", "kind", "proc"],
         Place::Cable(_) => &["a", "b", "mbps", "prop"],
-        Place::Stream(_) => &["name", "octets", "route", "release", "latest"],
+        Place::Stream(_) => &[
+            "name", "octets", "route", "release", "latest", "period", "frames",
+        ],
         Place::Text | Place::Top => &["cycle", "node", "link", "stream"],
     }
 }
@@ -19,7 +21,7 @@ fn keys_at(place: Place) -> &'static [&'static str] {
 /// Whether a table has to have a key.
 fn is_required(table: &Value, key: &str) -> bool {
     match key {
-        "stream" | "release" | "latest" => false,
+        "stream" | "release" | "latest" | "period" | "frames" => false,
         "proc" => is_of_kind(table, "bridge"),
         _ => true,
     }

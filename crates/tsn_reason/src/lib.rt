@@ -10,6 +10,7 @@ mod claim;
 mod document;
 mod json;
 mod keys;
+mod lags;
 mod limits;
 mod motion;
 mod names;

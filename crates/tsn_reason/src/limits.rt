@@ -21,6 +21,7 @@ fn push_top_limit(text: &mut TextBuilder, top: &Value) -> bool {
         || push_count(text, top, "node", 256)
         || push_count(text, top, "link", 512)
         || push_count(text, top, "stream", 128)
+        || push_frame_count(text, top, 1024)
 }
 
 fn push_node_limit(text: &mut TextBuilder, node: &Value) -> bool {
@@ -39,6 +40,8 @@ fn push_stream_limit(text: &mut TextBuilder, stream: &Value) -> bool {
         || push_integer(text, stream, "octets", 64, 1522)
         || push_integer(text, stream, "release", 0, 1_000_000_000)
         || push_integer(text, stream, "latest", 1, 1_000_000_000)
+        || push_integer(text, stream, "period", 1, 1_000_000_000)
+        || push_integer(text, stream, "frames", 1, 16)
         || push_route_limit(text, elements_at(stream, "route"))
 }
 
@@ -66,6 +69,48 @@ fn push_count(text: &mut TextBuilder, top: &Value, key: &str, most: usize) -> bo
     text.push_str(" elements, and may have at most ");
     text.push_count(most);
     true
+}
+
+/// Writes how many frames the streams may send in a cycle, where they send more. Whether it wrote.
+fn push_frame_count(text: &mut TextBuilder, top: &Value, most: usize) -> bool {
+    let Some(cycle) = integer_at(top, "cycle") else {
+        return false;
+    };
+    let mut count = 0i64;
+    for stream in elements_at(top, "stream") {
+        count = count.saturating_add(frames_of(cycle, stream));
+    }
+    let count = usize::try_from(count).unwrap_or(0);
+    if count <= most {
+        return false;
+    }
+    text.push_str("the streams send ");
+    text.push_count(count);
+    text.push_str(" frames in a cycle, and may send at most ");
+    text.push_count(most);
+    true
+}
+
+/// How many frames a stream sends in a cycle; none where its period or their number is outside its limits.
+fn frames_of(cycle: i64, stream: &Value) -> i64 {
+    let period = integer_at(stream, "period").unwrap_or(cycle);
+    let frames = integer_at(stream, "frames").unwrap_or(1);
+    if period < 1 || period > 1_000_000_000 || frames < 1 || frames > 16 {
+        return 0;
+    }
+    cycle
+        .checked_div(period)
+        .unwrap_or(0)
+        .saturating_mul(frames)
+}
+
+/// Writes that a stream's period doesn't divide the cycle.
+pub fn push_bad_period(text: &mut TextBuilder, top: &Value, stream: &Value) {
+    let cycle = integer_at(top, "cycle").unwrap_or(0);
+    text.push_str("period ");
+    text.push_signed(integer_at(stream, "period").unwrap_or(cycle));
+    text.push_str(" doesn't divide the cycle ");
+    text.push_signed(cycle)
 }
 
 /// Writes what a name has to be, where the text at a key is none. Whether it wrote.

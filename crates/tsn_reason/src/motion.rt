@@ -1,9 +1,10 @@
 //! Whether a move may be made on a view, and what it shows.
 
-use crate::times::{passage_of, signed, turned, weight_of};
+use crate::times::{frame_passage, passage_of, signed, turned, weight_of};
 use crate::view::{News, View};
 use crate::wrong::{Room, Wrong};
 use tsn_argument::{Clause, Fact, Move, Order, Placing};
+use tsn_model::Frame;
 use tsn_timing::Timing;
 
 /// What a move shows: one fact, or two.
@@ -31,8 +32,9 @@ pub fn judge(view: &View<'_>, clauses: &[&Clause], motion: &Move) -> Result<Show
         Move::Arrive(stream) => judge_arrive(view, *stream),
         Move::Last(placing) => judge_last(view, placing),
         Move::First(placing) => judge_first(view, placing),
-        Move::Pack(link, streams) => judge_pack(view, *link, streams.list()),
+        Move::Pack(link, frames) => judge_pack(view, *link, frames.list()),
         Move::Round(orders) => judge_round(view, orders.list()),
+        Move::Follow(known, weaker) => judge_follow(view, *known, *weaker),
     }
 }
 
@@ -82,6 +84,25 @@ fn judge_turn(view: &View<'_>, order: Order) -> Result<Shown, Wrong> {
     }
 }
 
+/// By another order of the same streams, which asks for no less.
+fn judge_follow(view: &View<'_>, known: Order, weaker: Order) -> Result<Shown, Wrong> {
+    if !view.has(known) {
+        return Err(Wrong::NoOrder(known));
+    }
+    let Some(asked) = weight_of(view.timing, weaker) else {
+        return Err(Wrong::NoConflict(weaker));
+    };
+    if known.first != weaker.first || known.second != weaker.second {
+        return Err(Wrong::OfOthers);
+    }
+    let least = weight_of(view.timing, known).unwrap_or(0);
+    if asked <= least {
+        Ok(Shown::one(News::Order(weaker)))
+    } else {
+        Err(Wrong::Stronger(weaker, asked, least))
+    }
+}
+
 /// What refutes the view.
 fn refuting(view: &View<'_>) -> Shown {
     Shown::one(News::DoneFrom(view.done_high().saturating_add(1)))
@@ -120,14 +141,14 @@ fn judge_arrive(view: &View<'_>, stream: usize) -> Result<Shown, Wrong> {
     })
 }
 
-/// The stream goes last, since the others are done too early for it to go before one of them.
+/// The frame goes last, since the others are done too early for it to go before one of them.
 fn judge_last(view: &View<'_>, placing: &Placing) -> Result<Shown, Wrong> {
     let link = placing.link;
-    let stream = placing.stream;
+    let frame = placing.frame;
     let others = placing.others.list();
     let some = placing.some.list();
-    judge_placed(view.timing, link, stream, others, some)?;
-    let alone = use_of(view, link, &[stream]);
+    judge_placed(view.timing, link, frame, others, some)?;
+    let alone = use_of(view, link, &[frame]);
     let others = use_of(view, link, others);
     let room = Room {
         bound: both(alone, others).soonest(),
@@ -136,17 +157,18 @@ fn judge_last(view: &View<'_>, placing: &Placing) -> Result<Shown, Wrong> {
     };
     room_for(link, room)?;
     let free = use_of(view, link, some).soonest();
-    Ok(Shown::one(News::From(stream, free.saturating_sub(start_of(view, link, stream)))))
+    let begin = start_of(view, link, frame);
+    Ok(Shown::one(News::From(frame.stream, free.saturating_sub(begin))))
 }
 
-/// The stream goes first, since the others begin too late for it to go behind one of them.
+/// The frame goes first, since the others begin too late for it to go behind one of them.
 fn judge_first(view: &View<'_>, placing: &Placing) -> Result<Shown, Wrong> {
     let link = placing.link;
-    let stream = placing.stream;
+    let frame = placing.frame;
     let others = placing.others.list();
     let some = placing.some.list();
-    judge_placed(view.timing, link, stream, others, some)?;
-    let alone = use_of(view, link, &[stream]);
+    judge_placed(view.timing, link, frame, others, some)?;
+    let alone = use_of(view, link, &[frame]);
     let others = use_of(view, link, others);
     let all = both(alone, others);
     let room = Room {
@@ -156,14 +178,18 @@ fn judge_first(view: &View<'_>, placing: &Placing) -> Result<Shown, Wrong> {
     };
     room_for(link, room)?;
     let needed = use_of(view, link, some).latest();
-    Ok(Shown::one(News::Until(stream, needed.saturating_sub(end_of(view, link, stream)))))
+    let end = end_of(view, link, frame);
+    Ok(Shown::one(News::Until(frame.stream, needed.saturating_sub(end))))
 }
 
-/// Whether the streams have no room on the link.
-fn judge_pack(view: &View<'_>, link: usize, streams: &[usize]) -> Result<Shown, Wrong> {
+/// Whether the frames have no room on the link.
+fn judge_pack(view: &View<'_>, link: usize, frames: &[Frame]) -> Result<Shown, Wrong> {
     let mut seen = [false; 128];
-    see_streams(view.timing, link, &mut seen, streams)?;
-    let all = use_of(view, link, streams);
+    for number in 0..frames.len() {
+        is_on(view.timing, link, frames[number])?;
+        see(&mut seen, &frames[..number], frames[number])?;
+    }
+    let all = use_of(view, link, frames);
     let room = Room {
         bound: all.soonest(),
         end: all.end,
@@ -201,9 +227,9 @@ fn judge_round(view: &View<'_>, orders: &[Order]) -> Result<Shown, Wrong> {
     }
 }
 
-// ---- streams on a link
+// ---- frames on a link
 
-/// When some streams use a link: the soonest start, the latest end, and how long they need together.
+/// When some frames use a link: the soonest start, the latest end, and how long they need together.
 #[derive(Clone, Copy)]
 struct Use {
     head: i64,
@@ -223,7 +249,7 @@ impl Use {
     }
 }
 
-/// When the streams of both use the link.
+/// When the frames of both use the link.
 fn both(first: Use, second: Use) -> Use {
     Use {
         head: first.head.min(second.head),
@@ -232,18 +258,18 @@ fn both(first: Use, second: Use) -> Use {
     }
 }
 
-/// When these streams use a link.
-fn use_of(view: &View<'_>, link: usize, streams: &[usize]) -> Use {
+/// When these frames use a link.
+fn use_of(view: &View<'_>, link: usize, frames: &[Frame]) -> Use {
     let mut all = Use {
         head: i64::MAX,
         end: i64::MIN,
         work: 0,
     };
-    for stream in streams {
-        if let Some(passage) = passage_of(view.timing, *stream, link) {
+    for frame in frames {
+        if let Some(passage) = frame_passage(view.timing, *frame, link) {
             let one = Use {
-                head: view.low(*stream).saturating_add(passage.start),
-                end: view.high(*stream).saturating_add(passage.end),
+                head: view.low(frame.stream).saturating_add(passage.start),
+                end: view.high(frame.stream).saturating_add(passage.end),
                 work: passage.end.saturating_sub(passage.start),
             };
             all = both(all, one);
@@ -252,21 +278,21 @@ fn use_of(view: &View<'_>, link: usize, streams: &[usize]) -> Use {
     all
 }
 
-fn start_of(view: &View<'_>, link: usize, stream: usize) -> i64 {
-    match passage_of(view.timing, stream, link) {
+fn start_of(view: &View<'_>, link: usize, frame: Frame) -> i64 {
+    match frame_passage(view.timing, frame, link) {
         Some(passage) => passage.start,
         None => 0,
     }
 }
 
-fn end_of(view: &View<'_>, link: usize, stream: usize) -> i64 {
-    match passage_of(view.timing, stream, link) {
+fn end_of(view: &View<'_>, link: usize, frame: Frame) -> i64 {
+    match frame_passage(view.timing, frame, link) {
         Some(passage) => passage.end,
         None => 0,
     }
 }
 
-/// That streams with this room have too little of it.
+/// That frames with this room have too little of it.
 fn room_for(link: usize, room: Room) -> Result<(), Wrong> {
     if room.bound > room.end {
         Ok(())
@@ -275,57 +301,75 @@ fn room_for(link: usize, room: Room) -> Result<(), Wrong> {
     }
 }
 
-/// What is wrong with the streams of a placing, if anything is.
+/// What is wrong with the frames of a placing, if anything is.
 fn judge_placed(
     timing: &Timing,
     link: usize,
-    stream: usize,
-    others: &[usize],
-    some: &[usize],
+    frame: Frame,
+    others: &[Frame],
+    some: &[Frame],
 ) -> Result<(), Wrong> {
+    is_on(timing, link, frame)?;
     let mut seen = [false; 128];
-    see_streams(timing, link, &mut seen, &[stream])?;
-    see_streams(timing, link, &mut seen, others)?;
+    for number in 0..others.len() {
+        let other = others[number];
+        is_on(timing, link, other)?;
+        if other == frame {
+            return Err(Wrong::Repeated(other));
+        }
+        see(&mut seen, &others[..number], other)?;
+    }
+    judge_chosen(&seen, others, some)
+}
+
+/// What is wrong with some of the frames that stand in a list, if anything is.
+fn judge_chosen(seen: &[bool], others: &[Frame], some: &[Frame]) -> Result<(), Wrong> {
     let mut chosen = [false; 128];
-    for one in some {
-        if *one == stream || !is_marked(&seen, *one) {
-            return Err(Wrong::NotAmong(*one));
+    for number in 0..some.len() {
+        let one = some[number];
+        if !has_stood(seen, others, one) {
+            return Err(Wrong::NotAmong(one));
         }
-        see(&mut chosen, *one)?;
+        see(&mut chosen, &some[..number], one)?;
     }
     Ok(())
 }
 
-/// Marks streams that use a link; what is wrong with the first one that doesn't, or is marked already.
-fn see_streams(
-    timing: &Timing,
-    link: usize,
-    seen: &mut [bool],
-    streams: &[usize],
-) -> Result<(), Wrong> {
-    for stream in streams {
-        if *stream >= timing.streams() {
-            return Err(Wrong::NoStream(*stream));
-        }
-        if passage_of(timing, *stream, link).is_none() {
-            return Err(Wrong::NotOnLink(*stream, link));
-        }
-        see(seen, *stream)?;
+/// What is wrong with a frame, where it isn't on the link.
+fn is_on(timing: &Timing, link: usize, frame: Frame) -> Result<(), Wrong> {
+    let stream = frame.stream;
+    if stream >= timing.streams() {
+        return Err(Wrong::NoStream(stream));
+    }
+    if !timing.is_shift(stream, frame.shift) {
+        return Err(Wrong::NoFrame(frame));
+    }
+    if passage_of(timing, stream, link).is_none() {
+        return Err(Wrong::NotOnLink(stream, link));
     }
     Ok(())
 }
 
-/// Marks a stream that isn't marked.
-fn see(seen: &mut [bool], stream: usize) -> Result<(), Wrong> {
-    if is_marked(seen, stream) {
-        return Err(Wrong::Repeated(stream));
+/// Marks a frame that isn't marked and doesn't stand in a list.
+fn see(seen: &mut [bool], before: &[Frame], frame: Frame) -> Result<(), Wrong> {
+    if has_stood(seen, before, frame) {
+        return Err(Wrong::Repeated(frame));
     }
-    if stream < seen.len() {
-        seen[stream] = true;
+    if frame.shift == 0 && frame.stream < seen.len() {
+        seen[frame.stream] = true;
     }
     Ok(())
 }
 
-fn is_marked(seen: &[bool], stream: usize) -> bool {
-    stream < seen.len() && seen[stream]
+/// Whether a frame stood in a list: there is a mark for each stream whose frame of shift 0 did.
+fn has_stood(seen: &[bool], list: &[Frame], frame: Frame) -> bool {
+    if frame.shift == 0 {
+        return frame.stream < seen.len() && seen[frame.stream];
+    }
+    for other in list {
+        if *other == frame {
+            return true;
+        }
+    }
+    false
 }

@@ -2,7 +2,7 @@
 
 use crate::document::{text_at, value_at};
 use crate::keys::{push_missing_key, push_unknown_key, push_wrong_kind};
-use crate::limits::push_limit;
+use crate::limits::{push_bad_period, push_limit};
 use crate::names::{push_bad_rate, push_duplicate_cable, push_duplicate_name, push_unknown_name};
 use crate::routes::{push_bad_route, push_no_cable};
 use crate::text::{is_name, line_of, push_name};
@@ -56,6 +56,7 @@ fn push_fault(text: &mut TextBuilder, top: &Value, fault: NetFault) {
         Code::BadRoute => push_bad_route(text, top, table),
         Code::NoCable => push_no_cable(text, top, table),
         Code::NoStream => text.push_str("there is no stream"),
+        Code::BadPeriod => push_bad_period(text, top, table),
         Code::NotToml | Code::Memory => {}
     }
 }

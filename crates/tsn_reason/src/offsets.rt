@@ -1,6 +1,7 @@
 //! Why offsets are no valid schedule.
 
 use crate::text::line_of;
+use crate::wrong::push_later;
 use crate::{File, Reason};
 use std::alloc::Global;
 use tsn_model::{Link, Triple, Violation};
@@ -69,20 +70,36 @@ fn push_past_cycle(text: &mut TextBuilder, schedule: Schedule<'_>, stream: usize
     }
     let offset = schedule.offset(stream);
     let end = offset.saturating_add(schedule.timing.span(stream));
-    let cycle = schedule.timing.cycle();
+    let period = schedule.timing.period(stream);
     text.push_str(": with offset ");
     text.push_number(offset);
     text.push_str(" it ends at ");
     text.push_number(end);
-    text.push_str(", past the cycle's end at ");
-    text.push_number(cycle);
+    text.push(',');
+    text.push_str(past_end(schedule.timing, stream));
+    text.push_number(period);
+}
+
+/// Past which end of its own a stream is.
+pub fn past_end(timing: &Timing, stream: usize) -> &'static str {
+    if stream < timing.streams() && timing.period(stream) < timing.cycle() {
+        " past its period's end at "
+    } else {
+        " past the cycle's end at "
+    }
 }
 
 fn push_overlap(text: &mut TextBuilder, problem: &Problem, triple: Triple) {
-    let Triple { left, right, link } = triple;
+    let Triple {
+        left,
+        right,
+        link,
+        lag,
+    } = triple;
     push_stream(text, problem, left);
     text.push_str(" and ");
     push_stream(text, problem, right);
+    push_later(text, lag);
     text.push_str(" overlap on ");
     push_link(text, problem, link)
 }

@@ -5,8 +5,10 @@ use crate::target::push_wrong_target;
 use crate::text::line_of;
 use crate::{File, Reason};
 use std::alloc::Global;
+use tsn_cert::{Chain, Entries, Leaf, LowerBound, Node};
 use tsn_check::CheckFault;
-use tsn_model::NoMemory;
+use tsn_model::{Frame, NoMemory};
+use tsn_timing::Timing;
 
 /// Why a tree with this fault is refused, where its plan is right.
 pub fn tree_line(alloc: Global, file: File<'_>, shown: Shown<'_>, fault: CheckFault) -> Reason {
@@ -17,7 +19,47 @@ pub fn tree_line(alloc: Global, file: File<'_>, shown: Shown<'_>, fault: CheckFa
             push_wrong_target(&mut text, shown.timing, shown.plan, shown.cert.target)
         }
         CheckFault::BoundTooLow(node) => push_low_bound(alloc, &mut text, shown, node)?,
+        CheckFault::NotOnLink(node) if has_strange_frame(shown, node) => {
+            text.push_str("node ");
+            text.push_count(node);
+            text.push_str(" has a frame that its stream doesn't send")
+        }
         _ => text.push_str(format!(in alloc; "{fault}")?.as_str()),
     }
     Ok(Some(text.finish()?))
+}
+
+/// Whether the first frame of a node that isn't on its link is none of its stream's.
+fn has_strange_frame(shown: Shown<'_>, number: usize) -> bool {
+    let Some(node) = shown.cert.nodes.list().get(number) else {
+        return false;
+    };
+    match entries_of(node) {
+        Some((link, entries)) => is_strange_first(shown.timing, link, entries.list()),
+        None => false,
+    }
+}
+
+fn entries_of(node: &Node) -> Option<(usize, &Entries)> {
+    match node {
+        Node::Leaf(Leaf::Bound(LowerBound::Load(link, entries))) => Some((*link, entries)),
+        Node::Leaf(Leaf::Overload(link, entries)) => Some((*link, entries)),
+        Node::Tie(LowerBound::Load(link, entries), _) => Some((*link, entries)),
+        _ => None,
+    }
+}
+
+fn is_strange_first(timing: &Timing, link: usize, entries: &[(Frame, Chain)]) -> bool {
+    for (frame, _) in entries {
+        if frame.stream >= timing.streams() {
+            return false;
+        }
+        if !timing.is_shift(frame.stream, frame.shift) {
+            return true;
+        }
+        if timing.hop_on(frame.stream, link).is_none() {
+            return false;
+        }
+    }
+    false
 }

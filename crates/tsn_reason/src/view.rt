@@ -63,10 +63,13 @@ pub struct View<'a> {
     pub timing: &'a Timing,
     now: Bounds,
     ground: Bounds,
-    /// A mark for each order of the view.
+    /// A mark for each order of the view whose lag is 0.
     orders: Vec<bool>,
     /// The places of those that the ground doesn't have.
     added: Vec<usize>,
+    /// The orders of other lags, and how many of these the ground has.
+    lagging: Vec<Order>,
+    kept: usize,
 }
 
 impl<'a> View<'a> {
@@ -80,6 +83,8 @@ impl<'a> View<'a> {
             ground: bounds,
             orders,
             added: Vec::new(alloc),
+            lagging: Vec::new(alloc),
+            kept: 0,
         })
     }
 
@@ -118,6 +123,9 @@ impl<'a> View<'a> {
 
     /// Whether the order is one of the view.
     pub fn has(&self, order: Order) -> bool {
+        if order.lag != 0 {
+            return is_among(self.lagging.as_slice(), order);
+        }
         match place_of(self.timing, order) {
             Some(place) if place < self.orders.len() => self.orders[place],
             _ => false,
@@ -148,6 +156,9 @@ impl<'a> View<'a> {
     }
 
     fn decide(&mut self, order: Order) -> Result<(), AllocError> {
+        if order.lag != 0 {
+            return self.decide_lagging(order);
+        }
         let Some(place) = place_of(self.timing, order) else {
             return Ok(());
         };
@@ -158,17 +169,26 @@ impl<'a> View<'a> {
         Ok(())
     }
 
+    fn decide_lagging(&mut self, order: Order) -> Result<(), AllocError> {
+        if !is_among(self.lagging.as_slice(), order) {
+            self.lagging.push(order)?;
+        }
+        Ok(())
+    }
+
     /// Makes the view the ground once more.
     pub fn go_back(&mut self) {
         self.now = self.ground;
         clear(self.orders.as_mut_slice(), self.added.as_slice());
         self.added.clear();
+        self.lagging.truncate(self.kept);
     }
 
     /// Makes the view the ground.
     pub fn keep(&mut self) {
         self.ground = self.now;
         self.added.clear();
+        self.kept = self.lagging.len();
     }
 }
 
@@ -202,7 +222,16 @@ impl Bounds {
     }
 }
 
-/// Before the first step an offset is at least the release, and the stream is done within the cycle and arrives in time.
+fn is_among(orders: &[Order], order: Order) -> bool {
+    for other in orders {
+        if *other == order {
+            return true;
+        }
+    }
+    false
+}
+
+/// Before the first step each offset is within its window.
 fn first_bounds(timing: &Timing, done_high: i64) -> Bounds {
     let mut bounds = Bounds {
         low: [0; 128],
@@ -211,14 +240,10 @@ fn first_bounds(timing: &Timing, done_high: i64) -> Bounds {
         done_high,
         crossed: done_high < 0,
     };
-    let cycle = signed(timing.cycle());
     for stream in 0..timing.streams() {
-        let ends = cycle.saturating_sub(signed(timing.span(stream)));
-        let arrival = signed(timing.arrival(stream));
-        let arrives = signed(timing.latest(stream)).saturating_sub(arrival);
-        bounds.raise(stream, signed(timing.release(stream)));
-        bounds.lower(stream, ends);
-        bounds.lower(stream, arrives);
+        let window = timing.window(stream);
+        bounds.raise(stream, signed(window.least));
+        bounds.lower(stream, window.greatest);
     }
     bounds
 }

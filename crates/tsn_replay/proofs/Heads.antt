@@ -5,12 +5,13 @@ use Rattle.std.proofs.lemmas.Bool.{cases_lt}
 use Rattle.tsn_model.specs.Network.{Network, stream_count}
 use Rattle.tsn_replay.specs.declared.queue.Frame.{Frame}
 use Rattle.tsn_replay.specs.declared.visits.Visit.{Visit}
-use Rattle.tsn_replay.specs.Queue.{Waits, Precedes, IsHead, IsFirstAmong, AreVisits, frame_in}
+use Rattle.tsn_replay.specs.Queue.{Waits, Precedes, IsHead, IsFirstAmong, AreVisits, frame_in, visit_of}
 
 pub from_frame : (P : Frame → Type 0) (frames : List Frame) (number : ℕ) (d : Frame) → number < length frames → P (frame_in frames number)
     → P (get_or frames number d)
 unfolding frame_in
-from_frame P frames number d below has = subst P (sym (get_or_default frames number d (record { stream = 0; cycle = 0; hop = 0; ready = 0 }) below)) has
+from_frame P frames number d below has = subst P (sym
+    (get_or_default frames number d (record { stream = 0; shift = 0; cycle = 0; hop = 0; ready = 0 }) below)) has
 
 pub precedes_further : (a b c : Frame) → Precedes a b → Precedes b c → Precedes a c
 precedes_further a b c (inl less) (inl more) = inl (omega arith)
@@ -72,15 +73,19 @@ module _ (network : Network) (frames : List Frame) (link : ℕ) (P Q R : Frame �
 
 -- ---- the hops on the link
 
+-- what stands for a visit past the last one
+abbrev pub no_visit : Visit
+no_visit = record { stream = 0; hop = 0; first = 0; count = 0 }
+
 -- the frame is of a stream among the first so many
 abbrev pub IsVisited : List Visit → ℕ → Frame → Type 0
-IsVisited visits count frame = (k : ℕ) × (k < count) × ((get_or visits k (record { stream = 0; hop = 0 })).stream ≡ frame.stream)
+IsVisited visits count frame = (k : ℕ) × (k < count) × ((get_or visits k no_visit).stream ≡ frame.stream)
 
 pub visited_more : (visits : List Visit) (count : ℕ) (frame : Frame) → IsVisited visits (count + 1) frame
-    → IsVisited visits count frame ⊎ (frame.stream ≡ (get_or visits count (record { stream = 0; hop = 0 })).stream)
+    → IsVisited visits count frame ⊎ (frame.stream ≡ (get_or visits count no_visit).stream)
 visited_more visits count frame (k, below, same) = elim (cases_lt k count) [
   | inl earlier ↦ inl (k, earlier, same)
-  | inr last ↦ let is : k ≡ count = omega arith in inr (sym same ∙ ap (λ n. (get_or visits n (record { stream = 0; hop = 0 })).stream) is)
+  | inr last ↦ let is : k ≡ count = omega arith in inr (sym same ∙ ap (λ n. (get_or visits n no_visit).stream) is)
 ]
 
 -- a frame that waits on the link is of a stream that has a hop there
@@ -89,13 +94,13 @@ module _ (network : Network) (frames : List Frame) (link : ℕ) (streams : All (
   visited : (number : ℕ) → number < length frames → Waits network link (frame_in frames number) → IsVisited visits (length visits) (frame_in frames number)
   unfolding frame_in
   visited number below waits =
-      let counted = streams number (record { stream = 0; cycle = 0; hop = 0; ready = 0 }) below in
+      let counted = streams number (record { stream = 0; shift = 0; cycle = 0; hop = 0; ready = 0 }) below in
       let has = are.complete (frame_in frames number).stream (frame_in frames number).hop counted waits.waits waits.on in (
         has.0,
         has.1,
         ap (λ (v : Visit). v.stream)
-            (get_or_default visits has.0 (record { stream = 0; hop = 0 })
-            (record { stream = (frame_in frames number).stream; hop = (frame_in frames number).hop }) has.1 ∙ has.2),
+            (get_or_default visits has.0 no_visit
+            (visit_of network (frame_in frames number).stream (frame_in frames number).hop) has.1 ∙ has.2),
       )
 
   pub head_all : (first : Option ℕ) → IsFirstAmong network frames link (IsVisited visits (length visits)) first → IsHead network frames link first

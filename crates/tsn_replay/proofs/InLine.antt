@@ -1,5 +1,5 @@
 -- The frames of each stream in line: where the first one on a link is found, and that a start keeps the line.
-use Rattle.std.proofs.Common.{◌≡◌, ℕ, ◌+◌, ◌*◌, ◌-◌, ◌≤◌, ◌<◌, ◌⊎◌, ltb, ltb-true, lt-ltb, List, length, get_or, map, slice_set, Option, Some, None, refl, sym, ap, ◌∙◌, subst, arith, inl, inr}
+use Rattle.std.proofs.Common.{◌≡◌, ℕ, ◌+◌, ◌*◌, ◌-◌, ◌≤◌, ◌<◌, ◌⊎◌, ltb, ltb-true, lt-ltb, List, length, get_or, map, slice_set, Option, Some, None, refl, sym, ap, ◌∙◌, subst, arith, inl, inr, add-mul}
 use Rattle.std.proofs.lemmas.Bool.{cases_lt, cases_eq, cases_order}
 use Rattle.std.specs.List.{between}
 use Rattle.std.specs.List.Sorted.{IsPartitionedBy}
@@ -7,14 +7,17 @@ use Rattle.std.proofs.lemmas.List.{length-set, get_or_default}
 use Rattle.std.proofs.lemmas.List.Edits.{length-between, get_or-between}
 use Rattle.std.proofs.lemmas.List.Elements.{All-contains, Contains-append_left}
 use Rattle.tsn_model.specs.Network.{Network, IsWellFormed, stream_count, hop_count, route_link}
-use Rattle.tsn_model.specs.Timing.{hop_delay}
+use Rattle.tsn_model.specs.Timing.{hop_delay, shifts, Sends}
 use Rattle.tsn_model.specs.Bridge.{LinkGates, Passage, BridgeRun, WireUse, link_of, length_of, scheduled_use, background_use, wire_uses, IsPassage, StartedAt, IsReady}
 use Rattle.tsn_model.proofs.Limits.{occupancy-ge}
 use Rattle.tsn_model.proofs.Lists.{Contains-map}
-use Rattle.tsn_model.proofs.OnTime.{cycle_below, same_cycle, hop_once, link_exists}
+use Rattle.tsn_model.proofs.OnTime.{hop_once, link_exists}
 use Rattle.tsn_replay.specs.declared.queue.Frame.{Frame}
-use Rattle.tsn_replay.specs.Queue.{Waits, Precedes, IsHead, AreInLine, IsFirstAmong, IsFirstOnHop, frame_in, passage_of}
+use Rattle.tsn_replay.specs.declared.visits.Visit.{Visit}
+use Rattle.tsn_replay.specs.Queue.{Waits, Precedes, IsHead, AreInLine, IsFirstAmong, IsFirstOnHop, IsVisit, frame_in, passage_of}
 use Rattle.tsn_replay.specs.Progress.{IsRunSoFar, IsTracked, advanced}
+use Rattle.tsn_replay.specs.Frames.{frames_below}
+use Rattle.tsn_replay.proofs.Counting.{below-more, blocks-le, one_block}
 use Rattle.tsn_replay.proofs.Advances.{frame_set_same, frame_set_other}
 
 -- a frame waits on the link by its stream's route
@@ -33,33 +36,43 @@ by_waits network link stream frame same below on = record {
 
 -- ---- the first frame of a stream
 
+-- where a stream's frames end
+block_end : (network : Network) (cycles stream first count : ℕ) → first ≡ frames_below network stream → count ≡ length (shifts network stream)
+    → first * cycles + count * cycles ≡ frames_below network (stream + 1) * cycles
+block_end network cycles stream first count first_is count_is =
+    let more = below-more network stream in
+    let together : first + count ≡ frames_below network (stream + 1) = omega arith in
+    sym (add-mul first count cycles) ∙ ap (λ n. n * cycles) together
+
 module _ (network : Network) (formed : IsWellFormed network) (cycles : ℕ) (frames : List Frame) (line : AreInLine network cycles frames) (stream : ℕ)
-    (counted : stream < stream_count network) where
-  pub block_within : stream * cycles + cycles ≤ length frames
+    (counted : stream < stream_count network) (from to : ℕ) (from_is : from ≡ frames_below network stream * cycles)
+    (to_is : to ≡ frames_below network (stream + 1) * cycles) where
+  block_within : to ≤ length frames
   block_within =
-      let gap = cycle_below stream (stream_count network) cycles counted in
+      let last = blocks-le network cycles (stream + 1) (stream_count network) (omega arith) in
       let count = line.count in
       omega arith
 
-  pub of_block : (number : ℕ) → stream * cycles ≤ number → number < stream * cycles + cycles → (frame_in frames number).stream ≡ stream
-  of_block number from upto =
+  of_block : (number : ℕ) → from ≤ number → number < to → (frame_in frames number).stream ≡ stream
+  of_block number since upto =
       let within = block_within in
       let place = line.place number (omega arith) in
-      let is = place.0 in
-      same_cycle (frame_in frames number).stream stream cycles (frame_in frames number).cycle (number - stream * cycles) place.1 (omega arith) (omega arith)
+      one_block network cycles (frame_in frames number).stream stream number place.0 place.1 (omega arith) (omega arith)
 
-  pub block_hops : (a b : ℕ) → stream * cycles ≤ a → a < b → b < stream * cycles + cycles → (frame_in frames b).hop ≤ (frame_in frames a).hop
-  block_hops a b from less upto =
+  block_hops : (a b : ℕ) → from ≤ a → a < b → b < to → (frame_in frames b).hop ≤ (frame_in frames a).hop
+  block_hops a b since less upto =
       let within = block_within in
-      line.hops a b less (omega arith) (of_block a from (omega arith) ∙ sym (of_block b (omega arith) upto))
+      line.hops a b less (omega arith) (of_block a since (omega arith) ∙ sym (of_block b (omega arith) upto))
 
-  pub in_block : (number : ℕ) → number < length frames → (frame_in frames number).stream ≡ stream
-      → (stream * cycles ≤ number) × (number < stream * cycles + cycles)
+  in_block : (number : ℕ) → number < length frames → (frame_in frames number).stream ≡ stream → (from ≤ number) × (number < to)
   in_block number below same =
       let place = line.place number below in
-      let is = place.0 in
-      let within = place.1 in
-      let product : (frame_in frames number).stream * cycles ≡ stream * cycles = ap (λ n. n * cycles) same in
+      let low = place.0 in
+      let high = place.1 in
+      let begins : frames_below network (frame_in frames number).stream * cycles ≡ frames_below network stream * cycles =
+      ap (λ i. frames_below network i * cycles) same in
+      let ends : frames_below network ((frame_in frames number).stream + 1) * cycles ≡ frames_below network (stream + 1) * cycles =
+      ap (λ i. frames_below network (i + 1) * cycles) same in
       (omega arith, omega arith)
 
   module _ (link hop : ℕ) (below : hop < hop_count network stream) (on : route_link network stream hop ≡ link) where
@@ -70,22 +83,48 @@ module _ (network : Network) (formed : IsWellFormed network) (cycles : ℕ) (fra
         let by = waits_by network link stream (frame_in frames number) same waits in
         hop_once network formed stream counted (frame_in frames number).hop hop by.0 below (by.1 ∙ sym on)
 
-    pub first_waits : (first : Option ℕ) → IsFirstOnHop frames (stream * cycles) (stream * cycles + cycles) hop first
+    first_waits : (first : Option ℕ) → IsFirstOnHop frames from to hop first
         → IsFirstAmong network frames link (λ (frame : Frame). frame.stream ≡ stream) first
     first_waits None none = λ number within same waits. let block = in_block number within same in none number block.0 block.1 (on_hop number within same waits)
-    first_waits (Some first) (from, upto, at, earlier) =
+    first_waits (Some first) (since, upto, at, earlier) =
         let whole = block_within in (
           omega arith,
-          by_waits network link stream (frame_in frames first) (of_block first from upto) (omega arith) (ap (route_link network stream) at ∙ on),
+          by_waits network link stream (frame_in frames first) (of_block first since upto) (omega arith) (ap (route_link network stream) at ∙ on),
           λ number within same waits. elim (cases_order first number) [
             | inl here ↦ subst (λ n. Precedes (frame_in frames first) (frame_in frames n)) here (inr (refl, omega arith))
             | inr differ ↦ elim differ [
-              | inl less ↦ inl (line.readies first number less within (of_block first from upto ∙ sym same)
+              | inl less ↦ inl (line.readies first number less within (of_block first since upto ∙ sym same)
                   (at ∙ sym (on_hop number within same waits)) waits.waits)
               | inr more ↦ let block = in_block number within same in absurd (earlier number block.0 more (on_hop number within same waits))
             ]
           ],
         )
+
+-- the same of a visit's stream
+module _ (network : Network) (formed : IsWellFormed network) (cycles : ℕ) (frames : List Frame) (line : AreInLine network cycles frames) (link : ℕ)
+    (visit : Visit)
+    (is : IsVisit network link visit) where
+  abbrev from : ℕ
+  from = visit.first * cycles
+
+  abbrev to : ℕ
+  to = visit.first * cycles + visit.count * cycles
+
+  from_is : from ≡ frames_below network visit.stream * cycles
+  from_is = ap (λ n. n * cycles) is.first
+
+  to_is : to ≡ frames_below network (visit.stream + 1) * cycles
+  to_is = block_end network cycles visit.stream visit.first visit.count is.first is.count
+
+  pub visit_within : to ≤ length frames
+  visit_within = block_within network formed cycles frames line visit.stream is.stream from to from_is to_is
+
+  pub visit_hops : (a b : ℕ) → from ≤ a → a < b → b < to → (frame_in frames b).hop ≤ (frame_in frames a).hop
+  visit_hops = block_hops network formed cycles frames line visit.stream is.stream from to from_is to_is
+
+  pub visit_waits : (first : Option ℕ) → IsFirstOnHop frames from to visit.hop first
+      → IsFirstAmong network frames link (λ (frame : Frame). frame.stream ≡ visit.stream) first
+  visit_waits = first_waits network formed cycles frames line visit.stream is.stream from to from_is to_is link visit.hop is.hop is.on
 
 -- ---- the first frame on a hop
 
@@ -94,7 +133,7 @@ module _ (frames : List Frame) (from to hop : ℕ) (within : to ≤ length frame
   pub read_between : (k : ℕ) (d : Frame) → from + k < to → get_or (between from to frames) k d ≡ frame_in frames (from + k)
   unfolding frame_in
   read_between k d below = get_or-between frames from to k d below ∙ get_or_default frames (from + k) d
-      (record { stream = 0; cycle = 0; hop = 0; ready = 0 }) (omega arith)
+      (record { stream = 0; shift = 0; cycle = 0; hop = 0; ready = 0 }) (omega arith)
 
   -- those on later hops come first
   pub hop_parted : IsPartitionedBy (λ (frame : Frame). ltb hop frame.hop) (between from to frames)
@@ -154,19 +193,19 @@ module _ (network : Network) (formed : IsWellFormed network) (offsets : List ℕ
       (head : IsHead network frames link (Some number)) (wire : free link ≤ time) where
     -- a frame that is one hop further than the head has been ready since before the head will be
     sooner : (frame : Frame) → frame.stream ≡ (frame_in frames number).stream → frame.hop ≡ (frame_in frames number).hop + 1 → frame.cycle < cycles
-        → frame.stream < stream_count network → IsReady network offsets run (passage_of frame) frame.ready
+        → frame.stream < stream_count network → Sends network frame.stream frame.shift → IsReady network offsets run (passage_of frame) frame.ready
         → frame.ready < time + hop_delay network (frame_in frames number).stream
         (route_link network (frame_in frames number).stream (frame_in frames number).hop)
     unfolding passage_of link_of
-    sooner frame stream hop cycle counted (inl (first, at)) = absurd (omega arith)
-    sooner frame stream hop cycle counted (inr (before, s, next, at, after)) =
+    sooner frame stream hop cycle counted sent (inl (first, at)) = absurd (omega arith)
+    sooner frame stream hop cycle counted sent (inr (before, s, next, at, after)) =
         let same : before ≡ (frame_in frames number).hop = omega arith in
         let waits : before < hop_count network frame.stream = subst (λ i. before < hop_count network i) (sym stream)
         (let below = head.1.waits in omega arith) in
         let on : route_link network frame.stream before ≡ link = ap (λ i. route_link network i before) stream ∙
         (ap (route_link network (frame_in frames number).stream) same ∙ head.1.on) in
-        let early = begun_before (record { stream = frame.stream; cycle = frame.cycle; hop = before }) s
-        (record { stream = counted; cycle = cycle; hop = waits }) at in
+        let early = begun_before (record { stream = frame.stream; shift = frame.shift; cycle = frame.cycle; hop = before }) s
+        (record { stream = counted; sent = sent; cycle = cycle; hop = waits }) at in
         let upto : free (route_link network frame.stream before) ≤ time = subst (λ l. free l ≤ time) (sym on) wire in
         let delay : hop_delay network frame.stream (route_link network frame.stream before) ≡ hop_delay network (frame_in frames number).stream
         (route_link network (frame_in frames number).stream (frame_in frames number).hop) =
@@ -202,18 +241,11 @@ module _ (network : Network) (formed : IsWellFormed network) (offsets : List ℕ
     long : length after ≡ length frames
     long = length-set frames number (advanced network (frame_in frames number) time)
 
-    -- a frame keeps its stream and cycle
+    -- a frame keeps its stream
     same_stream : (n : ℕ) → (frame_in after n).stream ≡ (frame_in frames n).stream
     same_stream n = elim (cases_eq number n) [
       | inl same ↦ ap (λ (f : Frame). f.stream) (at_head n same)
       | inr differ ↦ ap (λ (f : Frame). f.stream)
-          (elsewhere n differ)
-    ]
-
-    same_place : (n : ℕ) → (frame_in after n).cycle ≡ (frame_in frames n).cycle
-    same_place n = elim (cases_eq number n) [
-      | inl same ↦ ap (λ (f : Frame). f.cycle) (at_head n same)
-      | inr differ ↦ ap (λ (f : Frame). f.cycle)
           (elsewhere n differ)
     ]
 
@@ -267,7 +299,7 @@ module _ (network : Network) (formed : IsWellFormed network) (offsets : List ℕ
                 let hop_number : (frame_in frames b).hop ≡ (frame_in frames number).hop = ap (λ n. (frame_in frames n).hop) (sym is) in
                 let in_route : (frame_in frames a).hop < hop_count network (frame_in frames a).stream = subst
                 (λ i. (frame_in frames a).hop < hop_count network i) (sym old_same) (omega arith) in
-                let soon = sooner (frame_in frames a) at_number (omega arith) frame.cycle frame.stream (frame.ready in_route) in
+                let soon = sooner (frame_in frames a) at_number (omega arith) frame.cycle frame.stream frame.sent (frame.ready in_route) in
                 let delay : hop_delay network (frame_in frames b).stream (route_link network (frame_in frames b).stream (frame_in frames b).hop)
                 ≡ hop_delay network (frame_in frames number).stream (route_link network (frame_in frames number).stream (frame_in frames number).hop) =
                 ap (λ n. hop_delay network (frame_in frames n).stream (route_link network (frame_in frames n).stream (frame_in frames n).hop)) (sym is) in
@@ -287,12 +319,7 @@ module _ (network : Network) (formed : IsWellFormed network) (offsets : List ℕ
       count = long ∙ line.count;
       place = λ n below.
           let size = long in
-          let place = line.place n (omega arith) in
-          let is = place.0 in
-          let within = place.1 in
-          let cycle = same_place n in
-          let product : (frame_in after n).stream * cycles ≡ (frame_in frames n).stream * cycles = ap (λ i. i * cycles) (same_stream n) in
-          (omega arith, omega arith);
+          subst (λ i. (frames_below network i * cycles ≤ n) × (n < frames_below network (i + 1) * cycles)) (sym (same_stream n)) (line.place n (omega arith));
       hops = hops_kept;
       readies = readies_kept;
     }

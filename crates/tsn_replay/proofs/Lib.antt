@@ -1,3 +1,4 @@
+pub mod Counting
 pub mod Lists
 pub mod Spans
 pub mod Heads

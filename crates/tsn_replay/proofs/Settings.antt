@@ -7,16 +7,22 @@ use Rattle.std.proofs.lemmas.List.Elements.{All-map, All-contains}
 use Rattle.std.proofs.lemmas.Map.Made.{IsDistinct-from_AllPairs}
 use Rattle.std.proofs.lemmas.Map.Steps.{length-le_from_distinct_below}
 use Rattle.std.proofs.lemmas.Map.Views.{Contains-from_any}
-use Rattle.tsn_model.specs.Network.{Network, IsWellFormed, route_link}
+use Rattle.tsn_model.specs.Network.{Network, IsWellFormed, stream_count, route_link}
+use Rattle.tsn_model.specs.Timing.{UsesLink}
 use Rattle.tsn_model.specs.Schedule.{IsValid}
 use Rattle.tsn_model.specs.Bridge.{LinkGates, BackgroundFrame, Background, frame_at}
 use Rattle.tsn_model.specs.Bridge.Background.{nothing, greedy, frames}
 use Rattle.tsn_model.proofs.Lists.{AllPairs-map}
 use Rattle.tsn_model.proofs.Schedules.{offsets_within}
+use Rattle.tsn_model.proofs.Limits.{hops-pos}
+use Rattle.tsn_model.proofs.OnTime.{hop_uses}
+use Rattle.tsn_model.proofs.Routes.{occupancy-pos, window-le-cycle}
+use Rattle.tsn_gate.proofs.Ascending.{shifts_ascend}
 use Rattle.tsn_replay.specs.declared.fault.ReplayFault.{ReplayFault}
 use Rattle.tsn_replay.specs.Openings.{IsGivenFrame, HasLists, HasBackground}
 use Rattle.tsn_replay.specs.Faults.{IsListed, NamesLinks, KeepsLimits, HasReplayFault}
 use Rattle.tsn_replay.specs.Progress.{Setting, IsSetting}
+use Rattle.tsn_replay.specs.Frames.{AreSpaced}
 
 pub no_fault : (network : Network) (lists : List LinkGates) (cycles : ℕ) (background : Background) (found : Option ReplayFault) → ((fault : ReplayFault) → found ≡ Some fault → ⊥)
     → MatchOption found (NamesLinks network lists background × KeepsLimits network lists cycles background) (HasReplayFault network lists cycles background) → NamesLinks network lists background × KeepsLimits network lists cycles background
@@ -55,12 +61,27 @@ has_background network formed lists cycles few nothing names keeps = record {}
 has_background network formed lists cycles few greedy names keeps = record {}
 has_background network formed lists cycles few (frames list) names keeps = given_frame network formed lists cycles few list names keeps
 
+-- a valid schedule's frames are spaced
+pub valid_spaced : (network : Network) (offsets : List ℕ) → IsWellFormed network → IsValid network offsets → AreSpaced network
+valid_spaced network offsets formed valid = record {
+  within = λ i shift below sent.
+      let first = link_of_first i below in
+      let some = occupancy-pos network i (route_link network i 0) formed first in
+      let end = window-le-cycle network offsets i shift (route_link network i 0) valid sent first in
+      omega arith;
+  ascend = λ i below. shifts_ascend network offsets i (route_link network i 0) formed valid (link_of_first i below);
+}
+  where
+    link_of_first : (i : ℕ) → i < stream_count network → UsesLink network i (route_link network i 0)
+    link_of_first i below = let some = hops-pos network formed i below in hop_uses network formed i below 0 (omega arith)
+
 pub setting_right : (setting : Setting) → IsWellFormed setting.network → IsValid setting.network setting.offsets → setting.cycles ≤ 16 → NamesLinks setting.network setting.gates setting.background
     → KeepsLimits setting.network setting.gates setting.cycles setting.background → IsSetting setting
 setting_right setting formed valid few names keeps = record {
   formed = formed;
   count = valid.count;
   small = offsets_within setting.network setting.offsets valid;
+  spaced = valid_spaced setting.network setting.offsets formed valid;
   few = few;
   lists = record { links = names.exist; distinct = names.distinct; used = λ i k i_below k_below. listed_at setting.gates (route_link setting.network i k) (names.used i i_below k k_below) };
   background = has_background setting.network formed setting.gates setting.cycles few setting.background names keeps;

@@ -69,14 +69,16 @@ module _ (setting : Setting) (state : State) (can : IsSetting setting) (is : IsS
     ends_as_run =
         let end_is = is.under_way.end in
         let upto = is.under_way.time in
-        ends_run network can.formed setting.offsets setting.gates can.lists setting.cycles setting.background can.background line state.time state.free.items made state.frames.items is.under_way.run is.under_way.fed is.under_way.tracked
+        ends_run network can.formed can.spaced setting.offsets setting.gates can.lists setting.cycles setting.background can.background line state.time
+        state.free.items made state.frames.items is.under_way.run is.under_way.fed is.under_way.tracked
         (record { link = 0; time = end; frame = None }) none (omega arith) (omega arith)
 
     ends_as_fed : IsFed network setting.gates setting.cycles setting.background made
     ends_as_fed =
         let end_is = is.under_way.end in
         let upto = is.under_way.time in
-        ends_fed network can.formed setting.offsets setting.gates can.lists setting.cycles setting.background can.background line state.time state.free.items made state.frames.items is.under_way.run is.under_way.fed is.under_way.tracked
+        ends_fed network can.formed can.spaced setting.offsets setting.gates can.lists setting.cycles setting.background can.background line state.time
+        state.free.items made state.frames.items is.under_way.run is.under_way.fed is.under_way.tracked
         (record { link = 0; time = end; frame = None }) none (omega arith) (omega arith)
 
     pub ends_as_starts : AreStarts setting state.starts
@@ -150,7 +152,8 @@ module _ (setting : Setting) (state : State) (can : IsSetting setting) (is : IsS
           omega arith
 
       can_start_here : CanStart network setting.gates state.frames.items line next (Some waiting)
-      can_start_here = can_start network can.formed setting.offsets setting.gates can.lists setting.cycles setting.background can.background line state.time state.free.items made state.frames.items is.under_way.run is.under_way.fed is.under_way.tracked
+      can_start_here = can_start network can.formed can.spaced setting.offsets setting.gates can.lists setting.cycles setting.background can.background line
+          state.time state.free.items made state.frames.items is.under_way.run is.under_way.fed is.under_way.tracked
           next is_next in_time waiting refl
 
       pub waiting_below : waiting < length state.frames.items
@@ -176,7 +179,8 @@ module _ (setting : Setting) (state : State) (can : IsSetting setting) (is : IsS
         pub started_under_way : IsUnderWay setting started
         started_under_way =
             let run = with_passage made (passage_of frame) time in
-            let step = passage_step network can.formed setting.offsets setting.gates can.lists setting.cycles setting.background can.background line state.time state.free.items made state.frames.items is.under_way.run is.under_way.fed is.under_way.tracked
+            let step = passage_step network can.formed can.spaced setting.offsets setting.gates can.lists setting.cycles setting.background can.background
+            line state.time state.free.items made state.frames.items is.under_way.run is.under_way.fed is.under_way.tracked
             next is_next in_time waiting refl frame frame_is run refl duration duration_is moved moved_is is.under_way.wires in
             let end_is = is.under_way.end in
             let limit = is.under_way.small in
@@ -316,9 +320,11 @@ module _ (setting : Setting) (state : State) (can : IsSetting setting) (is : IsS
                 let soon = send_in_time in
                 let short = until_short in
                 let upto = short.1 in
-                let run = send_run network can.formed setting.offsets setting.gates can.lists setting.cycles setting.background can.background line state.time state.free.items made state.frames.items is.under_way.run is.under_way.fed is.under_way.tracked
+                let run = send_run network can.formed can.spaced setting.offsets setting.gates can.lists setting.cycles setting.background can.background
+                line state.time state.free.items made state.frames.items is.under_way.run is.under_way.fed is.under_way.tracked
                 send_next is_send_next send_in_time refl waiting waits until until_is is.under_way.wires in
-                let fed = send_fed network can.formed setting.offsets setting.gates can.lists setting.cycles setting.background can.background line state.time state.free.items made state.frames.items is.under_way.run is.under_way.fed is.under_way.tracked
+                let fed = send_fed network can.formed can.spaced setting.offsets setting.gates can.lists setting.cycles setting.background can.background
+                line state.time state.free.items made state.frames.items is.under_way.run is.under_way.fed is.under_way.tracked
                 send_next is_send_next send_in_time refl waiting waits until until_is is.under_way.wires (waiting_on feed) others follows in
                 record {
                   end = is.under_way.end;

@@ -14,6 +14,7 @@ use Rattle.tsn_replay.specs.declared.queue.Frame.{Frame}
 use Rattle.tsn_replay.specs.declared.feed.Waiting.{Waiting}
 use Rattle.tsn_replay.specs.Openings.{HasLists, HasBackground}
 use Rattle.tsn_replay.specs.Queue.{IsSilent, Next, CanStart, IsNextOf, frame_in, passage_of, free_on}
+use Rattle.tsn_replay.specs.Frames.{AreSpaced}
 use Rattle.tsn_replay.specs.Progress.{IsRunSoFar, IsFedSoFar, IsFrame, IsTracked, IsQuiet, IsDue, IsBackgroundDue, IsListSoFar, advanced}
 use Rattle.tsn_replay.specs.Feeding.{waiting_at, no_start, greatest_on, IsOfList, IsLine, IsFirstOn, IsSent}
 use Rattle.tsn_replay.proofs.Progress.{Extends, time_passes, greedy_passes, run_ends, greedy_ends}
@@ -56,7 +57,9 @@ length_at : (network : Network) (frame : Frame) → occupancy network frame.stre
 unfolding length_of link_of passage_of
 length_at network frame = refl
 
-module _ (network : Network) (formed : IsWellFormed network) (offsets : List ℕ) (gates : List LinkGates) (lists : HasLists network gates) (cycles : ℕ) (background : Background) (given : HasBackground network gates background) (line : ℕ → Option Waiting) (now : ℕ) (free : List ℕ) (run : BridgeRun) (frames : List Frame)
+module _ (network : Network) (formed : IsWellFormed network) (spaced : AreSpaced network) (offsets : List ℕ) (gates : List LinkGates)
+    (lists : HasLists network gates) (cycles : ℕ) (background : Background) (given : HasBackground network gates background) (line : ℕ → Option Waiting)
+    (now : ℕ) (free : List ℕ) (run : BridgeRun) (frames : List Frame)
     (so_far : IsRunSoFar network offsets gates cycles (free_on free) now run) (fed : IsFedSoFar network gates cycles (free_on free) now background line run) (tracked : IsTracked network offsets cycles run frames)
     (next : Next) (is : IsNextOf network gates frames line free now (cycles * network.cycle) next) where
   quiet_until : (t : ℕ) → now ≤ t → t < next.time → t < cycles * network.cycle → (link : ℕ) → free_on free link ≤ t → IsQuiet network offsets gates cycles t run link
@@ -66,7 +69,8 @@ module _ (network : Network) (formed : IsWellFormed network) (offsets : List ℕ
         let used = lists.used q.stream q.hop passage.stream passage.hop in
         let listed : (get_or gates used.0 (record { link = 0; entries = [] })).link ≡ link = used.2 (record { link = 0; entries = [] }) ∙ on in
         let idle = is.idle t used.0 (record { link = 0; entries = [] }) present before in_time used.1 (subst (λ l. free_on free l ≤ t) (sym listed) open') in
-        (quiet_from_silent network formed offsets gates cycles (free_on free) now run so_far frames tracked link t present (subst (λ l. IsSilent network gates frames l t) listed idle.scheduled)).blocked q ready passage on is_ready since none;
+        (quiet_from_silent network formed offsets gates cycles (free_on free) now run spaced so_far frames tracked link t present
+        (subst (λ l. IsSilent network gates frames l t) listed idle.scheduled)).blocked q ready passage on is_ready since none;
   }
 
   passed : (later : ℕ) → now ≤ later → later ≤ next.time → IsRunSoFar network offsets gates cycles (free_on free) later run
@@ -124,7 +128,8 @@ module _ (network : Network) (formed : IsWellFormed network) (offsets : List ℕ
       can_start = subst (CanStart network gates frames line next) frame_is (is.can in_time)
 
       due : IsDue network offsets gates cycles (free_on free) next.time run (passage_of (frame_in frames number)) (frame_in frames number).ready
-      due = due_from_head network formed offsets gates cycles (free_on free) next.time run here_so_far frames tracked next.link number next.time (omega arith) in_time (is.wire in_time) can_start.0 can_start.1 can_start.2
+      due = due_from_head network formed offsets gates cycles (free_on free) next.time run spaced here_so_far frames tracked next.link number next.time
+          (omega arith) in_time (is.wire in_time) can_start.0 can_start.1 can_start.2
 
       on : link_of network (passage_of (frame_in frames number)) ≡ next.link
       on = waiting_link network next.link (frame_in frames number) can_start.0.1
@@ -204,7 +209,8 @@ module _ (network : Network) (formed : IsWellFormed network) (offsets : List ℕ
         wire = is.wire in_time;
         in_time = in_time;
         opened = can_send.1;
-        quiet = quiet_from_silent network formed offsets gates cycles (free_on free) next.time run here_so_far frames tracked next.link next.time (omega arith) can_send.2;
+        quiet = quiet_from_silent network formed offsets gates cycles (free_on free) next.time run spaced here_so_far frames tracked next.link next.time
+            (omega arith) can_send.2;
       }
 
       sent_here : free_on (slice_set free next.link until) next.link ≡ next.time + (waiting.octets + 20) * (link_at network next.link).octet_time
@@ -310,10 +316,18 @@ no_fed network gates cycles free empty (listed list) line first = (no_list netwo
 
 pub read_frame : (frames : List Frame) (number : ℕ) (frame : Frame) → number < length frames → frame ≡ get_or frames number frame → frame ≡ frame_in frames number
 unfolding frame_in
-read_frame frames number frame below is = is ∙ get_or_default frames number frame (record { stream = 0; cycle = 0; hop = 0; ready = 0 }) below
+read_frame frames number frame below is = is ∙ get_or_default frames number frame (record { stream = 0; shift = 0; cycle = 0; hop = 0; ready = 0 }) below
 
 still_frame : (network : Network) (offsets : List ℕ) (cycles : ℕ) (run : BridgeRun) (frame : Frame) (begun : BackgroundStart) → IsFrame network offsets cycles run frame → IsFrame network offsets cycles (with_background run begun) frame
-still_frame network offsets cycles run frame begun is = record { stream = is.stream; cycle = is.cycle; hop = is.hop; started = is.started; unstarted = is.unstarted; ready = is.ready }
+still_frame network offsets cycles run frame begun is = record {
+  stream = is.stream;
+  sent = is.sent;
+  cycle = is.cycle;
+  hop = is.hop;
+  started = is.started;
+  unstarted = is.unstarted;
+  ready = is.ready;
+}
 
 -- a background start changes nothing for the frames
 pub still_tracked : (network : Network) (offsets : List ℕ) (cycles : ℕ) (run : BridgeRun) (frames : List Frame) (begun : BackgroundStart) → IsTracked network offsets cycles run frames → IsTracked network offsets cycles (with_background run begun) frames

@@ -4,23 +4,29 @@ use Rattle.std.specs.List.{flat_map, range_with_len}
 use Rattle.std.proofs.lemmas.Grind.{flat_map-append}
 use Rattle.std.proofs.lemmas.List.{map-append, take_more, take-append-drop, get_or_default, get_or-set_same, get_or-set_other, length-set, get_or-replicate, length-replicate}
 use Rattle.std.proofs.lemmas.List.FromFn.{map-range_with_len_more}
-use Rattle.std.proofs.lemmas.List.Elements.{All-map, All-weaker, Contains-push, Contains-push_cases, Contains-append_left}
+use Rattle.std.proofs.lemmas.List.Elements.{All-map, All-weaker, All-contains_itself, Contains-push, Contains-push_cases, Contains-append_left}
 use Rattle.tsn_model.specs.Network.{Network, IsWellFormed, stream_count, hop_count}
+use Rattle.tsn_model.specs.Timing.{shifts}
 use Rattle.tsn_model.specs.Bridge.{Passage, ScheduledStart, BridgeRun, IsPassage, StartedAt}
 use Rattle.tsn_model.proofs.Limits.{hops-le}
 use Rattle.tsn_model.proofs.Lists.{All-flat_map, All-range, All-unmap, Contains-nil, range_more}
 use Rattle.tsn_model.proofs.OnTime.{passage_cases, same_cycle, cycle_below}
 use Rattle.tsn_replay.specs.declared.trace.Row.{Row}
-use Rattle.tsn_replay.specs.Rows.{stream_passages, cycle_passages, passages_of, cell_of, row_of, row_passage, IsTable, IsRow, AreRows}
+use Rattle.tsn_replay.specs.Frames.{frames_of, index_of}
+use Rattle.tsn_replay.proofs.Counting.{index-below, one_index}
+use Rattle.tsn_replay.specs.Rows.{frame_passages, stream_passages, cycle_passages, passages_of, cell_of, row_of, row_passage, IsTable, IsRow, AreRows}
 
-abbrev pub passage_at : ℕ → ℕ → ℕ → Passage
-passage_at cycle stream hop = record { stream = stream; cycle = cycle; hop = hop }
+abbrev pub passage_at : ℕ → ℕ → ℕ → ℕ → Passage
+passage_at cycle stream shift hop = record { stream = stream; shift = shift; cycle = cycle; hop = hop }
 
 -- ---- one more of a range
 
-pub hop_more : (f : Passage → Row) (cycle stream n : ℕ) → map f (map (passage_at cycle stream) (range_with_len 0 (n + 1))) ≡ map f (map (passage_at cycle stream) (range_with_len 0 n)) ++ f (passage_at cycle stream n) ∷ []
-hop_more f cycle stream n =
-    ap (map f) (map-range_with_len_more (passage_at cycle stream) 0 n n (omega arith)) ∙ map-append f (map (passage_at cycle stream) (range_with_len 0 n)) (passage_at cycle stream n ∷ [])
+pub hop_more : (f : Passage → Row) (cycle stream shift n : ℕ)
+    → map f (map (passage_at cycle stream shift) (range_with_len 0 (n + 1))) ≡ map f (map (passage_at cycle stream shift) (range_with_len 0 n)) ++ f
+    (passage_at cycle stream shift n) ∷ []
+hop_more f cycle stream shift n =
+    ap (map f) (map-range_with_len_more (passage_at cycle stream shift) 0 n n (omega arith))
+    ∙ map-append f (map (passage_at cycle stream shift) (range_with_len 0 n)) (passage_at cycle stream shift n ∷ [])
 
 pub pieces_more : (f : Passage → Row) (g : ℕ → List Passage) (n : ℕ) → map f (flat_map g (range_with_len 0 (n + 1))) ≡ map f (flat_map g (range_with_len 0 n)) ++ map f (g n)
 pieces_more f g n =
@@ -32,21 +38,21 @@ pieces_more f g n =
 -- ---- numbers
 
 module _ (network : Network) (formed : IsWellFormed network) (cycles : ℕ) where
-  pub cell_below : (p : Passage) → IsPassage network cycles p → cell_of network p < (p.cycle + 1) * stream_count network * 16
+  pub cell_below : (p : Passage) → IsPassage network cycles p → cell_of network p < (p.cycle + 1) * frames_of network * 16
   unfolding cell_of
   cell_below p is =
       let few = hops-le network formed p.stream is.stream in
       let hop = is.hop in
-      let stream = is.stream in
-      let gap = cycle_below p.cycle (p.cycle + 1) (stream_count network) (omega arith) in
+      let index = index-below network p.stream p.shift is.stream is.sent in
+      let gap = cycle_below p.cycle (p.cycle + 1) (frames_of network) (omega arith) in
       omega arith
 
-  pub cell_inside : (p : Passage) → IsPassage network cycles p → cell_of network p < cycles * stream_count network * 16
+  pub cell_inside : (p : Passage) → IsPassage network cycles p → cell_of network p < cycles * frames_of network * 16
   cell_inside p is =
       let below = cell_below p is in
       let cycle : p.cycle + 1 ≤ cycles = let c = is.cycle in omega arith in
-      let same : stream_count network ≤ stream_count network = omega arith in
-      let product : (p.cycle + 1) * stream_count network ≤ cycles * stream_count network = mul-le-mul cycle same in
+      let same : frames_of network ≤ frames_of network = omega arith in
+      let product : (p.cycle + 1) * frames_of network ≤ cycles * frames_of network = mul-le-mul cycle same in
       omega arith
 
   pub cell_once : (p q : Passage) → IsPassage network cycles p → IsPassage network cycles q → cell_of network p ≡ cell_of network q → p ≡ q
@@ -56,21 +62,26 @@ module _ (network : Network) (formed : IsWellFormed network) (cycles : ℕ) wher
       let few_q = hops-le network formed q.stream is_q.stream in
       let hop_p = is_p.hop in
       let hop_q = is_q.hop in
-      let both : p.cycle * stream_count network + p.stream ≡ q.cycle * stream_count network + q.stream =
-      same_cycle (p.cycle * stream_count network + p.stream) (q.cycle * stream_count network + q.stream) 16 p.hop q.hop (omega arith) (omega arith) same in
+      let index_p = index_of network p.stream p.shift in
+      let index_q = index_of network q.stream q.shift in
+      let below_p : index_p < frames_of network = index-below network p.stream p.shift is_p.stream is_p.sent in
+      let below_q : index_q < frames_of network = index-below network q.stream q.shift is_q.stream is_q.sent in
+      let both : p.cycle * frames_of network + index_p ≡ q.cycle * frames_of network + index_q =
+      same_cycle (p.cycle * frames_of network + index_p) (q.cycle * frames_of network + index_q) 16 p.hop q.hop (omega arith) (omega arith) same in
       let hop : p.hop ≡ q.hop = omega arith in
-      let cycle : p.cycle ≡ q.cycle = same_cycle p.cycle q.cycle (stream_count network) p.stream q.stream is_p.stream is_q.stream both in
-      let product : p.cycle * stream_count network ≡ q.cycle * stream_count network = ap (λ n. n * stream_count network) cycle in
-      let stream : p.stream ≡ q.stream = omega arith in
-      λ i. record { stream = stream i; cycle = cycle i; hop = hop i }
+      let cycle : p.cycle ≡ q.cycle = same_cycle p.cycle q.cycle (frames_of network) index_p index_q below_p below_q both in
+      let product : p.cycle * frames_of network ≡ q.cycle * frames_of network = ap (λ n. n * frames_of network) cycle in
+      let frame = one_index network p.stream p.shift q.stream q.shift is_p.sent is_q.sent (omega arith) in
+      λ i. record { stream = frame.0 i; shift = frame.1 i; cycle = cycle i; hop = hop i }
 
   -- nothing has started
-  pub no_table : (table : List (Option ℕ)) → table ≡ replicate (cycles * stream_count network * 16) None → IsTable network cycles [] table
+  pub no_table : (table : List (Option ℕ)) → table ≡ replicate (cycles * frames_of network * 16) None → IsTable network cycles [] table
   no_table table is = record {
-    count = ap length is ∙ length-replicate (cycles * stream_count network * 16) None;
+    count = ap length is ∙ length-replicate (cycles * frames_of network * 16) None;
     has = λ p t passage. (
       λ some.
-          let none : get_or table (cell_of network p) None ≡ None = ap (λ xs. get_or xs (cell_of network p) None) is ∙ get_or-replicate (cycles * stream_count network * 16) (cell_of network p) None None (cell_inside p passage) in
+          let none : get_or table (cell_of network p) None ≡ None = ap (λ xs. get_or xs (cell_of network p) None) is
+          ∙ get_or-replicate (cycles * frames_of network * 16) (cell_of network p) None None (cell_inside p passage) in
           let never : None ≡ Some t = sym none ∙ some in
           cc,
       λ has. absurd (Contains-nil _ has),
@@ -144,9 +155,12 @@ all_passages network cycles =
     (All-range (λ cycle. All (IsPassage network cycles) (cycle_passages network cycle)) cycles 0
     (λ cycle since cycle_below. All-flat_map (IsPassage network cycles) (stream_passages network cycle) (range_with_len 0 (stream_count network))
     (All-range (λ stream. All (IsPassage network cycles) (stream_passages network cycle stream)) (stream_count network) 0
-    (λ stream stream_since stream_below. All-map (IsPassage network cycles) (passage_at cycle stream) (range_with_len 0 (hop_count network stream))
-    (All-range (λ hop. IsPassage network cycles (passage_at cycle stream hop)) (hop_count network stream) 0
-    (λ hop hop_since hop_below. record { stream = omega arith; cycle = omega arith; hop = omega arith }))))))
+    (λ stream stream_since stream_below. All-flat_map (IsPassage network cycles) (frame_passages network cycle stream) (shifts network stream)
+    (All-weaker (Contains (shifts network stream)) (λ shift. All (IsPassage network cycles) (frame_passages network cycle stream shift))
+    (λ shift sent. All-map (IsPassage network cycles) (passage_at cycle stream shift) (range_with_len 0 (hop_count network stream))
+    (All-range (λ hop. IsPassage network cycles (passage_at cycle stream shift hop)) (hop_count network stream) 0
+    (λ hop hop_since hop_below. record { stream = omega arith; sent = sent; cycle = omega arith; hop = omega arith })))
+    (shifts network stream) (All-contains_itself (shifts network stream)))))))
 
 map_back : (network : Network) (offsets : List ℕ) (table : List (Option ℕ)) (passages : List Passage) → map row_passage (map (row_of network offsets table) passages) ≡ passages
 unfolding row_of

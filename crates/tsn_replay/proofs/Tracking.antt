@@ -15,6 +15,7 @@ use Rattle.tsn_model.proofs.Lists.{Contains-map}
 use Rattle.tsn_replay.specs.declared.queue.Frame.{Frame}
 use Rattle.tsn_replay.specs.Queue.{Waits, IsHead, IsSilent, frame_in, passage_of}
 use Rattle.tsn_replay.specs.Progress.{IsRunSoFar, IsTracked, IsDue, IsQuiet}
+use Rattle.tsn_replay.specs.Frames.{AreSpaced}
 use Rattle.tsn_replay.proofs.Nexts.{waiting_link}
 
 -- two elements at different numbers of the first of two lists
@@ -34,7 +35,7 @@ together network p q s same p_long q_long (inl apart) = apart same s (omega arit
 together network p q s same p_long q_long (inr apart) = apart (sym same) s (omega arith) (omega arith) (omega arith) (omega arith)
 
 module _ (network : Network) (formed : IsWellFormed network) (offsets : List ℕ) (gates : List LinkGates) (cycles : ℕ) (free : ℕ → ℕ) (now : ℕ) (run : BridgeRun)
-    (so_far : IsRunSoFar network offsets gates cycles free now run) where
+    (spaced : AreSpaced network) (so_far : IsRunSoFar network offsets gates cycles free now run) where
   pub ready_once : (q : Passage) (a b : ℕ) → IsReady network offsets run q a → IsReady network offsets run q b → a ≡ b
   ready_once q a b (inl (first, at_a)) (inl (first_too, at_b)) = omega arith
   ready_once q a b (inl (first, at_a)) (inr (before, s, next, started, after)) = absurd (omega arith)
@@ -82,12 +83,15 @@ module _ (network : Network) (formed : IsWellFormed network) (offsets : List ℕ
   unfolding link_of
   same_link p q j k stream hop = ap (λ n. route_link network p.stream n) hop ∙ ap (λ i. route_link network i k) stream
 
+  -- two that are ready together on one hop are of one cycle and shift
   one_cycle : (p q : Passage) (t : ℕ) → IsPassage network cycles p → IsPassage network cycles q → link_of network p ≡ link_of network q → p.stream ≡ q.stream → p.hop ≡ q.hop
-      → IsReady network offsets run p t → IsReady network offsets run q t → p.cycle ≡ q.cycle
+      → IsReady network offsets run p t → IsReady network offsets run q t → (p.cycle ≡ q.cycle) × (p.shift ≡ q.shift)
   one_cycle p q t passage q_passage link stream hop (inl (first, at)) (inl (first_too, at_too)) =
       let offset : offset_of offsets p.stream ≡ offset_of offsets q.stream = ap (offset_of offsets) stream in
-      let size = formed.some_cycle in
-      same_cycle p.cycle q.cycle network.cycle 0 0 (omega arith) (omega arith) (omega arith)
+      let cycle = same_cycle p.cycle q.cycle network.cycle p.shift q.shift (spaced.within p.stream p.shift passage.stream passage.sent)
+      (spaced.within q.stream q.shift q_passage.stream q_passage.sent) (omega arith) in
+      let begun : p.cycle * network.cycle ≡ q.cycle * network.cycle = ap (λ n. n * network.cycle) cycle in
+      (cycle, omega arith)
   one_cycle p q t passage q_passage link stream hop (inl (first, at)) (inr (before, s, next, started, after)) = absurd (omega arith)
   one_cycle p q t passage q_passage link stream hop (inr (before, s, next, started, after)) (inl (first, at)) = absurd (omega arith)
   one_cycle p q t passage q_passage link stream hop (inr (before, s, next, started, after)) (inr (before_too, u, next_too, started_too, after_too)) =
@@ -95,13 +99,23 @@ module _ (network : Network) (formed : IsWellFormed network) (offsets : List ℕ
       let delay : hop_delay network p.stream (route_link network p.stream before) ≡ hop_delay network q.stream (route_link network q.stream before_too) =
       ap (λ k. hop_delay network p.stream (route_link network p.stream k)) same ∙ ap (λ i. hop_delay network i (route_link network i before_too)) stream in
       let together_at : s ≡ u = omega arith in
-      elim (cases_eq p.cycle q.cycle) [
-        | inl is ↦ is
+      elim (passage_cases (record p { hop = before }) (record q { hop = before_too })) [
+        | inl is ↦ (ap (λ (x : Passage). x.cycle) is, ap (λ (x : Passage). x.shift) is)
         | inr differ ↦
-            let p_passage : IsPassage network cycles (record p { hop = before }) = record { stream = passage.stream; cycle = passage.cycle; hop = let b = passage.hop in omega arith } in
-            let u_passage : IsPassage network cycles (record q { hop = before_too }) = record { stream = q_passage.stream; cycle = q_passage.cycle; hop = let b = q_passage.hop in omega arith } in
+            let p_passage : IsPassage network cycles (record p { hop = before }) = record {
+              stream = passage.stream;
+              sent = passage.sent;
+              cycle = passage.cycle;
+              hop = let b = passage.hop in omega arith;
+            } in
+            let u_passage : IsPassage network cycles (record q { hop = before_too }) = record {
+              stream = q_passage.stream;
+              sent = q_passage.sent;
+              cycle = q_passage.cycle;
+              hop = let b = q_passage.hop in omega arith;
+            } in
             absurd (starts_apart (record p { hop = before }) (record q { hop = before_too }) s started (subst (λ v. StartedAt run (record q { hop = before_too }) v) (sym together_at) started_too)
-            (same_link p q before before_too stream same) (long (record p { hop = before }) p_passage) (long (record q { hop = before_too }) u_passage) (λ is. differ (ap (λ (x : Passage). x.cycle) is)))
+            (same_link p q before before_too stream same) (long (record p { hop = before }) p_passage) (long (record q { hop = before_too }) u_passage) differ)
       ]
 
   -- two frames of one stream are ready on a link at different instants
@@ -109,8 +123,8 @@ module _ (network : Network) (formed : IsWellFormed network) (offsets : List ℕ
       → IsReady network offsets run p t → IsReady network offsets run q t → p ≡ q
   readies_differ p q t passage q_passage link stream ready q_ready =
       let hop = one_hop p q passage q_passage link stream in
-      let cycle = one_cycle p q t passage q_passage link stream hop ready q_ready in
-      λ i. record { stream = stream i; cycle = cycle i; hop = hop i }
+      let same = one_cycle p q t passage q_passage link stream hop ready q_ready in
+      λ i. record { stream = stream i; shift = same.1 i; cycle = same.0 i; hop = hop i }
 
   reached_from : (q : Passage) (ready : ℕ) → IsReady network offsets run q ready → (hop : ℕ) → ((k s : ℕ) → hop ≤ k → StartedAt run (record q { hop = k }) s → ⊥) → q.hop ≤ hop
   reached_from q ready (inl (first, at)) hop unstarted = omega arith
@@ -131,19 +145,36 @@ module _ (network : Network) (formed : IsWellFormed network) (offsets : List ℕ
     found : (q : Passage) (ready : ℕ) → IsPassage network cycles q → IsReady network offsets run q ready → ((s : ℕ) → StartedAt run q s → ⊥) → Found q ready
     unfolding passage_of link_of
     found q ready passage is_ready never =
-        let at = tracked.complete q.stream q.cycle passage.stream passage.cycle in
+        let at = tracked.complete q.stream q.shift q.cycle passage.stream passage.sent passage.cycle in
         let frame = tracked.each at.0 at.1 in
-        let same_at : (k s : ℕ) → StartedAt run (record { stream = (frame_in frames at.0).stream; cycle = (frame_in frames at.0).cycle; hop = k }) s → StartedAt run (record { stream = q.stream; cycle = q.cycle; hop = k }) s =
-        λ k s started. subst (λ (x : Passage). StartedAt run x s) (λ i. record { stream = at.2 i; cycle = at.3 i; hop = k }) started in
-        let same_from : (k s : ℕ) → StartedAt run (record { stream = q.stream; cycle = q.cycle; hop = k }) s → StartedAt run (record { stream = (frame_in frames at.0).stream; cycle = (frame_in frames at.0).cycle; hop = k }) s =
-        λ k s started. subst (λ (x : Passage). StartedAt run x s) (λ i. record { stream = sym at.2 i; cycle = sym at.3 i; hop = k }) started in
+        let same_at : (k s : ℕ) → StartedAt run (record {
+          stream = (frame_in frames at.0).stream;
+          shift = (frame_in frames at.0).shift;
+          cycle = (frame_in frames at.0).cycle;
+          hop = k;
+        }) s → StartedAt run (record { stream = q.stream; shift = q.shift; cycle = q.cycle; hop = k }) s =
+        λ k s started. subst (λ (x : Passage). StartedAt run x s) (λ i. record { stream = at.2 i; shift = at.3 i; cycle = at.4 i; hop = k }) started in
+        let same_from : (k s : ℕ) → StartedAt run (record { stream = q.stream; shift = q.shift; cycle = q.cycle; hop = k }) s
+        → StartedAt run (record {
+          stream = (frame_in frames at.0).stream;
+          shift = (frame_in frames at.0).shift;
+          cycle = (frame_in frames at.0).cycle;
+          hop = k;
+        }) s =
+        λ k s started. subst (λ (x : Passage). StartedAt run x s) (λ i. record { stream = sym at.2 i; shift = sym at.3 i; cycle = sym at.4 i; hop = k })
+        started in
         let not_past : (frame_in frames at.0).hop ≤ q.hop = elim (cases_lt q.hop (frame_in frames at.0).hop) [
           | inl past ↦ let started = frame.started q.hop past in absurd (never started.0 (same_at q.hop started.0 started.1))
           | inr not_past ↦ not_past
         ] in
         let reached : q.hop ≤ (frame_in frames at.0).hop = reached_from q ready is_ready (frame_in frames at.0).hop (λ k s before started. frame.unstarted k s before (same_from k s started)) in
         let hop : (frame_in frames at.0).hop ≡ q.hop = omega arith in
-        let is : record { stream = (frame_in frames at.0).stream; cycle = (frame_in frames at.0).cycle; hop = (frame_in frames at.0).hop } ≡ q = λ i. record { stream = at.2 i; cycle = at.3 i; hop = hop i } in
+        let is : record {
+          stream = (frame_in frames at.0).stream;
+          shift = (frame_in frames at.0).shift;
+          cycle = (frame_in frames at.0).cycle;
+          hop = (frame_in frames at.0).hop;
+        } ≡ q = λ i. record { stream = at.2 i; shift = at.3 i; cycle = at.4 i; hop = hop i } in
         let below : (frame_in frames at.0).hop < hop_count network (frame_in frames at.0).stream = subst (λ (x : Passage). x.hop < hop_count network x.stream) (sym is) passage.hop in
         record {
           number = at.0;
@@ -155,7 +186,8 @@ module _ (network : Network) (formed : IsWellFormed network) (offsets : List ℕ
 
     frame_passage : (number : ℕ) → number < length frames → (frame_in frames number).hop < hop_count network (frame_in frames number).stream → IsPassage network cycles (passage_of (frame_in frames number))
     unfolding passage_of
-    frame_passage number below waits = let frame = tracked.each number below in record { stream = frame.stream; cycle = frame.cycle; hop = waits }
+    frame_passage number below waits = let frame = tracked.each number below in
+        record { stream = frame.stream; sent = frame.sent; cycle = frame.cycle; hop = waits }
 
     -- a waiting frame other than the head is behind it
     behind : (link : ℕ) (head number : ℕ) → IsHead network frames link (Some head) → number < length frames → Waits network link (frame_in frames number)
@@ -192,7 +224,8 @@ module _ (network : Network) (formed : IsWellFormed network) (offsets : List ℕ
 
     one_number : (a b : ℕ) → a < length frames → b < length frames → passage_of (frame_in frames a) ≡ passage_of (frame_in frames b) → a ≡ b
     unfolding passage_of
-    one_number a b a_below b_below is = tracked.distinct a b a_below b_below (ap (λ (x : Passage). x.stream) is) (ap (λ (x : Passage). x.cycle) is)
+    one_number a b a_below b_below is = tracked.distinct a b a_below b_below (ap (λ (x : Passage). x.stream) is) (ap (λ (x : Passage). x.shift) is)
+        (ap (λ (x : Passage). x.cycle) is)
 
     passage_order : (a b : Frame) → (a.ready < b.ready) ⊎ ((a.ready ≡ b.ready) × (a.stream < b.stream)) → (a.ready < b.ready) ⊎ ((a.ready ≡ b.ready) × ((passage_of a).stream < (passage_of b).stream))
     unfolding passage_of

@@ -1,5 +1,5 @@
 -- The hops of the streams on each link.
-use Rattle.std.proofs.Common.{◌≡◌, ℕ, ◌+◌, ◌<◌, List, [], ◌∷◌, ◌++◌, length, get_or, All, Contains, Some, None, is_some, false, Vec, Global, sym, ap, ◌∙◌, subst, arith, inl, inr}
+use Rattle.std.proofs.Common.{◌≡◌, ℕ, ◌+◌, ◌<◌, List, [], ◌∷◌, ◌++◌, length, get_or, All, Contains, Some, None, is_some, false, Vec, Global, refl, sym, ap, ◌∙◌, subst, arith, inl, inr}
 use Rattle.std.proofs.lemmas.Bool.{cases_lt}
 use Rattle.std.proofs.lemmas.List.{length-append}
 use Rattle.std.proofs.Math.ListN.{get_or-append}
@@ -10,20 +10,18 @@ use Rattle.tsn_model.specs.Timing.{hop_on, UsesLink}
 use Rattle.tsn_model.proofs.OnTime.{hop_uses, hop_once}
 use Rattle.tsn_model.proofs.Routes.{hop_on_found, hop_on_link}
 use Rattle.tsn_replay.specs.declared.visits.Visit.{Visit}
-use Rattle.tsn_replay.specs.Queue.{AreVisits, AreAllVisits}
+use Rattle.tsn_replay.specs.Queue.{IsVisit, AreVisits, AreAllVisits, visit_of}
 
 -- these are the hops on the link of the first so many streams
 pub record AreVisitsBelow (network : Network) (link count : ℕ) (visits : List Visit) : Type 0 where
-  pub right : All (λ (visit : Visit). (visit.stream < stream_count network) × (visit.hop < hop_count network visit.stream) ×
-      (route_link network visit.stream visit.hop ≡ link)) visits
+  pub right : All (IsVisit network link) visits
   pub complete : (stream hop : ℕ) → stream < count → hop < hop_count network stream → route_link network stream hop ≡ link
-      → Contains visits (record { stream = stream; hop = hop })
+      → Contains visits (visit_of network stream hop)
 
 module _ (network : Network) (link : ℕ) where
   pub visits_none : AreVisitsBelow network link 0 []
   visits_none = record {
-    right = All-nil (λ (visit : Visit). (visit.stream < stream_count network) × (visit.hop < hop_count network visit.stream) ×
-        (route_link network visit.stream visit.hop ≡ link));
+    right = All-nil (IsVisit network link);
     complete = λ stream hop below. absurd (omega arith);
   }
 
@@ -49,24 +47,23 @@ module _ (network : Network) (link : ℕ) where
     }
 
     pub visits_push : (hop : ℕ) → hop_on network stream link ≡ Some hop
-        → AreVisitsBelow network link (stream + 1) (visits ++ record { stream = stream; hop = hop } ∷ [])
+        → AreVisitsBelow network link (stream + 1) (visits ++ visit_of network stream hop ∷ [])
     visits_push hop found =
         let at = hop_on_found network stream link hop found in
         let on = hop_on_link network stream link hop found in
-        let right : Visit → Type 0 = λ visit. (visit.stream < stream_count network) × (visit.hop < hop_count network visit.stream) ×
-        (route_link network visit.stream visit.hop ≡ link) in
         record {
-          right = All-append right visits (record { stream = stream; hop = hop } ∷ []) are.right
-              (All-cons right (record { stream = stream; hop = hop }) [] (counted, at.1, on) (All-nil right));
+          right = All-append (IsVisit network link) visits (visit_of network stream hop ∷ []) are.right
+              (All-cons (IsVisit network link) (visit_of network stream hop) []
+              (record { stream = counted; hop = at.1; on = on; first = refl; count = refl }) (All-nil (IsVisit network link)));
           complete = λ other hop' below hop_below other_on. elim (cases_lt other stream) [
-            | inl earlier ↦ Contains-append_left visits (record { stream = stream; hop = hop } ∷ []) (record { stream = other; hop = hop' })
+            | inl earlier ↦ Contains-append_left visits (visit_of network stream hop ∷ []) (visit_of network other hop')
                 (are.complete other hop' earlier hop_below other_on)
             | inr last ↦
                 let same : other ≡ stream = omega arith in
                 let hop_same : hop' ≡ hop = hop_once network formed stream counted hop' hop (subst (λ i. hop' < hop_count network i) same hop_below) at.1
                 (subst (λ i. route_link network i hop' ≡ link) same other_on ∙ sym on) in
-                subst (λ (v : Visit). Contains (visits ++ record { stream = stream; hop = hop } ∷ []) v)
-                (λ i. record { stream = sym same i; hop = sym hop_same i }) (Contains-push visits (record { stream = stream; hop = hop }))
+                subst (λ (v : Visit). Contains (visits ++ visit_of network stream hop ∷ []) v)
+                (λ i. visit_of network (sym same i) (sym hop_same i)) (Contains-push visits (visit_of network stream hop))
           ];
         }
 

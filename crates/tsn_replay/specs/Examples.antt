@@ -19,17 +19,17 @@ at_once = 0 ∷ 0 ∷ []
 -- both frames start at once, on a link each, and on the link to C at these instants
 abbrev pub small_starts : ℕ → ℕ → List ScheduledStart
 small_starts first second =
-    record { passage = record { stream = 0; cycle = 0; hop = 0 }; time = 0 }
-    ∷ record { passage = record { stream = 1; cycle = 0; hop = 0 }; time = 0 }
-    ∷ record { passage = record { stream = 0; cycle = 0; hop = 1 }; time = first }
-    ∷ record { passage = record { stream = 1; cycle = 0; hop = 1 }; time = second } ∷ []
+    record { passage = record { stream = 0; shift = 0; cycle = 0; hop = 0 }; time = 0 }
+    ∷ record { passage = record { stream = 1; shift = 0; cycle = 0; hop = 0 }; time = 0 }
+    ∷ record { passage = record { stream = 0; shift = 0; cycle = 0; hop = 1 }; time = first }
+    ∷ record { passage = record { stream = 1; shift = 0; cycle = 0; hop = 1 }; time = second } ∷ []
 
 abbrev pub run_of : ℕ → ℕ → List BackgroundStart → BridgeRun
 run_of first second background = record { scheduled = small_starts first second; background = background }
 
 -- the first stream's frame starts on its first link once more
 unfoldable pub run_with_twice : BridgeRun
-run_with_twice = record { scheduled = small_starts 1626 2298 ++ record { passage = record { stream = 0; cycle = 0; hop = 0 }; time = 5000 } ∷ []; background = [] }
+run_with_twice = record { scheduled = small_starts 1626 2298 ++ record { passage = record { stream = 0; shift = 0; cycle = 0; hop = 0 }; time = 5000 } ∷ []; background = [] }
 
 -- a background frame of 64 octets for the link to C, wanted from an instant on, and its start
 abbrev pub one_frame : ℕ → Background

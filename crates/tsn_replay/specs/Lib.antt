@@ -1,4 +1,5 @@
 pub mod Values
+pub mod Frames
 pub mod Bounds
 pub mod Openings
 pub mod Queue

@@ -9,12 +9,13 @@ use Rattle.tsn_model.specs.Network.{Network, IsWellFormed, stream_count, hop_cou
 use Rattle.tsn_model.specs.Bridge.{LinkGates, BackgroundOpen, Passage, ScheduledStart, BackgroundStart, BridgeRun, WireUse, IsBridgeRun, IsFed, link_of, wire_uses, AreDisjoint, IsPassage, StartedAt, NotStartedBefore, IsReady, FitsAt, IsBlocked, IsTaken, IsHeld, Background, BackgroundFrame, frame_at, IsBefore, FrameStartedBefore}
 use Rattle.tsn_replay.specs.declared.queue.Frame.{Frame}
 use Rattle.tsn_replay.specs.Queue.{AreInLine, AreAllVisits, passage_of, frame_in, free_on}
-use Rattle.tsn_model.specs.Timing.{hop_delay}
+use Rattle.tsn_model.specs.Timing.{hop_delay, Sends}
 use Rattle.tsn_model.specs.Bridge.Background.{nothing, greedy, frames}
 use Rattle.tsn_replay.specs.declared.feed.Waiting.{Waiting}
 use Rattle.tsn_replay.specs.declared.engine.State.{State}
 use Rattle.tsn_replay.specs.declared.engine.Replay.{Replay}
 use Rattle.tsn_replay.specs.declared.engine.Sending.{Sending}
+use Rattle.tsn_replay.specs.Frames.{AreSpaced}
 use Rattle.tsn_replay.specs.Openings.{HasLists, HasBackground, AreListNumbers}
 use Rattle.tsn_replay.specs.Records.{IsRecord}
 use Rattle.tsn_replay.specs.Feeding.{background_of, IsLine, IsFeedOf, waiting_on, greatest_on}
@@ -69,18 +70,20 @@ pub record IsBackgroundDue (network : Network) (offsets : List ℕ) (gates : Lis
 -- a frame has started on the hops before its own, and from `ready` on waits for that one, if its route has it
 pub record IsFrame (network : Network) (offsets : List ℕ) (cycles : ℕ) (run : BridgeRun) (frame : Frame) : Type 0 where
   pub stream : frame.stream < stream_count network
+  pub sent : Sends network frame.stream frame.shift
   pub cycle : frame.cycle < cycles
   pub hop : frame.hop ≤ hop_count network frame.stream
-  pub started : (k : ℕ) → k < frame.hop → (s : ℕ) × StartedAt run (record { stream = frame.stream; cycle = frame.cycle; hop = k }) s
-  pub unstarted : (k s : ℕ) → frame.hop ≤ k → StartedAt run (record { stream = frame.stream; cycle = frame.cycle; hop = k }) s → ⊥
+  pub started : (k : ℕ) → k < frame.hop → (s : ℕ) × StartedAt run (record { stream = frame.stream; shift = frame.shift; cycle = frame.cycle; hop = k }) s
+  pub unstarted : (k s : ℕ) → frame.hop ≤ k → StartedAt run (record { stream = frame.stream; shift = frame.shift; cycle = frame.cycle; hop = k }) s → ⊥
   pub ready : frame.hop < hop_count network frame.stream → IsReady network offsets run (passage_of frame) frame.ready
 
--- there is one frame for each stream and cycle
+-- there is one frame for each frame that a stream sends in each cycle
 pub record IsTracked (network : Network) (offsets : List ℕ) (cycles : ℕ) (run : BridgeRun) (frames : List Frame) : Type 0 where
   pub each : (number : ℕ) → number < length frames → IsFrame network offsets cycles run (frame_in frames number)
-  pub complete : (stream cycle : ℕ) → stream < stream_count network → cycle < cycles
-      → (number : ℕ) × (number < length frames) × ((frame_in frames number).stream ≡ stream) × ((frame_in frames number).cycle ≡ cycle)
-  pub distinct : (a b : ℕ) → a < length frames → b < length frames → (frame_in frames a).stream ≡ (frame_in frames b).stream → (frame_in frames a).cycle ≡ (frame_in frames b).cycle → a ≡ b
+  pub complete : (stream shift cycle : ℕ) → stream < stream_count network → Sends network stream shift → cycle < cycles
+      → (number : ℕ) × (number < length frames) × ((frame_in frames number).stream ≡ stream) × ((frame_in frames number).shift ≡ shift) × ((frame_in frames number).cycle ≡ cycle)
+  pub distinct : (a b : ℕ) → a < length frames → b < length frames → (frame_in frames a).stream ≡ (frame_in frames b).stream → (frame_in frames a).shift ≡ (frame_in frames b).shift
+      → (frame_in frames a).cycle ≡ (frame_in frames b).cycle → a ≡ b
 
 -- the frame once it has started at an instant
 abbrev pub advanced : Network → Frame → ℕ → Frame
@@ -118,6 +121,7 @@ pub record IsSetting (setting : Setting) : Type 0 where
   pub formed : IsWellFormed setting.network
   pub count : length setting.offsets ≡ stream_count setting.network
   pub small : All (λ offset. offset ≤ setting.network.cycle) setting.offsets
+  pub spaced : AreSpaced setting.network
   pub few : setting.cycles ≤ 16
   pub lists : HasLists setting.network setting.gates
   pub background : HasBackground setting.network setting.gates setting.background

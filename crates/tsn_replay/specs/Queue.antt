@@ -1,23 +1,30 @@
 -- The queue of a link, and what starts next.
 --     passage_of, Waits, Precedes, IsHead      the frames that wait on a link, in order
 --     AreInLine, IsFirstAmong, IsFirstOnHop    how the frames stand, and where the first one is looked for
---     AreVisits, AreAllVisits                  the hops of all streams, by link
+--     fresh_frame                              a frame that hasn't started
+--     IsVisit, AreVisits, AreAllVisits         the hops of all streams, by link
 --     Next, CanStart, IsIdle, IsNextOf         what starts next, and that nothing starts before it
 use Rattle.std.specs.Prelude.{◌≡◌, ◌≢◌, ℕ, ◌+◌, ◌*◌, ◌≤◌, ◌<◌, ◌⊎◌, List, length, slice_index, slice_index_or, All, Contains, Option, Some, None, Vec}
 use Rattle.std.specs.Global.{Global}
 use Rattle.tsn_model.specs.Network.{Network, stream_count, hop_count, route_link}
+use Rattle.tsn_model.specs.Timing.{shifts}
 use Rattle.tsn_model.specs.Bridge.{LinkGates, BackgroundOpen, Passage, FitsAt}
 use Rattle.tsn_replay.specs.declared.queue.Frame.{Frame}
 use Rattle.tsn_replay.specs.declared.visits.Visit.{Visit}
 use Rattle.tsn_replay.specs.declared.feed.Waiting.{Waiting}
+use Rattle.tsn_replay.specs.Frames.{frames_below, frames_of}
 
 -- the passage for which a frame waits
 unfoldable pub passage_of : Frame → Passage
-passage_of frame = record { stream = frame.stream; cycle = frame.cycle; hop = frame.hop }
+passage_of frame = record { stream = frame.stream; shift = frame.shift; cycle = frame.cycle; hop = frame.hop }
 
 -- the frame of that number of the list
 unfoldable pub frame_in : List Frame → ℕ → Frame
-frame_in frames number = slice_index_or frames number (record { stream = 0; cycle = 0; hop = 0; ready = 0 })
+frame_in frames number = slice_index_or frames number (record { stream = 0; shift = 0; cycle = 0; hop = 0; ready = 0 })
+
+-- a frame that starts on its first hop so long after that instant
+abbrev pub fresh_frame : ℕ → ℕ → ℕ → ℕ → Frame
+fresh_frame stream cycle begin shift = record { stream = stream; shift = shift; cycle = cycle; hop = 0; ready = begin + shift }
 
 -- the frame waits for its start on the link
 pub record Waits (network : Network) (link : ℕ) (frame : Frame) : Type 0 where
@@ -38,10 +45,11 @@ IsFirstOf network frames link count (Some head) = (head < count) × Waits networ
 abbrev pub IsHead : Network → List Frame → ℕ → Option ℕ → Type 0
 IsHead network frames link head = IsFirstOf network frames link (length frames) head
 
--- The frames stand by stream, and those of a stream by cycle. Of two frames of a stream the later one isn't on a later hop, and where it waits on the same one it is ready later.
+-- The frames stand by stream, and those of a stream by cycle, then shift. Of two frames of a stream the later one isn't on a later hop, and where it waits on the same one it is ready later.
 pub record AreInLine (network : Network) (cycles : ℕ) (frames : List Frame) : Type 0 where
-  pub count : length frames ≡ stream_count network * cycles
-  pub place : (number : ℕ) → number < length frames → (number ≡ (frame_in frames number).stream * cycles + (frame_in frames number).cycle) × ((frame_in frames number).cycle < cycles)
+  pub count : length frames ≡ frames_of network * cycles
+  pub place : (number : ℕ) → number < length frames → (frames_below network (frame_in frames number).stream * cycles ≤ number)
+      × (number < frames_below network ((frame_in frames number).stream + 1) * cycles)
   pub hops : (a b : ℕ) → a < b → b < length frames → (frame_in frames a).stream ≡ (frame_in frames b).stream → (frame_in frames b).hop ≤ (frame_in frames a).hop
   pub readies : (a b : ℕ) → a < b → b < length frames → (frame_in frames a).stream ≡ (frame_in frames b).stream → (frame_in frames a).hop ≡ (frame_in frames b).hop
       → (frame_in frames b).hop < hop_count network (frame_in frames b).stream → (frame_in frames a).ready < (frame_in frames b).ready
@@ -52,10 +60,23 @@ IsFirstAmong network frames link P None = (number : ℕ) → number < length fra
 IsFirstAmong network frames link P (Some first) = (first < length frames) × Waits network link (frame_in frames first)
     × ((number : ℕ) → number < length frames → P (frame_in frames number) → Waits network link (frame_in frames number) → Precedes (frame_in frames first) (frame_in frames number))
 
+-- a stream's hop, with how many frames the streams before it send in a cycle, and how many it does
+abbrev pub visit_of : Network → ℕ → ℕ → Visit
+visit_of network stream hop = record { stream = stream; hop = hop; first = frames_below network stream; count = length (shifts network stream) }
+
+-- a hop of a stream on the link
+pub record IsVisit (network : Network) (link : ℕ) (visit : Visit) : Type 0 where
+  pub stream : visit.stream < stream_count network
+  pub hop : visit.hop < hop_count network visit.stream
+  pub on : route_link network visit.stream visit.hop ≡ link
+  pub first : visit.first ≡ frames_below network visit.stream
+  pub count : visit.count ≡ length (shifts network visit.stream)
+
 -- these are the hops of all streams on the link
 pub record AreVisits (network : Network) (link : ℕ) (visits : List Visit) : Type 0 where
-  pub right : All (λ (visit : Visit). (visit.stream < stream_count network) × (visit.hop < hop_count network visit.stream) × (route_link network visit.stream visit.hop ≡ link)) visits
-  pub complete : (stream hop : ℕ) → stream < stream_count network → hop < hop_count network stream → route_link network stream hop ≡ link → Contains visits (record { stream = stream; hop = hop })
+  pub right : All (IsVisit network link) visits
+  pub complete : (stream hop : ℕ) → stream < stream_count network → hop < hop_count network stream → route_link network stream hop ≡ link
+      → Contains visits (visit_of network stream hop)
 
 -- by link, those on it, for so many links
 pub record AreAllVisits (network : Network) (links : ℕ) (visits : List (Vec Visit Global)) : Type 0 where

@@ -24,10 +24,11 @@ use tsn_timing::Valid;
 /// Replays so many cycles, 1 to 16, of a valid schedule by gate control lists, from instant 0 on. The bridges' clocks are
 /// without error.
 ///
-/// A stream's frame is ready on its first link at its offset in its cycle, and on the next as the timing says from its
-/// actual start. On each link the ready frames wait by readiness, then by stream; the first starts as soon as the wire is
-/// free, and the scheduled class open for as long as the frame occupies the link. Where none can start, a background frame
-/// does, if one waits, the wire is free and a background class open. A frame that starts before the end may end after it.
+/// A stream's frame is ready on its first link at its offset in its cycle, or later by its shift, and on the next as the
+/// timing says from its actual start. On each link the ready frames wait by readiness, then by stream; the first starts as
+/// soon as the wire is free, and the scheduled class open for as long as the frame occupies the link. Where none can start,
+/// a background frame does, if one waits, the wire is free and a background class open. A frame that starts before the end
+/// may end after it.
 ///
 /// By lists that keep the gates that the schedule asks for, each scheduled frame starts when it is planned to.
 ///

@@ -1,8 +1,10 @@
 //! The scheduled frames, and the queue of a link.
-ghost use Rattle.std.specs.Prelude.{◌≡◌, ◌+◌, ◌≤◌, ◌<◌, ◌⊎◌, ℕ, IsTrue, length, All, IfOk};
-ghost use Rattle.tsn_model.specs.Network.{stream_count, hop_count, route_link};
+ghost use Rattle.std.specs.Prelude.{◌≡◌, ◌+◌, ◌++◌, ◌≤◌, ◌<◌, ◌⊎◌, ℕ, IsTrue, map, length, All, IfOk, OnOk};
+ghost use Rattle.tsn_model.specs.Network.{stream_count, hop_count};
+ghost use Rattle.tsn_model.specs.Timing.{shifts};
+ghost use Rattle.tsn_replay.specs.Frames.{AreSpaced};
 ghost use Rattle.tsn_replay.specs.Bounds.{latest_free, latest_instant};
-ghost use Rattle.tsn_replay.specs.Queue.{Precedes, IsHead, AreInLine, IsFirstAmong, IsFirstOnHop, AreVisits, frame_in};
+ghost use Rattle.tsn_replay.specs.Queue.{Precedes, IsHead, AreInLine, IsFirstAmong, IsFirstOnHop, IsVisit, AreVisits, frame_in, fresh_frame};
 ghost use Rattle.tsn_replay.specs.Feeding.{no_start};
 ghost use Rattle.tsn_replay.specs.Progress.{IsTracked, advanced};
 
@@ -10,16 +12,17 @@ use crate::visits::Visit;
 use std::alloc::{AllocError, Global};
 use tsn_model::plain::PlainNetwork;
 
-/// A stream's frame in a cycle: the hop on which it starts next, and from when on it may.
+/// The frame of a stream's shift in a cycle: the hop on which it starts next, and from when on it may.
 #[derive(Clone, Copy)]
 pub struct Frame {
     pub stream: usize,
+    pub shift: u64,
     pub cycle: usize,
     pub hop: usize,
     pub ready: u64,
 }
 
-/// A frame for each stream and cycle, on its first hop: by stream, and those of a stream by cycle.
+/// Each frame of each cycle, on its first hop: by stream, and those of a stream by cycle, then shift.
 pub fn frames_of(
     alloc: Global,
     network: &PlainNetwork,
@@ -29,6 +32,7 @@ pub fn frames_of(
     requires count { length offsets.now ≡ stream_count network.now }
     requires small { All (λ offset. offset ≤ network.now.cycle) offsets.now }
     requires few { cycles ≤ 16 }
+    requires spaced { AreSpaced network.now }
     ensures tracked { IfOk result (λ frames. IsTracked network.now offsets.now cycles no_start frames.items) }
     ensures line { IfOk result (λ frames. AreInLine network.now cycles frames.items) }
     ensures ready { IfOk result (λ frames. All (λ (frame : Frame). frame.ready ≤ latest_instant) frames.items) }
@@ -37,15 +41,38 @@ pub fn frames_of(
     let mut frames = Vec::new(alloc);
     for stream in 0..network.streams() {
         for cycle in 0..cycles {
-            frames.push(Frame {
-                stream,
-                cycle,
-                hop: 0,
-                ready: cycle as u64 * length + offsets[stream],
-            })?;
+            let begin = cycle as u64 * length + offsets[stream];
+            push_cycle(&mut frames, network, stream, cycle, begin)?;
         }
     }
     Ok(frames)
+}
+
+/// Adds a stream's frames of a cycle, the first of which is ready at that instant.
+fn push_cycle(
+    frames: &mut Vec<Frame>,
+    network: &PlainNetwork,
+    stream: usize,
+    cycle: usize,
+    begin: u64,
+) -> Result<(), AllocError>
+    requires stream { stream < stream_count network.now }
+    requires early { begin ≤ 20_000_000_000 }
+    ensures { OnOk result (frames.new.items ≡ frames.old.items ++ map (fresh_frame stream cycle begin) (shifts network.now stream)) }
+{
+    for turn in 0..network.turns(stream) {
+        for place in 0..network.burst(stream) {
+            let shift = network.shift(stream, turn, place);
+            frames.push(Frame {
+                stream,
+                shift,
+                cycle,
+                hop: 0,
+                ready: begin + shift,
+            })?;
+        }
+    }
+    Ok(())
 }
 
 /// The frame once it has started at that time.
@@ -60,6 +87,7 @@ pub fn advance(network: &PlainNetwork, frame: &Frame, time: u64) -> Frame
     let link = network.route_link(frame.stream, frame.hop);
     Frame {
         stream: frame.stream,
+        shift: frame.shift,
         cycle: frame.cycle,
         hop: frame.hop + 1,
         ready: time + network.hop_delay(frame.stream, link),
@@ -97,16 +125,14 @@ fn first_of(
     link: usize,
     visit: Visit,
 ) -> Option<usize>
-    requires stream { visit.stream < stream_count network.now }
-    requires hop { visit.hop < hop_count network.now visit.stream }
-    requires on { route_link network.now visit.stream visit.hop ≡ link }
+    requires visit { IsVisit network.now link visit }
     requires line { AreInLine network.now cycles frames.now }
     ensures { IsFirstAmong network.now frames.now link (λ (frame : Frame). frame.stream ≡ visit.stream) result }
 {
     // The network is within its limits, so a route has a link once.
     let _limits = network.cycle();
-    let from = visit.stream * cycles;
-    first_on(frames, from, from + cycles, visit.hop)
+    let from = visit.first * cycles;
+    first_on(frames, from, from + visit.count * cycles, visit.hop)
 }
 
 /// The first frame of the link's queue. The visits are all hops on the link.

@@ -12,6 +12,7 @@ use std::marker::Model;
 #[derive(Drop)]
 pub struct Started {
     stream: usize,
+    shift: u64,
     cycle: usize,
     hop: usize,
     time: u64,
@@ -22,7 +23,7 @@ impl Model for Started {
 
     ghost Value = { ScheduledStart };
 
-    ghost view = { λ s. record { passage = record { stream = s.stream; cycle = s.cycle; hop = s.hop }; time = s.time } };
+    ghost view = { λ s. record { passage = record { stream = s.stream; shift = s.shift; cycle = s.cycle; hop = s.hop }; time = s.time } };
 }
 
 /// The start of a background frame on a link.
@@ -50,6 +51,13 @@ impl Started {
         ensures { result ≡ self.now.passage.stream }
     {
         self.stream
+    }
+
+    /// How long after the stream's offset the frame starts.
+    pub(crate) fn shift(&self) -> u64
+        ensures { result ≡ self.now.passage.shift }
+    {
+        self.shift
     }
 
     /// The cycle.
@@ -152,6 +160,7 @@ impl Starts {
     {
         self.scheduled.push(Started {
             stream: frame.stream,
+            shift: frame.shift,
             cycle: frame.cycle,
             hop: frame.hop,
             time,

@@ -11,7 +11,7 @@ use std::marker::Model;
 use tsn_model::NoMemory;
 use tsn_net::Problem;
 
-/// The rows of a replay: one for each scheduled frame and hop, by cycle, then stream, then hop.
+/// The rows of a replay: one for each scheduled frame and hop, by cycle, then stream, then shift, then hop.
 #[derive(Drop)]
 pub struct ReplayTable {
     rows: Vec<Row>,

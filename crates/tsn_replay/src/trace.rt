@@ -11,10 +11,12 @@ use tsn_model::NoMemory;
 use tsn_net::Problem;
 
 /// A stream's frame on a hop, in a cycle, each counted from 0: when it was planned to start there, and when it did, in
-/// nanoseconds from the replay's beginning. A frame that hadn't started by the end has no actual start.
+/// nanoseconds from the replay's beginning. A frame that hadn't started by the end has no actual start. The shift says which
+/// frame of the cycle it is: how long after the stream's offset it is sent.
 #[derive(Clone, Copy, PartialEq, Eq)]
 pub struct Row {
     pub stream: usize,
+    pub shift: u64,
     pub cycle: usize,
     pub hop: usize,
     pub planned: u64,
@@ -65,7 +67,7 @@ impl Trace {
         self.table
     }
 
-    /// A row for each scheduled frame and hop, by cycle, then stream, then hop.
+    /// A row for each scheduled frame and hop, by cycle, then stream, then shift, then hop.
     pub fn rows(&self) -> &[Row]
         ensures { result.now ≡ self.now.rows }
     {

@@ -3,3 +3,4 @@ pub mod Runs
 pub mod Longest
 pub mod Listing
 pub mod Wholes
+pub mod Counting

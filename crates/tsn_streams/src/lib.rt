@@ -3,6 +3,7 @@
 
 mod csv;
 mod format;
+mod frames;
 mod json;
 pub mod link;
 pub mod output;

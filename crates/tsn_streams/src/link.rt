@@ -2,10 +2,12 @@
 ghost use Rattle.std.specs.Prelude.{◌≡◌, ◌≤◌, IfOk};
 ghost use Rattle.tsn_streams.specs.Shares.{AreLinkShares, IsLinkShare, time_in, time_of};
 
+use crate::frames::windows_on;
 use crate::rest::{BACKGROUND, longest_open};
 use std::alloc::{AllocError, Global};
 use tsn_gate::{GateEntry, GateList};
 use tsn_model::NoMemory;
+use tsn_timing::Timing;
 
 /// The gate of the scheduled class (7) alone open.
 const SCHEDULED: u8 = 0x80;
@@ -27,11 +29,13 @@ pub struct LinkShare {
     /// The longest time of those without a break, which may go on over the cycle's end; a link that is always open has the
     /// cycle.
     pub longest_open: u64,
+    /// How many scheduled frames occupy it.
+    pub windows: u64,
 }
 
 /// What a list's link gets.
-pub fn link_share(list: &GateList) -> LinkShare
-    ensures { IsLinkShare list.now result }
+pub fn link_share(timing: &Timing, list: &GateList) -> LinkShare
+    ensures { IsLinkShare timing.now list.now result }
 {
     LinkShare {
         link: list.link(),
@@ -39,6 +43,7 @@ pub fn link_share(list: &GateList) -> LinkShare
         guard: time_of(list, CLOSED),
         open: time_of(list, BACKGROUND),
         longest_open: longest_open(list),
+        windows: windows_on(timing.plain(), list.link()),
     }
 }
 
@@ -47,19 +52,27 @@ pub fn link_share(list: &GateList) -> LinkShare
 /// # Errors
 ///
 /// There was no memory.
-pub fn link_shares(alloc: Global, lists: &[GateList]) -> Result<Vec<LinkShare>, NoMemory>
-    ensures { IfOk result (λ shares. AreLinkShares lists.now shares.items) }
+pub fn link_shares(
+    alloc: Global,
+    timing: &Timing,
+    lists: &[GateList],
+) -> Result<Vec<LinkShare>, NoMemory>
+    ensures { IfOk result (λ shares. AreLinkShares timing.now lists.now shares.items) }
 {
-    Ok(shares_of(alloc, lists)?)
+    Ok(shares_of(alloc, timing, lists)?)
 }
 
 /// What the link of each list gets.
-fn shares_of(alloc: Global, lists: &[GateList]) -> Result<Vec<LinkShare>, AllocError>
-    ensures { IfOk result (λ shares. AreLinkShares lists.now shares.items) }
+fn shares_of(
+    alloc: Global,
+    timing: &Timing,
+    lists: &[GateList],
+) -> Result<Vec<LinkShare>, AllocError>
+    ensures { IfOk result (λ shares. AreLinkShares timing.now lists.now shares.items) }
 {
     let mut shares = Vec::new(alloc);
     for list in lists {
-        shares.push(link_share(list))?;
+        shares.push(link_share(timing, list))?;
     }
     Ok(shares)
 }

@@ -4,7 +4,7 @@ ghost use Rattle.tsn_streams.specs.Csv.{csv_text};
 ghost use Rattle.tsn_streams.specs.Json.{json_text};
 ghost use Rattle.tsn_streams.specs.Table.{table_text};
 
-use crate::csv::{Csv, HEADER};
+use crate::csv::{Csv, header};
 use crate::format::append_shares;
 use crate::json::Json;
 use crate::link::LinkShare;
@@ -15,7 +15,8 @@ use tsn_model::NoMemory;
 use tsn_net::Problem;
 
 /// The shares as a table: a line for each stream with its name and numbers, then one for each link with its number, the names
-/// of the nodes that it joins, and its numbers, each after its word.
+/// of the nodes that it joins, and its numbers, each after its word. Where some stream sends several frames a cycle, the lines
+/// end with the streams' periods and frames, and the links' windows.
 ///
 /// # Errors
 ///
@@ -34,7 +35,8 @@ pub fn to_text(
 }
 
 /// The shares as lines of JSON: an object for each stream with its name and numbers, then one for each link with its number,
-/// the names of the nodes that it joins, and its numbers.
+/// the names of the nodes that it joins, and its numbers. Where some stream sends several frames a cycle, they have the streams'
+/// periods and frames too, and the links' windows.
 ///
 /// # Errors
 ///
@@ -53,7 +55,8 @@ pub fn to_json(
 }
 
 /// The shares as comma-separated values (RFC 4180): a line with the fields' names, a record for each stream, in which the
-/// fields of a link are empty, then one for each link, in which those of a stream are. Names stand in quotes.
+/// fields of a link are empty, then one for each link, in which those of a stream are. Names stand in quotes. Where some stream
+/// sends several frames a cycle, the last fields are the streams' periods and frames, and the links' windows.
 ///
 /// # Errors
 ///
@@ -68,6 +71,5 @@ pub fn to_csv(
     requires links { All (λ (share : LinkShare). share.link < length problem.now.network.links) links.now }
     ensures { IfOk result (λ text. string_bytes text ≡ csv_text problem.now streams.now links.now) }
 {
-    let header = String::from_str(alloc, HEADER)?;
-    append_shares::<Csv>(header, problem, streams, links)
+    append_shares::<Csv>(header(alloc, problem)?, problem, streams, links)
 }

@@ -57,8 +57,10 @@ fn of_links(alloc: Global, problem: &Problem, valid: &Valid) -> Result<Vec<LinkS
     ensures whole { IfOk result (λ shares. All (λ (share : LinkShare). share.scheduled + share.guard + share.open ≡ problem.now.network.cycle) shares.items) }
     ensures exist { IfOk result (λ shares. All (λ (share : LinkShare). share.link < length problem.now.network.links) shares.items) }
 {
+    let timing = problem.timing(alloc)?;
     let lists = gate_lists(alloc, problem, valid)?;
-    let shares = link_shares(alloc, &lists);
+    let shares = link_shares(alloc, &timing, &lists);
     drop(lists);
+    drop(timing);
     shares
 }

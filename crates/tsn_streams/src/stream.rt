@@ -13,16 +13,21 @@ use tsn_timing::{Timing, Valid};
 pub struct StreamShare {
     /// The stream.
     pub stream: usize,
-    /// When its sender starts its frame, counted from the cycle's start.
+    /// When its sender starts the first frame of each period, counted from the period's start.
     pub offset: u64,
-    /// How long its frame is on its route: from its offset until it has arrived and its last link is free again.
+    /// How long its frames of a period are on the route: from its offset until the last one has arrived and its last link is
+    /// free again.
     pub latency: u64,
-    /// When its frame has arrived, counted from the cycle's start.
+    /// When the last frame of a period has arrived, counted from the period's start.
     pub arrival: u64,
     /// What is left from then to its latest instant.
     pub to_latest: u64,
-    /// What is left to the cycle's end when its last link is free again.
+    /// What is left of the period when its last link is free again.
     pub to_cycle: u64,
+    /// Its period.
+    pub period: u64,
+    /// How many frames it sends in each period.
+    pub frames: u64,
 }
 
 /// What a stream gets by a valid schedule.
@@ -32,7 +37,7 @@ pub fn stream_share(timing: &Timing, valid: &Valid, stream: usize) -> StreamShar
     requires valid { IsValid timing.now valid.now }
     ensures { result ≡ stream_share timing.now valid.now stream }
 {
-    let cycle = timing.cycle();
+    let period = timing.period(stream);
     let offset = valid.offsets()[stream];
     let latency = timing.span(stream);
     let arrival = offset + timing.arrival(stream);
@@ -42,7 +47,9 @@ pub fn stream_share(timing: &Timing, valid: &Valid, stream: usize) -> StreamShar
         latency,
         arrival,
         to_latest: timing.latest(stream).saturating_sub(arrival),
-        to_cycle: cycle.saturating_sub(offset + latency),
+        to_cycle: period.saturating_sub(offset + latency),
+        period,
+        frames: timing.burst(stream),
     }
 }
 

@@ -1,5 +1,5 @@
 -- What these tests ask of their steps.
-use Rattle.std.specs.Prelude.{◌≡◌, ℕ, List, [], ◌∷◌, map, All}
+use Rattle.std.specs.Prelude.{◌≡◌, ℕ, pos, List, [], ◌∷◌, map, All}
 use Rattle.tsn_model.specs.declared.Triple.{Triple}
 use Rattle.tsn_model.specs.declared.Decision.{Decision}
 use Rattle.tsn_model.specs.Network.{Network}
@@ -21,7 +21,7 @@ IsTied (refuted leaf) = ⊥
 
 -- the conflict of the two streams
 abbrev pub the_conflict : Triple
-the_conflict = record { left = 0; right = 1; link = 4 }
+the_conflict = record { left = 0; right = 1; link = 4; lag = pos 0 }
 
 -- the looks are those of a walk from the path: a split, and then a leaf that is solved by that flowspan
 pub record IsWalk (network : Network) (path : List Decision) (flowspan : ℕ) (looks : List Look) : Type 0 where

@@ -1,3 +1,6 @@
 pub mod Judging
+pub mod Lagging
+pub mod Overlapping
+pub mod Sending
 pub mod Tabling
 mod DecidedArcs

@@ -1,8 +1,8 @@
 -- The tables that a `Timing` keeps, beside the network that they are of.
-use Rattle.std.specs.Prelude.{◌≡◌, ℕ, ◌≤◌, ◌<◌, List, length, slice_index_or}
-use Rattle.tsn_model.specs.declared.bounds.TheConstants.{MAX_OCCUPANCY, MAX_SPAN, MAX_START}
-use Rattle.tsn_model.specs.Network.{Network, IsWellFormed, stream_count, hop_count, route_link}
-use Rattle.tsn_model.specs.Timing.{occupancy, start, arrival, span}
+use Rattle.std.specs.Prelude.{◌≡◌, ℕ, ◌+◌, ◌≤◌, ◌<◌, List, length, slice_index_or, All}
+use Rattle.tsn_model.specs.declared.bounds.TheConstants.{MAX_OCCUPANCY, MAX_SPREAD, MAX_SPAN, MAX_START}
+use Rattle.tsn_model.specs.Network.{Network, IsWellFormed, stream_count, period_of, hop_count, route_link}
+use Rattle.tsn_model.specs.Timing.{occupancy, pace, spread, shifts, start, arrival, span}
 use Rattle.tsn_timing.specs.declared.tables.Hop.{Hop}
 use Rattle.tsn_timing.specs.declared.tables.StreamTable.{StreamTable}
 
@@ -22,9 +22,18 @@ pub record IsHop (network : Network) (i k : ℕ) (hop : Hop) : Type 0 where
 
 -- the numbers of stream i, with how large they are at most
 pub record IsTable (network : Network) (i : ℕ) (table : StreamTable) : Type 0 where
+  pub recurs : table.period ≡ period_of network i
+  pub paces : table.pace ≡ pace network i
+  pub spreads : table.spread ≡ spread network i
+  pub sends : table.shifts.items ≡ shifts network i
   pub route : AreRight (IsHop network i) (hop_count network i) table.hops.items
   pub arrives : table.arrival ≡ arrival network i
   pub spans : table.span ≡ span network i
+  pub lasts : 1 ≤ table.period
+  pub within : table.period ≤ 1000000000
+  pub close : table.pace ≤ MAX_OCCUPANCY
+  pub narrow : table.spread ≤ MAX_SPREAD
+  pub small : All (λ shift. shift ≤ 1000000000 + MAX_SPREAD) table.shifts.items
   pub soon : table.arrival ≤ MAX_SPAN
   pub short : table.span ≤ MAX_SPAN
 

@@ -38,16 +38,18 @@ impl ChainSum {
     }
 }
 
-/// What a decision asks of the offsets: the arc from the stream that goes first on the link to the other one.
+/// What a decision asks of the offsets: the arc from the stream whose frame goes first on the link to the other one.
 pub fn arc_of(timing: &Timing, decision: Decision) -> Arc
     requires { IsConflict timing.now decision.triple }
     ensures arc { result ≡ arc_of timing.now decision }
     ensures small { IsSmall result }
 {
+    // The limits of the network bound the lag.
+    let _limits = timing.cycle();
     let triple = decision.triple;
-    let (first, second) = match decision.side {
-        Side::Left => (triple.left, triple.right),
-        Side::Right => (triple.right, triple.left),
+    let (first, second, lag) = match decision.side {
+        Side::Left => (triple.left, triple.right, triple.lag),
+        Side::Right => (triple.right, triple.left, -triple.lag),
     };
     let Some(first_hop) = timing.hop_on(first, triple.link) else {
         unreachable!();
@@ -59,6 +61,6 @@ pub fn arc_of(timing: &Timing, decision: Decision) -> Arc
     Arc {
         from: first,
         to: second,
-        weight: end as i64 - timing.start(second, second_hop) as i64,
+        weight: end as i64 - timing.start(second, second_hop) as i64 - lag,
     }
 }

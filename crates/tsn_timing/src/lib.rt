@@ -2,13 +2,18 @@
 #![tactic(auto)]
 
 pub mod arc;
+pub mod frames;
+mod overlaps;
 pub mod solved;
 mod tables;
 pub mod timing;
 pub mod valid;
+pub mod window;
 
 pub use arc::{ChainSum, arc_of};
+pub use frames::is_conflict;
 pub use solved::Solved;
 pub use timing::{Timing, Validity};
 pub use tsn_model::{NoMemory, Triple, Violation};
 pub use valid::Valid;
+pub use window::Window;

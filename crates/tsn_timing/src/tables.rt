@@ -1,9 +1,11 @@
 //! The numbers of each stream, worked out once.
-ghost use Rattle.std.specs.Prelude.{◌<◌, IfOk};
+ghost use Rattle.std.specs.Prelude.{◌≡◌, ◌+◌, ◌≤◌, ◌<◌, All, IfOk};
 ghost use Rattle.tsn_model.specs.Network.{stream_count, hop_count};
+ghost use Rattle.tsn_model.specs.Timing.{shifts};
 ghost use Rattle.tsn_timing.specs.Tables.{AreRight, IsHop, IsTable};
 
 use std::alloc::{AllocError, Global};
+use tsn_model::bounds::MAX_SPREAD;
 use tsn_model::plain::PlainNetwork;
 
 /// A hop of a stream: its link, when the frame starts on it, counted from the offset, and how long the frame occupies it.
@@ -14,9 +16,14 @@ pub struct Hop {
     pub occupancy: u64,
 }
 
-/// A stream: its hops, when its last octet arrives, and when its last occupancy has ended too.
+/// A stream: its period, how far apart the frames of a burst start, and how far the first and the last one; how long after
+/// its offset it starts each frame; its hops, when its last octet arrives, and when its last occupancy has ended too.
 #[derive(Drop)]
 pub struct StreamTable {
+    pub period: u64,
+    pub pace: u64,
+    pub spread: u64,
+    pub shifts: Vec<u64>,
     pub hops: Vec<Hop>,
     pub arrival: u64,
     pub span: u64,
@@ -39,13 +46,37 @@ fn hops_of(alloc: Global, network: &PlainNetwork, stream: usize) -> Result<Vec<H
     Ok(hops)
 }
 
+/// How long after its offset a stream starts each frame.
+fn shifts_of(alloc: Global, network: &PlainNetwork, stream: usize) -> Result<Vec<u64>, AllocError>
+    requires { stream < stream_count network.now }
+    ensures value { IfOk result (λ list. list.items ≡ shifts network.now stream) }
+    ensures bound { IfOk result (λ list. All (λ shift. shift ≤ 1_000_000_000 + MAX_SPREAD) list.items) }
+{
+    // The network is within its limits.
+    let _limits = network.cycle();
+    let mut shifts = Vec::new(alloc);
+    for turn in 0..network.turns(stream) {
+        for place in 0..network.burst(stream) {
+            shifts.push(network.shift(stream, turn, place))?;
+        }
+    }
+    Ok(shifts)
+}
+
 /// The numbers of a stream.
 fn table_of(alloc: Global, network: &PlainNetwork, stream: usize) -> Result<StreamTable, AllocError>
     requires { stream < stream_count network.now }
     ensures { IfOk result (IsTable network.now stream) }
 {
+    // The network is within its limits.
+    let _limits = network.cycle();
+    let shifts = shifts_of(alloc, network, stream)?;
     let hops = hops_of(alloc, network, stream)?;
     Ok(StreamTable {
+        period: network.period(stream),
+        pace: network.pace(stream),
+        spread: network.spread(stream),
+        shifts,
         hops,
         arrival: network.arrival(stream),
         span: network.span(stream),

@@ -1,13 +1,13 @@
 //! The timing of a network, and the judgement of offsets.
-ghost use Rattle.std.specs.Prelude.{◌≡◌, ◌+◌, ◌≤◌, ◌<◌, ◌↔◌, ℕ, IsTrue, length, All, IfOk, IfErr, MatchOption, min};
+ghost use Rattle.std.specs.Prelude.{◌≡◌, ◌+◌, ◌≤◌, ◌<◌, ◌↔◌, ℕ, IsTrue, length, All, IfOk, IfErr, MatchOption};
 
 use crate::tables::{StreamTable, tables_of};
 use crate::valid::Valid;
 use std::alloc::Global;
 use std::marker::Model;
-use tsn_model::bounds::{MAX_OCCUPANCY, MAX_SPAN, MAX_START};
+use tsn_model::bounds::{MAX_OCCUPANCY, MAX_SPAN, MAX_SPREAD, MAX_START};
 use tsn_model::plain::PlainNetwork;
-use tsn_model::{Link, NoMemory, Triple, Violation};
+use tsn_model::{Link, NoMemory, Violation};
 
 /// Whether offsets are a valid schedule.
 #[derive(Clone, Copy, PartialEq, Eq)]
@@ -39,11 +39,10 @@ impl Model for Timing {
 }
 
 impl Timing {
-    ghost use Rattle.tsn_model.specs.Network.{IsWellFormed, stream_count, hop_count, route_link, link_at, release_of, latest_of};
-    ghost use Rattle.tsn_model.specs.Timing.{occupancy, start, arrival, span, hop_on};
-    ghost use Rattle.tsn_model.specs.Schedule.{IsValid, IsFirstViolation, IsFirstOverlap, FitsCycle, AreApart, IsReleased, IsInTime, flowspan};
-    ghost use Rattle.tsn_model.specs.PlainWords.{IsOverlap};
-    ghost use Rattle.tsn_timing.specs.Judgement.{Judges, IsFirstPastCycle, IsFirstEarly, IsFirstTooLate, HasNoOverlap, IsFirstOverlapOf, ArePairApart, IsLeastOverlap};
+    ghost use Rattle.tsn_model.specs.Network.{IsWellFormed, stream_count, turns_of, period_of, burst_of, hop_count, route_link, link_at, release_of, latest_of};
+    ghost use Rattle.tsn_model.specs.Timing.{occupancy, pace, spread, shifts, start, arrival, span, hop_on};
+    ghost use Rattle.tsn_model.specs.Schedule.{IsValid, IsFirstViolation, FitsPeriod, IsReleased, IsInTime, flowspan};
+    ghost use Rattle.tsn_timing.specs.Judgement.{Judges, IsFirstPastPeriod, IsFirstEarly, IsFirstTooLate};
 
     /// The timing of a network, which it keeps a copy of. The error says that there was no memory.
     pub fn of(alloc: Global, network: &PlainNetwork) -> Result<Timing, NoMemory>
@@ -104,6 +103,63 @@ impl Timing {
         self.network.streams()
     }
 
+    /// How many periods of a stream make the cycle.
+    pub fn turns(&self, stream: usize) -> u64
+        requires { stream < stream_count self.now }
+        ensures value { result ≡ turns_of self.now stream }
+        ensures some { 1 ≤ result }
+    {
+        self.network.turns(stream)
+    }
+
+    /// The period of a stream, in nanoseconds, 1 to 1,000,000,000.
+    pub fn period(&self, stream: usize) -> u64
+        requires { stream < stream_count self.now }
+        ensures value { result ≡ period_of self.now stream }
+        ensures some { 1 ≤ result }
+        ensures bound { result ≤ 1_000_000_000 }
+    {
+        self.tables[stream].period
+    }
+
+    /// How many frames a stream sends in each of its periods, 1 to 16.
+    pub fn burst(&self, stream: usize) -> u64
+        requires { stream < stream_count self.now }
+        ensures value { result ≡ burst_of self.now stream }
+        ensures some { 1 ≤ result }
+        ensures few { result ≤ 16 }
+    {
+        self.network.burst(stream)
+    }
+
+    /// How long after each other the frames of a burst start, in nanoseconds, at most `MAX_OCCUPANCY`.
+    pub fn pace(&self, stream: usize) -> u64
+        requires { stream < stream_count self.now }
+        ensures value { result ≡ pace self.now stream }
+        ensures bound { result ≤ MAX_OCCUPANCY }
+    {
+        self.tables[stream].pace
+    }
+
+    /// How long after the first frame of a period the last one starts, in nanoseconds, at most `MAX_SPREAD`.
+    pub fn spread(&self, stream: usize) -> u64
+        requires { stream < stream_count self.now }
+        ensures value { result ≡ spread self.now stream }
+        ensures bound { result ≤ MAX_SPREAD }
+    {
+        self.tables[stream].spread
+    }
+
+    /// How long after its offset a stream starts each frame of the cycle, in nanoseconds, each at most 1,000,000,000 and
+    /// `MAX_SPREAD`.
+    pub fn shifts(&self, stream: usize) -> &[u64]
+        requires { stream < stream_count self.now }
+        ensures value { result.now ≡ shifts self.now stream }
+        ensures bound { All (λ shift. shift ≤ 1_000_000_000 + MAX_SPREAD) result.now }
+    {
+        &self.tables[stream].shifts
+    }
+
     /// The least offset that a stream may have, in nanoseconds, at most 1,000,000,000.
     pub fn release(&self, stream: usize) -> u64
         requires { stream < stream_count self.now }
@@ -113,7 +169,7 @@ impl Timing {
         self.network.release(stream)
     }
 
-    /// The instant, counted from the cycle's start, by which a stream has to arrive, in nanoseconds, 1 to 1,000,000,000.
+    /// The instant, counted from a period's start, by which a stream has to arrive, in nanoseconds, 1 to 1,000,000,000.
     pub fn latest(&self, stream: usize) -> u64
         requires { stream < stream_count self.now }
         ensures value { result ≡ latest_of self.now stream }
@@ -164,7 +220,8 @@ impl Timing {
         self.tables[stream].hops[hop].start
     }
 
-    /// When a stream's last octet is at the receiver, counted from the stream's offset, in nanoseconds, at most `MAX_SPAN`.
+    /// When the last octet of a stream's period is at the receiver, counted from the stream's offset, in nanoseconds, at most
+    /// `MAX_SPAN`.
     pub fn arrival(&self, stream: usize) -> u64
         requires { stream < stream_count self.now }
         ensures value { result ≡ arrival self.now stream }
@@ -173,7 +230,7 @@ impl Timing {
         self.tables[stream].arrival
     }
 
-    /// The end of a stream's last occupancy, or its arrival where that is later, counted from the stream's offset, in
+    /// The end of a period's last occupancy, or its arrival where that is later, counted from the stream's offset, in
     /// nanoseconds, at most `MAX_SPAN`.
     pub fn span(&self, stream: usize) -> u64
         requires { stream < stream_count self.now }
@@ -192,7 +249,7 @@ impl Timing {
     }
 
     /// Whether the offsets are a valid schedule, and if not, the first reason: their count, then the first stream that
-    /// isn't done within the cycle, then the first overlap, then the first stream before its release, then the first that
+    /// isn't done within its period, then the first overlap, then the first stream before its release, then the first that
     /// arrives after its latest instant. The offsets may be of any size and number.
     pub fn validity(&self, offsets: &[u64]) -> Validity
         ensures { Judges self.now offsets.now result }
@@ -200,7 +257,7 @@ impl Timing {
         if offsets.len() != self.streams() {
             return Validity::Refused(Violation::WrongCount);
         }
-        if let Some(stream) = self.first_past_cycle(offsets) {
+        if let Some(stream) = self.first_past_period(offsets) {
             return Validity::Refused(Violation::PastCycle(stream));
         }
         if let Some(triple) = self.first_overlap(offsets) {
@@ -238,7 +295,7 @@ impl Timing {
         }
     }
 
-    /// When the stream that finishes last has arrived, counted from the cycle's start, in nanoseconds.
+    /// The longest from the start of a stream's period until its last frame has arrived, in nanoseconds.
     pub fn flowspan(&self, offsets: &[u64]) -> u64
         requires count { length offsets.now ≡ stream_count self.now }
         requires small { All (λ offset. offset ≤ self.now.cycle) offsets.now }
@@ -254,17 +311,17 @@ impl Timing {
         last
     }
 
-    /// The first stream that, put at its offset, isn't done within the cycle.
-    fn first_past_cycle(&self, offsets: &[u64]) -> Option<usize>
+    /// The first stream that, put at its offset, isn't done within its period.
+    fn first_past_period(&self, offsets: &[u64]) -> Option<usize>
         requires { length offsets.now ≡ stream_count self.now }
         ensures { MatchOption result
-            ((i : ℕ) → i < stream_count self.now → FitsCycle self.now offsets.now i)
-            (λ i. IsFirstPastCycle self.now offsets.now i) }
+            ((i : ℕ) → i < stream_count self.now → FitsPeriod self.now offsets.now i)
+            (λ i. IsFirstPastPeriod self.now offsets.now i) }
     {
-        let cycle = self.cycle();
         for stream in 0..self.streams() {
             let offset = offsets[stream];
-            if offset > cycle || offset + self.span(stream) > cycle {
+            let period = self.period(stream);
+            if offset > period || offset + self.span(stream) > period {
                 return Some(stream);
             }
         }
@@ -302,81 +359,5 @@ impl Timing {
             }
         }
         None
-    }
-
-    /// The first triple whose streams overlap on its link.
-    fn first_overlap(&self, offsets: &[u64]) -> Option<Triple>
-        requires count { length offsets.now ≡ stream_count self.now }
-        requires small { All (λ offset. offset ≤ self.now.cycle) offsets.now }
-        ensures { MatchOption result (AreApart self.now offsets.now) (IsFirstOverlap self.now offsets.now) }
-    {
-        for left in 0..self.streams() {
-            if let Some(triple) = self.first_overlap_of(left, offsets) {
-                return Some(triple);
-            }
-        }
-        None
-    }
-
-    /// The first triple of this left stream whose streams overlap.
-    fn first_overlap_of(&self, left: usize, offsets: &[u64]) -> Option<Triple>
-        requires left { left < stream_count self.now }
-        requires count { length offsets.now ≡ stream_count self.now }
-        requires small { All (λ offset. offset ≤ self.now.cycle) offsets.now }
-        ensures { MatchOption result (HasNoOverlap self.now offsets.now left) (IsFirstOverlapOf self.now offsets.now left) }
-    {
-        for right in left + 1..self.streams() {
-            if let Some(link) = self.least_overlap(left, right, offsets) {
-                return Some(Triple { left, right, link });
-            }
-        }
-        None
-    }
-
-    /// The least link on which two streams overlap.
-    fn least_overlap(&self, left: usize, right: usize, offsets: &[u64]) -> Option<usize>
-        requires order { left < right }
-        requires right { right < stream_count self.now }
-        requires count { length offsets.now ≡ stream_count self.now }
-        requires small { All (λ offset. offset ≤ self.now.cycle) offsets.now }
-        ensures { MatchOption result (ArePairApart self.now offsets.now left right) (IsLeastOverlap self.now offsets.now left right) }
-    {
-        let mut least = None;
-        for hop in 0..self.hops(left) {
-            if self.overlap(left, hop, right, offsets) {
-                least = Some(lesser(least, self.route_link(left, hop)));
-            }
-        }
-        least
-    }
-
-    /// Whether two streams overlap on the link of a hop of the left one.
-    fn overlap(&self, left: usize, hop: usize, right: usize, offsets: &[u64]) -> bool
-        requires order { left < right }
-        requires right { right < stream_count self.now }
-        requires hop { hop < hop_count self.now left }
-        requires count { length offsets.now ≡ stream_count self.now }
-        requires small { All (λ offset. offset ≤ self.now.cycle) offsets.now }
-        ensures { IsTrue result ↔ IsOverlap self.now offsets.now
-            (record { left = left; right = right; link = route_link self.now left hop }) }
-    {
-        // The limits of the network bound the sums.
-        let _ = &self.network;
-        let Some(other) = self.hop_on(right, self.route_link(left, hop)) else {
-            return false;
-        };
-        let first = offsets[left] + self.start(left, hop);
-        let second = offsets[right] + self.start(right, other);
-        first < second + self.occupancy(right, other) && second < first + self.occupancy(left, hop)
-    }
-}
-
-/// The lesser of two numbers, if there is a first.
-fn lesser(least: Option<usize>, link: usize) -> usize
-    ensures { MatchOption least (result ≡ link) (λ other. result ≡ min other link) }
-{
-    match least {
-        Some(other) => other.min(link),
-        None => link,
     }
 }

@@ -1,13 +1,17 @@
 -- What tokens spell, a piece at a time.
-use Rattle.std.proofs.Common.{◌≡◌, ◌<◌, ◌≤◌, ◌-◌, ◌^◌, ℕ, suc, List, [], ◌∷◌, ◌++◌, length, map, false, Option, Some, None, codes, refl, sym, ap, ◌∙◌, subst, arith}
-use Rattle.std.specs.Prelude.{option_and_then, option_map}
+use Rattle.std.proofs.Common.{◌≡◌, ◌<◌, ◌≤◌, ◌-◌, ◌^◌, ℕ, zero, suc, pos, ◌<ℤ◌, List, [], ◌∷◌, ◌++◌, length, map, Bool, true, false, Option, Some, None, codes, refl, sym, ap, ◌∙◌, subst, arith, w64, FitsSigned, le-leb}
+use Rattle.std.specs.Prelude.{ℤ, option_and_then, option_map, if◌then◌else◌}
+use Rattle.std.specs.Ordering.{int_eq}
+use Rattle.std.proofs.lemmas.Int.{ints}
+use Rattle.std.proofs.lemmas.Bool.Decides.{Decides-int_eq}
 use Rattle.std.proofs.lemmas.List.{map-append}
 use Rattle.json.specs.Token.{Token, begin_object, begin_array}
 use Rattle.json.specs.Token as token
 use Rattle.json.specs.Lex.{tokens}
 use Rattle.json.specs.Json.{parse_map, after_end_array, read_key, items, members, value}
 use Rattle.json.proofs.Grammar.{left, value_is, closed_array, read_key-shorter, skip_value-shorter}
-use Rattle.serde_json.specs.Data.{Data, unsigned, number, string, array, object, item, member, no_items, no_members}
+use Rattle.serde_json.specs.Find.{of_integer}
+use Rattle.serde_json.specs.Data.{Data, unsigned, negative, number, string, array, object, item, member, no_items, no_members}
 use Rattle.serde_json.specs.Read.{of_json, of_items, of_members, converted, number_of, read}
 use Rattle.json.specs.Json as json
 use Rattle.json.specs.Json.{Parse, if_last}
@@ -16,8 +20,9 @@ use Rattle.serde_json.specs.Data.{Members, put}
 use Rattle.std.proofs.Common.{lt-ltb, eq-eqb, get_or}
 use Rattle.std.specs.Prelude.{SomeIff, IfOk, ◌==◌, Result}
 use Rattle.std.specs.Option.{ok_or}
-use Rattle.fast_float.specs.Text.{IsInteger, scan, digits_of}
-use Rattle.tsn_cert.specs.Json.{number_value, array_value, items_of_list, elements, each}
+use Rattle.fast_float.specs.Text.{IsInteger, scan, digits_of, with_sign}
+use Rattle.tsn_cert.specs.Json.{number_value, signed_value, array_value, items_of_list, elements, each}
+use Rattle.tsn_cert.specs.Cert.{lag_items}
 use Rattle.tsn_cert.proofs.JsonLemmas.{listed-items_of_list, each_push}
 use Rattle.tsn_cert.specs.Spelled.{Spells, SpellsEach}
 
@@ -202,3 +207,39 @@ plain_is s (Some n) e r is sign h =
     let value = sym h.1 in
     let read : number_of s ≡ Some (unsigned n) = rw (sign, lt-ltb _ _ h.0.0.0, h.0.0.1, eq-eqb _ _ h.0.0.2, lt-ltb _ _ h.0.1) (ap (λ k. Some (unsigned k)) value) in
     subst (λ x. IfOk x (λ n. number_of s ≡ Some (unsigned n))) (sym is) read
+
+-- ---- lags
+
+below_negative : (n : ℕ) → 0 < n → of_integer (with_sign true n) ≡ negative (with_sign true n)
+below_negative zero some = absurd (omega (arith, some))
+below_negative (suc n) some = refl
+
+-- the text of a number below 0
+pub minus_is : (s : List ℕ) (z : ℤ) → IsInteger (scan s) → FitsSigned w64 (with_sign true (digits_of (scan s)))
+    → z ≡ with_sign true (digits_of (scan s)) → z <ℤ pos 0 → number_of (45 ∷ s) ≡ Some (of_integer z)
+unfolding number_of
+minus_is s z integer fits is below =
+    let n = digits_of (scan s) in
+    let some : 0 < n = omega (arith, ints) in
+    let few : n ≤ 2 ^ 63 = omega (arith, ints) in
+    rw (lt-ltb _ _ integer.0, integer.1, eq-eqb _ _ integer.2, lt-ltb _ _ some, le-leb _ _ few)
+    (ap Some (sym (below_negative n some)) ∙ ap (λ y. Some (of_integer y)) (sym is))
+
+-- the number of a token's text
+pub signed_spelled : (depth : ℕ) (first : List Token) (s : List ℕ) (z : ℤ) (rest : List Token) → first ≡ token.number s ∷ rest
+    → number_of s ≡ Some (of_integer z)
+    → Spells depth first (signed_value z) rest
+signed_spelled depth first s z rest is e =
+    spelled_at depth first (token.number s ∷ rest) (signed_value z) rest is
+    (ap (converted of_json) (value_is depth (token.number s ∷ rest)) ∙ ap (λ o. option_map (λ d. (d, rest)) (option_map number o)) e)
+
+-- a lag that isn't 0 is written
+lag_written : (b : Bool) (z : ℤ) → (b ≡ true → z ≡ pos 0) → (z ≡ pos 0 → ⊥) → (if b then [] else signed_value z ∷ []) ≡ signed_value z ∷ []
+lag_written true z none other = absurd (other (none refl))
+lag_written false z none other = refl
+
+pub lag_spelled : (first : List Token) (s : List ℕ) (z : ℤ) (rest : List Token) → first ≡ token.number s ∷ rest
+    → (number_of s ≡ Some (of_integer z)) × (z ≡ pos 0 → ⊥) → (depth : ℕ) → SpellsEach depth first (lag_items z) rest
+lag_spelled first s z rest is e depth =
+    subst (λ ds. SpellsEach depth first ds rest) (sym (lag_written (int_eq z (pos 0)) z (Decides-int_eq z (pos 0)).0 e.1))
+    (rest, signed_spelled depth first s z rest is e.0, refl)

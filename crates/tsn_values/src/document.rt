@@ -4,12 +4,14 @@ ghost use Rattle.serde_json.specs.Data.{depth, string};
 ghost use Rattle.serde_json.specs.Read.{max_depth};
 ghost use Rattle.serde_json.specs.View.{view};
 ghost use Rattle.serde_json.specs.Written.{has_float};
-ghost use Rattle.tsn_cert.specs.Json.{value_of, whole_number, elements, numbers, is_object_of, all_within, number_value, array_value, file_text};
+ghost use Rattle.tsn_cert.specs.Json.{value_of, whole_number, signed_number, elements, numbers, is_object_of, all_within, number_value, array_value, file_text};
+ghost use Rattle.tsn_cert.specs.Cert.{lag_parts, frame_parts};
 ghost use Rattle.tsn_cert.specs.Fault.{Gives, Reads, named};
 
 use serde_json::{ToValue, Value};
 use std::alloc::{AllocError, Global};
 use tsn_cert::FileFault;
+use tsn_model::Frame;
 
 /// The value of a file.
 pub fn value_from(alloc: Global, bytes: &[u8]) -> Result<Value, FileFault>
@@ -37,6 +39,50 @@ pub fn index_from(value: &Value) -> Result<usize, FileFault>
     ensures { Reads (λ n. n) result (whole_number (view value.now)) }
 {
     Ok(whole_number_from(value)? as usize)
+}
+
+/// The signed number that the value is; the greatest one stands for all above it.
+fn signed_number_from(value: &Value) -> Result<i64, FileFault>
+    ensures { Reads (λ n. n) result (signed_number (view value.now)) }
+{
+    match value.as_u64() {
+        Some(number) => Ok(number.min(i64::MAX as u64) as i64),
+        None => value.as_i64().ok_or(FileFault::WrongShape),
+    }
+}
+
+/// The lag that the value is, which isn't 0.
+fn lag_from(value: &Value) -> Result<i64, FileFault>
+    ensures { Reads (λ lag. lag) result (lag_parts (view value.now ∷ [])) }
+{
+    let lag = signed_number_from(value)?;
+    if lag == 0 {
+        return Err(FileFault::WrongShape);
+    }
+    Ok(lag)
+}
+
+/// The lag behind the link of a decision, in nanoseconds: 0 where none is written.
+pub fn lag_from_parts(parts: &[Value]) -> Result<i64, FileFault>
+    ensures { Reads (λ lag. lag) result (lag_parts (map view parts.now)) }
+{
+    match parts {
+        [] => Ok(0),
+        [lag] => lag_from(lag),
+        _ => Err(FileFault::WrongShape),
+    }
+}
+
+/// The frame that a stream and a shift are, which isn't 0.
+pub fn frame_from_parts(stream: &Value, shift: &Value) -> Result<Frame, FileFault>
+    ensures { Reads (λ frame. frame) result (frame_parts (view stream.now) (view shift.now)) }
+{
+    let stream = index_from(stream)?;
+    let shift = whole_number_from(shift)?;
+    if shift == 0 {
+        return Err(FileFault::WrongShape);
+    }
+    Ok(Frame { stream, shift })
 }
 
 /// The elements of the array that the value is.

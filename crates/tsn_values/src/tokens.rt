@@ -1,12 +1,14 @@
 //! Tokens of a JSON text, as a file in its written form has them, read with no value of the text in between.
-ghost use Rattle.std.specs.Prelude.{◌≡◌, ◌<◌, ℕ, suc, length, map, ◌∷◌, Some, None, IfOk, OnOk};
-ghost use Rattle.json.specs.Token.{begin_object, begin_array, string};
+ghost use Rattle.std.specs.Prelude.{◌≡◌, ◌≢◌, ◌<◌, ℕ, suc, pos, List, length, map, ◌∷◌, Some, None, IfOk, OnOk, MatchOption};
+ghost use Rattle.json.specs.Token.{Token as JsonToken, begin_object, begin_array, string};
 ghost use Rattle.json.specs.Token as token;
 ghost use Rattle.json.specs.Json.{after_end_array, read_key};
 ghost use Rattle.serde_json.specs.Data.{unsigned};
+ghost use Rattle.serde_json.specs.Find.{of_integer};
 ghost use Rattle.serde_json.specs.Read.{number_of};
 ghost use Rattle.tsn_cert.specs.Json.{number_value, array_value};
-ghost use Rattle.tsn_cert.specs.Spelled.{Spells};
+ghost use Rattle.tsn_cert.specs.Cert.{lag_items};
+ghost use Rattle.tsn_cert.specs.Spelled.{Spells, SpellsEach};
 
 use fast_float::Numeral;
 use json::{Reader, Token};
@@ -144,6 +146,74 @@ pub fn index(reader: &mut Reader<'_>) -> Result<usize, Unread>
     ensures shorter { OnOk result (length reader.new < length reader.old) }
 {
     Ok(number(reader)? as usize)
+}
+
+/// Passes a number without a sign, a point or an exponent, and gives it, or passes the beginning of an array.
+pub fn number_or_array(reader: &mut Reader<'_>) -> Result<Option<u64>, Unread>
+    ensures { IfOk result (λ found. MatchOption found (reader.old ≡ begin_array ∷ reader.new)
+        (λ n. (depth : ℕ) → Spells depth reader.old (number_value n) reader.new)) }
+{
+    match reader.next() {
+        Some(Token::BeginArray) => Ok(None),
+        Some(Token::Number(text)) => Ok(Some(plain_number(text)?)),
+        _ => Err(Unread::OtherForm),
+    }
+}
+
+// ---- lags
+
+/// The number below 0 that these bytes write behind its sign, without a point or an exponent.
+fn below_zero(bytes: &[u8]) -> Result<i64, Unread>
+    ensures { IfOk result (λ z. (number_of (45 ∷ bytes.now) ≡ Some (of_integer z)) × (z ≢ pos 0)) }
+{
+    match Numeral::scan(bytes).to_i64(true) {
+        Some(number) if number < 0 => Ok(number),
+        _ => Err(Unread::OtherForm),
+    }
+}
+
+/// The number above 0 that the text of a token writes without a sign, a point or an exponent.
+fn above_zero(text: &str) -> Result<i64, Unread>
+    ensures { IfOk result (λ z. (number_of text.now ≡ Some (of_integer z)) × (z ≢ pos 0)) }
+{
+    let number = plain_number(text)?;
+    if number == 0 || number > i64::MAX as u64 {
+        return Err(Unread::OtherForm);
+    }
+    Ok(number as i64)
+}
+
+/// The number other than 0 that the text of a token writes without a point or an exponent.
+fn lag_number(text: &str) -> Result<i64, Unread>
+    ensures { IfOk result (λ z. (number_of text.now ≡ Some (of_integer z)) × (z ≢ pos 0)) }
+{
+    match text.as_bytes() {
+        [b'-', bytes @ ..] => below_zero(bytes),
+        _ => above_zero(text),
+    }
+}
+
+/// Passes a lag, which isn't 0, and gives it.
+fn written_lag(reader: &mut Reader<'_>) -> Result<i64, Unread>
+    ensures { IfOk result (λ lag. (depth : ℕ) → SpellsEach depth reader.old (lag_items lag) reader.new) }
+{
+    let text = number_text(reader)?;
+    let found = lag_number(text)?;
+    Ok(found)
+}
+
+/// Passes a lag, where the array goes on with one, and the end of the array. Gives the lag, in nanoseconds.
+pub fn lag_and_end(reader: &mut Reader<'_>) -> Result<i64, Unread>
+    ensures { IfOk result (λ lag. (end : List JsonToken)
+        × ((depth : ℕ) → SpellsEach depth reader.old (lag_items lag) end)
+        × (after_end_array end ≡ Some reader.new)) }
+{
+    if reader.take_end_array() {
+        return Ok(0);
+    }
+    let found = written_lag(reader)?;
+    close_array(reader)?;
+    Ok(found)
 }
 
 /// Reads numbers up to the end of their array, in place of those in the list.

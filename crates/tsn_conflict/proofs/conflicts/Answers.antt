@@ -1,7 +1,8 @@
-use Rattle.std.proofs.Common.{List, map, ap, sym, ◌∙◌}
+use Rattle.std.proofs.Common.{List, map, ap, sym, subst, ◌∙◌}
 use Rattle.std.specs.List.{range_with_len}
 use Rattle.tsn_model.specs.declared.Triple.{Triple}
 use Rattle.tsn_conflict.specs.declared.uses.Row.{Row}
+use Rattle.tsn_conflict.specs.Kept.{AreConflictsOf}
 use Rattle.tsn_conflict.specs.Rows.{uses_in}
 use Rattle.tsn_conflict.specs.Pairs.{pair_in, numbers_with}
 use Rattle.tsn_conflict.proofs.Reading.{AreConflictsOf-from}
@@ -16,8 +17,10 @@ pairs_of-requires c =
 
 pub invariant_of-result : goal.invariant_of-result
 invariant_of-result c = record {
-  network = c.args.timing.now;
-  of_network = AreConflictsOf-from c.args.timing.now _ c.cycle-limit.ensures.well_formed c.in_ok-rows.ensures c.in_ok-triples.ensures;
+  of_network =
+      subst (λ network. AreConflictsOf network (record { uses = uses_in c.in_ok-rows.rows.items; triples = c.in_ok-triples.triples.items }))
+      (sym c.in_ok-timing.ensures)
+      (AreConflictsOf-from c.args.timing.now _ c.cycle-limit.ensures.well_formed c.in_ok-rows.ensures c.in_ok-triples.ensures);
   pairs_made =
       c.in_ok-pairs.ensures ∙ ap (λ (rows : List Row). map (pair_in (uses_in rows)) c.deref-3.result.now) c.deref-2.ensures.value
       ∙ ap (map (pair_in (uses_in c.in_ok-rows.rows.items))) c.deref-3.ensures.value;

@@ -8,7 +8,7 @@ use tsn_cert::{
     Cert, Chain, Chains, Entries, Format, Leaf, LowerBound, Node, Nodes, Offsets, Plan,
 };
 use tsn_cert_json::{cert_from_json, cert_to_json, plan_from_json, plan_to_json};
-use tsn_model::Triple;
+use tsn_model::{Frame, Triple};
 
 const TWO_STREAMS: &str =
     "{\"format\":1,\"nodes\":[[\"branch\",0,1,4],[\"late\",1,[0]],[\"late\",0,[0]]],\"target\":2924}\n";
@@ -127,6 +127,7 @@ fn certificates_are_read_and_printed(rt: HostRuntime) -> Result<(), Fail> {
         "{\"format\":2,\"nodes\":[[\"branch\",0,1,4],[\"tie\",1,[0],[[],[0]]],[\"tie\",0,[0],[[0]]]],\"target\":2924}\n",
         "{\"format\":2,\"nodes\":[[\"tieload\",4,[[0,[]],[1,[2,0]]],[[],[2,0]]]],\"target\":9}\n",
         "{\"format\":1,\"nodes\":[[\"branch\",4294967295,0,0]],\"target\":2000000000}\n",
+        "{\"format\":1,\"nodes\":[[\"branch\",0,1,4,-999999999],[\"branch\",0,1,4,1],[\"load\",4,[[0,1,[]],[0,4294967295,[]]]]],\"target\":0}\n",
     ] {
         prints_cert(&rt, alloc, file)?;
     }
@@ -161,6 +162,7 @@ fn is_branch(rt: &impl Abort, node: &Node) {
         left: 0,
         right: 1,
         link: 4,
+        lag: 0,
     };
     match node {
         Node::Branch(triple) => assert!(rt; *triple == written),
@@ -206,6 +208,7 @@ fn two_streams(alloc: Global) -> Result<Vec<Node>, Fail> {
         left: 0,
         right: 1,
         link: 4,
+        lag: 0,
     };
     Ok(vec![in alloc; Node::Branch(branch), left, right]?)
 }
@@ -246,19 +249,23 @@ fn other_layouts_are_read(rt: HostRuntime) -> Result<(), Fail> {
     Ok(())
 }
 
-fn two_entries(alloc: Global) -> Result<Vec<(usize, Chain)>, Fail>
+fn frame(stream: usize, shift: u64) -> Frame {
+    Frame { stream, shift }
+}
+
+fn two_entries(alloc: Global) -> Result<Vec<(Frame, Chain)>, Fail>
     ensures { IfOk result (λ list. length list.items ≡ 2) }
 {
     let none = Chain::of(alloc, &[])?;
     let two = Chain::of(alloc, &[1, 0])?;
-    Ok(vec![in alloc; (3, none), (5, two)]?)
+    Ok(vec![in alloc; (frame(3, 0), none), (frame(5, 1000), two)]?)
 }
 
 fn are_given(rt: &impl Abort, entries: &Entries) {
     match entries.list() {
         [(first, none), (second, two)] => {
-            assert!(rt; *first == 3 && has(none, &[]));
-            assert!(rt; *second == 5 && has(two, &[1, 0]));
+            assert!(rt; *first == frame(3, 0) && has(none, &[]));
+            assert!(rt; *second == frame(5, 1000) && has(two, &[1, 0]));
         }
         _ => panic!(rt; "other entries were made"),
     }
@@ -270,7 +277,7 @@ fn entries_are_made_and_given_back(rt: HostRuntime) -> Result<(), Fail> {
     are_given(&rt, &entries);
     let list = entries.into_list();
     assert_eq!(rt; list.len(), 2);
-    let file = "{\"format\":1,\"nodes\":[[\"load\",7,[[3,[]],[5,[1,0]]]]],\"target\":9}\n";
+    let file = "{\"format\":1,\"nodes\":[[\"load\",7,[[3,[]],[5,1000,[1,0]]]]],\"target\":9}\n";
     let load = LowerBound::Load(7, Entries::of(list));
     let nodes = vec![in rt.alloc(); Node::Leaf(Leaf::Bound(load))]?;
     prints_nodes(&rt, rt.alloc(), Format::One, 9, nodes, file)

@@ -132,7 +132,7 @@ fn expect_limits<R: Abort + AllocGlobal>(rt: &R, stack: &ArcStack) -> Result<(),
         "[100, 0, 0] [] 0",
     );
     assert!(rt; !takes(stack, arc(0, 3, 1)));
-    assert!(rt; !takes(stack, arc(0, 1, 100_000_001)));
+    assert!(rt; !takes(stack, arc(0, 1, 1_060_000_001)));
     Ok(())
 }
 

@@ -76,8 +76,8 @@ fn are_taken(alloc: Global, text: &str) -> Result<bool, Fail> {
 
 #[test]
 fn limits_of_arcs(rt: HostRuntime) -> Result<(), Fail> {
-    assert!(rt; are_taken(rt.alloc(), "1 0 100000000, 0 1 -100000000")?);
-    for beyond in ["1 0 100000001", "1 0 -100000001", "2 0 1", "0 2 1"] {
+    assert!(rt; are_taken(rt.alloc(), "1 0 1060000000, 0 1 -1060000000")?);
+    for beyond in ["1 0 1060000001", "1 0 -1060000001", "2 0 1", "0 2 1"] {
         assert!(rt; !are_taken(rt.alloc(), beyond)?);
     }
     assert!(rt; Net::new(0).takes(&[]));
@@ -101,7 +101,7 @@ fn push_path(
 /// Arcs from each of 128 streams to the next: of the greatest weight up to the middle, then of `fall`.
 fn path(alloc: Global, fall: i64) -> Result<Vec<Arc>, AllocError> {
     let mut arcs = Vec::new(alloc);
-    push_path(&mut arcs, 0, 64, 100_000_000)?;
+    push_path(&mut arcs, 0, 64, 1_060_000_000)?;
     push_path(&mut arcs, 64, 127, fall)?;
     Ok(arcs)
 }
@@ -158,8 +158,8 @@ fn numbers(alloc: Global, count: usize) -> Result<Vec<usize>, AllocError> {
 
 #[test]
 fn chains_of_127_arcs(rt: HostRuntime) -> Result<(), Fail> {
-    let rising = multiples(rt.alloc(), 100_000_000)?;
-    let mut arcs = path(rt.alloc(), 100_000_000)?;
+    let rising = multiples(rt.alloc(), 1_060_000_000)?;
+    let mut arcs = path(rt.alloc(), 1_060_000_000)?;
     let mut places = numbers(rt.alloc(), 127)?;
     expect_path(&rt, &arcs, &rising, &places)?;
     arcs.reverse();
@@ -171,17 +171,17 @@ fn chains_of_127_arcs(rt: HostRuntime) -> Result<(), Fail> {
 fn hill(alloc: Global) -> Result<Vec<u64>, AllocError> {
     let mut list = Vec::new(alloc);
     for stream in 0..128u64 {
-        list.push(stream.min(128 - stream) * 100_000_000)?;
+        list.push(stream.min(128 - stream) * 1_060_000_000)?;
     }
     Ok(list)
 }
 
 #[test]
 fn round_of_128_arcs(rt: HostRuntime) -> Result<(), Fail> {
-    let level = ring(rt.alloc(), -100_000_000, -100_000_000)?;
+    let level = ring(rt.alloc(), -1_060_000_000, -1_060_000_000)?;
     let places = numbers(rt.alloc(), 127)?;
     expect_path(&rt, &level, &hill(rt.alloc())?, &places)?;
-    let closed = ring(rt.alloc(), -100_000_000, -99_999_999)?;
+    let closed = ring(rt.alloc(), -1_060_000_000, -1_059_999_999)?;
     let net = Net::new(MAX_STREAMS);
     expect_found(&rt, &net, &closed, "closed by 128 of sum 1")
 }

@@ -4,6 +4,7 @@ use crate::nodes::answers::expect_rows;
 use crate::nodes::networks::{LINE, LOOP, ONE, TWO};
 use crate::nodes::nodes::{looked, node_at};
 use crate::nodes::rows::cut;
+use crate::nodes::shared_links::triple_text;
 use std::process::Abort;
 use std::test::*;
 use tsn_branch::fits;
@@ -33,8 +34,8 @@ pub fn look_text<R: Abort + AllocGlobal>(rt: &R, look: &Look) -> String {
 }
 
 fn split_text<R: Abort + AllocGlobal>(rt: &R, triple: Triple) -> String {
-    let Triple { left, right, link } = triple;
-    format!(in rt.alloc(); "split {left} {right} {link}").expect(rt, "memory")
+    let triple = triple_text(rt, triple);
+    format!(in rt.alloc(); "split {triple}").expect(rt, "memory")
 }
 
 fn solved_text<R: Abort + AllocGlobal>(
@@ -99,8 +100,10 @@ fn entries_leaf<R: Abort + AllocGlobal>(
     entries: &Entries,
 ) -> String {
     let mut all = Vec::new(rt.alloc());
-    for (stream, chain) in entries.list() {
-        all.push((*stream, depths(rt, chain))).expect(rt, "memory");
+    for (frame, chain) in entries.list() {
+        assert!(rt; frame.shift == 0);
+        all.push((frame.stream, depths(rt, chain)))
+            .expect(rt, "memory");
     }
     format!(in rt.alloc(); "{word} {link} {all:?}").expect(rt, "memory")
 }

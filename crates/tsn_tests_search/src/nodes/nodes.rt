@@ -15,12 +15,13 @@ use tsn_node::outcome::Look;
 use tsn_node::{Node, Side, Triple};
 use tsn_timing::{Solved, Timing};
 
-/// Which of the first two streams goes first on a link.
+/// Which of the first two streams goes first on a link, with a lag of 0.
 pub fn first_two(link: usize) -> Triple {
     Triple {
         left: 0,
         right: 1,
         link,
+        lag: 0,
     }
 }
 

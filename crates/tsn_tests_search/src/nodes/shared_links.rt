@@ -14,9 +14,25 @@ fn conflicts_of<R: Abort + AllocGlobal>(rt: &R, timing: &Timing) -> Conflicts {
     conflicts(rt.alloc(), timing).expect(rt, "memory")
 }
 
+/// The numbers of a triple, without its lag where that is 0.
+pub fn triple_text<R: Abort + AllocGlobal>(rt: &R, triple: Triple) -> String {
+    let Triple {
+        left,
+        right,
+        link,
+        lag,
+    } = triple;
+    let text = if lag == 0 {
+        format!(in rt.alloc(); "{left} {right} {link}")
+    } else {
+        format!(in rt.alloc(); "{left} {right} {link} {lag}")
+    };
+    text.expect(rt, "memory")
+}
+
 fn push_triple<R: Abort + AllocGlobal>(rt: &R, text: &mut String, triple: Triple) {
-    let Triple { left, right, link } = triple;
-    let more = format!(in rt.alloc(); "({left} {right} {link})").expect(rt, "memory");
+    let triple = triple_text(rt, triple);
+    let more = format!(in rt.alloc(); "({triple})").expect(rt, "memory");
     text.push_str(more.as_str()).expect(rt, "memory");
 }
 

@@ -220,6 +220,7 @@ fn forged(alloc: Global) -> Result<Node, NoMemory> {
             left: 0,
             right: 1,
             link: 0,
+            lag: 0,
         },
         Side::Left,
     )

@@ -84,6 +84,7 @@ fn node_on(alloc: Global, link: usize) -> Result<Node, NoMemory> {
             left: 0,
             right: 1,
             link,
+            lag: 0,
         },
         Side::Left,
     )

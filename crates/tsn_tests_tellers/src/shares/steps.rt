@@ -42,6 +42,7 @@ pub fn conflict() -> Triple
         left: 0,
         right: 1,
         link: 4,
+        lag: 0,
     }
 }
 

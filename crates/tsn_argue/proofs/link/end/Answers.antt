@@ -14,8 +14,8 @@ record Short (x y : ℤ) : Type 0 where
 
 short : (c : goal.After-end_of) → Short c.at.result c.end_of.result
 short c =
-    let below = UsesLink-counted c.args.view.now.timing.now c.args.stream c.args.link c.requires.uses in
-    let ends = open_high c.args.view.now c.args.stream c.requires.sound c.requires.possible below in
+    let below = UsesLink-counted c.args.view.now.timing.now c.args.frame.stream c.args.link c.requires.on.uses in
+    let ends = open_high c.args.view.now c.args.frame.stream c.requires.sound c.requires.possible below in
     let is = c.at.ensures in
     let least = ends.0 in
     let greatest = ends.1 in
@@ -27,7 +27,7 @@ short c =
 
 pub at-requires : goal.at-requires
 at-requires c =
-    let below = UsesLink-counted c.args.view.now.timing.now c.args.stream c.args.link c.requires.uses in
+    let below = UsesLink-counted c.args.view.now.timing.now c.args.frame.stream c.args.link c.requires.on.uses in
     let long = c.requires.sound.view.highs in
     omega arith
 
@@ -40,7 +40,7 @@ pub returns-clause-value : goal.returns-clause-value
 returns-clause-value c =
     let s = short c in
     added_is c.at.result c.end_of.result s.low s.high s.low_y s.high_y
-    ∙ end_is c.args.view.now.timing.now (view_of c.args.view.now) c.args.link c.args.stream c.at.result c.end_of.result c.at.ensures c.end_of.ensures.value
+    ∙ end_is c.args.view.now.timing.now (view_of c.args.view.now) c.args.link c.args.frame c.at.result c.end_of.result c.at.ensures c.end_of.ensures.value
 
 pub returns-clause-low : goal.returns-clause-low
 returns-clause-low c =

@@ -12,42 +12,42 @@ record Short (x y : ℤ) : Type 0 where
   low_y : pos 0 ≤ℤ y
   high_y : y ≤ℤ pos 2000000000
 
-short : (c : goal.After-start_of) → Short c.at.result c.start_of.result
+short : (c : goal.After-begin_of) → Short c.at.result c.begin_of.result
 short c =
-    let below = UsesLink-counted c.args.view.now.timing.now c.args.stream c.args.link c.requires.uses in
-    let ends = open_low c.args.view.now c.args.stream c.requires.sound c.requires.possible below in
+    let below = UsesLink-counted c.args.view.now.timing.now c.args.frame.stream c.args.link c.requires.on.uses in
+    let ends = open_low c.args.view.now c.args.frame.stream c.requires.sound c.requires.possible below in
     let is = c.at.ensures in
     let least = ends.0 in
     let greatest = ends.1 in
     let bound = c.cycle-cycle.ensures.bound in
     let cycle = c.cycle-cycle.ensures.value in
-    let value = c.start_of.ensures.value in
-    let high = c.start_of.ensures.high in
+    let value = c.begin_of.ensures.value in
+    let high = c.begin_of.ensures.high in
     record { low = omega (arith, ints); high = omega (arith, ints); low_y = omega (arith, ints); high_y = omega (arith, ints) }
 
 pub at-requires : goal.at-requires
 at-requires c =
-    let below = UsesLink-counted c.args.view.now.timing.now c.args.stream c.args.link c.requires.uses in
+    let below = UsesLink-counted c.args.view.now.timing.now c.args.frame.stream c.args.link c.requires.on.uses in
     let long = c.requires.sound.view.lows in
     omega arith
 
 pub overflow_add-result : goal.overflow_add-result
 overflow_add-result c =
     let s = short c in
-    added_fits c.at.result c.start_of.result s.low s.high s.low_y s.high_y
+    added_fits c.at.result c.begin_of.result s.low s.high s.low_y s.high_y
 
 pub returns-clause-value : goal.returns-clause-value
 returns-clause-value c =
     let s = short c in
-    added_is c.at.result c.start_of.result s.low s.high s.low_y s.high_y
-    ∙ head_is c.args.view.now.timing.now (view_of c.args.view.now) c.args.link c.args.stream c.at.result c.start_of.result c.at.ensures c.start_of.ensures.value
+    added_is c.at.result c.begin_of.result s.low s.high s.low_y s.high_y
+    ∙ head_is c.args.view.now.timing.now (view_of c.args.view.now) c.args.link c.args.frame c.at.result c.begin_of.result c.at.ensures c.begin_of.ensures.value
 
 pub returns-clause-low : goal.returns-clause-low
 returns-clause-low c =
     let s = short c in
-    (bounds_at c.at.result c.start_of.result _ (added_is c.at.result c.start_of.result s.low s.high s.low_y s.high_y) s.low s.high s.low_y s.high_y).0
+    (bounds_at c.at.result c.begin_of.result _ (added_is c.at.result c.begin_of.result s.low s.high s.low_y s.high_y) s.low s.high s.low_y s.high_y).0
 
 pub returns-clause-high : goal.returns-clause-high
 returns-clause-high c =
     let s = short c in
-    (bounds_at c.at.result c.start_of.result _ (added_is c.at.result c.start_of.result s.low s.high s.low_y s.high_y) s.low s.high s.low_y s.high_y).1
+    (bounds_at c.at.result c.begin_of.result _ (added_is c.at.result c.begin_of.result s.low s.high s.low_y s.high_y) s.low s.high s.low_y s.high_y).1

@@ -2,6 +2,6 @@ use Rattle.std.proofs.Common.{◌≡◌, ◌+◌, ◌*◌, ◌≤◌, ◌∷◌,
 use Rattle.tsn_model.specs.Argument.{work_on}
 use Rattle.tsn_argue.proofs.link.work_with.Given as goal
 
-abbrev pub invariant-loop-stream : goal.invariant-loop-stream
-invariant-loop-stream l =
-    (l.work ≡ work_on l.timing l.link (l.first ∷ take l.stream-index l.others)) × (l.work ≤ 1233600 * (l.stream-index + 1))
+abbrev pub invariant-loop-frame : goal.invariant-loop-frame
+invariant-loop-frame l =
+    (l.work ≡ work_on l.timing l.link (l.fn.first ∷ take l.frame-index l.others)) × (l.work ≤ 1233600 * (l.frame-index + 1))

@@ -1,7 +1,7 @@
 use Rattle.std.proofs.Common.{◌≡◌, List, map, sym, ap, ◌∙◌, subst}
 use Rattle.std.specs.Prelude.{Result}
 use Rattle.tsn_model.specs.Network.{Network}
-use Rattle.tsn_model.specs.Argument.{Fact as ModelFact, Move as ModelMove, View, go, turn, pack, round}
+use Rattle.tsn_model.specs.Argument.{Fact as ModelFact, Move as ModelMove, View, go, turn, pack, round, follow}
 use Rattle.tsn_argument.specs.Meaning.{decision_of, move_of}
 use Rattle.tsn_argue.specs.Motion.{clauses_of, JudgesMove}
 use Rattle.tsn_argue.specs.declared.fault.StepFault.{StepFault}
@@ -31,10 +31,16 @@ returns-in-First c = same_move _ _ _ _ _ _ (sym (ap move_of c.in-First.is)) (c.j
 
 pub returns-in-Pack : goal.returns-in-Pack
 returns-in-Pack c =
-    same_move _ _ _ _ _ _ (ap (pack c.in-Pack.link) c.list.ensures.streams ∙ sym (ap move_of c.in-Pack.is))
+    same_move _ _ _ _ _ _ (ap (pack c.in-Pack.link) c.list.ensures.frames ∙ sym (ap move_of c.in-Pack.is))
     (c.judge_pack.ensures (clauses_of c.args.clauses.now))
 
 pub returns-in-Round : goal.returns-in-Round
 returns-in-Round c =
     same_move _ _ _ _ _ _ (ap (λ orders. round (map decision_of orders)) c.list-in-Round.ensures.orders ∙ sym (ap move_of c.in-Round.is))
     (c.judge_round.ensures (clauses_of c.args.clauses.now))
+
+pub returns-in-Follow : goal.returns-in-Follow
+returns-in-Follow c =
+    same_move _ _ _ _ _ _
+    ((λ i. follow (c.decision-in-Follow.ensures i) (c.decision-in-Follow-2.ensures i)) ∙ sym (ap move_of c.in-Follow.is))
+    (c.judge_follow.ensures (clauses_of c.args.clauses.now))

@@ -3,42 +3,48 @@ use Rattle.std.proofs.lemmas.Int.{ints}
 use Rattle.tsn_model.specs.Argument.{first_head, last_end, work_on}
 use Rattle.tsn_argue.specs.Motion.{facts_of}
 use Rattle.tsn_argue.specs.State.{view_of}
-use Rattle.tsn_argue.proofs.PlacingLemmas.{stream_on, stream_there_until, others_on, some_on, first_shown}
+use Rattle.tsn_argue.proofs.PlacingLemmas.{frame_on, stream_there_until, others_on, all_on, some_on, first_shown}
 use Rattle.tsn_argue.proofs.motion.judge_first.Goals as goal
 
 pub first_head-start-requires-clause-on : goal.first_head-start-requires-clause-on
-first_head-start-requires-clause-on c = others_on _ _ _ _ c.in_ok-judge_placed.ensures.0 _ c.list-others.ensures.streams
+first_head-start-requires-clause-on c = others_on _ _ _ _ c.in_ok-judge_placed.ensures.0 _ c.list-others.ensures.frames
+
+pub last_end_with-end-requires-clause-on : goal.last_end_with-end-requires-clause-on
+last_end_with-end-requires-clause-on c = all_on _ _ _ _ c.in_ok-judge_placed.ensures.0 _ c.list-others.ensures.frames
+
+pub work_with-requires-clause-on : goal.work_with-requires-clause-on
+work_with-requires-clause-on c = all_on _ _ _ _ c.in_ok-judge_placed.ensures.0 _ c.list-others.ensures.frames
 
 pub last_end-requires-clause-on : goal.last_end-requires-clause-on
-last_end-requires-clause-on c = some_on _ _ _ _ c.in_ok-judge_placed.ensures.0 _ _ c.in_ok-judge_placed.ensures.1 c.list-some.ensures.streams
+last_end-requires-clause-on c = some_on _ _ _ _ c.in_ok-judge_placed.ensures.0 _ _ c.in_ok-judge_placed.ensures.1 c.list-some.ensures.frames
 
 pub work-requires-clause-on : goal.work-requires-clause-on
-work-requires-clause-on c = some_on _ _ _ _ c.in_ok-judge_placed.ensures.0 _ _ c.in_ok-judge_placed.ensures.1 c.list-some.ensures.streams
+work-requires-clause-on c = some_on _ _ _ _ c.in_ok-judge_placed.ensures.0 _ _ c.in_ok-judge_placed.ensures.1 c.list-some.ensures.frames
 
 pub end_of-until-requires : goal.end_of-until-requires
-end_of-until-requires c = stream_on _ _ _ _ c.in_ok-judge_placed.ensures.0
+end_of-until-requires c = frame_on _ _ _ _ c.in_ok-judge_placed.ensures.0
 
 pub returns : goal.returns
 returns c clauses =
     let network = c.args.view.now.timing.now in
     let view = view_of c.args.view.now in
     let link = c.args.placing.now.link in
-    let stream = c.args.placing.now.stream in
+    let frame = c.args.placing.now.frame in
     let others = c.args.placing.now.others in
     let some = c.args.placing.now.some in
     let on = c.in_ok-judge_placed.ensures.0 in
-    let same_others = c.list-others.ensures.streams in
-    let same_some = c.list-some.ensures.streams in
-    let end : c.last_end_with-end.result ≡ last_end network view link (stream ∷ others) =
-    c.last_end_with-end.ensures.value ∙ ap (λ list. last_end network view link (stream ∷ list)) same_others in
+    let same_others = c.list-others.ensures.frames in
+    let same_some = c.list-some.ensures.frames in
+    let end : c.last_end_with-end.result ≡ last_end network view link (frame ∷ others) =
+    c.last_end_with-end.ensures.value ∙ ap (λ list. last_end network view link (frame ∷ list)) same_others in
     let end_low = c.last_end_with-end.ensures.low in
     let end_high = c.last_end_with-end.ensures.high in
     let begin : c.first_head-start.result ≡ first_head network view link others =
     c.first_head-start.ensures.value ∙ ap (first_head network view link) same_others in
     let begin_low = c.first_head-start.ensures.low in
     let begin_high = c.first_head-start.ensures.high in
-    let long : c.work_with.result ≡ pos (work_on network link (stream ∷ others)) =
-    c.work_with.ensures.value ∙ ap (λ list. pos (work_on network link (stream ∷ list))) same_others in
+    let long : c.work_with.result ≡ pos (work_on network link (frame ∷ others)) =
+    c.work_with.ensures.value ∙ ap (λ list. pos (work_on network link (frame ∷ list))) same_others in
     let long_low = c.work_with.ensures.low in
     let long_high = c.work_with.ensures.high in
     let less = c.if-end-start.false in
@@ -51,7 +57,7 @@ returns c clauses =
     let until = c.end_of-until.ensures.value in
     let until_high = c.end_of-until.ensures.high in (
       (on, c.in_ok-judge_placed.ensures.1, omega (arith, ints, less, end, end_low, end_high, begin, begin_low, begin_high, long, long_low, long_high)),
-      first_shown network clauses view link stream others some (facts_of c.one.result) _ c.one.ensures
+      first_shown network clauses view link frame others some (facts_of c.one.result) _ c.one.ensures
           (omega (arith, ints, last, last_low, last_high, work, work_low, work_high, until, until_high)),
-      stream_there_until network link stream others on (facts_of c.one.result) _ c.one.ensures,
+      stream_there_until network link frame others on (facts_of c.one.result) _ c.one.ensures,
     )

@@ -1,4 +1,4 @@
-use Rattle.std.proofs.Common.{◌≡◌, ◌+ℤ◌, ◌≤◌, length, map, take, to_z, of_z, w64, refl, sym, ◌∙◌, subst, arith}
+use Rattle.std.proofs.Common.{◌≡◌, ◌+ℤ◌, ◌≤◌, length, map, take, pos, to_z, of_z, w64, refl, sym, ◌∙◌, subst, arith}
 use Rattle.std.proofs.lemmas.Int.{ints}
 use Rattle.tsn_model.specs.Argument.{LeadsBy}
 use Rattle.tsn_argument.specs.Meaning.{decision_of}
@@ -8,7 +8,7 @@ use Rattle.tsn_argue.proofs.MotionLemmas.{order_had, arc_leads, walk_none, walk_
 use Rattle.tsn_argue.proofs.motion.weight_round.Goals as goal
 
 abbrev blank : Order
-blank = record { first = 0; second = 0; link = 0 }
+blank = record { first = 0; second = 0; link = 0; lag = pos 0 }
 
 pub returns-in_err-start : goal.returns-in_err-start
 returns-in_err-start c =

@@ -1,7 +1,7 @@
 use Rattle.std.proofs.Common.{rules, ◌∙◌}
 use Rattle.std.specs.Int.{w128}
 use Rattle.std.proofs.lemmas.Int.{to_z-of_z}
-use Rattle.tsn_model.specs.Argument.{latest_offset}
+use Rattle.tsn_model.specs.Schedule.{latest_offset}
 use Rattle.tsn_argue.proofs.FirstView.{mapped_more}
 use Rattle.tsn_argue.proofs.view.latest_offsets.Goals as goal
 

@@ -1,6 +1,6 @@
 use Rattle.std.proofs.Common.{◌≡◌, map}
 use Rattle.std.specs.List.{range_with_len}
-use Rattle.tsn_model.specs.Argument.{latest_offset}
+use Rattle.tsn_model.specs.Schedule.{latest_offset}
 use Rattle.tsn_argue.proofs.view.latest_offsets.Given as goal
 
 abbrev pub invariant-loop-stream : goal.invariant-loop-stream

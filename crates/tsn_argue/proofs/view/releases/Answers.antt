@@ -6,6 +6,6 @@ use Rattle.tsn_argue.proofs.view.releases.Goals as goal
 
 pub loop-stream-preserved : goal.loop-stream-preserved
 loop-stream-preserved c =
-    let is : to_z w128 c.release.result ≡ pos c.release.result = grind arith in
+    let is : to_z w128 c.window.result.least ≡ pos c.window.result.least = grind arith in
     mapped_more (λ i. pos (release_of c.args.timing.now i)) c.loop-stream.list.items _ _ c.loop-stream.stream c.in_ok-push.ensures.items
-    (is ∙ ap pos c.release.ensures.value) c.loop-stream.invariant
+    (is ∙ ap pos c.window.ensures.least) c.loop-stream.invariant

@@ -6,9 +6,9 @@ use Rattle.tsn_argument_json.proofs.quick.fact.Goals as goal
 pub returns-clause-text : goal.returns-clause-text
 returns-clause-text c =
     let first = c.in_ok-open_array.ensures ∙ ap (λ ts. begin_array ∷ ts) c.in_ok-name.ensures in
-    λ depth. spelled_at _ _ _ _ _ first (c.in_ok-found.ensures depth _ c.in_ok-close_array.ensures)
+    λ depth. spelled_at _ _ _ _ _ first (c.in_ok-found.ensures.text depth)
 
 pub returns-clause-shorter : goal.returns-clause-shorter
 returns-clause-shorter c =
     let first = c.in_ok-open_array.ensures ∙ ap (λ ts. begin_array ∷ ts) c.in_ok-name.ensures in
-    spelled-shorter 3 _ _ _ (spelled_at _ _ _ _ _ first (c.in_ok-found.ensures 0 _ c.in_ok-close_array.ensures))
+    spelled-shorter 3 _ _ _ (spelled_at _ _ _ _ _ first (c.in_ok-found.ensures.text 0))

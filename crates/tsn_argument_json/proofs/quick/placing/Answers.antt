@@ -5,10 +5,10 @@ pub returns-clause-text : goal.returns-clause-text
 returns-clause-text c =
     λ depth. (
       c.index.new.reader,
-      c.in_ok-link.ensures.text (suc depth),
+      c.in_ok-link.ensures.text (suc (suc depth)),
       (
-        c.index-2.new.reader,
-        c.in_ok-stream.ensures.text (suc depth),
-        (c.streams.new.reader, c.in_ok-others.ensures.text depth, (c.streams-2.new.reader, c.in_ok-some.ensures.text depth, refl)),
+        c.frame.new.reader,
+        c.in_ok-frame.ensures.text (suc depth),
+        (c.frames.new.reader, c.in_ok-others.ensures.text depth, (c.frames-2.new.reader, c.in_ok-some.ensures.text depth, refl)),
       ),
     )

@@ -11,7 +11,7 @@ use Rattle.tsn_book.proofs.Chains.{SummedTo, one_summed, all_summed, arc_counted
 use Rattle.tsn_book.proofs.ties.sum_on.Goals as goal
 
 blank : Decision
-blank = record { triple = record { left = 0; right = 0; link = 0 }; side = Left }
+blank = record { triple = record { left = 0; right = 0; link = 0; lag = pos 0 }; side = Left }
 
 pub offset_bounds-path-depth : goal.offset_bounds-path-depth
 offset_bounds-path-depth c =

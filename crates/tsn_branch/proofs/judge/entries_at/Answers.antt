@@ -58,5 +58,6 @@ returns-clause-shown c path solves =
     let network = c.args.tables.timing.now in
     let is = there network c.tables.result.now (c.tables.ensures ∙ c.args.tables.right_loads) c.args.link_index c.requires.link_index c.index-tables-link_index.result c.index-tables-link_index.is in
     let link = get_or (shared_links network) c.args.link_index 0 in
-    shown_by network path c.args.least.now solves link c.index-tables-link_index.result.link c.deref.result.now c.in_ok-entries_of.field-0
+    shown_by network path c.args.least.now solves link c.args.tables.right_conflicts.formed c.index-tables-link_index.result.link
+    c.deref.result.now c.in_ok-entries_of.field-0
     (link_is network link (link_in c.index-tables-link_index.result) is) (c.deref.ensures.value ∙ users_are network link (link_in c.index-tables-link_index.result) is) c.in_ok-entries_of.ensures

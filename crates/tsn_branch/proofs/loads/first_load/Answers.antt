@@ -21,7 +21,8 @@ pub is_calm-requires-clause-short_work : goal.is_calm-requires-clause-short_work
 is_calm-requires-clause-short_work c =
     let network = c.args.timing.now in
     let there = table_there network c.tables-table-items.result.now c.loop-link_index.link_index c.table-item.result (c.tables-table-items.ensures ∙ c.requires.loads) c.loop-link_index-test.true c.table-item.is in
-    (table_measured network c.cycle-cycle.ensures.well_formed c.loop-link_index.link_index c.table-item.result there.0 there.1).short_work
+    let short = (table_measured network c.cycle-cycle.ensures.well_formed c.loop-link_index.link_index c.table-item.result there.0 there.1).short_work in
+    omega arith
 
 pub is_calm-requires-clause-low_tail : goal.is_calm-requires-clause-low_tail
 is_calm-requires-clause-low_tail c =

@@ -6,7 +6,10 @@ use Rattle.tsn_check.proofs.Chains.{arc_at-arcs, closed_parts}
 use Rattle.tsn_check.proofs.chain.closed_sum.Goals as goal
 
 blank : Turn
-blank = record { decision = record { triple = record { left = 0; right = 0; link = 0 }; side = Left }; arc = record { from = 0; to = 0; weight = pos 0 } }
+blank = record {
+  decision = record { triple = record { left = 0; right = 0; link = 0; lag = pos 0 }; side = Left };
+  arc = record { from = 0; to = 0; weight = pos 0 };
+}
 
 pub returns-in_err-walk : goal.returns-in_err-walk
 unfolding blank

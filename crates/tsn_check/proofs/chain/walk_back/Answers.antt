@@ -8,7 +8,10 @@ use Rattle.tsn_check.proofs.Chains.{WalkedTo, none_walked, walk_one, walk_joins,
 use Rattle.tsn_check.proofs.chain.walk_back.Goals as goal
 
 blank : Turn
-blank = record { decision = record { triple = record { left = 0; right = 0; link = 0 }; side = Left }; arc = record { from = 0; to = 0; weight = pos 0 } }
+blank = record {
+  decision = record { triple = record { left = 0; right = 0; link = 0; lag = pos 0 }; side = Left };
+  arc = record { from = 0; to = 0; weight = pos 0 };
+}
 
 pub loop-number-init : goal.loop-number-init
 loop-number-init c =

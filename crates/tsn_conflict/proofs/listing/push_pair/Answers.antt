@@ -1,10 +1,10 @@
-use Rattle.std.proofs.Common.{◌++◌, ◌∷◌, [], List, sym, ap, ◌∙◌, arith, append_assoc, lt-ltb, le-ltb}
+use Rattle.std.proofs.Common.{◌++◌, ℤ, List, map, sym, ap, ◌∙◌, arith, append_assoc, lt-ltb, le-ltb}
 use Rattle.tsn_model.specs.declared.Triple.{Triple}
-use Rattle.tsn_conflict.specs.Rows.{uses_in}
+use Rattle.tsn_conflict.specs.Rows.{uses_in, triple_on, triples_on}
 use Rattle.tsn_conflict.proofs.Reading.{row_kept, link_kept, occupied_in}
-use Rattle.tsn_conflict.proofs.Triples.{triple_on, pair_taken, pair_skipped_left, pair_skipped_right}
+use Rattle.tsn_conflict.proofs.Triples.{pair_taken, pair_skipped_left, pair_skipped_right}
 use Rattle.tsn_conflict.proofs.listing.push_pair.Goals as goal
-use Rattle.tsn_conflict.proofs.listing.push_pair.Goals.{then-first-gt0+then-second-gt0+in_ok-push, else-first-gt0, else-first-gt0-via-then-first-gt0+else-second-gt0, else-first-gt0-via-else-first-gt0}
+use Rattle.tsn_conflict.proofs.listing.push_pair.Goals.{then-first-gt0+then-second-gt0+in_ok-push_lags, else-first-gt0, else-first-gt0-via-then-first-gt0+else-second-gt0, else-first-gt0-via-else-first-gt0}
 
 pub look_up-first-requires-clause-stream : goal.look_up-first-requires-clause-stream
 look_up-first-requires-clause-stream c =
@@ -37,6 +37,7 @@ loop-link-preserved c =
     let link = c.loop-link.link in
     let old = c.args.triples.now.items in
     let so_far = c.loop-link.invariant.so_far in
+    let lags = c.loop-link.invariant.lags in
     let order = c.requires.order in
     let counted = c.requires.right in
     let below = c.loop-link-test.true in
@@ -46,9 +47,11 @@ loop-link-preserved c =
     record {
       so_far =
           elim c.if-first-gt0.branch [
-            | then-first-gt0+then-second-gt0+in_ok-push w ↦
+            | then-first-gt0+then-second-gt0+in_ok-push_lags w ↦
                 let taken = pair_taken network left right link order (sym first ∙ lt-ltb _ _ w.if-first-gt0.true) (sym second ∙ lt-ltb _ _ w.if-second-gt0.true) in
-                rw w.triples-is (w.in_ok-push.ensures.items ∙ ap (λ (ts : List Triple). ts ++ triple_on left right link ∷ []) so_far ∙ append_assoc old _ _ ∙ ap (λ (ts : List Triple). old ++ ts) (sym taken))
+                rw w.triples-is (w.in_ok-push_lags.ensures ∙ ap (λ (lags : List ℤ). c.loop-link.triples.items ++ map (triple_on left right link) lags) (w.deref.ensures.value ∙ lags)
+                ∙ ap (λ (ts : List Triple). ts ++ triples_on network left right link) so_far ∙ append_assoc old _ _
+                ∙ ap (λ (ts : List Triple). old ++ ts) (sym taken))
             | else-first-gt0 w ↦
                 elim w.else-first-gt0.branch [
                   | else-first-gt0-via-then-first-gt0+else-second-gt0 v ↦
@@ -60,4 +63,5 @@ loop-link-preserved c =
                 ]
           ];
       end = end;
+      lags = lags;
     }

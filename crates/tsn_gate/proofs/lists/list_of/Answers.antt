@@ -1,15 +1,22 @@
-use Rattle.std.proofs.Common.{◌<◌, length, rules, sym, subst}
+use Rattle.std.proofs.Common.{◌≡◌, ◌<◌, length, vec_len, rules, sym, ◌∙◌, subst, arith, eqb-true}
 use Rattle.tsn_model.specs.Gates.{guard_of}
 use Rattle.tsn_gate.specs.Entries.{IsTimeline}
 use Rattle.tsn_gate.specs.Windows.{AreWindowsOf, ShowsWindows}
 use Rattle.tsn_gate.specs.GateLists.{IsListOf}
-use Rattle.tsn_gate.proofs.Wanted.{IsGateList-timeline, IsListOf-windows}
+use Rattle.tsn_gate.proofs.Wanted.{none_used, IsGateList-timeline, IsListOf-windows}
 use Rattle.tsn_gate.proofs.lists.list_of.Goals as goal
 
 pub of-requires : goal.of-requires
 of-requires c =
     IsGateList-timeline c.args.timing.now c.in_ok-entries.entries.items c.requires.formed
     (subst (IsTimeline c.in_ok-entries.entries.items) c.requires.cycle c.in_ok-entries.ensures.timeline)
+
+pub returns-then-is_empty : goal.returns-then-is_empty
+returns-then-is_empty c used =
+    let windows = c.in_ok-windows.windows in
+    let none : vec_len windows ≡ 0 = eqb-true _ _ (sym c.is_empty.ensures ∙ c.if-is_empty.true) in
+    let long = windows.ok.0 in
+    none_used c.args.timing.now c.args.offsets.now c.args.link windows.items c.requires.formed c.in_ok-windows.ensures.of_streams (omega arith) used
 
 pub returns : goal.returns
 returns c =

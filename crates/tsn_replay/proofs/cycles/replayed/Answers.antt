@@ -1,6 +1,7 @@
 use Rattle.std.specs.Prelude.{MatchOption}
 use Rattle.std.proofs.Common.{◌≡◌, ◌<◌, length, All, sym, ap, ◌∙◌, subst}
 use Rattle.tsn_model.specs.Network.{IsWellFormed, stream_count}
+use Rattle.tsn_model.specs.Bridge.{ScheduledStart, IsPassage}
 use Rattle.tsn_model.proofs.OnTime.{starts_on_time}
 use Rattle.tsn_replay.specs.declared.trace.Row.{Row}
 use Rattle.tsn_replay.specs.Feeding.{background_of}
@@ -29,6 +30,12 @@ pub rows_of-requires-clause-once : goal.rows_of-requires-clause-once
 rows_of-requires-clause-once c passage s t one other =
     let are = c.in_ok-starts.ensures in
     are.run.once passage s t (started_kept c.args.keeps are.made c.in_ok-starts.starts are.records passage s one) (started_kept c.args.keeps are.made c.in_ok-starts.starts are.records passage t other)
+
+pub rows_of-requires-clause-passages : goal.rows_of-requires-clause-passages
+rows_of-requires-clause-passages c =
+    let are = c.in_ok-starts.ensures in
+    subst (λ n. All (λ (begun : ScheduledStart). IsPassage n c.args.cycles begun.passage) c.in_ok-starts.starts.scheduled) c.plain.ensures
+    (subst (All (λ (begun : ScheduledStart). IsPassage c.plain.result.now c.args.cycles begun.passage)) (sym are.records.scheduled) are.run.passages)
 
 pub returns-clause-replayed : goal.returns-clause-replayed
 returns-clause-replayed c =

@@ -1,18 +1,17 @@
-use Rattle.std.proofs.Common.{◌≡◌, ◌+◌, ◌*◌, ◌<◌, ℕ, length}
+use Rattle.std.proofs.Common.{◌≡◌, ◌++◌}
+use Rattle.std.specs.List.{flat_map, range_with_len}
 use Rattle.tsn_model.specs.Network.{stream_count}
-use Rattle.tsn_replay.specs.Queue.{frame_in}
-use Rattle.tsn_replay.proofs.Fresh.{IsFresh}
+use Rattle.tsn_replay.proofs.Fresh.{cycle_frames, frames_upto}
 use Rattle.tsn_replay.proofs.queue.frames_of.Given as goal
 
 abbrev pub invariant-loop-cycle : goal.invariant-loop-cycle
 invariant-loop-cycle l = record {
-  count : length l.frames.items ≡ l.stream * l.cycles + l.cycle;
-  fresh : (number : ℕ) → number < length l.frames.items → IsFresh l.network l.offsets l.cycles number (frame_in l.frames.items number);
+  so_far : l.frames.items ≡ frames_upto l.network l.offsets l.cycles l.stream ++ flat_map (cycle_frames l.network l.offsets l.cycles l.stream)
+      (range_with_len 0 l.cycle);
 }
 
 abbrev pub invariant-loop-stream : goal.invariant-loop-stream
 invariant-loop-stream l = record {
-  count : length l.frames.items ≡ l.stream * l.cycles;
-  fresh : (number : ℕ) → number < length l.frames.items → IsFresh l.network l.offsets l.cycles number (frame_in l.frames.items number);
+  so_far : l.frames.items ≡ frames_upto l.network l.offsets l.cycles l.stream;
   last : l.stream-end ≡ stream_count l.network;
 }

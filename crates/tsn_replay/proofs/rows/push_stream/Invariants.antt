@@ -1,12 +1,11 @@
-use Rattle.std.proofs.Common.{◌≡◌, ◌++◌, map}
-use Rattle.std.specs.List.{range_with_len}
-use Rattle.tsn_model.specs.Network.{hop_count}
-use Rattle.tsn_replay.specs.Rows.{row_of}
-use Rattle.tsn_replay.proofs.Tables.{passage_at}
+use Rattle.std.proofs.Common.{◌≡◌, ◌++◌, map, take}
+use Rattle.std.specs.List.{flat_map}
+use Rattle.tsn_model.specs.Timing.{shifts}
+use Rattle.tsn_replay.specs.Rows.{row_of, frame_passages}
 use Rattle.tsn_replay.proofs.rows.push_stream.Given as goal
 
-abbrev pub invariant-loop-hop : goal.invariant-loop-hop
-invariant-loop-hop l = record {
-  so_far : l.rows.items ≡ l.fn.rows.items ++ map (row_of l.times.timing.now l.times.offsets.now l.times.table.now) (map (passage_at l.cycle l.stream) (range_with_len 0 l.hop));
-  last : l.hop-end ≡ hop_count l.times.timing.now l.stream;
+abbrev pub invariant-loop-shift : goal.invariant-loop-shift
+invariant-loop-shift l = record {
+  so_far : l.rows.items ≡ l.fn.rows.items ++ map (row_of l.times.timing.now l.times.offsets.now l.times.table.now)
+      (flat_map (frame_passages l.times.timing.now l.cycle l.stream) (take l.shift-index (shifts l.times.timing.now l.stream)));
 }

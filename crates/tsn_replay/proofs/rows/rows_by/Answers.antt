@@ -21,6 +21,6 @@ pub returns : goal.returns
 returns c =
     let past = c.loop-cycle-test.false in
     let upto = c.loop-cycle.invariant.upto in
-    let same : c.loop-cycle.cycle ≡ c.args.cycles = omega arith in
+    let same : c.loop-cycle.cycle ≡ c.args.times.cycles = omega arith in
     c.loop-cycle.invariant.so_far
     ∙ ap (λ n. map (row_of c.args.times.timing.now c.args.times.offsets.now c.args.times.table.now) (flat_map (cycle_passages c.args.times.timing.now) (range_with_len 0 n))) same

@@ -3,4 +3,4 @@ use Rattle.tsn_streams.specs.Shares.{AreLinkShares}
 use Rattle.tsn_streams.proofs.link.shares_of.Given as goal
 
 abbrev pub invariant-loop-list : goal.invariant-loop-list
-invariant-loop-list l = AreLinkShares (take l.list-index l.lists) l.shares.items
+invariant-loop-list l = AreLinkShares l.timing (take l.list-index l.lists) l.shares.items

@@ -1,12 +1,12 @@
-use Rattle.std.proofs.Common.{◌≡◌, ◌+◌, ◌∙◌, ap, sym, pos, arith}
-use Rattle.std.specs.Prelude.{◌-ℤ◌}
+use Rattle.std.proofs.Common.{◌≡◌, ℕ, ℤ, ◌+◌, ◌∙◌, ap, sym, pos, to_z, of_z, w64, arith}
+use Rattle.std.specs.Prelude.{◌+ℤ◌, ◌-ℤ◌, ◌<ℤ◌}
 use Rattle.std.proofs.lemmas.Int.{ints}
 use Rattle.tsn_model.specs.declared.Arc.{Arc}
 use Rattle.tsn_model.specs.Network.{route_link}
 use Rattle.tsn_model.specs.Timing.{occupancy, start}
 use Rattle.tsn_model.specs.Arcs.{arc_between, arc_of}
 use Rattle.tsn_model.proofs.Routes.{hop_on_found}
-use Rattle.tsn_timing.proofs.DecidedArcs.{arc_left, arc_right, arc_ends, arc_same, arc_weighs}
+use Rattle.tsn_timing.proofs.DecidedArcs.{arc_left, arc_right, lag_bounds, arc_ends, arc_same, arc_weighs}
 use Rattle.tsn_timing.proofs.arc.arc_of.Goals as goal
 use Rattle.tsn_timing.proofs.arc.arc_of.Goals.{in-Left, in-Right}
 
@@ -25,31 +25,77 @@ start-requires-2-clause-hop c =
     let found = hop_on_found c.args.timing.now c.match-decision.first.1 c.args.decision.triple.link c.in-Some-hop_on.second_hop (sym c.in-Some-hop_on.ensures) in
     found.1
 
+-- the lag as it is taken for the side is as small
+near_lag : (c : goal.After-start-2)
+    → (pos 0 <ℤ (to_z w64 (of_z w64 c.match-decision.first.2) +ℤ pos 1000000000)) × (to_z w64 (of_z w64 c.match-decision.first.2) <ℤ pos 1000000000)
+near_lag c =
+    let bounds = lag_bounds c.args.timing.now c.args.decision.triple c.cycle-limits.ensures.well_formed c.requires in
+    let above = bounds.0 in
+    let below = bounds.1 in
+    elim c.match-decision.branch as
+    (λ _. (pos 0 <ℤ (to_z w64 (of_z w64 c.match-decision.first.2) +ℤ pos 1000000000)) × (to_z w64 (of_z w64 c.match-decision.first.2) <ℤ pos 1000000000)) [
+      | in-Left w ↦ let third = ap (λ (e : ℕ × ℕ × ℤ). e.2) w.first-is in (omega (arith, ints, third, above, below), omega (arith, ints, third, above, below))
+      | in-Right w ↦ let third = ap (λ (e : ℕ × ℕ × ℤ). e.2) w.first-is in (omega (arith, ints, third, above, below), omega (arith, ints, third, above, below))
+    ]
+
 pub returns-clause-arc : goal.returns-clause-arc
 returns-clause-arc c =
     let network = c.args.timing.now in
     let decision = c.args.decision in
-    let pair = c.match-decision.first in
-    let arc : arc_of network decision ≡ arc_between network pair.0 pair.1 decision.triple.link = elim c.match-decision.branch [
-      | in-Left w ↦ arc_left network decision pair w.in-Left.is w.first-is
-      | in-Right w ↦ arc_right network decision pair w.in-Right.is w.first-is
+    let ends = c.match-decision.first in
+    let bounds = lag_bounds network decision.triple c.cycle-limits.ensures.well_formed c.requires in
+    let above = bounds.0 in
+    let below = bounds.1 in
+    let lag : ℤ = to_z w64 (of_z w64 ends.2) in
+    let arc : arc_of network decision ≡ arc_between network ends.0 ends.1 decision.triple.link lag = elim c.match-decision.branch [
+      | in-Left w ↦
+          let third = ap (λ (e : ℕ × ℕ × ℤ). e.2) w.first-is in
+          arc_left network decision ends.0 ends.1 lag w.in-Left.is (ap (λ (e : ℕ × ℕ × ℤ). e.0) w.first-is) (ap (λ (e : ℕ × ℕ × ℤ). e.1) w.first-is)
+          (omega (arith, ints, third, above, below))
+      | in-Right w ↦
+          let third = ap (λ (e : ℕ × ℕ × ℤ). e.2) w.first-is in
+          arc_right network decision ends.0 ends.1 lag w.in-Right.is (ap (λ (e : ℕ × ℕ × ℤ). e.0) w.first-is) (ap (λ (e : ℕ × ℕ × ℤ). e.1) w.first-is)
+          (omega (arith, ints, third, above, below))
     ] in
     let first = c.in-Some.first_hop in
     let second = c.in-Some-hop_on.second_hop in
-    let weighs : pos (start network pair.0 first + occupancy network pair.0 (route_link network pair.0 first)) -ℤ pos (start network pair.1 second) ≡ (arc_of network decision).weight =
-    arc_weighs network pair.0 pair.1 decision.triple.link first second c.in-Some.ensures c.in-Some-hop_on.ensures ∙ ap (λ (a : Arc). a.weight) (sym arc) in
-    let ends = arc_ends network pair.0 pair.1 decision.triple.link in
+    let weighs :
+    (pos (start network ends.0 first + occupancy network ends.0 (route_link network ends.0 first)) -ℤ pos (start network ends.1 second)) -ℤ lag ≡
+    (arc_of network decision).weight =
+    arc_weighs network ends.0 ends.1 decision.triple.link first second lag c.in-Some.ensures c.in-Some-hop_on.ensures ∙ ap (λ (a : Arc). a.weight) (sym arc) in
+    let joins = arc_ends network ends.0 ends.1 decision.triple.link lag in
     let begins = c.start.ensures.value in
     let early = c.start.ensures.bound in
     let lasts = c.occupancy.ensures.value in
     let short = c.occupancy.ensures.bound in
     let other = c.start-2.ensures.value in
     let other_early = c.start-2.ensures.bound in
-    arc_same _ _ (sym (ap (λ (a : Arc). a.from) arc ∙ ends.0)) (sym (ap (λ (a : Arc). a.to) arc ∙ ends.1)) (omega (arith, ints, weighs))
+    arc_same _ _ (sym (ap (λ (a : Arc). a.from) arc ∙ joins.0)) (sym (ap (λ (a : Arc). a.to) arc ∙ joins.1))
+    (let near = near_lag c in let after = near.0 in let before = near.1 in omega (arith, ints, weighs, after, before))
 
 pub returns-clause-small : goal.returns-clause-small
 returns-clause-small c =
     let early = c.start.ensures.bound in
     let short = c.occupancy.ensures.bound in
     let other_early = c.start-2.ensures.bound in
-    record { low = omega (arith, ints); high = omega (arith, ints) }
+    let near = near_lag c in
+    let after = near.0 in
+    let before = near.1 in
+    record { low = omega (arith, ints, after, before); high = omega (arith, ints, after, before) }
+
+pub overflow_sub-result-2 : goal.overflow_sub-result-2
+overflow_sub-result-2 c =
+    let early = c.start.ensures.bound in
+    let short = c.occupancy.ensures.bound in
+    let other_early = c.start-2.ensures.bound in
+    let near = near_lag c in
+    let after = near.0 in
+    let before = near.1 in
+    omega (arith, ints, after, before)
+
+pub overflow_sub-first : goal.overflow_sub-first
+overflow_sub-first c =
+    let bounds = lag_bounds c.args.timing.now c.args.decision.triple c.cycle-limits.ensures.well_formed c.requires in
+    let above = bounds.0 in
+    let below = bounds.1 in
+    omega (arith, ints, above, below)

@@ -4,4 +4,4 @@ use Rattle.tsn_argue.proofs.SeenLemmas.{none_marked}
 use Rattle.tsn_argue.proofs.seen.Seen.none.Goals as goal
 
 pub returns : goal.returns
-returns c = record { long = refl; inside = All-nil (λ i. i < 128); marked = none_marked }
+returns c = record { long = refl; inside = All-nil (λ frame. frame.stream < 128); marked = none_marked }

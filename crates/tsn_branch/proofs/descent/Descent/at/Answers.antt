@@ -1,4 +1,4 @@
-use Rattle.std.proofs.Common.{◌≡◌, ◌<◌, ◌-◌, List, [], ◌∷◌, ◌++◌, None, length, take, get_or, sym, ap, ◌∙◌, subst, arith}
+use Rattle.std.proofs.Common.{pos, ◌≡◌, ◌<◌, ◌-◌, List, [], ◌∷◌, ◌++◌, None, length, take, get_or, sym, ap, ◌∙◌, subst, arith}
 use Rattle.std.specs.Prelude.{Contains, IfNone, IfSome}
 use Rattle.std.proofs.lemmas.List.Elements.{All-get_or}
 use Rattle.tsn_model.specs.declared.Arc.{Arc}
@@ -26,7 +26,7 @@ arc-arc-requires c =
     let long = ap length c.path-path.ensures.value in
     let above = c.saturating_sub-above.ensures in
     let within : c.loop-depth.depth < length path = omega arith in
-    All-get_or (λ (d : Decision). Contains c.args.conflicts.now.triples d.triple) path c.loop-depth.depth (record { triple = record { left = 0; right = 0; link = 0 }; side = Left }) within
+    All-get_or (λ (d : Decision). Contains c.args.conflicts.now.triples d.triple) path c.loop-depth.depth (record { triple = record { left = 0; right = 0; link = 0; lag = pos 0 }; side = Left }) within
     (subst (Fits c.args.conflicts.now.triples) (sym c.path-path.ensures.value) c.requires.fits)
 
 pub loop-depth-preserved : goal.loop-depth-preserved
@@ -34,7 +34,7 @@ loop-depth-preserved c =
     let network = c.args.timing.now in
     let path = c.path-path.result.now in
     let depth = c.loop-depth.depth in
-    let d : Decision = get_or path depth (record { triple = record { left = 0; right = 0; link = 0 }; side = Left }) in
+    let d : Decision = get_or path depth (record { triple = record { left = 0; right = 0; link = 0; lag = pos 0 }; side = Left }) in
     let here = c.loop-depth-test.true in
     let above = c.saturating_sub-above.ensures in
     let within : depth < length path = omega arith in
@@ -42,7 +42,7 @@ loop-depth-preserved c =
     let put = subst (λ o. IfNone o (c.push.new.self.least.arcs ≡ c.loop-depth.stack.least.arcs ++ c.arc-arc.result ∷ [])) c.in_default.is c.in_ok-_closed.ensures.arcs in
     record {
       releases = c.push.ensures.releases ∙ c.loop-depth.invariant.releases;
-      arcs = put ∙ (λ i. c.loop-depth.invariant.arcs i ++ arc i ∷ []) ∙ sym (arcs_more network path depth (record { triple = record { left = 0; right = 0; link = 0 }; side = Left }) within);
+      arcs = put ∙ (λ i. c.loop-depth.invariant.arcs i ++ arc i ∷ []) ∙ sym (arcs_more network path depth (record { triple = record { left = 0; right = 0; link = 0; lag = pos 0 }; side = Left }) within);
     }
 
 pub returns-clause-stands : goal.returns-clause-stands
@@ -67,7 +67,7 @@ returns-in-Some-clause-none c =
     let above = c.saturating_sub-above.ensures in
     let arcs = c.loop-depth.invariant.arcs in
     let arc = c.arc-arc.ensures.value network c.requires.conflicts in
-    let none : Decision = record { triple = record { left = 0; right = 0; link = 0 }; side = Left } in
+    let none : Decision = record { triple = record { left = 0; right = 0; link = 0; lag = pos 0 }; side = Left } in
     let refutes = subst (λ o. IfSome o (λ chain. Refutes (length c.loop-depth.stack.least.releases) (c.loop-depth.stack.least.arcs ++ c.arc-arc.result ∷ []) chain.items)) c.in-Some.is c.in_ok-_closed.ensures.closed in
     let on_path = subst (λ (as' : List Arc). Refutes (length c.loop-depth.stack.least.releases) as' c.in-Some._closed.items) (λ i. arcs i ++ arc i ∷ []) refutes in
     let found = none_hold network path depth (length path - 1) (length c.loop-depth.stack.least.releases) none c.in-Some._closed.items (omega arith) (omega arith) on_path in

@@ -1,4 +1,4 @@
-use Rattle.std.proofs.Common.{◌<◌, ◌-◌, List, length, take, get_or, sym, ap, ◌∙◌, subst, arith}
+use Rattle.std.proofs.Common.{pos, ◌<◌, ◌-◌, List, length, take, get_or, sym, ap, ◌∙◌, subst, arith}
 use Rattle.tsn_model.specs.declared.Side.TheVariants.{Left}
 use Rattle.tsn_model.specs.declared.Decision.{Decision}
 use Rattle.std.proofs.lemmas.List.{get_or_default}
@@ -22,7 +22,7 @@ returns-then-depth-gt0-clause-stands c =
     λ network given.
     let leads : Leads network (record { path = c.self.inside.node; stack = c.self.inside.stack; splits = c.self.inside.splits.items; found = c.self.inside.found }) = subst (Leads network) (sym c.self.view_is) given in
     let path : List Decision = c.self.inside.node in
-    let none : Decision = record { triple = record { left = 0; right = 0; link = 0 }; side = Left } in
+    let none : Decision = record { triple = record { left = 0; right = 0; link = 0; lag = pos 0 }; side = Left } in
     let last : Decision = get_or path (length path - 1) none in
     let long = ap length c.path-depth.ensures.value in
     let some = c.if-depth-gt0.true in

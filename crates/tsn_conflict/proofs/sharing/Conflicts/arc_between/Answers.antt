@@ -14,7 +14,10 @@ returns-clause-value c =
     let early = c.use_on-before.ensures.early in
     let short = c.use_on-before.ensures.short in
     let early_after = c.use_on-after.ensures.early in
+    let not_before = c.requires.not_before in
+    let not_after = c.requires.not_after in
     let first = c.args.first in
     let second = c.args.second in
-    let weight : _ ≡ pos (start_on network c.args.first c.args.link + occupancy network c.args.first c.args.link) -ℤ pos (start_on network c.args.second c.args.link) = omega (arith, ints) in
+    let weight : _ ≡ (pos (start_on network c.args.first c.args.link + occupancy network c.args.first c.args.link) -ℤ pos (start_on network c.args.second c.args.link)) -ℤ c.args.lag =
+    omega (arith, ints, before_start, before_occupancy, after_start, early, short, early_after, not_before, not_after) in
     (λ k. record { from = first; to = second; weight = weight k })

@@ -7,21 +7,21 @@ use Rattle.tsn_conflict.proofs.sharing.Conflicts.use_on.Goals as goal
 
 pub look_up-requires-clause-stream : goal.look_up-requires-clause-stream
 look_up-requires-clause-stream c =
-    let network = c.self.invariant.network in
+    let network = c.self.inside.timing in
     let is = subst (AreConflictsOf network) c.self.view_is c.self.invariant.of_network in
     let rows = ap uses_in c.deref.ensures.value ∙ ap (λ (kept : Kept). kept.uses) c.self.view_is in
     (Reads-used network _ c.args.stream c.args.link is.formed (rows ∙ is.uses) (c.requires network is)).row_kept
 
 pub look_up-requires-clause-link : goal.look_up-requires-clause-link
 look_up-requires-clause-link c =
-    let network = c.self.invariant.network in
+    let network = c.self.inside.timing in
     let is = subst (AreConflictsOf network) c.self.view_is c.self.invariant.of_network in
     let rows = ap uses_in c.deref.ensures.value ∙ ap (λ (kept : Kept). kept.uses) c.self.view_is in
     (Reads-used network _ c.args.stream c.args.link is.formed (rows ∙ is.uses) (c.requires network is)).link_kept
 
 pub returns : goal.returns
 returns c =
-    let network = c.self.invariant.network in
+    let network = c.self.inside.timing in
     let is = subst (AreConflictsOf network) c.self.view_is c.self.invariant.of_network in
     let rows = ap uses_in c.deref.ensures.value ∙ ap (λ (kept : Kept). kept.uses) c.self.view_is in
     let early = (Reads-used network c.args.self.now.uses c.args.stream c.args.link is.formed is.uses (c.requires network is)).early in

@@ -1,12 +1,61 @@
-use Rattle.std.proofs.Common.{◌≡◌, arith}
-use Rattle.tsn_model.specs.Network.{hop_count}
-use Rattle.tsn_timing.proofs.Judging.{least_done}
+use Rattle.std.proofs.Common.{◌≡◌, ◌<◌, ◌+◌, ◌∙◌, Some, sym, ap, arith}
+use Rattle.std.proofs.lemmas.Int.{ints, clamps}
+use Rattle.tsn_model.specs.Network.{stream_count, route_link}
+use Rattle.tsn_model.specs.Timing.{occupancy, hop_on}
+use Rattle.tsn_model.specs.Schedule.{offset_of}
+use Rattle.tsn_model.proofs.Routes.{hop_on_found, hop_on_link}
+use Rattle.tsn_model.proofs.OnTime.{hop_uses, hop_start}
+use Rattle.tsn_timing.proofs.Overlapping.{judged}
 use Rattle.tsn_timing.proofs.timing.Timing.least_overlap.Goals as goal
+
+pub start-requires-2-clause-hop : goal.start-requires-2-clause-hop
+start-requires-2-clause-hop c =
+    let on : hop_on c.args.self.now c.args.right c.route_link.result ≡ Some c.in-Some.other = sym c.hop_on.ensures ∙ c.in-Some.is in
+    (hop_on_found c.args.self.now c.args.right c.route_link.result c.in-Some.other on).1
+
+pub occupancy-requires-clause-hop : goal.occupancy-requires-clause-hop
+occupancy-requires-clause-hop c =
+    let on : hop_on c.args.self.now c.args.right c.route_link.result ≡ Some c.in-Some.other = sym c.hop_on.ensures ∙ c.in-Some.is in
+    (hop_on_found c.args.self.now c.args.right c.route_link.result c.in-Some.other on).1
 
 pub returns : goal.returns
 returns c =
-    let ended = c.loop-hop-test.false in
-    let last = c.loop-hop.invariant.end in
-    let done = c.loop-hop.auto.hop-end in
-    let all : c.loop-hop.hop ≡ hop_count c.args.self.now c.args.left = omega arith in
-    least_done c.args.self.now c.args.offsets.now c.args.left c.args.right c.loop-hop.hop c.loop-hop.least all c.loop-hop.invariant.so_far
+    let network = c.args.self.now in
+    let offsets = c.args.offsets.now in
+    let left = c.args.left in
+    let right = c.args.right in
+    let link = route_link network left c.args.hop in
+    let formed = c.cycle-limits.ensures.well_formed in
+    let left_below : left < stream_count network = let order = c.requires.order in let counted = c.requires.right in omega arith in
+    let on : hop_on network right link ≡ Some c.in-Some.other = ap (hop_on network right) (sym c.route_link.ensures.value)
+    ∙ (sym c.hop_on.ensures ∙ c.in-Some.is) in
+    let found = hop_on_found network right link c.in-Some.other on in
+    let left_start = c.start.ensures.value ∙ sym (hop_start network formed left left_below c.args.hop c.requires.hop) in
+    let right_start = c.start-2.ensures.value ∙ found.2 in
+    let right_occupancy = c.occupancy.ensures.value ∙ ap (occupancy network right) (hop_on_link network right link c.in-Some.other on) in
+    let left_occupancy = c.occupancy-2.ensures.value in
+    let left_early = c.start.ensures.bound in
+    let right_early = c.start-2.ensures.bound in
+    let right_short = c.occupancy.ensures.bound in
+    let left_short = c.occupancy-2.ensures.bound in
+    let right_period = c.period.ensures.value in
+    let right_within = c.period.ensures.bound in
+    let left_period = c.period-2.ensures.value in
+    let left_within = c.period-2.ensures.bound in
+    let cycle = c.cycle-limits.ensures.value in
+    let bound = c.cycle-limits.ensures.bound in
+    let left_small = c.requires.small left 0 (let count = c.requires.count in omega arith) in
+    let right_small = c.requires.small right 0 (let count = c.requires.count in let counted = c.requires.right in omega arith) in
+    judged network offsets left right link (offset_of offsets left + c.start.result) (offset_of offsets right + c.start-2.result) _ _
+    (record {
+      formed = formed;
+      ordered = c.requires.order;
+      counted = c.requires.right;
+      left_uses = hop_uses network formed left left_below c.args.hop c.requires.hop;
+      right_uses = found.0;
+      first_is = omega arith;
+      second_is = omega arith;
+      low_is = let is = c.max.ensures.value in omega (arith, ints, clamps);
+      high_is = let is = c.min.ensures.value in omega (arith, ints, clamps);
+    })
+    c.least_lag.result c.least_lag.ensures

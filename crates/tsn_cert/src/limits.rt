@@ -1,0 +1,26 @@
+//! Whether lags and frames are within the limits of a file.
+ghost use Rattle.std.specs.Prelude.{◌≡◌};
+ghost use Rattle.tsn_cert.specs.Cert.{lag_fits, frame_fits};
+
+use crate::chain::MAX_NUMBER;
+use tsn_model::Frame;
+
+/// The greatest size of a lag in a file, in nanoseconds.
+pub const MAX_LAG: u64 = 999_999_999;
+
+/// The greatest shift in a file, in nanoseconds.
+const MAX_SHIFT: u64 = 4_294_967_295;
+
+/// Whether the size of the lag is within its limit.
+pub fn lag_fits(lag: i64) -> bool
+    ensures { result ≡ lag_fits lag }
+{
+    lag.unsigned_abs() <= MAX_LAG
+}
+
+/// Whether both numbers of the frame are within their limit.
+pub fn frame_fits(frame: Frame) -> bool
+    ensures { result ≡ frame_fits frame }
+{
+    frame.stream <= MAX_NUMBER && frame.shift <= MAX_SHIFT
+}

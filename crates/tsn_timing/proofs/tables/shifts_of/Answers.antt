@@ -1,0 +1,58 @@
+use Rattle.std.proofs.Common.{◌≡◌, ◌≤◌, ◌∷◌, [], ◌++◌, ℕ, All, sym, ap, ◌∙◌, subst, arith, append-nil, append_assoc}
+use Rattle.tsn_model.specs.Network.{turns_of, burst_of}
+use Rattle.tsn_timing.proofs.Sending.{of_turn, of_turns, turn_more, turns_more, all_turns, shifts-le}
+use Rattle.tsn_timing.proofs.tables.shifts_of.Goals as goal
+
+pub loop-place-init : goal.loop-place-init
+loop-place-init c = record {
+  so_far = c.loop-turn.invariant.so_far ∙ sym (append-nil (of_turns c.args.network.now c.args.stream c.loop-turn.turn));
+  end = c.burst-place-end.ensures.value;
+}
+
+pub loop-place-preserved : goal.loop-place-preserved
+loop-place-preserved c =
+    let network = c.args.network.now in
+    let i = c.args.stream in
+    let turn = c.loop-turn.turn in
+    let place = c.loop-place.place in
+    record {
+      so_far =
+          c.in_ok-push.ensures.items ∙ ap (λ xs. xs ++ c.shift.result ∷ []) c.loop-place.invariant.so_far
+          ∙ append_assoc (of_turns network i turn) (of_turn network i place turn) (c.shift.result ∷ [])
+          ∙ ap (λ (s : ℕ). of_turns network i turn ++ (of_turn network i place turn ++ s ∷ [])) c.shift.ensures.value
+          ∙ ap (λ xs. of_turns network i turn ++ xs) (sym (turn_more network i turn place));
+      end = c.loop-place.invariant.end;
+    }
+
+pub loop-turn-preserved : goal.loop-turn-preserved
+loop-turn-preserved c =
+    let network = c.args.network.now in
+    let i = c.args.stream in
+    let turn = c.loop-turn.turn in
+    let ended = c.loop-place-test.false in
+    let last = c.loop-place.invariant.end in
+    let done = c.loop-place.auto.place-end in
+    let all : c.loop-place.place ≡ burst_of network i = omega arith in
+    record {
+      so_far = c.loop-place.invariant.so_far ∙ ap (λ places. of_turns network i turn ++ of_turn network i places turn) all ∙ sym (turns_more network i turn);
+      end = c.loop-turn.invariant.end;
+    }
+
+pub returns-clause-value : goal.returns-clause-value
+returns-clause-value c =
+    let network = c.args.network.now in
+    let ended = c.loop-turn-test.false in
+    let last = c.loop-turn.invariant.end in
+    let done = c.loop-turn.auto.turn-end in
+    let all : c.loop-turn.turn ≡ turns_of network c.args.stream = omega arith in
+    c.loop-turn.invariant.so_far ∙ ap (of_turns network c.args.stream) all ∙ all_turns network c.args.stream
+
+pub returns-clause-bound : goal.returns-clause-bound
+returns-clause-bound c =
+    let network = c.args.network.now in
+    let ended = c.loop-turn-test.false in
+    let last = c.loop-turn.invariant.end in
+    let done = c.loop-turn.auto.turn-end in
+    let all : c.loop-turn.turn ≡ turns_of network c.args.stream = omega arith in
+    subst (All (λ shift. shift ≤ 1018504000)) (sym (c.loop-turn.invariant.so_far ∙ ap (of_turns network c.args.stream) all ∙ all_turns network c.args.stream))
+    (shifts-le network c.args.stream c.cycle-limits.ensures.well_formed c.requires)

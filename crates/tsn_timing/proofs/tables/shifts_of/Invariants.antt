@@ -1,0 +1,16 @@
+use Rattle.std.proofs.Common.{◌≡◌, ◌++◌}
+use Rattle.tsn_model.specs.Network.{turns_of, burst_of}
+use Rattle.tsn_timing.proofs.Sending.{of_turn, of_turns}
+use Rattle.tsn_timing.proofs.tables.shifts_of.Given as goal
+
+abbrev pub invariant-loop-turn : goal.invariant-loop-turn
+invariant-loop-turn l = record {
+  so_far : l.shifts.items ≡ of_turns l.network l.stream l.turn;
+  end : l.turn-end ≡ turns_of l.network l.stream;
+}
+
+abbrev pub invariant-loop-place : goal.invariant-loop-place
+invariant-loop-place l = record {
+  so_far : l.shifts.items ≡ of_turns l.network l.stream l.turn ++ of_turn l.network l.stream l.place l.turn;
+  end : l.place-end ≡ burst_of l.network l.stream;
+}
