@@ -1,15 +1,17 @@
 #!/usr/bin/env python3
 """Plans networks, has each certificate checked, and each plan proved.
 
-Usage: bench/suite.py [FOLDER] [--bin PROGRAM] [--search HOW] [--steps N] [--workers W] [--plans FILE] [--only REGEX]
+Usage: bench/suite.py [FOLDER..] [--bin PROGRAM] [--search HOW] [--steps N] [--workers W] [--plans FILE] [--only REGEX]
                       [--beside PROGRAM]
 
-For each network file of the folder, bench/suite unless another is given, a line of a table: what `plan` says and in how many seconds from start to end, what `check` says
-of its certificate, and what `prove` says of the plan it wrote (the best one, where it was stopped). Each plan that is
-decided is compared with the one that an object of JSON (--plans, else bench/suite/first_plans.json) has by the network's name:
-those were found by unproved searches that learn, of two or three other kinds. Ends with how many were decided and how
-many plans were proved, and with status 1 where a certificate or a proof is refused or a plan is another one. Another program that
-plans (--beside) is called with each network right after `plan`, and its seconds are told too.
+There is a table for each folder: unless others are given, for bench/suite, whose streams send one frame a cycle, and for
+bench/periods, whose streams have periods and bursts. It has a line for each network file: what `plan` says and in how many
+seconds from start to end, what `check` says of its certificate, and what `prove` says of the plan it wrote (the best one, where
+it was stopped). Each plan that is decided is compared with the one that an object of JSON (--plans, else first_plans.json in the
+folder, if it is there) has by the network's name: those were found by unproved searches that learn, of other kinds. Each table
+ends with how many were decided and how many plans were proved. The status is 1 where a certificate or a proof is refused or a
+plan is another one. Another program that plans (--beside) is called with each network right after `plan`, and its seconds are
+told too.
 """
 
 import argparse
@@ -22,7 +24,7 @@ import tempfile
 import time
 
 ROOT = os.path.dirname(os.path.dirname(os.path.abspath(__file__)))
-SUITE = os.path.join(ROOT, "bench", "suite")
+FOLDERS = [os.path.join(ROOT, "bench", it) for it in ("suite", "periods")]
 
 
 def said(words):
@@ -67,39 +69,29 @@ def is_same(found, known):
 
 
 def known_plans(path):
-    """The plan of each network by its name."""
-    if not path:
+    """The plan of each network by its name; none where there is no file."""
+    if not os.path.exists(path):
         return {}
     with open(path, encoding="utf-8") as file:
         return json.load(file)
 
 
-def main():
-    parser = argparse.ArgumentParser(description=__doc__, formatter_class=argparse.RawDescriptionHelpFormatter)
-    parser.add_argument("folder", nargs="?", default=SUITE)
-    parser.add_argument("--bin", default=os.path.join(ROOT, "crates", "tsn", "out", "tsn"))
-    parser.add_argument("--search", default="")
-    parser.add_argument("--plans", default=os.path.join(SUITE, "first_plans.json"))
-    parser.add_argument("--steps", default="1000000")
-    parser.add_argument("--workers", default="1")
-    parser.add_argument("--only", default="")
-    parser.add_argument("--beside", default="")
-    given = parser.parse_args()
-    words = ["--steps", given.steps, "--workers", given.workers] + (["--search", given.search] if given.search else [])
-    known = known_plans(given.plans)
-    names = sorted(it for it in os.listdir(given.folder) if it.endswith(".toml") and re.search(given.only, it))
+def run_folder(folder, given, words):
+    """Prints the table of a folder, and gives the networks at which something isn't as it should be."""
+    known = known_plans(given.plans or os.path.join(folder, "first_plans.json"))
+    names = sorted(it for it in os.listdir(folder) if it.endswith(".toml") and re.search(given.only, it))
     decided, proofs, total, beside, wrong = 0, 0, 0.0, 0.0, []
     more = ["Beside"] if given.beside else []
     print("| " + " | ".join(["Network", "`plan`", "Seconds", "`check`", "`prove`", "Seconds", *more]) + " |\n" + "|---" * (6 + len(more)) + "|", flush=True)
     with tempfile.TemporaryDirectory() as room:
         for name in names:
-            line, seconds, checked, proved, proof_seconds, right, found = tried(given.bin, os.path.join(given.folder, name), words, room)
+            line, seconds, checked, proved, proof_seconds, right, found = tried(given.bin, os.path.join(folder, name), words, room)
             decided += not line.startswith("stopped")
             proofs += proved.startswith("proved")
             total += seconds
             other = ""
             if given.beside:
-                taken = said([given.beside, os.path.abspath(os.path.join(given.folder, name))])[2]
+                taken = said([given.beside, os.path.abspath(os.path.join(folder, name))])[2]
                 beside += taken
                 other = f" {taken:.2f} |"
             if name[:-5] in known and not line.startswith("stopped"):
@@ -110,6 +102,25 @@ def main():
     print(f"\n{decided} of {len(names)} decided, {proofs} plans proved, {total:.1f} s for the plans")
     if given.beside:
         print(f"{beside:.1f} s by the other program")
+    return wrong
+
+
+def main():
+    parser = argparse.ArgumentParser(description=__doc__, formatter_class=argparse.RawDescriptionHelpFormatter)
+    parser.add_argument("folders", nargs="*", default=FOLDERS)
+    parser.add_argument("--bin", default=os.path.join(ROOT, "crates", "tsn", "out", "tsn"))
+    parser.add_argument("--search", default="")
+    parser.add_argument("--plans", default="")
+    parser.add_argument("--steps", default="1000000")
+    parser.add_argument("--workers", default="1")
+    parser.add_argument("--only", default="")
+    parser.add_argument("--beside", default="")
+    given = parser.parse_args()
+    words = ["--steps", given.steps, "--workers", given.workers] + (["--search", given.search] if given.search else [])
+    wrong = []
+    for place, folder in enumerate(given.folders):
+        print("\n" * (place > 0) + os.path.relpath(folder) + "\n")
+        wrong += run_folder(folder, given, words)
     if wrong:
         sys.exit("not as it should be: " + " ".join(wrong))
 
