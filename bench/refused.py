@@ -8,7 +8,8 @@ has to end with status 7 and the line `no memory`, or whole, where the call that
 with all calls refused from each one on; and `plan` with 4 workers and by the search that learns, each call alone, on the star of
 ten and on networks on which that search learns: no memory, or the optimum with a certificate that is accepted. A run is stopped
 only where the limit is too little for the order of the file, when the search that learns or the check of its argument had no
-memory; its plan is then a valid schedule. No run leaves an unfinished file. What is told at the end has how many calls were refused in all.
+memory; its plan is then a valid schedule. Of a plan whose tree is written in pieces the last calls alone are refused, when some of
+these are written. No run leaves an unfinished file. What is told at the end has how many calls were refused in all.
 """
 
 import json
@@ -31,6 +32,9 @@ SEARCHES = [
     ("bench/suite/ring-010-fe-eq-hot-loose-3.toml", 60250, ["--search", "learn"]),
     ("bench/suite/tree-020-gig-wild-hot-tight-2.toml", 95302, ["--search", "learn", "--steps", "1000"]),
 ]
+# A plan whose tree is longer than two pieces, and how many of its last calls are refused.
+PIECES = "bench/suite/ring-010-fe-eq-hot-loose-3.toml", ["--search", "file"]
+LATE = 400
 EVERY = int(sys.argv[1]) if len(sys.argv) > 1 else 1
 
 
@@ -130,6 +134,21 @@ def refuse_search(program, network, optimum, search):
     return calls, optimal, stopped
 
 
+def refuse_late(program, network, search):
+    """The last calls of a plan whose tree is written in pieces: no memory, and no certificate."""
+    plan, cert = os.path.join(program.folder, "plan"), os.path.join(program.folder, "cert")
+    words = ["plan", network, *search, "--plan", plan, "--cert", cert]
+    whole, calls = program.run(words)
+    late = range(max(1, calls - LATE), calls + 1, EVERY)
+    for number in late:
+        if os.path.exists(cert):
+            os.remove(cert)
+        end, _ = program.run(words, str(number))
+        if end not in (whole, NO_MEMORY) or os.path.exists(cert) != (end == whole):
+            sys.exit(f"{' '.join(search)}: with call {number} refused it ends with {end}, and {os.path.exists(cert)=}")
+    return calls, len(late)
+
+
 def refuse_calls(folder):
     """The calls that no command makes: each that met want of memory was made again, and nothing else that is printed changed."""
     if not os.path.exists(CALLS):
@@ -164,6 +183,10 @@ def main():
             refused += calls
             ends = f"{optimal} runs optimal, {stopped} stopped, the others with no memory"
             print(f"plan {' '.join(search)} on {os.path.basename(network)}: {calls} calls, {ends}", flush=True)
+        network, search = PIECES
+        calls, late = refuse_late(program, os.path.join(ROOT, network), search)
+        refused += late
+        print(f"plan {' '.join(search)} on {os.path.basename(network)}: {calls} calls, {late} of the last ones refused", flush=True)
         print(f"{refused} calls, {'each' if EVERY == 1 else f'one of {EVERY}'} refused, and each run ended as it has to")
 
 
