@@ -1,5 +1,6 @@
 pub mod Lagging
 pub mod Reading
+pub mod Shared
 pub mod Triples
 pub mod Listed
 pub mod Order

@@ -1,10 +1,10 @@
 -- The list of conflicts, triple by triple.
-use Rattle.std.proofs.Common.{◌≡◌, ℕ, ℤ, zero, suc, ◌+◌, ◌≤◌, ◌<◌, Bool, true, false, List, [], ◌∷◌, ◌++◌, length, map, filter, flat_map, is_some, refl, ap, ◌∙◌, arith, append-nil}
+use Rattle.std.proofs.Common.{◌≡◌, ℕ, ℤ, zero, suc, ◌+◌, ◌≤◌, ◌<◌, Bool, true, false, List, [], ◌∷◌, ◌++◌, All, length, map, filter, flat_map, is_some, refl, sym, ap, ◌∙◌, arith, append-nil}
 use Rattle.std.specs.Prelude.{◌&&◌}
 use Rattle.std.specs.List.{range_with_len}
 use Rattle.std.proofs.lemmas.Bool.{lt-ltb, le-ltb, cond-true, cond-false}
 use Rattle.std.proofs.lemmas.Grind.{flat_map-append}
-use Rattle.std.proofs.lemmas.List.Elements.{filter-append}
+use Rattle.std.proofs.lemmas.List.Elements.{All-head, All-tail, filter-append}
 use Rattle.tsn_model.specs.declared.Triple.{Triple}
 use Rattle.tsn_model.specs.Network.{Network, stream_count}
 use Rattle.tsn_model.specs.Timing.{hop_on}
@@ -33,6 +33,33 @@ all_of_link p f [] passes = refl
 all_of_link p f (lag ∷ lags) passes =
     cond-true (p (f lag)) (f lag ∷ filter p (map f lags)) (filter p (map f lags)) (passes lag) ∙ ap (λ ts. f lag ∷ ts) (all_of_link p f lags passes)
 
+-- what passes of the pieces of all numbers, by the numbers that pass two tests
+module _ (p q : ℕ → Bool) (c : Triple → Bool) (f : ℕ → List Triple) where
+  abbrev AreBoth : List ℕ → Type 0
+  AreBoth xs = flat_map f (filter q (filter p xs)) ≡ filter c (flat_map f xs)
+
+  both_more : (x : ℕ) (xs : List ℕ) (first second : Bool) → p x ≡ first → q x ≡ second
+      → (first ≡ true → second ≡ true → filter c (f x) ≡ f x) → (first ≡ true → second ≡ false → filter c (f x) ≡ [])
+      → (first ≡ false → filter c (f x) ≡ []) → AreBoth xs → AreBoth (x ∷ xs)
+  both_more x xs true true first second both no_second no_first rest =
+      rw (first, second) (ap (λ ts. f x ++ ts) rest ∙ ap (λ ts. ts ++ filter c (flat_map f xs)) (sym (both refl refl)) ∙ sym (filter-append c (f x) (flat_map f xs)))
+  both_more x xs true false first second both no_second no_first rest =
+      rw (first, second) (rest ∙ ap (λ ts. ts ++ filter c (flat_map f xs)) (sym (no_second refl refl)) ∙ sym (filter-append c (f x) (flat_map f xs)))
+  both_more x xs false second first is both no_second no_first rest =
+      rw first (rest ∙ ap (λ ts. ts ++ filter c (flat_map f xs)) (sym (no_first refl)) ∙ sym (filter-append c (f x) (flat_map f xs)))
+
+  -- where those of a number all pass if it passes both, and else none does
+  pub record Decide (x : ℕ) : Type 0 where
+    pub both : p x ≡ true → q x ≡ true → filter c (f x) ≡ f x
+    pub no_second : p x ≡ true → q x ≡ false → filter c (f x) ≡ []
+    pub no_first : p x ≡ false → filter c (f x) ≡ []
+
+  pub both_pass : (xs : List ℕ) → All Decide xs → AreBoth xs
+  both_pass [] decide = refl
+  both_pass (x ∷ xs) decide =
+      let here : Decide x = All-head Decide x xs decide in
+      both_more x xs (p x) (q x) refl refl here.both here.no_second here.no_first (both_pass xs (All-tail Decide x xs decide))
+
 module _ (network : Network) where
   disordered : (i j link : ℕ) (lag : ℤ) → j ≤ i → is_conflict network (triple_on i j link lag) ≡ false
   unfolding is_conflict
@@ -54,29 +81,20 @@ module _ (network : Network) where
   unfolding is_conflict
   both_use i j link lag order = rw (lt-ltb i j order) refl
 
-  -- the conflicts of two streams on the first links, with one link more
-  abbrev pub pair_first : ℕ → ℕ → ℕ → List Triple
-  pair_first i j n = filter (is_conflict network) (flat_map (triples_on network i j) (range_with_len 0 n))
+  -- of the triples of two streams on a link all are conflicts where both use it, and else none
+  pub on_both : (i j link : ℕ) → i < j → is_some (hop_on network i link) ≡ true → is_some (hop_on network j link) ≡ true
+      → filter (is_conflict network) (triples_on network i j link) ≡ triples_on network i j link
+  on_both i j link order first second =
+      all_of_link (is_conflict network) (triple_on i j link) (lags_of network i j) (λ lag. both_use i j link lag order ∙ rw (first, second) refl)
 
-  pub pair_taken : (i j link : ℕ) → i < j → is_some (hop_on network i link) ≡ true → is_some (hop_on network j link) ≡ true
-      → pair_first i j (link + 1) ≡ pair_first i j link ++ triples_on network i j link
-  pair_taken i j link order first second =
-      listed_more (is_conflict network) (triples_on network i j) link
-      ∙ ap (λ ts. pair_first i j link ++ ts)
-      (all_of_link (is_conflict network) (triple_on i j link) (lags_of network i j) (λ lag. both_use i j link lag order ∙ rw (first, second) refl))
+  pub not_on_left : (i j link : ℕ) → i < j → is_some (hop_on network i link) ≡ false → filter (is_conflict network) (triples_on network i j link) ≡ []
+  not_on_left i j link order first =
+      none_of_link (is_conflict network) (triple_on i j link) (lags_of network i j) (λ lag. both_use i j link lag order ∙ rw first refl)
 
-  pair_skipped : (i j link : ℕ) → ((lag : ℤ) → is_conflict network (triple_on i j link lag) ≡ false) → pair_first i j (link + 1) ≡ pair_first i j link
-  pair_skipped i j link fails =
-      listed_more (is_conflict network) (triples_on network i j) link
-      ∙ ap (λ ts. pair_first i j link ++ ts) (none_of_link (is_conflict network) (triple_on i j link) (lags_of network i j) fails)
-      ∙ append-nil _
-
-  pub pair_skipped_left : (i j link : ℕ) → i < j → is_some (hop_on network i link) ≡ false → pair_first i j (link + 1) ≡ pair_first i j link
-  pair_skipped_left i j link order first = pair_skipped i j link (λ lag. both_use i j link lag order ∙ rw first refl)
-
-  pub pair_skipped_right : (i j link : ℕ) → i < j → is_some (hop_on network i link) ≡ true → is_some (hop_on network j link) ≡ false
-      → pair_first i j (link + 1) ≡ pair_first i j link
-  pair_skipped_right i j link order first second = pair_skipped i j link (λ lag. both_use i j link lag order ∙ rw (first, second) refl)
+  pub not_on_right : (i j link : ℕ) → i < j → is_some (hop_on network i link) ≡ true → is_some (hop_on network j link) ≡ false
+      → filter (is_conflict network) (triples_on network i j link) ≡ []
+  not_on_right i j link order first second =
+      none_of_link (is_conflict network) (triple_on i j link) (lags_of network i j) (λ lag. both_use i j link lag order ∙ rw (first, second) refl)
 
   -- the conflicts of the first streams as the left ones
   abbrev pub conflicts_first : ℕ → List Triple

@@ -1,15 +1,20 @@
 -- Words of the private contracts.
-use Rattle.std.specs.Prelude.{ℕ, ℤ, List, map, length, flat_map}
+use Rattle.std.specs.Prelude.{ℕ, ℤ, Bool, List, map, length, flat_map, nat_lt}
 use Rattle.std.specs.List.{range_with_len}
 use Rattle.tsn_model.specs.declared.Triple.{Triple}
 use Rattle.tsn_model.specs.Network.{Network}
 use Rattle.tsn_model.specs.Arcs.{lags_of}
 use Rattle.tsn_conflict.specs.declared.uses.Use.{Use}
 use Rattle.tsn_conflict.specs.declared.uses.Row.{Row}
+use Rattle.tsn_conflict.specs.Kept.{use_in}
 
 -- the uses that the rows hold
 abbrev pub uses_in : List Row → List (List Use)
 uses_in rows = map (λ (row : Row). row.uses.items) rows
+
+-- whether a stream occupies the link for some time
+abbrev pub is_occupied : List (List Use) → ℕ → ℕ → Bool
+is_occupied uses i link = nat_lt 0 (use_in uses i link).occupancy
 
 -- the triples of two streams on a link, those of two streams, and those of a left stream with the first n streams
 abbrev pub triple_on : ℕ → ℕ → ℕ → ℤ → Triple

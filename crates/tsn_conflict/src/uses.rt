@@ -1,9 +1,9 @@
 //! Which links a stream uses, and when.
-ghost use Rattle.std.specs.Prelude.{◌≡◌, ◌<◌, length, slice_index_or, List, [], map, IfOk};
+ghost use Rattle.std.specs.Prelude.{◌≡◌, ◌<◌, length, slice_index_or, List, [], map, filter, All, IfOk};
 ghost use Rattle.std.specs.List.{range_with_len};
 ghost use Rattle.tsn_model.specs.Network.{stream_count};
 ghost use Rattle.tsn_conflict.specs.Kept.{use_at, use_in, uses_of};
-ghost use Rattle.tsn_conflict.specs.Rows.{uses_in};
+ghost use Rattle.tsn_conflict.specs.Rows.{is_occupied, uses_in};
 
 use std::alloc::{AllocError, Global};
 use tsn_timing::Timing;
@@ -69,4 +69,35 @@ pub fn look_up(rows: &[Row], stream: usize, link: usize) -> Use
     ensures { result ≡ use_in (uses_in rows.now) stream link }
 {
     rows[stream].uses[link]
+}
+
+/// All links.
+pub fn links_of(alloc: Global, timing: &Timing) -> Result<Vec<usize>, AllocError>
+    ensures { IfOk result (λ links. links.items ≡ range_with_len 0 (length timing.now.links)) }
+{
+    let mut links = Vec::new(alloc);
+    for link in 0..timing.links() {
+        links.push(link)?;
+    }
+    Ok(links)
+}
+
+/// Those of some links that a stream uses.
+pub fn used_of(
+    alloc: Global,
+    rows: &[Row],
+    stream: usize,
+    links: &[usize],
+) -> Result<Vec<usize>, AllocError>
+    requires stream { stream < length (uses_in rows.now) }
+    requires links { All (λ link. link < length (slice_index_or (uses_in rows.now) stream [])) links.now }
+    ensures { IfOk result (λ used. used.items ≡ filter (is_occupied (uses_in rows.now) stream) links.now) }
+{
+    let mut used = Vec::new(alloc);
+    for &link in links {
+        if look_up(rows, stream, link).occupancy > 0 {
+            used.push(link)?;
+        }
+    }
+    Ok(used)
 }

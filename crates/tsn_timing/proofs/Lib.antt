@@ -1,5 +1,6 @@
 pub mod Judging
 pub mod Lagging
+pub mod Neighbouring
 pub mod Overlapping
 pub mod Sending
 pub mod Tabling

@@ -3,6 +3,7 @@
 
 pub mod arc;
 pub mod frames;
+mod neighbours;
 mod overlaps;
 pub mod solved;
 mod tables;

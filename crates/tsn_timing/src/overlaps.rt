@@ -15,6 +15,9 @@ impl Timing {
         requires small { All (λ offset. offset ≤ self.now.cycle) offsets.now }
         ensures { MatchOption result (AreApart self.now offsets.now) (IsFirstOverlap self.now offsets.now) }
     {
+        if self.frames_follow(offsets) {
+            return None;
+        }
         for left in 0..self.streams() {
             if let Some(triple) = self.first_overlap_of(left, offsets) {
                 return Some(triple);

@@ -69,6 +69,11 @@ impl Timing {
         &self.network
     }
 
+    // Where its memory is from.
+    pub(crate) fn allocator(&self) -> Global {
+        *self.tables.allocator()
+    }
+
     /// The cycle, in nanoseconds, 1 to 1,000,000,000. The contract says beside it that the network is within its limits.
     pub fn cycle(&self) -> u64
         ensures value { result ≡ self.now.cycle }

@@ -1,7 +1,9 @@
-use Rattle.std.proofs.Common.{◌+◌, ◌++◌, List, filter, sym, ap, ◌∙◌, arith, append_assoc, append-nil}
+use Rattle.std.proofs.Common.{◌+◌, ◌++◌, ◌<◌, List, [], All, filter, get_or, length, sym, ap, ◌∙◌, subst, arith, append_assoc, append-nil}
 use Rattle.tsn_model.specs.declared.Triple.{Triple}
 use Rattle.tsn_model.specs.Arcs.{is_conflict}
-use Rattle.tsn_conflict.specs.Rows.{triples_with}
+use Rattle.tsn_conflict.specs.Rows.{uses_in, triples_with}
+use Rattle.tsn_conflict.proofs.Reading.{row_kept}
+use Rattle.tsn_conflict.proofs.Shared.{all_kept}
 use Rattle.tsn_conflict.proofs.Triples.{none_earlier, left_more}
 use Rattle.tsn_conflict.proofs.listing.push_left.Goals as goal
 
@@ -24,3 +26,11 @@ loop-right-preserved c =
           ∙ append_assoc old _ _ ∙ ap (λ (ts : List Triple). old ++ ts) (sym (left_more network c.args.left right));
       end = c.loop-right.invariant.end;
     }
+
+pub used_of-requires-clause-stream : goal.used_of-requires-clause-stream
+used_of-requires-clause-stream c = row_kept c.args.timing.now (uses_in c.args.rows.now) c.args.left c.requires.rows c.requires.left
+
+pub used_of-requires-clause-links : goal.used_of-requires-clause-links
+used_of-requires-clause-links c =
+    subst (All (λ link. link < length (get_or (uses_in c.args.rows.now) c.args.left []))) (sym c.requires.links)
+    (all_kept c.args.timing.now (uses_in c.args.rows.now) c.requires.rows c.args.left c.requires.left)

@@ -1,0 +1,204 @@
+-- The frames' occupancies of links, as they are gathered and put in order, and what it says that they follow one another.
+use Rattle.std.proofs.Common.{◌≡◌, ℕ, ◌+◌, ◌≤◌, ◌<◌, List, [], ◌++◌, map, length, get_or, All, AllPairs, Contains, sym, ap, ◌∙◌, subst, arith, inl, inr}
+use Rattle.std.specs.List.Sorted.{IsPermutation}
+use Rattle.std.proofs.lemmas.Bool.{cases_lt, cases_order}
+use Rattle.std.proofs.lemmas.List.{get_or_default}
+use Rattle.std.proofs.lemmas.List.Elements.{All-nil, All-map, All-append, Contains-append_left, Contains-append_right}
+use Rattle.std.proofs.lemmas.List.Sorted.{All-permutation, Contains-permutation}
+use Rattle.tsn_model.specs.Network.{Network, stream_count, hop_count, route_link}
+use Rattle.tsn_model.specs.Timing.{occupancy, shifts, start, Sends}
+use Rattle.tsn_model.specs.Schedule.{offset_of, AreApart}
+use Rattle.tsn_model.proofs.Lists.{Contains-map}
+use Rattle.tsn_model.proofs.Routes.{use_of}
+use Rattle.tsn_timing.specs.declared.neighbours.Occupancy.{Occupancy}
+use Rattle.tsn_timing.specs.Neighbours.{occupancy_at, later, AreOccupancies, IsBefore}
+
+abbrev pub IsInOrder : Occupancy → Type 0
+IsInOrder o = o.begin ≤ o.end
+
+abbrev made : ℕ → ℕ → ℕ → ℕ → Occupancy
+made stream link begin end = record { stream = stream; link = link; begin = begin; end = end }
+
+pub first_is : (network : Network) (offset i k begin link length : ℕ) → begin ≡ start network i k → link ≡ route_link network i k
+    → length ≡ occupancy network i (route_link network i k) → made i link (offset + begin) (offset + begin + length) ≡ occupancy_at network offset i k 0
+unfolding occupancy_at
+first_is network offset i k begin link length begins link_is lasts =
+    let starts : offset + begin ≡ offset + start network i k + 0 = omega arith in
+    let ends : offset + begin + length ≡ offset + start network i k + occupancy network i (route_link network i k) + 0 = omega arith in
+    λ x. made i (link_is x) (starts x) (ends x)
+
+-- that of a later frame is so much later
+later_is : (network : Network) (offset i k shift : ℕ) → later (occupancy_at network offset i k 0) shift ≡ occupancy_at network offset i k shift
+unfolding occupancy_at
+later_is network offset i k shift =
+    let link = route_link network i k in
+    let starts : offset + start network i k + 0 + shift ≡ offset + start network i k + shift = omega arith in
+    let lasts = occupancy network i link in
+    let ends : offset + start network i k + lasts + 0 + shift ≡ offset + start network i k + lasts + shift = omega arith in
+    λ x. made i link (starts x) (ends x)
+
+module _ (network : Network) (offsets : List ℕ) where
+  -- those of all streams below i, and of the first k hops of i
+  pub record AreSoFar (i k : ℕ) (occupancies : List Occupancy) : Type 0 where
+    pub in_order : All IsInOrder occupancies
+    pub before : (j l shift : ℕ) → j < i → l < hop_count network j → Sends network j shift
+        → Contains occupancies (occupancy_at network (offset_of offsets j) j l shift)
+    pub here : (l shift : ℕ) → l < k → Sends network i shift → Contains occupancies (occupancy_at network (offset_of offsets i) i l shift)
+
+  pub none_so_far : AreSoFar 0 0 []
+  none_so_far = record {
+    in_order = All-nil IsInOrder;
+    before = λ j l shift below. absurd (omega arith);
+    here = λ l shift below. absurd (omega arith);
+  }
+
+  pub one_hop_more : (i k : ℕ) (occupancies : List Occupancy) (first : Occupancy) → first ≡ occupancy_at network (offset_of offsets i) i k 0
+      → first.begin ≤ first.end → AreSoFar i k occupancies → AreSoFar i (k + 1) (occupancies ++ map (later first) (shifts network i))
+  one_hop_more i k occupancies first is order so_far =
+      let new = map (later first) (shifts network i) in
+      record {
+        in_order = All-append IsInOrder occupancies new so_far.in_order (All-map IsInOrder (later first) (shifts network i) (λ n d inside. omega arith));
+        before = λ j l shift below hop sent. Contains-append_left occupancies new _ (so_far.before j l shift below hop sent);
+        here = λ l shift below sent. elim (cases_lt l k) [
+          | inl earlier ↦ Contains-append_left occupancies new _ (so_far.here l shift earlier sent)
+          | inr at ↦
+              let same : k ≡ l = omega arith in
+              let place : ℕ → Occupancy = λ m. occupancy_at network (offset_of offsets i) i m shift in
+              let that : later first shift ≡ place k = ap (λ o. later o shift) is ∙ later_is network (offset_of offsets i) i k shift in
+              Contains-append_right occupancies new _
+              (subst (λ m. Contains new (occupancy_at network (offset_of offsets i) i m shift)) same
+              (subst (Contains new) that (Contains-map (later first) (shifts network i) shift sent)))
+        ];
+      }
+
+  pub one_stream_more : (i k : ℕ) (occupancies : List Occupancy) → k ≡ hop_count network i → AreSoFar i k occupancies → AreSoFar (i + 1) 0 occupancies
+  one_stream_more i k occupancies all so_far = record {
+    in_order = so_far.in_order;
+    before = λ j l shift below hop sent. elim (cases_lt j i) [
+      | inl earlier ↦ so_far.before j l shift earlier hop sent
+      | inr at ↦
+          let same : i ≡ j = omega arith in
+          let hops : hop_count network i ≡ hop_count network j = ap (hop_count network) same in
+          subst (λ m. Contains occupancies (occupancy_at network (offset_of offsets m) m l shift)) same
+          (so_far.here l shift (omega arith) (subst (λ m. Sends network m shift) (sym same) sent))
+    ];
+    here = λ l shift below. absurd (omega arith);
+  }
+
+  pub all_so_far : (i : ℕ) (occupancies : List Occupancy) → stream_count network ≤ i → AreSoFar i 0 occupancies → AreOccupancies network offsets occupancies
+  all_so_far i occupancies all so_far = record {
+    in_order = so_far.in_order;
+    each = λ j l shift below hop sent. so_far.before j l shift (omega arith) hop sent;
+  }
+
+  pub sorted : (occupancies others : List Occupancy) → IsPermutation occupancies others → AreOccupancies network offsets occupancies
+      → AreOccupancies network offsets others
+  sorted occupancies others moved are = record {
+    in_order = All-permutation IsInOrder occupancies others moved are.in_order;
+    each = λ i k shift below hop sent. Contains-permutation occupancies others _ moved (are.each i k shift below hop sent);
+  }
+
+-- ---- one after the other
+
+pub passes_on : (a b c : Occupancy) → b.begin ≤ b.end → IsBefore a b → IsBefore b c → IsBefore a c
+passes_on a b c order first second = elim first [
+  | inl less ↦ elim second [
+    | inl more ↦ inl (omega arith)
+    | inr same ↦ let link = same.0 in inl (omega arith)
+  ]
+  | inr same ↦
+      let link = same.0 in
+      let ends = same.1 in
+      elim second [
+        | inl more ↦ inl (omega arith)
+        | inr again ↦ let next = again.0 in let done = again.1 in inr (link ∙ next, omega arith)
+      ]
+]
+
+-- each of the first n is before those of them that follow it
+abbrev pub AreFollowing : List Occupancy → ℕ → Type 0
+AreFollowing occupancies n = (j k : ℕ) (d : Occupancy) → j < k → k < n → IsBefore (get_or occupancies j d) (get_or occupancies k d)
+
+-- the same by any default of the reading
+pub read_before : (occupancies : List Occupancy) (j k : ℕ) (x y : Occupancy) → j < length occupancies → k < length occupancies
+    → IsBefore (get_or occupancies j x) (get_or occupancies k y) → (d : Occupancy) → IsBefore (get_or occupancies j d) (get_or occupancies k d)
+read_before occupancies j k x y j_inside k_inside before d =
+    subst (λ o. IsBefore o (get_or occupancies k d)) (get_or_default occupancies j x d j_inside)
+    (subst (IsBefore (get_or occupancies j x)) (get_or_default occupancies k y d k_inside) before)
+
+pub one_more_follows : (occupancies : List Occupancy) (last n : ℕ) → n ≡ last + 1 → n < length occupancies → All IsInOrder occupancies
+    → ((d : Occupancy) → IsBefore (get_or occupancies last d) (get_or occupancies n d)) → AreFollowing occupancies n → AreFollowing occupancies (n + 1)
+one_more_follows occupancies last n is inside order next before = λ j k d less below. elim (cases_lt k n) [
+  | inl earlier ↦ before j k d less earlier
+  | inr at ↦
+      let here : n ≡ k = omega arith in
+      subst (λ m. IsBefore (get_or occupancies j d) (get_or occupancies m d)) here (elim (cases_lt j last) [
+        | inl further ↦
+            passes_on (get_or occupancies j d) (get_or occupancies last d) (get_or occupancies n d) (order last d (omega arith))
+            (before j last d further (omega arith)) (next d)
+        | inr beside ↦ let same : last ≡ j = omega arith in subst (λ m. IsBefore (get_or occupancies m d) (get_or occupancies n d)) same (next d)
+      ])
+]
+
+-- of two frames that overlap neither is before the other
+not_before : (network : Network) (first second i k s j l t link instant : ℕ) → route_link network i k ≡ link → route_link network j l ≡ link
+    → instant < first + start network i k + s + occupancy network i link → second + start network j l + t ≤ instant
+    → IsBefore (occupancy_at network first i k s) (occupancy_at network second j l t) → ⊥
+unfolding occupancy_at
+not_before network first second i k s j l t link instant i_link j_link not_ended begun before = elim before [
+  | inl less ↦ omega arith
+  | inr (same, ends) ↦
+      let lasts : occupancy network i (route_link network i k) ≡ occupancy network i link = ap (occupancy network i) i_link in
+      omega arith
+]
+
+module _ (network : Network) (offsets : List ℕ) where
+  abbrev at_frame : ℕ → ℕ → ℕ → Occupancy
+  at_frame i k shift = occupancy_at network (offset_of offsets i) i k shift
+
+  different : (i k s j l t : ℕ) → i < j → at_frame i k s ≡ at_frame j l t → ⊥
+  unfolding occupancy_at
+  different i k s j l t less same = let stream = ap (λ (o : Occupancy). o.stream) same in omega arith
+
+  pub apart_from_following : (occupancies : List Occupancy) → AreOccupancies network offsets occupancies → AllPairs IsBefore occupancies
+      → AreApart network offsets
+  apart_from_following occupancies are following triple conflict overlaps =
+      let i = triple.left in
+      let j = triple.right in
+      let ordered = conflict.ordered in
+      let counted = conflict.counted in
+      let i_use = use_of network i triple.link conflict.left_uses in
+      let j_use = use_of network j triple.link conflict.right_uses in
+      let i_frame = at_frame i i_use.hop overlaps.left in
+      let j_frame = at_frame j j_use.hop overlaps.right in
+      let i_place = are.each i i_use.hop overlaps.left (omega arith) i_use.counted overlaps.left_sent in
+      let j_place = are.each j j_use.hop overlaps.right counted j_use.counted overlaps.right_sent in
+      let i_begins = i_use.same_start in
+      let j_begins = j_use.same_start in
+      let i_begun = overlaps.by_left.begun in
+      let i_ends = overlaps.by_left.not_ended in
+      let j_begun = overlaps.by_right.begun in
+      let j_ends = overlaps.by_right.not_ended in
+      meet i_place.0 j_place.0 i_frame j_frame i_place.1 j_place.1 i_place.2 j_place.2
+      (λ same. different i i_use.hop overlaps.left j j_use.hop overlaps.right ordered same)
+      (not_before network (offset_of offsets i) (offset_of offsets j) i i_use.hop overlaps.left j j_use.hop overlaps.right triple.link overlaps.instant
+      i_use.same_link j_use.same_link (omega arith) (omega arith))
+      (not_before network (offset_of offsets j) (offset_of offsets i) j j_use.hop overlaps.right i i_use.hop overlaps.left triple.link overlaps.instant
+      j_use.same_link i_use.same_link (omega arith) (omega arith))
+    where
+      reads : (p : ℕ) (x d : Occupancy) → p < length occupancies → get_or occupancies p x ≡ x → get_or occupancies p d ≡ x
+      reads p x d inside is = get_or_default occupancies p d x inside ∙ is
+
+      meet : (p q : ℕ) (x y : Occupancy) → p < length occupancies → q < length occupancies → get_or occupancies p x ≡ x → get_or occupancies q y ≡ y
+          → (x ≡ y → ⊥) → (IsBefore x y → ⊥) → (IsBefore y x → ⊥) → ⊥
+      meet p q x y p_inside q_inside p_is q_is differ not_first not_second = elim (cases_order p q) [
+        | inl same ↦ differ (sym p_is ∙ (ap (λ m. get_or occupancies m x) same ∙ reads q y x q_inside q_is))
+        | inr other ↦ elim other [
+          | inl less ↦
+              let before = following p q x less q_inside in
+              not_first (subst (IsBefore x) (reads q y x q_inside q_is) (subst (λ o. IsBefore o (get_or occupancies q x)) p_is before))
+          | inr more ↦
+              let before = following q p y more p_inside in
+              not_second (subst (IsBefore y) (reads p x y p_inside p_is) (subst (λ o. IsBefore o (get_or occupancies p y)) q_is before))
+        ]
+      ]
