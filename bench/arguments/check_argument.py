@@ -3,7 +3,7 @@
 
 check_argument.py NET PLAN CERT    prints the line that `tsn check` prints of these files, and ends with its status
 
-The network has to be one that isn't refused. Its streams may have a `period` and `frames`, as docs/definitions.md has them.
+The network has to be one that isn't refused. Its streams may have a `period`, `frames` and an `offset`, as docs/definitions.md has them.
 Certificates of formats 1 and 2 aren't judged here, and end with status 2.
 docs/formats.md and docs/definitions.md say what arguments are; bench/arguments/mutate.py runs both checkers side by side.
 """
@@ -133,6 +133,8 @@ class Stream:
         spread = (burst - 1) * pace
         self.shifts = {turn + place * pace for turn in range(0, cycle, self.period) for place in range(burst)}
         self.arrival += spread
+        if "offset" in text:
+            self.release, self.latest = text["offset"], text["offset"] + self.arrival
         self.span = max([end + spread for end in ends] + [self.arrival])
 
 

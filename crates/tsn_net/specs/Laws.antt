@@ -1,5 +1,5 @@
--- Which fault a document has, in words: the least condition that holds anywhere, at the first place where it holds; and
--- that a file states one problem alone.
+-- Which fault a document has, in words: the least condition that holds anywhere, at the first place where it holds; that
+-- a file states one problem alone; and that streams keep the offsets that a file says.
 use Rattle.std.specs.Prelude.{◌≡◌, ◌<◌, ◌⊎◌, ◌↔◌, ℕ, List, true, false, Some, None, length}
 use Rattle.tsn_net.specs.declared.fault.Place.{Place}
 use Rattle.tsn_net.specs.declared.fault.Place.TheVariants.{Text, Top, Node, Cable, Stream}
@@ -9,7 +9,9 @@ use Rattle.tsn_net.specs.Document.{Document}
 use Rattle.tsn_net.specs.Conditions.{holds, fault_of}
 use Rattle.tsn_net.specs.Fault.{code_number}
 use Rattle.tsn_net.specs.File.{States}
-use Rattle.tsn_net.specs.Problem.{NamedNetwork}
+use Rattle.tsn_model.specs.Schedule.{IsValid}
+use Rattle.tsn_model.specs.Held.{HasOffsets}
+use Rattle.tsn_net.specs.Problem.{NamedNetwork, free_network_of, offsets_of, network_of}
 
 -- the place is one of the document: the top table, or a node, a cable or a stream that is there
 abbrev pub IsIn : Document → Place → Type 0
@@ -57,3 +59,8 @@ FaultlessIsClear = (d : Document) → (fault_of d ≡ None) ↔ ((code : Code) (
 -- a file states one problem alone
 abbrev pub FilesStateOne : Type 0
 FilesStateOne = (file : List ℕ) (problem other : NamedNetwork) → States file problem → States file other → problem ≡ other
+
+-- the schedules of the network that a document without fault states are those that have the offsets in it, of the network as if it had none
+abbrev pub OffsetsAreKept : Type 0
+OffsetsAreKept = (d : Document) → fault_of d ≡ None → (offsets : List ℕ)
+    → IsValid (network_of d) offsets ↔ (IsValid (free_network_of d) offsets × HasOffsets (free_network_of d) (offsets_of d) offsets)

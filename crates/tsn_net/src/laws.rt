@@ -1,6 +1,8 @@
 //! The laws of the definitions. Each function does nothing: its contract is the law.
 
-ghost use Rattle.tsn_net.specs.Laws.{FaultsAreFirst, FaultlessIsClear, FilesStateOne};
+ghost use Rattle.tsn_net.specs.Laws.{FaultsAreFirst, FaultlessIsClear, FilesStateOne, OffsetsAreKept};
+
+use tsn_model::laws::held_streams_keep_offsets;
 
 /// The fault of a document is the one whose condition holds at its place, and neither at a place before it nor, for a
 /// lesser code, anywhere.
@@ -17,3 +19,11 @@ pub fn faultless_is_clear()
 pub fn files_state_one()
     ensures { FilesStateOne }
 {}
+
+/// The schedules of the network that a document without fault states are those that have the offsets in it, of the network as
+/// if it had none.
+pub fn offsets_are_kept()
+    ensures { OffsetsAreKept }
+{
+    held_streams_keep_offsets();
+}

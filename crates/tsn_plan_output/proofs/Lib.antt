@@ -3,4 +3,5 @@ mod TreeLemmas
 pub mod PlanLemmas
 pub mod PrintLemmas
 mod Agreeing
+mod HeldFormed
 mod PlannedLemmas

@@ -5,7 +5,7 @@ use Rattle.std.proofs.lemmas.Option.{same_Some}
 use Rattle.tsn_model.specs.Network.{Network, IsWellFormed}
 use Rattle.tsn_net.specs.File.{States}
 use Rattle.tsn_net.specs.Problem.{NamedNetwork}
-use Rattle.tsn_net.proofs.WellFormed.{well_formed}
+use Rattle.tsn_plan_output.proofs.HeldFormed.{stated_formed}
 use Rattle.tsn_cert.specs.Cert.{max_number, are_of}
 use Rattle.tsn_cert.specs.Plan.{plan_in, plan_text}
 use Rattle.tsn_cert.specs.Laws.{PlanTextIsRead}
@@ -41,7 +41,7 @@ not_done status other is zero four (inr done) = four (sym is ∙ done)
 
 -- the file states a network within its limits
 formed_by : (file : List ℕ) (problem : NamedNetwork) → States file problem → IsWellFormed problem.network
-formed_by file problem states = subst (λ (p : NamedNetwork). IsWellFormed p.network) (sym states.3) (well_formed states.0 states.2)
+formed_by file problem states = subst (λ (p : NamedNetwork). IsWellFormed p.network) (sym states.3) (stated_formed states.0 states.2)
 
 -- a certificate shows something of a right plan alone
 right_by : (network : Network) (stated : Plan) (whole : Certificate) → Certifies network stated whole → IsPlanRight network stated

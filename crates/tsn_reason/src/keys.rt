@@ -12,7 +12,7 @@ fn keys_at(place: Place) -> &'static [&'static str] {
         Place::Node(_) => &["name", "kind", "proc"],
         Place::Cable(_) => &["a", "b", "mbps", "prop"],
         Place::Stream(_) => &[
-            "name", "octets", "route", "release", "latest", "period", "frames",
+            "name", "octets", "route", "release", "latest", "period", "frames", "offset",
         ],
         Place::Text | Place::Top => &["cycle", "node", "link", "stream"],
     }
@@ -21,7 +21,7 @@ fn keys_at(place: Place) -> &'static [&'static str] {
 /// Whether a table has to have a key.
 fn is_required(table: &Value, key: &str) -> bool {
     match key {
-        "stream" | "release" | "latest" | "period" | "frames" => false,
+        "stream" | "release" | "latest" | "period" | "frames" | "offset" => false,
         "proc" => is_of_kind(table, "bridge"),
         _ => true,
     }
@@ -32,7 +32,15 @@ fn is_known(table: &Value, place: Place, key: &str) -> bool {
     if key == "proc" && is_of_kind(table, "station") {
         return false;
     }
+    if key == "offset" && has_window(table) {
+        return false;
+    }
     keys_at(place).iter().any(|known| *known == key)
+}
+
+/// Whether a stream has a release or a latest instant.
+fn has_window(stream: &Value) -> bool {
+    stream.get("release").is_some() || stream.get("latest").is_some()
 }
 
 /// What the value at a key has to be.
@@ -131,6 +139,9 @@ fn unknown_key(table: &Value, place: Place) -> Option<&str> {
 fn push_unknown(text: &mut TextBuilder, key: &str) {
     if key == "proc" {
         return text.push_str("a station has no proc");
+    }
+    if key == "offset" {
+        return text.push_str("a stream with an offset has no release and no latest");
     }
     text.push_str("the key ");
     push_name(text, key);

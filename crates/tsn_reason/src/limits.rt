@@ -42,6 +42,7 @@ fn push_stream_limit(text: &mut TextBuilder, stream: &Value) -> bool {
         || push_integer(text, stream, "latest", 1, 1_000_000_000)
         || push_integer(text, stream, "period", 1, 1_000_000_000)
         || push_integer(text, stream, "frames", 1, 16)
+        || push_integer(text, stream, "offset", 0, 1_000_000_000)
         || push_route_limit(text, elements_at(stream, "route"))
 }
 

@@ -109,6 +109,9 @@ fn push_early(text: &mut TextBuilder, schedule: Schedule<'_>, stream: usize) {
     if stream >= schedule.timing.streams() {
         return;
     }
+    if push_other(text, schedule, stream) {
+        return;
+    }
     let offset = schedule.offset(stream);
     let release = schedule.timing.release(stream);
     text.push_str(": its offset ");
@@ -122,6 +125,9 @@ fn push_too_late(text: &mut TextBuilder, schedule: Schedule<'_>, stream: usize) 
     if stream >= schedule.timing.streams() {
         return;
     }
+    if push_other(text, schedule, stream) {
+        return;
+    }
     let offset = schedule.offset(stream);
     let arrival = offset.saturating_add(schedule.timing.arrival(stream));
     let latest = schedule.timing.latest(stream);
@@ -131,6 +137,24 @@ fn push_too_late(text: &mut TextBuilder, schedule: Schedule<'_>, stream: usize) 
     text.push_number(arrival);
     text.push_str(", after its latest instant ");
     text.push_number(latest);
+}
+
+/// Writes what a stream's offset has to be, where one alone is left. Whether it wrote.
+fn push_other(text: &mut TextBuilder, schedule: Schedule<'_>, stream: usize) -> bool {
+    if stream >= schedule.timing.streams() {
+        return false;
+    }
+    let least = schedule.timing.release(stream);
+    let arrival = least.saturating_add(schedule.timing.arrival(stream));
+    if arrival != schedule.timing.latest(stream) {
+        return false;
+    }
+    let offset = schedule.offset(stream);
+    text.push_str(": its offset is ");
+    text.push_number(offset);
+    text.push_str(", and has to be ");
+    text.push_number(least);
+    true
 }
 
 /// Writes a stream by its name.
