@@ -2,13 +2,14 @@
 //! takes too long is left, and come back to with what is left of the budget. Times are in nanoseconds.
 use crate::first::first_schedule;
 use crate::learning::{Budget, Hear, News};
-use crate::table::{fill_table, table_without_streams};
+use crate::table::table_of;
 use crate::turn::Turn;
 use std::alloc::{AllocError, Global};
 use tsn_solver::ask::Answered;
 use tsn_solver::literal::Literal;
 use tsn_solver::number::{at, copy, less, next, put, signed, signed_list, sum};
 use tsn_solver::search::Search;
+use tsn_solver::table::Table;
 use tsn_timing::Timing;
 
 /// A search for the first of the optimal schedules.
@@ -40,14 +41,32 @@ pub enum State {
     Open,
 }
 
-/// A course without a schedule. The error says that there was no memory.
-pub fn course_of(alloc: Global, timing: &Timing, budget: Budget) -> Result<Course, AllocError> {
+/// A course from a schedule that is known, where there is one that is valid, or from a first one of its own. The error says that there
+/// was no memory.
+pub fn course_of(
+    alloc: Global,
+    timing: &Timing,
+    known: Option<&[u64]>,
+    budget: Budget,
+) -> Result<Course, AllocError> {
+    let best = best_known(alloc, timing, known)?;
+    course_from(alloc, timing, best, budget)
+}
+
+/// A course from a schedule; from none where it's empty. The error says that there was no memory.
+pub fn course_from(
+    alloc: Global,
+    timing: &Timing,
+    best: Best,
+    budget: Budget,
+) -> Result<Course, AllocError> {
     let mut lows = Vec::new(alloc);
     lows.resize(timing.streams(), 0)?;
+    let most = best.flowspan.min(signed(timing.cycle()));
     Ok(Course {
-        search: search_of(alloc, timing)?,
-        best: Vec::new(alloc),
-        flowspan: sum(signed(timing.cycle()), 1),
+        search: search_of(alloc, timing, most, budget.work)?,
+        best: best.offsets,
+        flowspan: best.flowspan,
         last_conflict: budget.conflicts,
         last_work: budget.work,
         part_conflict: budget.conflicts,
@@ -56,10 +75,85 @@ pub fn course_of(alloc: Global, timing: &Timing, budget: Budget) -> Result<Cours
     })
 }
 
-/// A search with nothing given but the network. The error says that there was no memory.
-pub fn search_of(alloc: Global, timing: &Timing) -> Result<Search, AllocError> {
-    let mut search = Search::none(alloc, table_without_streams(alloc, timing));
-    match fill(&mut search, alloc, timing) {
+/// A schedule and its flowspan; without offsets where none is known.
+#[derive(Drop)]
+pub struct Best {
+    pub offsets: Vec<i64>,
+    pub flowspan: i64,
+}
+
+impl Best {
+    // A schedule that was found: it's kept where its flowspan is less.
+    fn take(&mut self, offsets: Vec<i64>, flowspan: i64) {
+        if flowspan < self.flowspan {
+            self.flowspan = flowspan;
+            self.offsets = offsets;
+        }
+    }
+}
+
+// The better one of the known schedule and a first one.
+fn best_known(alloc: Global, timing: &Timing, known: Option<&[u64]>) -> Result<Best, AllocError> {
+    let mut best = Best {
+        offsets: Vec::new(alloc),
+        flowspan: sum(signed(timing.cycle()), 1),
+    };
+    let table = table_of(alloc, timing, signed(timing.cycle()))?;
+    let taken = take_schedules(&mut best, alloc, timing, &table, known);
+    drop(table);
+    match taken {
+        Ok(()) => Ok(best),
+        Err(error) => {
+            drop(best);
+            Err(error)
+        }
+    }
+}
+
+fn take_schedules(
+    best: &mut Best,
+    alloc: Global,
+    timing: &Timing,
+    table: &Table,
+    known: Option<&[u64]>,
+) -> Result<(), AllocError> {
+    if let Some(offsets) = known {
+        if timing.is_valid(offsets) {
+            let offsets = signed_list(alloc, offsets)?;
+            let flowspan = table.flowspan(&offsets);
+            best.take(offsets, flowspan);
+        }
+    }
+    let least = least_flowspan(table);
+    if best.flowspan > least {
+        if let Some(offsets) = first_schedule(alloc, table, least)? {
+            let flowspan = table.flowspan(&offsets);
+            best.take(offsets, flowspan);
+        }
+    }
+    Ok(())
+}
+
+// No flowspan is less by the streams alone.
+fn least_flowspan(table: &Table) -> i64 {
+    let mut least = 0i64;
+    for body in &table.bodies {
+        least = least.max(sum(body.release, body.arrival));
+    }
+    least
+}
+
+/// A search with nothing given but the network, in which no schedule of more than this flowspan is in question, and so much work may
+/// be. The error says that there was no memory.
+pub fn search_of(
+    alloc: Global,
+    timing: &Timing,
+    most: i64,
+    work: u64,
+) -> Result<Search, AllocError> {
+    let mut search = Search::none(alloc, table_of(alloc, timing, most)?);
+    search.pace.last_work = work;
+    match search.fill() {
         Ok(()) => Ok(search),
         Err(error) => {
             drop(search);
@@ -68,64 +162,13 @@ pub fn search_of(alloc: Global, timing: &Timing) -> Result<Search, AllocError> {
     }
 }
 
-fn fill(search: &mut Search, alloc: Global, timing: &Timing) -> Result<(), AllocError> {
-    fill_table(&mut search.known.table, alloc, timing)?;
-    search.fill()
-}
-
 impl Course {
-    /// Begins with a known schedule, where there is one that is valid, and a first one of its own.
-    pub fn begin(
-        &mut self,
-        alloc: Global,
-        timing: &Timing,
-        known: Option<&[u64]>,
-    ) -> Result<(), AllocError> {
-        if let Some(offsets) = known {
-            self.take_known(alloc, timing, offsets)?;
-        }
-        self.take_first(alloc)
-    }
-
-    /// Takes the plan of another course. The budget is one for both.
-    pub fn take_plan(&mut self, alloc: Global, other: &Course) -> Result<(), AllocError> {
-        self.search.pace = other.search.pace;
-        self.best = copy(alloc, &other.best)?;
-        self.flowspan = other.flowspan;
-        Ok(())
-    }
-
-    fn take_known(
-        &mut self,
-        alloc: Global,
-        timing: &Timing,
-        offsets: &[u64],
-    ) -> Result<(), AllocError> {
-        if timing.is_valid(offsets) {
-            self.take(signed_list(alloc, offsets)?);
-        }
-        Ok(())
-    }
-
-    fn take_first(&mut self, alloc: Global) -> Result<(), AllocError> {
-        let streams = self.search.known.table.streams();
-        let least = self.search.known.low(streams);
-        if self.search.known.is_open && self.flowspan > least {
-            let first = first_schedule(alloc, &self.search.known.table, least)?;
-            if let Some(best) = first {
-                self.take(best);
-            }
-        }
-        Ok(())
-    }
-
-    // A schedule that was found: it's kept where its flowspan is less.
-    fn take(&mut self, offsets: Vec<i64>) {
-        let flowspan = self.search.known.table.flowspan(&offsets);
-        if flowspan < self.flowspan {
-            self.flowspan = flowspan;
-            self.best = offsets;
-        }
+    /// The plan, and the budget as far as it's used up, for another course.
+    pub fn plan(&self, alloc: Global) -> Result<Best, AllocError> {
+        Ok(Best {
+            offsets: copy(alloc, &self.best)?,
+            flowspan: self.flowspan,
+        })
     }
 
     /// Asks till it's decided, or the budget is used up.
@@ -155,7 +198,7 @@ impl Course {
     // Finds the least flowspan, from both ends.
     fn lower_flowspan<H: Hear>(&mut self, hear: &H) -> Result<State, AllocError> {
         let streams = self.search.known.table.streams();
-        let mut turn = Turn::first();
+        let mut turn = Turn::of_flowspan(!self.best.is_empty());
         self.take_part(1);
         for _ in 0..u64::MAX {
             self.tell(hear, None);
@@ -171,7 +214,7 @@ impl Course {
             }
             let most = turn.target(least, self.flowspan);
             match self.ask(streams, most, turn.share)? {
-                Answered::Yes => {}
+                Answered::Yes => turn.note_found(),
                 Answered::No => turn.note_none(),
                 Answered::Unknown => turn.note_unknown(),
             }
@@ -202,7 +245,7 @@ impl Course {
 
     // Finds the least offset of a stream by the premises. False where it's left.
     fn lower_offset<H: Hear>(&mut self, stream: usize, hear: &H) -> Result<bool, AllocError> {
-        let mut turn = Turn::first();
+        let mut turn = Turn::of_offset();
         for _ in 0..u64::MAX {
             self.tell(hear, Some(stream));
             let least = self.known_low(stream);

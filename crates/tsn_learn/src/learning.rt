@@ -1,5 +1,5 @@
 //! Searches for the first of the optimal schedules; and once more with the plan known, for a shorter argument. Times are in nanoseconds.
-use crate::course::{Course, State, course_of};
+use crate::course::{Course, State, course_from, course_of};
 use crate::writing::{Aim, write_argument};
 use std::alloc::{AllocError, Global};
 use tsn_argument::{Argument, Goal};
@@ -91,8 +91,8 @@ pub fn learn<H: Hear>(
     budget: Budget,
     hear: &H,
 ) -> Result<Answer, NoMemory> {
-    let mut course = course_of(alloc, timing, budget)?;
-    let answered = course.answer_from(alloc, timing, known, budget, hear);
+    let mut course = course_of(alloc, timing, known, budget)?;
+    let answered = course.answer(alloc, timing, budget, hear);
     drop(course);
     Ok(answered?)
 }
@@ -109,18 +109,6 @@ impl Budget {
 }
 
 impl Course {
-    fn answer_from<H: Hear>(
-        &mut self,
-        alloc: Global,
-        timing: &Timing,
-        known: Option<&[u64]>,
-        budget: Budget,
-        hear: &H,
-    ) -> Result<Answer, AllocError> {
-        self.begin(alloc, timing, known)?;
-        self.answer(alloc, timing, budget, hear)
-    }
-
     fn answer<H: Hear>(
         &mut self,
         alloc: Global,
@@ -146,8 +134,11 @@ impl Course {
         budget: Budget,
         hear: &H,
     ) -> Result<Option<Argument>, AllocError> {
-        let mut course = course_of(alloc, timing, budget.to_end_by(&self.search.pace))?;
-        let argument = course.argue_again(alloc, self, hear);
+        let plan = self.plan(alloc)?;
+        let rest = budget.to_end_by(&self.search.pace);
+        let mut course = course_from(alloc, timing, plan, rest)?;
+        course.search.pace = self.search.pace;
+        let argument = course.argue_again(alloc, hear);
         drop(course);
         argument
     }
@@ -155,10 +146,8 @@ impl Course {
     fn argue_again<H: Hear>(
         &mut self,
         alloc: Global,
-        first: &Course,
         hear: &H,
     ) -> Result<Option<Argument>, AllocError> {
-        self.take_plan(alloc, first)?;
         if !self.confirm(hear)? {
             return Ok(None);
         }
@@ -202,7 +191,7 @@ impl Course {
         let aim = Aim {
             goal: Goal::None,
             plan: &[],
-            flowspan: sum(self.search.known.table.cycle, 1),
+            flowspan: sum(self.search.known.table.most, 1),
         };
         let argument = argue(alloc, &mut self.search, aim)?;
         Ok(Answer::None {

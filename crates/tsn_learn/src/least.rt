@@ -7,7 +7,7 @@ use tsn_argument::{Argument, Goal};
 use tsn_model::NoMemory;
 use tsn_solver::ask::Answered;
 use tsn_solver::literal::Literal;
-use tsn_solver::number::{less, signed_list, unsigned_list};
+use tsn_solver::number::{at, less, signed, signed_list, sum, unsigned_list};
 use tsn_solver::search::Search;
 use tsn_timing::Timing;
 
@@ -38,10 +38,20 @@ pub fn show_least<H: Hear>(
         return Ok(LeastAnswer::GaveUp { conflicts: 0 });
     }
     let best = signed_list(alloc, plan)?;
-    let mut search = search_of(alloc, timing)?;
+    let most = signed(timing.cycle()).min(flowspan_of(timing, &best));
+    let mut search = search_of(alloc, timing, most, budget.work)?;
     let answered = show_below(&mut search, &best, budget, hear);
     drop(search);
     Ok(answered?)
+}
+
+// When the last stream has arrived, by the offsets.
+fn flowspan_of(timing: &Timing, offsets: &[i64]) -> i64 {
+    let mut last = 0i64;
+    for stream in 0..timing.streams() {
+        last = last.max(sum(at(offsets, stream), signed(timing.arrival(stream))));
+    }
+    last
 }
 
 fn show_below<H: Hear>(

@@ -8,6 +8,7 @@ mod first;
 mod learning;
 mod least;
 mod need;
+mod orders;
 mod table;
 mod turn;
 mod view;

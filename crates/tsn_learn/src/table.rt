@@ -1,19 +1,25 @@
 //! Reads the numbers of a network. Times are in nanoseconds.
-ghost use Rattle.std.specs.Prelude.{◌<◌, ◌≤◌, length};
+ghost use Rattle.std.specs.Prelude.{◌<◌};
 ghost use Rattle.tsn_model.specs.Network.{stream_count};
 
 use std::alloc::{AllocError, Global};
-use tsn_solver::number::{NONE, index, index_at, less, push, put_index, signed, sum};
-use tsn_solver::table::{Body, Conflict, Order, Shared, Stays, Table, Visit};
+use tsn_solver::number::{NONE, at, index, index_at, less, push, put, put_index, signed, sum};
+use tsn_solver::table::{Block, Body, Conflict, Pair, Shared, Stays, Table, Visit};
 use tsn_timing::Timing;
 
-/// The numbers of a network but for its streams.
-pub fn table_without_streams(alloc: Global, timing: &Timing) -> Table {
-    Table::none(alloc, signed(timing.cycle()))
+/// The numbers of a network, as far as they matter for schedules of at most this flowspan. The error says that there was no memory.
+pub fn table_of(alloc: Global, timing: &Timing, most: i64) -> Result<Table, AllocError> {
+    let mut table = Table::none(alloc, most);
+    match fill_table(&mut table, alloc, timing) {
+        Ok(()) => Ok(table),
+        Err(error) => {
+            drop(table);
+            Err(error)
+        }
+    }
 }
 
-/// Puts the streams in. The error says that there was no memory.
-pub fn fill_table(table: &mut Table, alloc: Global, timing: &Timing) -> Result<(), AllocError> {
+fn fill_table(table: &mut Table, alloc: Global, timing: &Timing) -> Result<(), AllocError> {
     let mut places = Vec::new(alloc);
     places.resize(timing.links(), NONE)?;
     note_links(table, alloc, timing, &mut places)?;
@@ -25,20 +31,7 @@ pub fn fill_table(table: &mut Table, alloc: Global, timing: &Timing) -> Result<(
     for left in 0..timing.streams() {
         note_pairs(table, alloc, timing, left)?;
     }
-    Ok(())
-}
-
-fn note_links(
-    table: &mut Table,
-    alloc: Global,
-    timing: &Timing,
-    places: &mut [u32],
-) -> Result<(), AllocError> {
-    for link in 0..timing.links() {
-        let visits = visits_of(alloc, timing, link)?;
-        note_link(table, places, link, visits)?;
-    }
-    Ok(())
+    table.note_rivals(alloc)
 }
 
 fn note_bodies(table: &mut Table, timing: &Timing) -> Result<(), AllocError> {
@@ -48,118 +41,79 @@ fn note_bodies(table: &mut Table, timing: &Timing) -> Result<(), AllocError> {
     Ok(())
 }
 
-fn note_link(
-    table: &mut Table,
-    places: &mut [u32],
-    link: usize,
-    visits: Vec<Visit>,
-) -> Result<(), AllocError> {
-    if visits.len() < 3 {
-        return Ok(());
-    }
-    put_index(places, link, index(table.links.len()));
-    let shared = Shared {
-        number: link,
-        visits,
-    };
-    push(&mut table.links, shared)
-}
-
-// The conflicts of a stream with those of greater numbers.
-fn note_pairs(
-    table: &mut Table,
-    alloc: Global,
-    timing: &Timing,
-    left: usize,
-) -> Result<(), AllocError> {
-    let mut conflicts = Vec::new(alloc);
-    for right in left.wrapping_add(1)..timing.streams() {
-        conflicts.clear();
-        collect(&mut conflicts, timing, left, right)?;
-        note_orders(table, left, right, &conflicts)?;
-    }
-    Ok(())
-}
-
-// The orders of two streams.
-fn note_orders(
-    table: &mut Table,
-    left: usize,
-    right: usize,
-    conflicts: &[Conflict],
-) -> Result<(), AllocError> {
-    let mut open = None;
-    for conflict in conflicts {
-        let number = table.conflicts.len();
-        push(&mut table.conflicts, *conflict)?;
-        open = match open {
-            Some(order) => Some(note_conflict(table, order, *conflict, number)?),
-            None => Some(order_of(left, right, *conflict, number)),
-        };
-    }
-    match open {
-        Some(order) => push(&mut table.orders, order),
-        None => Ok(()),
-    }
-}
-
-// The order with a further conflict, where they overlap; else the conflict's own, and the other one is done.
-fn note_conflict(
-    table: &mut Table,
-    mut order: Order,
-    conflict: Conflict,
-    number: usize,
-) -> Result<Order, AllocError> {
-    if conflict.right_first.wrapping_neg() >= order.left_first {
-        push(&mut table.orders, order)?;
-        return Ok(order_of(order.left, order.right, conflict, number));
-    }
-    order.end = number.wrapping_add(1);
-    if conflict.left_first > order.left_first {
-        order.left_first = conflict.left_first;
-        order.left_link = conflict.link;
-        order.own_right_first = conflict.right_first;
-    }
-    Ok(order)
-}
-
-fn order_of(left: usize, right: usize, conflict: Conflict, number: usize) -> Order {
-    Order {
-        left,
-        right,
-        left_first: conflict.left_first,
-        right_first: conflict.right_first,
-        left_link: conflict.link,
-        right_link: conflict.link,
-        own_right_first: conflict.right_first,
-        first: number,
-        end: number.wrapping_add(1),
-    }
-}
-
 fn body_of(timing: &Timing, stream: usize) -> Body
     requires { stream < stream_count timing.now }
 {
     let window = timing.window(stream);
     Body {
+        period: signed(timing.period(stream)),
         release: signed(window.least),
         arrival: signed(timing.arrival(stream)),
         latest: window.greatest,
     }
 }
 
-fn visits_of(alloc: Global, timing: &Timing, link: usize) -> Result<Vec<Visit>, AllocError> {
-    let mut visits = Vec::new(alloc);
-    for stream in 0..timing.streams() {
-        if let Some(visit) = visit_of(timing, stream, link) {
-            push(&mut visits, visit)?;
+fn note_links(
+    table: &mut Table,
+    alloc: Global,
+    timing: &Timing,
+    places: &mut [u32],
+) -> Result<(), AllocError> {
+    for link in 0..timing.links() {
+        let common = common_period(timing, link);
+        let mut visits = Vec::new(alloc);
+        let mut streams: usize = 0;
+        for stream in 0..timing.streams() {
+            if let Some(first) = first_on(timing, stream, link) {
+                streams = streams.wrapping_add(1);
+                note_frames(&mut visits, timing, first, common)?;
+            }
+        }
+        if streams > 1 && visits.len() > 2 {
+            put_index(places, link, index(table.links.len()));
+            let shared = Shared {
+                number: link,
+                visits,
+            };
+            push(&mut table.links, shared)?;
         }
     }
-    Ok(visits)
+    Ok(())
 }
 
-// The stream on the link, if it uses it.
-fn visit_of(timing: &Timing, stream: usize, link: usize) -> Option<Visit> {
+// After how long all frames of a link come again.
+fn common_period(timing: &Timing, link: usize) -> i64 {
+    let mut common = 1i64;
+    for stream in 0..timing.streams() {
+        if timing.hop_on(stream, link).is_some() {
+            common = common_multiple(common, signed(timing.period(stream)));
+        }
+    }
+    common
+}
+
+fn common_multiple(one: i64, other: i64) -> i64 {
+    match one.checked_div(common_divisor(one, other)) {
+        Some(parts) => parts.wrapping_mul(other),
+        None => other,
+    }
+}
+
+fn common_divisor(one: i64, other: i64) -> i64 {
+    let mut greater = one;
+    let mut lesser = other;
+    for _ in 0..128 {
+        let Some(rest) = greater.checked_rem(lesser) else {
+            break;
+        };
+        greater = lesser;
+        lesser = rest;
+    }
+    greater
+}
+
+// The first frame of the stream on the link, if it uses it.
+fn first_on(timing: &Timing, stream: usize, link: usize) -> Option<Visit> {
     if stream >= timing.streams() {
         return None;
     }
@@ -169,9 +123,34 @@ fn visit_of(timing: &Timing, stream: usize, link: usize) -> Option<Visit> {
     }
     Some(Visit {
         stream,
+        shift: 0,
         start: signed(timing.start(stream, hop)),
         work: signed(timing.occupancy(stream, hop)),
     })
+}
+
+// The frames of a stream on a link that are sent before an instant, were the offset 0; by the first one.
+fn note_frames(
+    visits: &mut Vec<Visit>,
+    timing: &Timing,
+    first: Visit,
+    before: i64,
+) -> Result<(), AllocError> {
+    if first.stream >= timing.streams() {
+        return Ok(());
+    }
+    for shift in timing.shifts(first.stream) {
+        let shift = signed(*shift);
+        if shift < before {
+            let visit = Visit {
+                shift,
+                start: sum(first.start, shift),
+                ..first
+            };
+            push(visits, visit)?;
+        }
+    }
+    Ok(())
 }
 
 fn stays_of(
@@ -192,41 +171,206 @@ fn stays_of(
     Ok(Stays { links })
 }
 
-// The conflicts of two streams, in order.
+// Two streams, by how much the right one's offset may be more than the left one's at least and at most, and a link of both.
+#[derive(Clone, Copy)]
+struct Meeting {
+    least: i64,
+    greatest: i64,
+    link: usize,
+    left: Visit,
+    right: Visit,
+}
+
+// The pairs of a stream with those of greater numbers.
+fn note_pairs(
+    table: &mut Table,
+    alloc: Global,
+    timing: &Timing,
+    left: usize,
+) -> Result<(), AllocError> {
+    let mut conflicts = Vec::new(alloc);
+    let mut lags = Vec::new(alloc);
+    for right in left.wrapping_add(1)..timing.streams() {
+        conflicts.clear();
+        lags.clear();
+        collect(&mut conflicts, &mut lags, table, timing, left, right)?;
+        conflicts.sort_unstable_by_key(|conflict: &Conflict| conflict.right_first.wrapping_neg());
+        note_pair(table, left, right, &conflicts)?;
+    }
+    Ok(())
+}
+
+// The conflicts of two streams that can be met.
 fn collect(
     conflicts: &mut Vec<Conflict>,
+    lags: &mut Vec<i64>,
+    table: &Table,
     timing: &Timing,
     left: usize,
     right: usize,
 ) -> Result<(), AllocError> {
-    if left >= timing.streams() {
+    if left >= timing.streams() || right >= timing.streams() {
         return Ok(());
     }
     for hop in 0..timing.hops(left) {
         let link = timing.route_link(left, hop);
-        let one = visit_of(timing, left, link);
-        let other = visit_of(timing, right, link);
+        let one = first_on(timing, left, link);
+        let other = first_on(timing, right, link);
         if let (Some(one), Some(other)) = (one, other) {
-            let conflict = Conflict {
+            if lags.is_empty() {
+                note_lags(lags, timing, left, right)?;
+            }
+            let meeting = Meeting {
+                least: less(low_of(table, right), high_of(table, left)),
+                greatest: less(high_of(table, right), low_of(table, left)),
                 link,
-                left_first: less(sum(one.start, one.work), other.start),
-                right_first: less(sum(other.start, other.work), one.start),
+                left: one,
+                right: other,
             };
-            let place = place_for(conflicts, conflict.right_first);
-            conflicts.insert(place, conflict)?;
+            note_conflicts(conflicts, lags, meeting)?;
         }
     }
     Ok(())
 }
 
-// The place of the first that asks for less.
-fn place_for(conflicts: &[Conflict], right_first: i64) -> usize
-    ensures { result ≤ length conflicts.now }
+fn low_of(table: &Table, stream: usize) -> i64 {
+    match table.bodies.get(stream) {
+        Some(body) => body.release,
+        None => 0,
+    }
+}
+
+fn high_of(table: &Table, stream: usize) -> i64 {
+    match table.bodies.get(stream) {
+        Some(body) => body.latest.min(less(table.most, body.arrival)),
+        None => 0,
+    }
+}
+
+// By how much frames of the right stream come after frames of the left one that they may meet, were both offsets 0, each once.
+fn note_lags(
+    lags: &mut Vec<i64>,
+    timing: &Timing,
+    left: usize,
+    right: usize,
+) -> Result<(), AllocError>
+    requires left { left < stream_count timing.now }
+    requires right { right < stream_count timing.now }
 {
-    for (place, conflict) in conflicts.iter().enumerate() {
-        if conflict.right_first < right_first {
-            return place;
+    let most = signed(timing.period(left));
+    let least = signed(timing.period(right)).wrapping_neg();
+    for first in timing.shifts(left) {
+        for second in timing.shifts(right) {
+            let lag = less(signed(*second), signed(*first));
+            if least < lag && lag < most {
+                push(lags, lag)?;
+            }
         }
     }
-    conflicts.len()
+    lags.sort_unstable();
+    let mut count: usize = 0;
+    for place in 0..lags.len() {
+        let lag = at(lags, place);
+        if count == 0 || at(lags, count.wrapping_sub(1)) != lag {
+            put(lags, count, lag);
+            count = count.wrapping_add(1);
+        }
+    }
+    lags.truncate(count);
+    Ok(())
+}
+
+// The conflicts of two streams on a link.
+fn note_conflicts(
+    conflicts: &mut Vec<Conflict>,
+    lags: &[i64],
+    meeting: Meeting,
+) -> Result<(), AllocError> {
+    let left_first = less(
+        sum(meeting.left.start, meeting.left.work),
+        meeting.right.start,
+    );
+    let right_first = less(
+        sum(meeting.right.start, meeting.right.work),
+        meeting.left.start,
+    );
+    for lag in lags {
+        let conflict = Conflict {
+            link: meeting.link,
+            lag: *lag,
+            left_first: less(left_first, *lag),
+            right_first: sum(right_first, *lag),
+        };
+        if conflict.left_first > meeting.least
+            && conflict.right_first.wrapping_neg() < meeting.greatest
+        {
+            push(conflicts, conflict)?;
+        }
+    }
+    Ok(())
+}
+
+// The pair of two streams, with its blocks.
+fn note_pair(
+    table: &mut Table,
+    left: usize,
+    right: usize,
+    conflicts: &[Conflict],
+) -> Result<(), AllocError> {
+    if conflicts.is_empty() {
+        return Ok(());
+    }
+    let start = table.blocks.len();
+    let first = table.conflicts.len();
+    note_least(&mut table.conflicts, conflicts)?;
+    for number in first..table.conflicts.len() {
+        note_block(table, start, number)?;
+    }
+    let pair = Pair {
+        left,
+        right,
+        start,
+        count: table.blocks.len().wrapping_sub(start),
+    };
+    push(&mut table.pairs, pair)
+}
+
+// Those of the conflicts that forbid something that no other one does.
+fn note_least(list: &mut Vec<Conflict>, conflicts: &[Conflict]) -> Result<(), AllocError> {
+    let mut top = i64::MIN;
+    let mut begin = i64::MIN;
+    for conflict in conflicts {
+        if conflict.left_first <= top {
+            continue;
+        }
+        if top > i64::MIN && conflict.right_first == begin {
+            let _ = list.pop();
+        }
+        top = conflict.left_first;
+        begin = conflict.right_first;
+        push(list, *conflict)?;
+    }
+    Ok(())
+}
+
+// Joins a conflict with the block before it, where they overlap; else it begins a block.
+fn note_block(table: &mut Table, start: usize, number: usize) -> Result<(), AllocError> {
+    let conflict = table.conflict(number);
+    let count = table.blocks.len();
+    if count > start {
+        if let Some(block) = table.blocks.last_mut() {
+            if block.left_first > conflict.right_first.wrapping_neg() {
+                block.left_first = conflict.left_first;
+                block.last = number;
+                return Ok(());
+            }
+        }
+    }
+    let block = Block {
+        left_first: conflict.left_first,
+        right_first: conflict.right_first,
+        first: number,
+        last: number,
+    };
+    push(&mut table.blocks, block)
 }

@@ -1,49 +1,123 @@
-//! How a question is asked next: how far above the least value, and with how many conflicts.
+//! How a question is asked next: from which end of what is left, how far from it, and with how many conflicts.
 use tsn_solver::number::{less, sum};
 
-/// How many conflicts a question is worth at first.
-const SHARE: u64 = 200;
+/// How many conflicts the first question after the flowspan is worth, and the others at first.
+const FLOWSPAN: Worth = Worth {
+    first: 200,
+    share: 200,
+    is_above: true,
+};
+
+/// The same after a stream's offset.
+const OFFSET: Worth = Worth {
+    first: 300,
+    share: 1000,
+    is_above: false,
+};
+
+/// In how many parts what is left is parted at first.
+const PARTS: i64 = 8;
+
+/// In how many it is parted at most.
+const MOST_PARTS: i64 = 1 << 20;
+
+// How many conflicts the first question is worth, and the others at first; and whether the second one is after one less than what is
+// known, though there was nothing at the first.
+#[derive(Clone, Copy)]
+struct Worth {
+    first: u64,
+    share: u64,
+    is_above: bool,
+}
 
 /// A turn of questions after the least value of a variable.
 #[derive(Clone, Copy)]
 pub struct Turn {
-    number: u32,
+    is_first: bool,
+    is_above: bool,
+    parts: i64,
     /// How many conflicts the question is worth.
     pub share: u64,
+    worth: Worth,
 }
 
 impl Turn {
-    /// The first question is after the least value.
-    pub fn first() -> Turn {
+    /// The first question is whether the flowspan can have the least value; where no schedule is known, whether there is one, however
+    /// long that takes.
+    pub fn of_flowspan(is_known: bool) -> Turn {
+        let turn = Turn::with(FLOWSPAN);
+        if is_known {
+            return turn;
+        }
         Turn {
-            number: 0,
-            share: SHARE,
+            is_first: false,
+            is_above: true,
+            share: u64::MAX,
+            ..turn
         }
     }
 
-    /// A value from the least one on that is below this one: at first the least, then a little more, half way, and one less.
+    /// The first question is whether the offset can have the least value.
+    pub fn of_offset() -> Turn {
+        Turn::with(OFFSET)
+    }
+
+    fn with(worth: Worth) -> Turn {
+        Turn {
+            is_first: true,
+            is_above: false,
+            parts: PARTS,
+            share: worth.first,
+            worth,
+        }
+    }
+
+    /// A value from the least one on that is below this one: at first the least, then by turns one less, and a part of what is left.
     pub fn target(self, least: i64, below: i64) -> i64 {
-        let room = less(less(below, 1), least);
-        match self.number % 3 {
-            0 if self.number == 0 => least,
-            0 => sum(least, room / 8),
-            1 => sum(least, room / 2),
-            _ => less(below, 1),
+        let last = less(below, 1);
+        if self.is_first {
+            return least;
+        }
+        if self.is_above {
+            return last;
+        }
+        let room = less(last, least);
+        match room.checked_div(self.parts) {
+            Some(part) => sum(least, part),
+            None => least,
         }
     }
 
-    /// There was nothing.
+    /// A schedule was found.
+    pub fn note_found(&mut self) {
+        if self.share == u64::MAX {
+            self.share = self.worth.share;
+        }
+    }
+
+    /// There was nothing: less of what is left is asked for.
     pub fn note_none(&mut self) {
-        if self.number % 3 != 2 {
-            self.number = self.number.wrapping_add(1);
+        if self.is_first {
+            self.end_first();
+            self.is_above = self.worth.is_above;
+        } else if !self.is_above {
+            self.parts = (self.parts / 2).max(2);
         }
     }
 
-    /// It wasn't decided.
+    /// It wasn't decided: it is asked from the other end, and from the lower one for less.
     pub fn note_unknown(&mut self) {
-        self.number = self.number.wrapping_add(1);
-        if self.number % 3 == 0 {
+        if self.is_first {
+            self.end_first();
+        } else if !self.is_above {
+            self.parts = self.parts.wrapping_mul(4).min(MOST_PARTS);
             self.share = self.share.saturating_add(self.share / 2);
         }
+        self.is_above = !self.is_above;
+    }
+
+    fn end_first(&mut self) {
+        self.is_first = false;
+        self.share = self.worth.share;
     }
 }

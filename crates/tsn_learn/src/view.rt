@@ -2,11 +2,10 @@
 use tsn_solver::known::{Known, is_impossible};
 use tsn_solver::literal::Literal;
 use tsn_solver::number::{FAR, at, index, less, put, sum};
-use tsn_solver::reason::{Deed, Packing, Placing};
-use tsn_solver::set::Set;
+use tsn_solver::reason::{Packing, Placing};
+use tsn_solver::record::places_of;
 use tsn_solver::side::{bound_of, lead};
 use tsn_solver::table::Visit;
-use tsn_solver::trail::holds;
 
 /// What a move comes to.
 #[derive(Clone, Copy, PartialEq, Eq)]
@@ -26,44 +25,24 @@ pub fn narrow(view: &mut [i64], literal: Literal) {
     }
 }
 
-/// Makes the move of a deed, whose placing is one of these.
-pub fn make(known: &Known, view: &mut [i64], deed: Deed, placings: &[Placing]) -> Made {
-    match deed {
-        Deed::Go(order) => {
-            make_arc(known, view, known.arcs.least_arc(order));
-            make_arc(known, view, known.arcs.greatest_arc(order));
-            judge(known, view)
-        }
-        Deed::Turn(order) => make_turn(known, view, order),
-        Deed::Use(shown) => make_use(known, view, shown as usize),
-        Deed::Arrive(stream) => {
-            make_arrival(known, view, stream as usize);
-            judge(known, view)
-        }
-        Deed::Place(number) => match placings.get(number as usize) {
-            Some(placing) => make_placing(known, view, *placing),
-            None => Made::Wrong,
-        },
-        Deed::Pack(number) => match known.record.packings.get(number as usize) {
-            Some(packing) => make_packing(known, view, *packing),
-            None => Made::Wrong,
-        },
-        Deed::Round(_) => make_impossible(known, view),
-    }
-}
-
-// The other side's arc can't be met.
-fn make_turn(known: &Known, view: &mut [i64], order: u32) -> Made {
-    let arc = known.arcs.arc(known.arcs.least_arc(order ^ 1));
-    let least = sum(at(view, arc.from as usize), arc.weight);
-    if least <= at(view, (arc.to ^ 1) as usize).wrapping_neg() {
+/// The other side's arc of a conflict can't be met: by its weight. Narrows the view to where the literal of its gap holds.
+pub fn make_turn(known: &Known, view: &mut [i64], literal: Literal, weight: i64) -> Made {
+    if !is_out_of_reach(known, view, literal, weight) {
         return Made::Wrong;
     }
-    narrow(view, Literal::of(order, holds(order)));
+    narrow(view, literal);
     judge(known, view)
 }
 
-fn make_impossible(known: &Known, view: &mut [i64]) -> Made {
+/// Whether the arc between the streams of a literal's pair, in the other direction and of this weight, can't be met.
+pub fn is_out_of_reach(known: &Known, view: &[i64], literal: Literal, weight: i64) -> bool {
+    let arc = known.arc_by(literal.bound ^ 1, weight, true);
+    let least = sum(at(view, arc.from as usize), weight);
+    least > at(view, (arc.to ^ 1) as usize).wrapping_neg()
+}
+
+/// Makes the view impossible.
+pub fn make_impossible(known: &Known, view: &mut [i64]) -> Made {
     let span = known.span();
     let most = at(view, (span ^ 1) as usize).wrapping_neg();
     narrow(view, Literal::of(span, sum(most, 1)));
@@ -78,23 +57,18 @@ fn judge(known: &Known, view: &[i64]) -> Made {
     }
 }
 
-/// Makes the move of an order's arc of another weight.
-pub fn make_go_by(known: &Known, view: &mut [i64], order: u32, weight: i64) -> Made {
-    for number in [known.arcs.least_arc(order), known.arcs.greatest_arc(order)] {
-        let arc = known.arcs.arc(number);
+/// Makes the move of an arc between the streams of a gap's pair, by its weight.
+pub fn make_go(known: &Known, view: &mut [i64], gap: u32, weight: i64) -> Made {
+    for is_least in [true, false] {
+        let arc = known.arc_by(gap, weight, is_least);
         let least = sum(at(view, arc.from as usize), weight);
         narrow(view, Literal::of(arc.to, least));
     }
     judge(known, view)
 }
 
-fn make_arc(known: &Known, view: &mut [i64], number: u32) {
-    let arc = known.arcs.arc(number);
-    let least = sum(at(view, arc.from as usize), arc.weight);
-    narrow(view, Literal::of(arc.to, least));
-}
-
-fn make_arrival(known: &Known, view: &mut [i64], stream: usize) {
+/// Makes the move of an arrival.
+pub fn make_arrival(known: &Known, view: &mut [i64], stream: usize) -> Made {
     let arrival = known.table.arrival(stream);
     let own = stream.wrapping_mul(2);
     let span = known.span();
@@ -102,19 +76,31 @@ fn make_arrival(known: &Known, view: &mut [i64], stream: usize) {
     let until = sum(at(view, (span ^ 1) as usize), arrival);
     narrow(view, Literal::of(span, done));
     narrow(view, Literal::of(index(own) ^ 1, until));
+    judge(known, view)
 }
 
-fn make_use(known: &Known, view: &mut [i64], shown: usize) -> Made {
+/// What the view leaves of a clause: one literal, or none; else it can't be used.
+pub fn left_of(known: &Known, view: &[i64], shown: usize) -> Result<Option<Literal>, ()> {
     let mut left = None;
     for literal in known.record.literals(shown) {
-        let opposite = literal.opposite();
-        if at(view, opposite.place()) < opposite.least {
+        if !is_contradicted(view, *literal) {
             if left.is_some() {
-                return Made::Wrong;
+                return Err(());
             }
             left = Some(*literal);
         }
     }
+    Ok(left)
+}
+
+/// Whether the view's numbers contradict a literal.
+pub fn is_contradicted(view: &[i64], literal: Literal) -> bool {
+    let opposite = literal.opposite();
+    at(view, opposite.place()) >= opposite.least
+}
+
+/// Makes the move of what is left of a clause.
+pub fn make_use(known: &Known, view: &mut [i64], left: Option<Literal>) -> Made {
     match left {
         None => make_impossible(known, view),
         Some(literal) => {
@@ -124,12 +110,13 @@ fn make_use(known: &Known, view: &mut [i64], shown: usize) -> Made {
     }
 }
 
-fn make_placing(known: &Known, view: &mut [i64], placing: Placing) -> Made {
+/// Makes the move of a placing of these others.
+pub fn make_placing(known: &Known, view: &mut [i64], placing: Placing, others: &[u16]) -> Made {
     let link = placing.link as usize;
     let side = placing.side;
     let own = known.table.visit(link, placing.place);
-    let mut all = stay_of(known, view, link, side, placing.others);
-    let some = stay_of(known, view, link, side, placing.some);
+    let mut all = stay_of(known, view, link, side, others);
+    let some = stay_of(known, view, link, side, behind(others, placing.idle));
     all.begin = all.begin.min(head_of(view, own, side));
     all.work = sum(all.work, own.work);
     if !all.is_too_long() {
@@ -140,28 +127,35 @@ fn make_placing(known: &Known, view: &mut [i64], placing: Placing) -> Made {
     judge(known, view)
 }
 
-fn make_packing(known: &Known, view: &mut [i64], packing: Packing) -> Made {
+/// All but the first ones, so many.
+pub fn behind(places: &[u16], count: usize) -> &[u16] {
+    if count <= places.len() {
+        &places[count..]
+    } else {
+        &[]
+    }
+}
+
+/// Makes the move of a packing.
+pub fn make_packing(known: &Known, view: &mut [i64], packing: Packing) -> Made {
     let link = packing.link as usize;
-    let stay = stay_of(known, view, link, packing.side, packing.streams);
+    let frames = places_of(&known.record.places, packing.frames);
+    let stay = stay_of(known, view, link, packing.side, frames);
     if !stay.is_too_long() {
         return Made::Wrong;
     }
     make_impossible(known, view)
 }
 
-// When streams are on a link, as seen from a side.
-fn stay_of(known: &Known, view: &[i64], link: usize, side: u32, places: Set) -> Stay {
+// When frames are on a link, as seen from a side.
+fn stay_of(known: &Known, view: &[i64], link: usize, side: u32, places: &[u16]) -> Stay {
     let mut stay = Stay {
         begin: FAR,
         work: 0,
         end: -FAR,
     };
-    let mut rest = places;
-    for _ in 0..128 {
-        let Some(place) = rest.take() else {
-            break;
-        };
-        let visit = known.table.visit(link, place);
+    for place in places {
+        let visit = known.table.visit(link, *place as usize);
         stay.begin = stay.begin.min(head_of(view, visit, side));
         stay.work = sum(stay.work, visit.work);
         stay.end = stay.end.max(end_of(view, visit, side));
@@ -169,7 +163,7 @@ fn stay_of(known: &Known, view: &[i64], link: usize, side: u32, places: Set) -> 
     stay
 }
 
-// The least head of streams on a link, their work, and their greatest end.
+// The least head of frames on a link, their work, and their greatest end.
 #[derive(Clone, Copy)]
 struct Stay {
     begin: i64,

@@ -1,18 +1,23 @@
 //! Writes the argument of what a search found out.
 use crate::need::{Needed, needed_for};
-use crate::view::{Made, make, make_go_by, narrow};
+use crate::orders::{Held, stronger};
+use crate::view::{
+    Made, behind, is_contradicted, is_out_of_reach, left_of, make_arrival, make_go,
+    make_impossible, make_packing, make_placing, make_turn, make_use, narrow,
+};
 use std::alloc::{AllocError, Global};
 use tsn_argument::step::MAX_FRAMES;
 use tsn_argument::{
-    Argument, Clause, Fact, Frames, Goal, Move, Moves, Orders, Placing as Placed, Step, Steps,
+    Argument, Clause, Fact, Frames, Goal, Move, Moves, Order, Orders, Placing as Placed, Step,
+    Steps,
 };
 use tsn_model::Frame;
 use tsn_solver::known::{Known, is_impossible};
-use tsn_solver::literal::Literal;
-use tsn_solver::number::{NONE, at, index, index_at, is_marked, mark, next, push, put_index, sum};
-use tsn_solver::reason::{Deed, Placing, Why};
-use tsn_solver::set::Set;
-use tsn_solver::table::Order;
+use tsn_solver::literal::{Literal, literal_at};
+use tsn_solver::number::{NONE, at, index, index_at, is_marked, next, push, put_index, sum};
+use tsn_solver::reason::Deed;
+use tsn_solver::record::places_of;
+use tsn_solver::table::Block;
 use tsn_solver::trail::Event;
 
 /// What is shown, of which plan.
@@ -31,19 +36,18 @@ struct Writing<'a> {
     known: &'a Known,
     aim: Aim<'a>,
     ground: Vec<i64>,
+    ground_orders: Held,
+    // Of the step that is written, whose orders are those of the ground besides.
     view: Vec<i64>,
+    orders: Held,
     steps: Vec<Step>,
     // The moves of the step that is written.
     moves: Vec<Move>,
     // How many clauses were written, and the number of each that was shown.
     clauses: usize,
     numbers: Vec<u32>,
-    // For each order the number of the clause that leads from its left link to its right one; and whether the ground, and the step
-    // that is written, went over it.
+    // For each block the number of the clause that of its first and its last conflict one has the right side or the other the left one.
     bridges: Vec<u32>,
-    is_ground_over: Vec<bool>,
-    is_over: Vec<bool>,
-    over: Vec<u32>,
 }
 
 /// The argument for an aim. None where what is known doesn't show it. No decision stands. The error says that there was no memory.
@@ -83,15 +87,14 @@ fn begin<'a>(alloc: Global, known: &'a Known, aim: Aim<'a>) -> Writing<'a> {
         known,
         aim,
         ground: Vec::new(alloc),
+        ground_orders: Held::none(alloc),
         view: Vec::new(alloc),
+        orders: Held::none(alloc),
         steps: Vec::new(alloc),
         moves: Vec::new(alloc),
         clauses: 0,
         numbers: Vec::new(alloc),
         bridges: Vec::new(alloc),
-        is_ground_over: Vec::new(alloc),
-        is_over: Vec::new(alloc),
-        over: Vec::new(alloc),
     }
 }
 
@@ -116,11 +119,12 @@ impl Writing<'_> {
     }
 
     fn size(&mut self) -> Result<(), AllocError> {
-        let orders = self.known.table.orders.len();
+        let table = &self.known.table;
         self.numbers.resize(self.known.record.count(), NONE)?;
-        self.bridges.resize(orders, NONE)?;
-        self.is_ground_over.resize(orders, false)?;
-        self.is_over.resize(orders, false)
+        self.bridges.resize(table.blocks.len(), NONE)?;
+        self.ground_orders
+            .size(table.pairs.len(), table.conflicts.len())?;
+        self.orders.size(table.pairs.len(), table.conflicts.len())
     }
 
     fn begin_ground(&mut self) -> Result<(), AllocError> {
@@ -237,45 +241,29 @@ impl Writing<'_> {
     fn write_event(&mut self, number: usize) -> Result<bool, AllocError> {
         let known = self.known;
         let event = known.trail.event(index(number));
-        let Some(deed) = known.deed_of(event.bound, event.why) else {
+        let literal = Literal::of(event.bound, event.new);
+        let Some(deed) = known.deed_of(literal, event.why) else {
             self.write_ground()?;
             return Ok(at(&self.ground, event.bound as usize) >= event.new);
         };
-        let made = if let Some((bound, weight)) = self.weaker_go(event) {
-            self.write_own_go(bound)?;
-            make_go_by(known, &mut self.ground, bound, weight)
-        } else {
-            if !self.write_deed(deed, true)? {
-                return Ok(false);
-            }
-            make(known, &mut self.ground, deed, &known.trail.placings)
-        };
+        let is_lean = self.is_lean_enough(deed, event);
+        let made = self.write_deed(deed, true, is_lean)?;
         Ok(made != Made::Wrong)
     }
 
-    // The bound of an order whose right side's change of the ground comes by its left link's weight too, and that weight.
-    fn weaker_go(&self, event: Event) -> Option<(u32, i64)> {
-        let Why::Arc(number) = event.why else {
-            return None;
+    // Whether the arc of an order that the ground has gives its change.
+    fn is_lean_enough(&self, deed: Deed, event: Event) -> bool {
+        let Deed::Go(gap) = deed else {
+            return false;
         };
-        let arc = self.known.arcs.arc(number);
-        let weight = self.own_weight(arc.order)?;
-        if sum(at(&self.ground, arc.from as usize), weight) < event.new {
-            return None;
+        let pair = self.pair_side(gap.bound);
+        let conflict = self.ground_orders.most(pair);
+        if conflict == NONE {
+            return false;
         }
-        Some((arc.order, weight))
-    }
-
-    // What the left link's conflict asks for on the order's right side, where its right link is another one.
-    fn own_weight(&self, bound: u32) -> Option<i64> {
-        if bound == NONE || bound & 1 == 0 {
-            return None;
-        }
-        let order = self.known.table.order(self.order_number(bound));
-        if order.left_link == order.right_link {
-            return None;
-        }
-        Some(order.own_right_first)
+        let weight = self.weight(pair, conflict);
+        let arc = self.known.arc_by(gap.bound, weight, event.bound & 1 == 0);
+        sum(at(&self.ground, arc.from as usize), weight) >= event.new
     }
 
     // Ends the step that changes the ground.
@@ -303,23 +291,15 @@ impl Writing<'_> {
     fn write_shown(&mut self, number: usize) -> Result<bool, AllocError> {
         let known = self.known;
         let literals = known.record.literals(number);
-        let mut facts = Vec::new(self.alloc);
         if !self.write_deeds(number, true)? && !self.write_deeds(number, false)? {
             return Ok(false);
         }
+        let mut facts = Vec::new(self.alloc);
         for literal in literals {
             push(&mut facts, self.fact(*literal))?;
         }
         self.push_step(facts)?;
-        self.forget_bridges();
-        match literals {
-            [] => std::mem::swap(&mut self.ground, &mut self.view),
-            [literal] => {
-                narrow(&mut self.ground, *literal);
-                self.settle();
-            }
-            _ => {}
-        }
+        self.learn(literals)?;
         if !literals.is_empty() {
             put_index(&mut self.numbers, number, index(self.clauses));
             self.clauses = next(self.clauses);
@@ -327,28 +307,48 @@ impl Writing<'_> {
         Ok(true)
     }
 
+    // What the ground learns by a clause.
+    fn learn(&mut self, literals: &[Literal]) -> Result<(), AllocError> {
+        match literals {
+            [] => std::mem::swap(&mut self.ground, &mut self.view),
+            [literal] => {
+                narrow(&mut self.ground, *literal);
+                self.gain(*literal, true)?;
+                self.settle();
+            }
+            _ => {}
+        }
+        Ok(())
+    }
+
     // The view at which the step of a clause begins.
-    fn begin_view(&mut self, number: usize) {
+    fn begin_view(&mut self, number: usize) -> Result<(), AllocError> {
         for (one, other) in self.view.iter_mut().zip(&self.ground) {
             *one = *other;
         }
+        self.orders.clear();
         for literal in self.known.record.literals(number) {
             narrow(&mut self.view, literal.opposite());
+            if literal.bound >= self.known.times {
+                let pair = self.pair_side(literal.bound) ^ 1;
+                let conflict = self.strong(*literal);
+                self.orders.gain(pair, conflict)?;
+            }
         }
+        Ok(())
     }
 
-    // The moves by which a clause follows; where it does so, by the weights of the orders' left links. False where it doesn't.
+    // The moves by which a clause follows; where it does so, by the orders alone that the view has already. False where it doesn't.
     fn write_deeds(&mut self, number: usize, is_lean: bool) -> Result<bool, AllocError> {
         let known = self.known;
         self.moves.clear();
-        self.forget_bridges();
-        self.begin_view(number);
+        self.begin_view(number)?;
         let mut is_over = is_impossible(&self.view, known.times as usize);
         for deed in known.record.deeds(number) {
             if is_over {
                 break;
             }
-            match self.write_one(*deed, is_lean)? {
+            match self.write_deed(*deed, false, is_lean)? {
                 Made::Narrowed => {}
                 Made::Impossible => is_over = true,
                 Made::Wrong => return Ok(false),
@@ -356,114 +356,137 @@ impl Writing<'_> {
         }
         Ok(is_over)
     }
-
-    // A move of a clause.
-    fn write_one(&mut self, deed: Deed, is_lean: bool) -> Result<Made, AllocError> {
-        let known = self.known;
-        if let Deed::Go(bound) = deed {
-            if let (true, Some(weight)) = (is_lean, self.own_weight(bound)) {
-                self.write_own_go(bound)?;
-                return Ok(make_go_by(known, &mut self.view, bound, weight));
-            }
-        }
-        if !self.write_deed(deed, false)? {
-            return Ok(Made::Wrong);
-        }
-        Ok(make(known, &mut self.view, deed, &known.record.placings))
-    }
 }
 
-// The moves of deeds.
+// Orders. A pair and a side are named by one number: twice the number of the pair, and one more where the right stream goes first.
 impl Writing<'_> {
-    fn write_deed(&mut self, deed: Deed, is_ground: bool) -> Result<bool, AllocError> {
-        let known = self.known;
-        match deed {
-            Deed::Go(bound) => self.write_go(bound, is_ground),
-            Deed::Turn(bound) => self.write_turn(bound, is_ground),
-            Deed::Use(shown) => match index_at(&self.numbers, shown as usize) {
-                NONE => Ok(false),
-                clause => self.push_move(Move::Use(clause as usize)),
-            },
-            Deed::Arrive(stream) => self.push_move(Move::Arrive(stream as usize)),
-            Deed::Place(number) => {
-                let placings = if is_ground {
-                    &known.trail.placings
-                } else {
-                    &known.record.placings
-                };
-                match placings.get(number as usize) {
-                    Some(placing) => self.write_placing(*placing),
-                    None => Ok(false),
-                }
-            }
-            Deed::Pack(number) => self.write_packing(number as usize),
-            Deed::Round(number) => self.write_round(number as usize),
+    fn pair_side(&self, bound: u32) -> usize {
+        bound.wrapping_sub(self.known.times) as usize
+    }
+
+    // The conflict by which a literal of a gap is written: it asks for most on its side, and for least on the other one.
+    fn strong(&self, literal: Literal) -> u32 {
+        let block = self.known.block(literal);
+        index(if literal.bound & 1 == 0 {
+            block.last
+        } else {
+            block.first
+        })
+    }
+
+    // The conflict of the block that asks for least on the literal's side.
+    fn weak(&self, literal: Literal) -> u32 {
+        let block = self.known.block(literal);
+        index(if literal.bound & 1 == 0 {
+            block.first
+        } else {
+            block.last
+        })
+    }
+
+    // What an order asks for.
+    fn weight(&self, pair: usize, conflict: u32) -> i64 {
+        let conflict = self.known.table.conflict(conflict as usize);
+        if pair & 1 == 0 {
+            conflict.left_first
+        } else {
+            conflict.right_first
         }
     }
 
-    fn push_move(&mut self, one: Move) -> Result<bool, AllocError> {
-        push(&mut self.moves, one)?;
+    fn order(&self, pair: usize, conflict: u32) -> Order {
+        let streams = self.known.table.pair(pair / 2);
+        let conflict = self.known.table.conflict(conflict as usize);
+        let (first, second) = if pair & 1 == 0 {
+            (streams.left, streams.right)
+        } else {
+            (streams.right, streams.left)
+        };
+        Order {
+            first,
+            second,
+            link: conflict.link,
+            lag: conflict.lag,
+        }
+    }
+
+    // Notes that the ground, or the view, has the order by which a literal is written.
+    fn gain(&mut self, literal: Literal, is_ground: bool) -> Result<(), AllocError> {
+        if literal.bound < self.known.times {
+            return Ok(());
+        }
+        let pair = self.pair_side(literal.bound);
+        let conflict = self.strong(literal);
+        self.gain_order(pair, conflict, is_ground)
+    }
+
+    fn gain_order(
+        &mut self,
+        pair: usize,
+        conflict: u32,
+        is_ground: bool,
+    ) -> Result<(), AllocError> {
+        if is_ground {
+            self.ground_orders.gain(pair, conflict)
+        } else {
+            self.orders.gain(pair, conflict)
+        }
+    }
+
+    fn has(&self, pair: usize, conflict: u32, is_ground: bool) -> bool {
+        self.ground_orders.has(pair, conflict) || !is_ground && self.orders.has(pair, conflict)
+    }
+
+    // The conflict that asks for most of those whose order there is; none where there is none.
+    fn most(&self, pair: usize, is_ground: bool) -> u32 {
+        let most = self.ground_orders.most(pair);
+        if is_ground {
+            most
+        } else {
+            stronger(pair, most, self.orders.most(pair))
+        }
+    }
+
+    // Sees to it that there is the order of a conflict of a block, by one that asks for no less, or by going over the block. False where
+    // that can't be.
+    fn ensure(
+        &mut self,
+        pair: usize,
+        conflict: u32,
+        number: usize,
+        is_ground: bool,
+    ) -> Result<bool, AllocError> {
+        if self.follow(pair, conflict, is_ground)? {
+            return Ok(true);
+        }
+        let block = self.known.table.block(number);
+        let (weak, strong) = ends_of(&block, pair);
+        if !self.follow(pair, weak, is_ground)? {
+            return Ok(false);
+        }
+        self.cross(number)?;
+        self.gain_order(pair, strong, is_ground)?;
+        self.follow(pair, conflict, is_ground)
+    }
+
+    // The order of a conflict by one that asks for no less, if there is one.
+    fn follow(&mut self, pair: usize, conflict: u32, is_ground: bool) -> Result<bool, AllocError> {
+        if self.has(pair, conflict, is_ground) {
+            return Ok(true);
+        }
+        let most = self.most(pair, is_ground);
+        if most == NONE || stronger(pair, most, conflict) != most {
+            return Ok(false);
+        }
+        let known = self.order(pair, most);
+        let weaker = self.order(pair, conflict);
+        push(&mut self.moves, Move::Follow(known, weaker))?;
+        self.gain_order(pair, conflict, is_ground)?;
         Ok(true)
     }
 
-    // The arc of an order: of the left side that of its left link, of the right side that of its right link.
-    fn write_go(&mut self, bound: u32, is_ground: bool) -> Result<bool, AllocError> {
-        let number = self.order_number(bound);
-        let order = self.known.table.order(number);
-        if bound & 1 == 0 {
-            return self.push_move(Move::Go(left_first(&order, order.left_link)));
-        }
-        if order.left_link != order.right_link && !self.is_gone_over(number) {
-            self.cross(number, is_ground)?;
-        }
-        self.push_move(Move::Go(right_first(&order, order.right_link)))
-    }
-
-    // The arc of the order's left link.
-    fn write_own_go(&mut self, bound: u32) -> Result<(), AllocError> {
-        let order = self.known.table.order(self.order_number(bound));
-        let _ = self.push_move(Move::Go(right_first(&order, order.left_link)))?;
-        Ok(())
-    }
-
-    // Whether the right side can't be met on the order's left link.
-    fn is_own_out_of_reach(&self, order: &Order, is_ground: bool) -> bool {
-        let left = (self.known.least(order.left) ^ 1) as usize;
-        let right = self.known.least(order.right) as usize;
-        let (least, most) = if is_ground {
-            (at(&self.ground, right), at(&self.ground, left))
-        } else {
-            (at(&self.view, right), at(&self.view, left))
-        };
-        sum(least, order.own_right_first) > most.wrapping_neg()
-    }
-
-    fn write_turn(&mut self, bound: u32, is_ground: bool) -> Result<bool, AllocError> {
-        let number = self.order_number(bound);
-        let order = self.known.table.order(number);
-        if bound & 1 != 0 {
-            return self.push_move(Move::Turn(right_first(&order, order.left_link)));
-        }
-        if self.is_own_out_of_reach(&order, is_ground) {
-            return self.push_move(Move::Turn(left_first(&order, order.left_link)));
-        }
-        let made = self.push_move(Move::Turn(left_first(&order, order.right_link)))?;
-        if order.left_link != order.right_link {
-            self.cross(number, is_ground)?;
-        }
-        Ok(made)
-    }
-
-    fn order_number(&self, bound: u32) -> usize {
-        (bound.wrapping_sub(self.known.times) / 2) as usize
-    }
-
-    fn is_gone_over(&self, number: usize) -> bool {
-        is_marked(&self.is_ground_over, number) || is_marked(&self.is_over, number)
-    }
-
-    // Goes from the order's left link to its right one, or back.
-    fn cross(&mut self, number: usize, is_ground: bool) -> Result<(), AllocError> {
+    // Goes from the one end of a block to the other.
+    fn cross(&mut self, number: usize) -> Result<(), AllocError> {
         if index_at(&self.bridges, number) == NONE {
             let mut moves = Vec::new(self.alloc);
             std::mem::swap(&mut moves, &mut self.moves);
@@ -471,37 +494,25 @@ impl Writing<'_> {
             std::mem::swap(&mut moves, &mut self.moves);
         }
         let clause = index_at(&self.bridges, number) as usize;
-        let _ = self.push_move(Move::Use(clause))?;
-        if is_ground {
-            mark(&mut self.is_ground_over, number, true);
-        } else {
-            mark(&mut self.is_over, number, true);
-            push(&mut self.over, index(number))?;
-        }
-        Ok(())
+        push(&mut self.moves, Move::Use(clause))
     }
 
-    fn forget_bridges(&mut self) {
-        for number in &self.over {
-            mark(&mut self.is_over, *number as usize, false);
-        }
-        self.over.clear();
-    }
-
-    // Shows that the left stream goes first on the order's left link, or the right one on its right link.
+    // Shows that the right stream goes first on the block's first conflict, or the left one on its last.
     fn build_bridge(&mut self, number: usize) -> Result<(), AllocError> {
-        let order = self.known.table.order(number);
-        let mut link = order.left_link;
+        let block = self.known.table.block(number);
+        let pair = self.known.table.owner(number).wrapping_mul(2);
+        let first = index(block.first);
+        let last = index(block.last);
         let mut clauses = Vec::new(self.alloc);
-        for _ in order.first..order.end {
-            if link == order.right_link {
+        let mut from = first;
+        for _ in block.first..block.last {
+            if from >= last {
                 break;
             }
-            let other = self.known.table.overlapping(&order, link);
-            let _ = self.push_round(right_first(&order, link), left_first(&order, other))?;
-            let clause = self.push_clause(left_first(&order, link), right_first(&order, other))?;
+            let to = self.overlapping(from, last);
+            let clause = self.push_link(pair, from, to)?;
             push(&mut clauses, clause)?;
-            link = other;
+            from = to;
         }
         let mut bridge = match clauses.first() {
             Some(clause) => *clause,
@@ -509,99 +520,263 @@ impl Writing<'_> {
         };
         if clauses.len() > 1 {
             for clause in &clauses {
-                let _ = self.push_move(Move::Use(*clause as usize))?;
+                push(&mut self.moves, Move::Use(*clause as usize))?;
             }
-            let left = left_first(&order, order.left_link);
-            let right = right_first(&order, order.right_link);
-            bridge = self.push_clause(left, right)?;
+            bridge = self.push_clause(pair, first, last)?;
         }
         put_index(&mut self.bridges, number, bridge);
         Ok(())
     }
 
+    // Of the conflicts behind one, up to the last one of its block, the last that overlaps with it.
+    fn overlapping(&self, from: u32, last: u32) -> u32 {
+        let end = self.known.table.conflict(from as usize).left_first;
+        let mut found = from.wrapping_add(1);
+        for conflict in from..last {
+            let following = conflict.wrapping_add(1);
+            let begin = self.known.table.conflict(following as usize).right_first;
+            if sum(end, begin) <= 0 {
+                break;
+            }
+            found = following;
+        }
+        found
+    }
+
+    // Shows that of two conflicts that overlap one has the right side or the other the left one.
+    fn push_link(&mut self, pair: usize, from: u32, to: u32) -> Result<u32, AllocError> {
+        let mut round = Vec::new(self.alloc);
+        push(&mut round, self.order(pair, from))?;
+        push(&mut round, self.order(pair ^ 1, to))?;
+        let _ = self.push_round(round)?;
+        self.push_clause(pair, from, to)
+    }
+
     // Ends the step of a clause of two orders, and answers its number.
-    fn push_clause(
-        &mut self,
-        one: tsn_argument::Order,
-        other: tsn_argument::Order,
-    ) -> Result<u32, AllocError> {
+    fn push_clause(&mut self, pair: usize, from: u32, to: u32) -> Result<u32, AllocError> {
         let mut facts = Vec::new(self.alloc);
-        push(&mut facts, Fact::Order(one))?;
-        push(&mut facts, Fact::Order(other))?;
+        push(&mut facts, Fact::Order(self.order(pair ^ 1, from)))?;
+        push(&mut facts, Fact::Order(self.order(pair, to)))?;
         self.push_step(facts)?;
         let clause = index(self.clauses);
         self.clauses = next(self.clauses);
         Ok(clause)
     }
+}
 
-    fn write_placing(&mut self, placing: Placing) -> Result<bool, AllocError> {
+// The moves of deeds.
+impl Writing<'_> {
+    fn numbers(&mut self, is_ground: bool) -> &mut [i64] {
+        if is_ground {
+            &mut self.ground
+        } else {
+            &mut self.view
+        }
+    }
+
+    fn write_deed(
+        &mut self,
+        deed: Deed,
+        is_ground: bool,
+        is_lean: bool,
+    ) -> Result<Made, AllocError> {
+        match deed {
+            Deed::Go(gap) => self.write_go(gap, is_ground, is_lean),
+            Deed::Turn(gap) => self.write_turn(gap, is_ground),
+            Deed::Use(shown) => self.write_use(shown as usize, is_ground),
+            Deed::Arrive(stream) => self.write_arrival(stream as usize, is_ground),
+            Deed::Place(number) => self.write_placing(number as usize, is_ground),
+            Deed::Pack(number) => self.write_packing(number as usize, is_ground),
+            Deed::Round(number) => self.write_round(number as usize, is_ground, is_lean),
+        }
+    }
+
+    // The arc of a block: by the order that asks for most, where that will do.
+    fn write_go(
+        &mut self,
+        gap: Literal,
+        is_ground: bool,
+        is_lean: bool,
+    ) -> Result<Made, AllocError> {
+        let pair = self.pair_side(gap.bound);
+        let Some(conflict) = self.order_for(gap, is_ground, is_lean)? else {
+            return Ok(Made::Wrong);
+        };
+        let order = self.order(pair, conflict);
+        push(&mut self.moves, Move::Go(order))?;
+        let weight = self.weight(pair, conflict);
+        let known = self.known;
+        Ok(make_go(known, self.numbers(is_ground), gap.bound, weight))
+    }
+
+    // The conflict by whose order a literal of a gap is used: that which asks for most of those there are, and which, unless it's to be
+    // lean, asks for as much as the literal does.
+    fn order_for(
+        &mut self,
+        gap: Literal,
+        is_ground: bool,
+        is_lean: bool,
+    ) -> Result<Option<u32>, AllocError> {
+        let pair = self.pair_side(gap.bound);
+        let strong = self.strong(gap);
+        let most = self.most(pair, is_ground);
+        if most != NONE && (is_lean || stronger(pair, most, strong) == most) {
+            return Ok(Some(most));
+        }
+        let number = self.known.block_number(gap);
+        if self.ensure(pair, strong, number, is_ground)? {
+            Ok(Some(strong))
+        } else {
+            Ok(None)
+        }
+    }
+
+    // That the other side of a block can't be met: that of the conflict that others go by, where the view says so.
+    fn write_turn(&mut self, gap: Literal, is_ground: bool) -> Result<Made, AllocError> {
+        let known = self.known;
+        let pair = self.pair_side(gap.bound);
+        let mut conflict = self.strong(gap);
+        let other = self.weight(pair ^ 1, conflict);
+        if !is_out_of_reach(known, self.numbers(is_ground), gap, other) {
+            conflict = self.weak(gap);
+        }
+        let order = self.order(pair, conflict);
+        push(&mut self.moves, Move::Turn(order))?;
+        self.gain_order(pair, conflict, is_ground)?;
+        let weight = self.weight(pair ^ 1, conflict);
+        Ok(make_turn(known, self.numbers(is_ground), gap, weight))
+    }
+
+    fn write_use(&mut self, shown: usize, is_ground: bool) -> Result<Made, AllocError> {
+        let known = self.known;
+        let clause = index_at(&self.numbers, shown);
+        let left = left_of(known, self.numbers(is_ground), shown);
+        let (false, Ok(left)) = (clause == NONE, left) else {
+            return Ok(Made::Wrong);
+        };
+        for literal in known.record.literals(shown) {
+            if !self.is_order_there(*literal, is_ground)? {
+                return Ok(Made::Wrong);
+            }
+        }
+        push(&mut self.moves, Move::Use(clause as usize))?;
+        if let Some(literal) = left {
+            self.gain(literal, is_ground)?;
+        }
+        Ok(make_use(known, self.numbers(is_ground), left))
+    }
+
+    // Sees to it that the order is there that contradicts a literal, where its number is.
+    fn is_order_there(&mut self, literal: Literal, is_ground: bool) -> Result<bool, AllocError> {
+        if literal.bound < self.known.times || !is_contradicted(self.numbers(is_ground), literal) {
+            return Ok(true);
+        }
+        let pair = self.pair_side(literal.bound) ^ 1;
+        let conflict = self.strong(literal);
+        let number = self.known.block_number(literal);
+        self.ensure(pair, conflict, number, is_ground)
+    }
+
+    fn write_arrival(&mut self, stream: usize, is_ground: bool) -> Result<Made, AllocError> {
+        push(&mut self.moves, Move::Arrive(stream))?;
+        let known = self.known;
+        Ok(make_arrival(known, self.numbers(is_ground), stream))
+    }
+
+    fn write_placing(&mut self, number: usize, is_ground: bool) -> Result<Made, AllocError> {
+        let known = self.known;
+        let (placings, places) = if is_ground {
+            (&known.trail.placings, &known.trail.places)
+        } else {
+            (&known.record.placings, &known.record.places)
+        };
+        let Some(&placing) = placings.get(number) else {
+            return Ok(Made::Wrong);
+        };
+        let list = places_of(places, placing.others);
         let link = placing.link as usize;
-        let others = self.frames_of(link, placing.others)?;
-        let some = self.frames_of(link, placing.some)?;
+        let others = self.frames_of(link, list)?;
+        let some = self.frames_of(link, behind(list, placing.idle))?;
         let (Some(others), Some(some)) = (others, some) else {
-            return Ok(false);
+            return Ok(Made::Wrong);
         };
         let placed = Placed {
-            link: self.known.table.link_number(link),
+            link: known.table.link_number(link),
             frame: self.frame_of(link, placing.place),
             others,
             some,
         };
-        self.push_move(if placing.side == 0 {
-            Move::Last(placed)
-        } else {
-            Move::First(placed)
-        })
+        self.push_placed(placed, placing.side)?;
+        Ok(make_placing(known, self.numbers(is_ground), placing, list))
     }
 
-    fn write_packing(&mut self, number: usize) -> Result<bool, AllocError> {
-        let Some(&packing) = self.known.record.packings.get(number) else {
-            return Ok(false);
-        };
-        let link = packing.link as usize;
-        match self.frames_of(link, packing.streams)? {
-            Some(frames) => {
-                let number = self.known.table.link_number(link);
-                self.push_move(Move::Pack(number, frames))
-            }
-            None => Ok(false),
-        }
-    }
-
-    // Of two orders of the same streams, the later one's left side with the other one's right side.
-    fn write_round(&mut self, number: usize) -> Result<bool, AllocError> {
-        let order = self.known.table.order(number);
-        let before = self.known.table.order(number.wrapping_sub(1));
-        self.push_round(
-            left_first(&order, order.left_link),
-            right_first(&before, before.left_link),
+    fn push_placed(&mut self, placed: Placed, side: u32) -> Result<(), AllocError> {
+        push(
+            &mut self.moves,
+            if side == 0 {
+                Move::Last(placed)
+            } else {
+                Move::First(placed)
+            },
         )
     }
 
-    // That two orders can't both be.
-    fn push_round(
+    fn write_packing(&mut self, number: usize, is_ground: bool) -> Result<Made, AllocError> {
+        let known = self.known;
+        let Some(&packing) = known.record.packings.get(number) else {
+            return Ok(Made::Wrong);
+        };
+        let link = packing.link as usize;
+        let list = places_of(&known.record.places, packing.frames);
+        match self.frames_of(link, list)? {
+            Some(frames) => {
+                let number = known.table.link_number(link);
+                push(&mut self.moves, Move::Pack(number, frames))?;
+                Ok(make_packing(known, self.numbers(is_ground), packing))
+            }
+            None => Ok(Made::Wrong),
+        }
+    }
+
+    // Arcs that lead back to where they begin.
+    fn write_round(
         &mut self,
-        one: tsn_argument::Order,
-        other: tsn_argument::Order,
-    ) -> Result<bool, AllocError> {
+        number: usize,
+        is_ground: bool,
+        is_lean: bool,
+    ) -> Result<Made, AllocError> {
+        let known = self.known;
+        let gaps = known.record.round(number);
         let mut round = Vec::new(self.alloc);
-        push(&mut round, one)?;
-        push(&mut round, other)?;
+        let mut weight = 0i64;
+        for place in 0..gaps.len() {
+            let gap = literal_at(gaps, place);
+            let pair = self.pair_side(gap.bound);
+            let Some(conflict) = self.order_for(gap, is_ground, is_lean)? else {
+                return Ok(Made::Wrong);
+            };
+            weight = sum(weight, self.weight(pair, conflict));
+            push(&mut round, self.order(pair, conflict))?;
+        }
+        if weight <= 0 || !self.push_round(round)? {
+            return Ok(Made::Wrong);
+        }
+        Ok(make_impossible(known, self.numbers(is_ground)))
+    }
+
+    fn push_round(&mut self, round: Vec<Order>) -> Result<bool, AllocError> {
         if round.is_empty() || round.len() > 128 {
             return Ok(false);
         }
-        self.push_move(Move::Round(Orders::of(round)))
+        push(&mut self.moves, Move::Round(Orders::of(round)))?;
+        Ok(true)
     }
 
-    // The first frames of the streams of places on a link. None where there are none.
-    fn frames_of(&self, link: usize, places: Set) -> Result<Option<Frames>, AllocError> {
+    // The frames of places on a link. None where there are none.
+    fn frames_of(&self, link: usize, places: &[u16]) -> Result<Option<Frames>, AllocError> {
         let mut list = Vec::new(self.alloc);
-        let mut rest = places;
-        for _ in 0..128 {
-            let Some(place) = rest.take() else {
-                break;
-            };
-            push(&mut list, self.frame_of(link, place))?;
+        for place in places {
+            push(&mut list, self.frame_of(link, *place as usize))?;
         }
         if list.is_empty() || list.len() > MAX_FRAMES {
             return Ok(None);
@@ -609,11 +784,12 @@ impl Writing<'_> {
         Ok(Some(Frames::of(list)))
     }
 
-    // The first frame of the stream of a place on a link.
+    // The frame of a place on a link.
     fn frame_of(&self, link: usize, place: usize) -> Frame {
+        let visit = self.known.table.visit(link, place);
         Frame {
-            stream: self.known.table.visit(link, place).stream,
-            shift: 0,
+            stream: visit.stream,
+            shift: visit.shift.unsigned_abs(),
         }
     }
 
@@ -635,30 +811,16 @@ impl Writing<'_> {
                 Fact::DoneUntil(least)
             }
         } else {
-            let order = self.known.table.order(self.order_number(bound));
-            Fact::Order(if is_least {
-                left_first(&order, order.left_link)
-            } else {
-                right_first(&order, order.left_link)
-            })
+            Fact::Order(self.order(self.pair_side(bound), self.strong(literal)))
         }
     }
 }
 
-fn left_first(order: &Order, link: usize) -> tsn_argument::Order {
-    tsn_argument::Order {
-        first: order.left,
-        second: order.right,
-        link,
-        lag: 0,
-    }
-}
-
-fn right_first(order: &Order, link: usize) -> tsn_argument::Order {
-    tsn_argument::Order {
-        first: order.right,
-        second: order.left,
-        link,
-        lag: 0,
+// Of a block's conflicts the one that asks for least on a side, and the one that asks for most.
+fn ends_of(block: &Block, pair: usize) -> (u32, u32) {
+    if pair & 1 == 0 {
+        (index(block.first), index(block.last))
+    } else {
+        (index(block.last), index(block.first))
     }
 }

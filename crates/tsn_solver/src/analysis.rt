@@ -1,7 +1,7 @@
 //! What a contradiction teaches: the clause of the first unique implication point, over bounds (Marques-Silva and Sakallah 1996;
 //! Ohrimenko, Stuckey and Codish 2007), without what the others imply.
 use crate::literal::{Literal, exchange, literal_at};
-use crate::number::{NONE, at, index, index_at, is_marked, mark, push, put, put_index};
+use crate::number::{NONE, at, index, index_at, is_marked, item_at, mark, push, put, put_index};
 use crate::reason::{Deed, Why};
 use crate::search::Search;
 use std::alloc::{AllocError, Global};
@@ -22,7 +22,7 @@ pub struct Analysis {
     // How many changes of the last level are needed.
     open: usize,
     // The changes that were replaced by why they came.
-    used: Vec<u32>,
+    used: Vec<Used>,
     // The changes before the first decision that are needed.
     grounds: Vec<u32>,
     /// The clause, the literal that follows first, and then one of the level to which the search goes back.
@@ -33,6 +33,18 @@ pub struct Analysis {
     stack: Vec<Literal>,
     left: u32,
 }
+
+// A change, and how narrow its bound is needed by it.
+#[derive(Clone, Copy)]
+struct Used {
+    number: u32,
+    least: i64,
+}
+
+const NOT_USED: Used = Used {
+    number: NONE,
+    least: 0,
+};
 
 /// A clause that was learned: the level to go back to, its number in the record, and how many levels its literals were of.
 #[derive(Clone, Copy)]
@@ -83,6 +95,11 @@ impl Analysis {
         }
         mark(&mut self.is_touched, bound as usize, true);
         push(&mut self.touched, bound)
+    }
+
+    fn note_used(&mut self, number: u32, literal: Literal) -> Result<(), AllocError> {
+        let least = literal.least;
+        push(&mut self.used, Used { number, least })
     }
 
     // Nothing is needed any longer.
@@ -174,8 +191,7 @@ impl Search {
         put_index(&mut self.analysis.changes, literal.place(), number);
         self.count_change(number, true);
         if literal.bound >= self.known.times {
-            self.choice
-                .ask_for(literal.bound.wrapping_sub(self.known.times) / 2);
+            self.choice.ask_for(index(self.known.block_number(literal)));
         }
         Ok(())
     }
@@ -209,7 +225,7 @@ impl Search {
                 self.known.clauses.note_use(clause, self.pace.conflicts);
             }
             self.known.explain(literal, event.why)?;
-            push(&mut self.analysis.used, number)?;
+            self.analysis.note_used(number, literal)?;
             for place in 0..self.known.needs.len() {
                 self.need_of(place, true)?;
             }
@@ -255,7 +271,7 @@ impl Search {
         let below = depth - 1;
         self.analysis.left = self.analysis.left.wrapping_sub(1);
         self.known.explain(literal, why)?;
-        push(&mut self.analysis.used, number)?;
+        self.analysis.note_used(number, literal)?;
         let start = self.analysis.stack.len();
         self.analysis.stack.extend_from_slice(&self.known.needs)?;
         let end = self.analysis.stack.len();
@@ -323,18 +339,15 @@ impl Search {
 
     // Records the clause with its deeds, in the order of the changes.
     fn note_lesson(&mut self) -> Result<u32, AllocError> {
-        self.analysis.used.sort_unstable();
-        let mut last = NONE;
+        self.analysis.used.sort_unstable_by_key(|used| used.number);
+        let mut last = NOT_USED;
         for place in 0..self.analysis.used.len() {
-            let number = index_at(&self.analysis.used, place);
-            let event = self.known.trail.event(number);
-            if number == last {
+            let used = item_at(&self.analysis.used, place, NOT_USED);
+            if used.number == last.number && used.least == last.least {
                 continue;
             }
-            last = number;
-            if let Some(deed) = self.known.kept_deed(event.bound, event.why)? {
-                push(&mut self.analysis.deeds, deed)?;
-            }
+            last = used;
+            self.note_deed(used)?;
         }
         if let Some(deed) = self.known.clash_deed {
             push(&mut self.analysis.deeds, deed)?;
@@ -344,5 +357,14 @@ impl Search {
             &self.analysis.deeds,
             &self.analysis.grounds,
         )
+    }
+
+    fn note_deed(&mut self, used: Used) -> Result<(), AllocError> {
+        let event = self.known.trail.event(used.number);
+        let literal = Literal::of(event.bound, used.least);
+        match self.known.kept_deed(literal, event.why)? {
+            Some(deed) => push(&mut self.analysis.deeds, deed),
+            None => Ok(()),
+        }
     }
 }

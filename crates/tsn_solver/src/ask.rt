@@ -1,9 +1,9 @@
 //! Questions: whether there is a schedule in which some literals hold, the premises.
 use crate::literal::Literal;
-use crate::number::{mark, push};
+use crate::number::{index, mark, push, sum};
 use crate::reason::Why;
 use crate::search::Search;
-use crate::trail::holds;
+use crate::table::{Pair, place_of, signed_place};
 use std::alloc::AllocError;
 
 /// How many more learned clauses are kept each time that some are forgotten.
@@ -145,49 +145,57 @@ impl Search {
         Ok(())
     }
 
-    // The side of the most active order that isn't known. None where the least offsets are a schedule.
+    // A side of the most active block that isn't decided. None where the least offsets are a schedule.
     fn choose(&mut self) -> Result<Option<Literal>, AllocError> {
-        for _ in 0..self.known.table.orders.len() {
-            let Some(number) = self.choice.take() else {
+        for _ in 0..self.known.table.blocks.len() {
+            let Some(place) = self.choice.take() else {
                 return Ok(None);
             };
-            let bound = self.known.times.wrapping_add(number.wrapping_mul(2));
-            if self.known.trail.is_known(bound) {
+            let number = self.known.table.owner(place as usize);
+            let pair = self.known.table.pair(number);
+            let block = signed_place((place as usize).wrapping_sub(pair.start));
+            let (least, greatest) = self.gaps_left(number);
+            if block < least || block >= greatest {
                 continue;
             }
-            if self.is_calm(number)? {
+            if self.is_calm(number, pair, place)? {
                 return Ok(None);
             }
-            let side = if self.choice.side(number as usize) {
-                bound
-            } else {
-                bound ^ 1
-            };
-            return Ok(Some(Literal::of(side, holds(side))));
+            return Ok(Some(self.side_of(number, block)));
         }
         Ok(None)
     }
 
-    // Whether all orders are kept by the least offsets; it's looked at now and then where that of a number is.
-    fn is_calm(&mut self, number: u32) -> Result<bool, AllocError> {
-        if !self.is_kept(number as usize) {
+    // The side of a block on which the gap is that is tried first.
+    fn side_of(&self, number: usize, block: i64) -> Literal {
+        let bound = self.known.gap(number);
+        if self.choice.gap(number) > block {
+            Literal::of(bound, sum(block, 1))
+        } else {
+            Literal::of(bound ^ 1, block.wrapping_neg())
+        }
+    }
+
+    // Whether the least offsets violate no block; it's looked at now and then where they violate none of a pair.
+    fn is_calm(&mut self, number: usize, pair: Pair, place: u32) -> Result<bool, AllocError> {
+        if self.violated(number, pair).is_some() {
             return Ok(false);
         }
         self.calm = self.calm.wrapping_add(1);
-        if self.calm % 32 != 0 || !self.are_all_kept() {
+        if self.calm % 32 != 0 || self.is_any_violated() {
             return Ok(false);
         }
-        self.choice.put_in(number)?;
+        self.choice.put_in(place)?;
         Ok(true)
     }
 
-    fn are_all_kept(&self) -> bool {
-        for number in 0..self.known.table.orders.len() {
-            if !self.is_kept(number) {
-                return false;
+    fn is_any_violated(&self) -> bool {
+        for (number, pair) in self.known.table.pairs.iter().enumerate() {
+            if self.violated(number, *pair).is_some() {
+                return true;
             }
         }
-        true
+        false
     }
 
     fn note_found(&mut self) -> Result<(), AllocError> {

@@ -1,19 +1,19 @@
-//! Which order is decided next: the one that conflicts asked for most of late (Moskewicz, Madigan, Zhao, Zhang and Malik 2001), from a
+//! Which block is decided next: the one that conflicts asked for most of late (Moskewicz, Madigan, Zhao, Zhang and Malik 2001), from a
 //! binary heap.
-use crate::number::{NONE, index, index_at, is_marked, item_at, mark, push, put_index, put_item};
+use crate::number::{NONE, at, index, index_at, item_at, push, put, put_index, put_item};
 use std::alloc::{AllocError, Global};
 
-/// The orders that may be decided, by their numbers.
+/// The blocks that may be decided, by their numbers.
 #[derive(Drop)]
 pub struct Choice {
     activities: Vec<f64>,
     step: f64,
     // Each one is no less active than those at twice its place and one or two more.
     heap: Vec<u32>,
-    // The place of each order in the heap.
+    // The place of each block in the heap.
     places: Vec<u32>,
-    // Whether the left stream of the order goes first.
-    sides: Vec<bool>,
+    // The gap of each pair that is tried first.
+    gaps: Vec<i64>,
 }
 
 impl Choice {
@@ -24,27 +24,27 @@ impl Choice {
             step: 1.0,
             heap: Vec::new(alloc),
             places: Vec::new(alloc),
-            sides: Vec::new(alloc),
+            gaps: Vec::new(alloc),
         }
     }
 
-    /// Puts so many orders in, all equal. The error says that there was no memory.
-    pub fn fill(&mut self, orders: usize) -> Result<(), AllocError> {
-        self.places.resize(orders, NONE)?;
-        self.sides.resize(orders, false)?;
-        for order in 0..orders {
+    /// Puts so many blocks in of so many pairs, all equal. The error says that there was no memory.
+    pub fn fill(&mut self, blocks: usize, pairs: usize) -> Result<(), AllocError> {
+        self.places.resize(blocks, NONE)?;
+        self.gaps.resize(pairs, 0)?;
+        for block in 0..blocks {
             push(&mut self.activities, 0.0)?;
-            self.put_in(index(order))?;
+            self.put_in(index(block))?;
         }
         Ok(())
     }
 
-    /// Puts an order in, if it isn't.
-    pub fn put_in(&mut self, order: u32) -> Result<(), AllocError> {
-        if (order as usize) < self.places.len() && index_at(&self.places, order as usize) == NONE {
+    /// Puts a block in, if it isn't.
+    pub fn put_in(&mut self, block: u32) -> Result<(), AllocError> {
+        if (block as usize) < self.places.len() && index_at(&self.places, block as usize) == NONE {
             let place = self.heap.len();
-            push(&mut self.heap, order)?;
-            self.rise(order, place);
+            push(&mut self.heap, block)?;
+            self.rise(block, place);
         }
         Ok(())
     }
@@ -52,7 +52,7 @@ impl Choice {
     /// Takes the most active one out.
     pub fn take(&mut self) -> Option<u32> {
         let most = match self.heap.first() {
-            Some(order) => *order,
+            Some(block) => *block,
             None => return None,
         };
         put_index(&mut self.places, most as usize, NONE);
@@ -63,16 +63,16 @@ impl Choice {
         Some(most)
     }
 
-    /// A conflict asked for this order.
-    pub fn ask_for(&mut self, order: u32) {
-        let activity = self.activity(order) + self.step;
-        put_item(&mut self.activities, order as usize, activity);
+    /// A conflict asked for this block.
+    pub fn ask_for(&mut self, block: u32) {
+        let activity = self.activity(block) + self.step;
+        put_item(&mut self.activities, block as usize, activity);
         if activity > 1e100 {
             self.scale_down();
         }
-        let place = index_at(&self.places, order as usize);
+        let place = index_at(&self.places, block as usize);
         if place != NONE {
-            self.rise(order, place as usize);
+            self.rise(block, place as usize);
         }
     }
 
@@ -81,18 +81,18 @@ impl Choice {
         self.step *= 1.0 / 0.95;
     }
 
-    /// On which side the order is tried first.
-    pub fn side(&self, order: usize) -> bool {
-        is_marked(&self.sides, order)
+    /// The gap of a pair that is tried first.
+    pub fn gap(&self, pair: usize) -> i64 {
+        at(&self.gaps, pair)
     }
 
-    /// Notes on which side the order is tried first.
-    pub fn set_side(&mut self, order: usize, is_left_first: bool) {
-        mark(&mut self.sides, order, is_left_first);
+    /// Notes which gap of a pair is tried first.
+    pub fn set_gap(&mut self, pair: usize, gap: i64) {
+        put(&mut self.gaps, pair, gap);
     }
 
-    fn activity(&self, order: u32) -> f64 {
-        item_at(&self.activities, order as usize, 0.0)
+    fn activity(&self, block: u32) -> f64 {
+        item_at(&self.activities, block as usize, 0.0)
     }
 
     fn scale_down(&mut self) {
@@ -102,14 +102,14 @@ impl Choice {
         self.step *= 1e-100;
     }
 
-    fn set(&mut self, place: usize, order: u32) {
-        put_index(&mut self.heap, place, order);
-        put_index(&mut self.places, order as usize, index(place));
+    fn set(&mut self, place: usize, block: u32) {
+        put_index(&mut self.heap, place, block);
+        put_index(&mut self.places, block as usize, index(place));
     }
 
-    // Moves an order up from this place.
-    fn rise(&mut self, order: u32, from: usize) {
-        let activity = self.activity(order);
+    // Moves a block up from this place.
+    fn rise(&mut self, block: u32, from: usize) {
+        let activity = self.activity(block);
         let mut place = from;
         for _ in 0..64 {
             if place == 0 {
@@ -123,12 +123,12 @@ impl Choice {
             self.set(place, other);
             place = above;
         }
-        self.set(place, order);
+        self.set(place, block);
     }
 
-    // Moves an order down from the top.
-    fn fall(&mut self, order: u32) {
-        let activity = self.activity(order);
+    // Moves a block down from the top.
+    fn fall(&mut self, block: u32) {
+        let activity = self.activity(block);
         let mut place: usize = 0;
         for _ in 0..64 {
             let Some((below, other)) = self.most_below(place) else {
@@ -140,7 +140,7 @@ impl Choice {
             self.set(place, other);
             place = below;
         }
-        self.set(place, order);
+        self.set(place, block);
     }
 
     // The more active one of the two below a place.

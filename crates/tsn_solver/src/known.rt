@@ -1,21 +1,20 @@
 //! What a search knows: the network's numbers, the bounds with the changes that led to them, the clauses, and what was shown; and why a
-//! literal holds. Times are in nanoseconds.
-use crate::arcs::Arcs;
+//! literal holds. Bounds stand in this order: the least and the greatest offset of each stream, the least and the greatest flowspan, and
+//! the least and the greatest gap of each pair. Times are in nanoseconds.
 use crate::clauses::Clauses;
 use crate::literal::Literal;
 use crate::number::{NONE, at, index, less, push, sum};
 use crate::reason::{Deed, Placing, Why};
-use crate::record::Record;
+use crate::record::{Record, place_at, places_of};
 use crate::side::{end_literal, head_literal, lead};
-use crate::table::Table;
-use crate::trail::{Trail, holds};
+use crate::table::{Block, Pair, Table, place_of};
+use crate::trail::Trail;
 use std::alloc::{AllocError, Global};
 
 /// What is known of a network.
 #[derive(Drop)]
 pub struct Known {
     pub table: Table,
-    pub arcs: Arcs,
     pub trail: Trail,
     pub clauses: Clauses,
     pub record: Record,
@@ -30,12 +29,19 @@ pub struct Known {
     pub times: u32,
 }
 
+/// Where a bound is something, `to` is at least `weight` more than `from` is.
+#[derive(Clone, Copy)]
+pub struct Arc {
+    pub from: u32,
+    pub to: u32,
+    pub weight: i64,
+}
+
 impl Known {
     /// Nothing but the network's numbers, which `fill` makes known.
     pub fn none(alloc: Global, table: Table) -> Known {
         Known {
             table,
-            arcs: Arcs::none(alloc),
             trail: Trail::none(alloc),
             clauses: Clauses::none(alloc),
             record: Record::none(alloc),
@@ -47,11 +53,10 @@ impl Known {
         }
     }
 
-    /// Puts the arcs in, and the bounds that there are before anything is given. The error says that there was no memory.
+    /// Puts the bounds in that there are before anything is given. The error says that there was no memory.
     pub fn fill(&mut self, alloc: Global) -> Result<(), AllocError> {
         let streams = self.table.streams();
         self.times = index(streams.wrapping_mul(2).wrapping_add(2));
-        self.arcs.fill(&self.table)?;
         self.table.put_values(&mut self.trail.values)?;
         self.table.put_values(&mut self.trail.ground)?;
         self.trail.size()?;
@@ -73,6 +78,71 @@ impl Known {
         self.trail.value(self.least(stream))
     }
 
+    /// The bound of the least gap of a pair.
+    pub fn gap(&self, pair: usize) -> u32 {
+        self.times.wrapping_add(index(pair.wrapping_mul(2)))
+    }
+
+    /// The number of the pair whose gap this is a bound of.
+    pub fn pair_number(&self, bound: u32) -> usize {
+        (bound.wrapping_sub(self.times) / 2) as usize
+    }
+
+    /// The pair whose gap this is a bound of.
+    pub fn pair_of(&self, bound: u32) -> Pair {
+        self.table.pair(self.pair_number(bound))
+    }
+
+    /// The number of the block that a literal of a gap is about: it's passed to the left, or isn't passed.
+    pub fn block_number(&self, literal: Literal) -> usize {
+        let pair = self.pair_of(literal.bound);
+        let number = if literal.bound & 1 == 0 {
+            less(literal.least, 1)
+        } else {
+            literal.least.wrapping_neg()
+        };
+        pair.start.wrapping_add(place_of(number))
+    }
+
+    /// The block that a literal of a gap is about.
+    pub fn block(&self, literal: Literal) -> Block {
+        self.table.block(self.block_number(literal))
+    }
+
+    /// The arc by which a literal of a gap narrows the other bound, between least or greatest offsets.
+    pub fn arc(&self, gap: Literal, is_least: bool) -> Arc {
+        let block = self.block(gap);
+        let weight = if gap.bound & 1 == 0 {
+            block.left_first
+        } else {
+            block.right_first
+        };
+        self.arc_by(gap.bound, weight, is_least)
+    }
+
+    /// The same by a weight.
+    pub fn arc_by(&self, bound: u32, weight: i64, is_least: bool) -> Arc {
+        let pair = self.pair_of(bound);
+        let (first, second) = if bound & 1 == 0 {
+            (pair.left, pair.right)
+        } else {
+            (pair.right, pair.left)
+        };
+        if is_least {
+            Arc {
+                from: self.least(first),
+                to: self.least(second),
+                weight,
+            }
+        } else {
+            Arc {
+                from: self.least(second) ^ 1,
+                to: self.least(first) ^ 1,
+                weight,
+            }
+        }
+    }
+
     /// Whether some variable has no value left.
     pub fn is_empty(&self) -> bool {
         is_impossible(&self.trail.values, self.times as usize)
@@ -83,43 +153,42 @@ impl Known {
     pub fn note_clash(&mut self, literal: Literal, why: Why) -> Result<(), AllocError> {
         let opposite = literal.bound ^ 1;
         let known = Literal::of(opposite, self.trail.value(opposite));
-        self.clash_deed = self.kept_deed(literal.bound, why)?;
-        self.explain(known.opposite(), why)?;
+        let needed = known.opposite();
+        self.clash_deed = self.kept_deed(needed, why)?;
+        self.explain(needed, why)?;
         std::mem::swap(&mut self.needs, &mut self.clash);
         push(&mut self.clash, known)
     }
 
-    /// The deed by which a bound changed. None where it was given.
-    pub fn deed_of(&self, bound: u32, why: Why) -> Option<Deed> {
+    /// The deed by which a literal came to hold. None where it was given.
+    pub fn deed_of(&self, literal: Literal, why: Why) -> Option<Deed> {
         match why {
             Why::Decided | Why::Shown(_) => None,
             Why::Clause(clause) => Some(Deed::Use(self.clauses.clause(clause).shown)),
-            Why::Arc(number) => Some(self.arc_deed(number)),
-            Why::Turn(_, _) => Some(Deed::Turn(bound)),
+            Why::Go(gap) => Some(Deed::Go(gap)),
+            Why::Arrive(stream) => Some(Deed::Arrive(stream)),
+            Why::Turn(_) => Some(Deed::Turn(literal)),
             Why::Placing(number) => Some(Deed::Place(number)),
         }
     }
 
     /// The same, with its placing kept. The error says that there was no memory.
-    pub fn kept_deed(&mut self, bound: u32, why: Why) -> Result<Option<Deed>, AllocError> {
+    pub fn kept_deed(&mut self, literal: Literal, why: Why) -> Result<Option<Deed>, AllocError> {
         if let Why::Placing(number) = why {
-            if let Some(placing) = self.trail.placings.get(number as usize) {
-                let kept = self.record.keep_placing(*placing)?;
-                return Ok(Some(Deed::Place(kept)));
-            }
+            return self.kept_placing(number as usize);
         }
-        Ok(self.deed_of(bound, why))
+        Ok(self.deed_of(literal, why))
     }
 
-    fn arc_deed(&self, number: u32) -> Deed {
-        let arc = self.arcs.arc(number);
-        if arc.order >= self.times && arc.order != NONE {
-            Deed::Go(arc.order)
-        } else if arc.from < self.span() {
-            Deed::Arrive(arc.from / 2)
-        } else {
-            Deed::Arrive(arc.to / 2)
+    fn kept_placing(&mut self, number: usize) -> Result<Option<Deed>, AllocError> {
+        let Some(placing) = self.trail.placings.get_mut(number) else {
+            return Ok(None);
+        };
+        if placing.kept == NONE {
+            let others = places_of(&self.trail.places, placing.others);
+            placing.kept = self.record.keep_placing(*placing, others)?;
         }
+        Ok(Some(Deed::Place(placing.kept)))
     }
 
     /// Notes the literals by which one holds that came to hold so. The error says that there was no memory.
@@ -128,13 +197,9 @@ impl Known {
         match why {
             Why::Decided | Why::Shown(_) => Ok(()),
             Why::Clause(clause) => self.explain_clause(literal, clause),
-            Why::Arc(number) => self.explain_arc(literal, number),
-            Why::Turn(number, least) => {
-                let arc = self.arcs.arc(number);
-                let most = less(1, sum(least, arc.weight));
-                self.add_need(Literal::of(arc.from, least))?;
-                self.add_need(Literal::of(arc.to ^ 1, most))
-            }
+            Why::Go(gap) => self.explain_go(literal, gap),
+            Why::Arrive(stream) => self.explain_arrival(literal, stream as usize),
+            Why::Turn(most) => self.explain_turn(literal, most),
             Why::Placing(number) => {
                 let Some(&placing) = self.trail.placings.get(number as usize) else {
                     return Ok(());
@@ -157,14 +222,40 @@ impl Known {
         Ok(())
     }
 
-    fn explain_arc(&mut self, literal: Literal, number: u32) -> Result<(), AllocError> {
-        let arc = self.arcs.arc(number);
-        let least = less(literal.least, arc.weight);
+    fn explain_go(&mut self, literal: Literal, gap: Literal) -> Result<(), AllocError> {
+        let arc = self.arc(gap, literal.bound & 1 == 0);
+        self.add_need(Literal::of(arc.from, less(literal.least, arc.weight)))?;
+        self.add_need(gap)
+    }
+
+    // The least flowspan by the least offset of a stream, or the greatest offset by the greatest flowspan.
+    fn explain_arrival(&mut self, literal: Literal, stream: usize) -> Result<(), AllocError> {
+        let from = if literal.bound & 1 == 0 {
+            self.least(stream)
+        } else {
+            self.span() ^ 1
+        };
+        let least = less(literal.least, self.table.arrival(stream));
+        self.add_need(Literal::of(from, least))
+    }
+
+    // The other side's arc can't be met.
+    fn explain_turn(&mut self, literal: Literal, most: i64) -> Result<(), AllocError> {
+        let arc = self.other_arc(literal);
+        let least = less(less(1, most), arc.weight);
         self.add_need(Literal::of(arc.from, least))?;
-        if arc.order == NONE {
-            return Ok(());
-        }
-        self.add_need(Literal::of(arc.order, holds(arc.order)))
+        self.add_need(Literal::of(arc.to ^ 1, most))
+    }
+
+    /// The arc between least offsets that a literal of a gap says isn't.
+    pub fn other_arc(&self, gap: Literal) -> Arc {
+        let block = self.block(gap);
+        let weight = if gap.bound & 1 == 0 {
+            block.right_first
+        } else {
+            block.left_first
+        };
+        self.arc_by(gap.bound ^ 1, weight, true)
     }
 
     // A placing, with the heads as early as will do.
@@ -176,32 +267,26 @@ impl Known {
         let late = less(head, self.work_of(link, placing));
         let part = late.min(placing.part).max(placing.begin);
         self.add_need(head_literal(own, side, placing.begin))?;
-        let mut rest = placing.others;
-        for _ in 0..128 {
-            let Some(place) = rest.take() else {
-                break;
-            };
-            let visit = self.table.visit(link, place);
-            let begin = if placing.some.has(place) {
-                part
-            } else {
+        let others = places_of(&self.trail.places, placing.others);
+        for (number, _) in others.iter().enumerate() {
+            let visit = self.table.visit(link, place_at(others, number));
+            let begin = if number < placing.idle {
                 placing.begin
+            } else {
+                part
             };
-            self.add_need(head_literal(visit, side, begin))?;
-            self.add_need(end_literal(visit, side, placing.end))?;
+            push(&mut self.needs, head_literal(visit, side, begin))?;
+            push(&mut self.needs, end_literal(visit, side, placing.end))?;
         }
         Ok(())
     }
 
     // The work of those that give the bound.
     fn work_of(&self, link: usize, placing: Placing) -> i64 {
-        let mut rest = placing.some;
+        let others = places_of(&self.trail.places, placing.others);
         let mut work = 0i64;
-        for _ in 0..128 {
-            let Some(place) = rest.take() else {
-                break;
-            };
-            work = sum(work, self.table.visit(link, place).work);
+        for number in placing.idle..others.len() {
+            work = sum(work, self.table.visit(link, place_at(others, number)).work);
         }
         work
     }

@@ -5,10 +5,10 @@
 #![tactic(auto)]
 
 mod analysis;
-pub mod arcs;
 pub mod ask;
 pub mod choice;
 pub mod clauses;
+mod gaps;
 pub mod known;
 mod line;
 pub mod literal;
@@ -16,12 +16,13 @@ pub mod number;
 mod overload;
 pub mod pace;
 mod propagate;
+pub mod ranks;
 pub mod reason;
 pub mod record;
 pub mod rooms;
+mod round;
 mod rows;
 pub mod search;
-pub mod set;
 pub mod side;
 pub mod table;
 pub mod trail;

@@ -1,13 +1,13 @@
-//! When a link is busy, where each stream goes as early as it can, in as many parts as it takes (the time line of Fahimi, Ouellet and
+//! When a link is busy, where each frame goes as early as it can, in as many parts as it takes (the time line of Fahimi, Ouellet and
 //! Quimper 2018). Times are in nanoseconds.
 use crate::number::{FAR, item_at, less, next, push, put_item, sum};
-use crate::set::Set;
+use crate::ranks::Ranks;
 use std::alloc::{AllocError, Global};
 
-/// A stream of a link as seen from one side.
+/// A frame of a link as seen from one side.
 #[derive(Clone, Copy)]
 pub struct Standing {
-    /// Its place among the link's streams.
+    /// Its place among the link's frames.
     pub place: usize,
     pub head: i64,
     pub end: i64,
@@ -45,6 +45,13 @@ struct Block {
     end: i64,
 }
 
+/// The most work of those that may be one more, and the end that is looked at.
+#[derive(Clone, Copy)]
+pub struct Limit {
+    pub most: i64,
+    pub end: i64,
+}
+
 // How far it was gone back: from when on, in which block, and when the link is done less how long it's free from then on.
 #[derive(Clone, Copy)]
 struct Back {
@@ -59,7 +66,7 @@ const LONG_AGO: Block = Block {
 };
 
 impl Line {
-    /// Of no streams.
+    /// Of no frames.
     pub fn none(alloc: Global) -> Line {
         Line {
             blocks: Vec::new(alloc),
@@ -68,7 +75,7 @@ impl Line {
         }
     }
 
-    /// Makes it one of so many streams. The error says that there was no memory.
+    /// Makes it one of so many frames. The error says that there was no memory.
     pub fn size(&mut self, most: usize) -> Result<(), AllocError> {
         for _ in 0..next(next(most)) {
             push(&mut self.blocks, LONG_AGO)?;
@@ -87,7 +94,7 @@ impl Line {
         self.block(self.last).end
     }
 
-    /// Takes a stream in.
+    /// Takes a frame in.
     pub fn insert(&mut self, head: i64, work: i64) {
         self.work = sum(self.work, work);
         let Some(last) = self.blocks.get_mut(self.last) else {
@@ -105,7 +112,7 @@ impl Line {
         self.put(self.last, Block { begin: head, end });
     }
 
-    // Takes a stream in that begins before the last block does.
+    // Takes a frame in that begins before the last block does.
     fn insert_before(&mut self, head: i64, work: i64) {
         let before = self.last_before(head);
         let mut own = self.block(before);
@@ -175,9 +182,9 @@ impl Line {
         put_item(&mut self.blocks, place, block);
     }
 
-    /// When those taken in are done, with one more of some streams, by their ranks in the order of heads: none has more work than the
-    /// most. It's told too late only where that is before the end.
-    pub fn latest(&self, heads: &[Standing], ranks: Set, most: i64, end: i64) -> i64 {
+    /// When those taken in are done, with one more of some frames, by their ranks in the order of heads, all below a rank: none has
+    /// more work than the most. It's told too late only where that is before the end.
+    pub fn latest(&self, heads: &[Standing], ranks: &Ranks, late: usize, limit: Limit) -> i64 {
         let last = self.block(self.last);
         let mut latest = last.end;
         let mut back = Back {
@@ -185,21 +192,22 @@ impl Line {
             begin: last.begin,
             over: last.end,
         };
-        let mut rest = ranks;
-        for _ in 0..128 {
-            let Some(rank) = rest.take_greatest() else {
+        let mut from = late;
+        for _ in 0..heads.len() {
+            let Some(rank) = ranks.last_below(from) else {
                 break;
             };
+            from = rank;
             let own = standing_at(heads, rank);
-            let soon = sum(sum(own.head, self.work), most);
-            if soon <= end {
+            let soon = sum(sum(own.head, self.work), limit.most);
+            if soon <= limit.end {
                 return latest.max(soon);
             }
             if own.head < back.begin {
                 back = self.back_to(back, own.head);
             }
-            let bound = sum(back.over, most);
-            if bound <= end || bound <= latest {
+            let bound = sum(back.over, limit.most);
+            if bound <= limit.end || bound <= latest {
                 return latest.max(bound);
             }
             latest = latest.max(sum(back.over, own.work));
@@ -228,7 +236,7 @@ impl Line {
     }
 }
 
-/// The stream of this place in a row.
+/// The frame of this place in a row.
 pub fn standing_at(row: &[Standing], place: usize) -> Standing {
     item_at(row, place, NO_STANDING)
 }

@@ -1,14 +1,19 @@
-//! Why streams don't fit on a link: as few of them as will do, and each bound as weak as will do. Times are in nanoseconds.
+//! Why frames don't fit on a link: as few of them as will do, and each bound as weak as will do. Times are in nanoseconds.
 use crate::literal::Literal;
 use crate::number::{index_at, less, push, put_index, sum};
 use crate::reason::Deed;
+use crate::record::place_at;
 use crate::rooms::Overload;
 use crate::search::Search;
 use crate::side::{end_literal, head_literal};
+use crate::table::Visit;
 use std::alloc::AllocError;
 
+/// How many frames are left out at most.
+const LEFT_OUT: usize = 128;
+
 impl Search {
-    /// Notes the clash of streams that don't fit on a link.
+    /// Notes the clash of the crowd, which doesn't fit on a link.
     pub fn note_overload(&mut self, found: Overload) -> Result<(), AllocError> {
         let mut overload = found;
         self.note_lateness(overload);
@@ -16,36 +21,37 @@ impl Search {
         let early = self.shift_of(overload);
         let begin = less(overload.begin, early);
         let end = sum(overload.end, less(overload.slack, early));
-        let packing = overload.packing;
         self.known.clash.clear();
-        let mut rest = packing.streams;
-        for _ in 0..128 {
-            let Some(place) = rest.take() else {
-                break;
-            };
-            let visit = self.known.table.visit(packing.link as usize, place);
-            let head = head_literal(visit, packing.side, begin);
+        for number in 0..self.rooms.crowd().len() {
+            let visit = self.crowd_visit(overload, number);
+            let head = head_literal(visit, overload.side, begin);
             push(&mut self.known.clash, head)?;
-            let last = end_literal(visit, packing.side, end);
+            let last = end_literal(visit, overload.side, end);
             push(&mut self.known.clash, last)?;
         }
-        let kept = self.known.record.keep_packing(packing)?;
+        let crowd = self.rooms.crowd();
+        let kept = self
+            .known
+            .record
+            .keep_packing(overload.link, overload.side, crowd)?;
         self.known.clash_deed = Some(Deed::Pack(kept));
         Ok(())
     }
 
-    // Notes of each stream when its bounds came to be what they are: a later one has a greater number.
+    // The frame of this number in the crowd.
+    fn crowd_visit(&self, overload: Overload, number: usize) -> Visit {
+        let place = place_at(self.rooms.crowd(), number);
+        self.known.table.visit(overload.link as usize, place)
+    }
+
+    // Notes of each frame when its bounds came to be what they are: a later one has a greater number.
     fn note_lateness(&mut self, overload: Overload) {
-        let packing = overload.packing;
-        let mut rest = packing.streams;
-        for _ in 0..128 {
-            let Some(place) = rest.take() else {
-                break;
-            };
-            let visit = self.known.table.visit(packing.link as usize, place);
-            let head = head_literal(visit, packing.side, overload.begin);
-            let end = end_literal(visit, packing.side, overload.end);
+        for number in 0..self.rooms.crowd().len() {
+            let visit = self.crowd_visit(overload, number);
+            let head = head_literal(visit, overload.side, overload.begin);
+            let end = end_literal(visit, overload.side, overload.end);
             let late = self.lateness(head).max(self.lateness(end));
+            let place = place_at(self.rooms.crowd(), number);
             put_index(&mut self.late, place, late);
         }
     }
@@ -57,35 +63,27 @@ impl Search {
         }
     }
 
-    // Leaves streams out that needn't be there, the latest first.
-    fn lighten(&self, overload: &mut Overload) {
-        for _ in 0..128 {
-            let Some((place, work)) = self.latest_spare(*overload) else {
+    // Leaves frames out that needn't be there, the latest first.
+    fn lighten(&mut self, overload: &mut Overload) {
+        for _ in 0..LEFT_OUT {
+            let Some((number, work)) = self.latest_spare(*overload) else {
                 break;
             };
-            overload.packing.streams.drop_out(place);
+            self.rooms.leave_out(number);
             overload.slack = less(overload.slack, work);
         }
     }
 
-    // Of the streams that needn't be there the latest, and its work.
+    // Of the frames that needn't be there the latest, by its number in the crowd, and its work.
     fn latest_spare(&self, overload: Overload) -> Option<(usize, i64)> {
-        let mut rest = overload.packing.streams;
         let mut found = None;
         let mut latest: u32 = 0;
-        for _ in 0..128 {
-            let Some(place) = rest.take() else {
-                break;
-            };
-            let work = self
-                .known
-                .table
-                .visit(overload.packing.link as usize, place)
-                .work;
-            let late = index_at(&self.late, place);
+        for number in 0..self.rooms.crowd().len() {
+            let work = self.crowd_visit(overload, number).work;
+            let late = index_at(&self.late, place_at(self.rooms.crowd(), number));
             if work <= overload.slack && late > latest {
                 latest = late;
-                found = Some((place, work));
+                found = Some((number, work));
             }
         }
         found
@@ -106,18 +104,13 @@ impl Search {
     }
 
     fn cost_of(&self, overload: Overload, early: i64) -> usize {
-        let packing = overload.packing;
         let begin = less(overload.begin, early);
         let end = sum(overload.end, less(overload.slack, early));
         let mut cost: usize = 0;
-        let mut rest = packing.streams;
-        for _ in 0..128 {
-            let Some(place) = rest.take() else {
-                break;
-            };
-            let visit = self.known.table.visit(packing.link as usize, place);
-            let head = self.known.cost(head_literal(visit, packing.side, begin));
-            let last = self.known.cost(end_literal(visit, packing.side, end));
+        for number in 0..self.rooms.crowd().len() {
+            let visit = self.crowd_visit(overload, number);
+            let head = self.known.cost(head_literal(visit, overload.side, begin));
+            let last = self.known.cost(end_literal(visit, overload.side, end));
             cost = cost.wrapping_add(head).wrapping_add(last);
         }
         cost

@@ -23,7 +23,7 @@ impl Pace {
             conflicts: 0,
             work: 0,
             last_conflict: 0,
-            last_work: 0,
+            last_work: u64::MAX,
             again: 0,
             runs: 0,
         }
@@ -62,6 +62,11 @@ impl Pace {
     /// Whether so many conflicts, or the work that there may be, are used up.
     pub fn is_used_up(&self, conflicts: u64) -> bool {
         self.conflicts >= conflicts || self.work >= self.last_work
+    }
+
+    /// Whether the work that there may be is used up.
+    pub fn is_cut(&self) -> bool {
+        self.work >= self.last_work
     }
 
     /// Whether the question's share is used up.

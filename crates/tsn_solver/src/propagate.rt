@@ -1,20 +1,23 @@
 //! What follows from the bounds that changed.
-use crate::arcs::Arc;
 use crate::clauses::Found;
 use crate::literal::Literal;
-use crate::number::{at, index, less, next, push, sum};
+use crate::number::{less, next, push, sum};
 use crate::reason::Why;
 use crate::search::Search;
 use crate::side::{bound_of, lead};
-use crate::trail::holds;
 use std::alloc::AllocError;
 
 impl Search {
-    /// Works out what follows, until nothing changes. False at a contradiction, which is noted as the clash.
+    /// Works out what follows, until nothing changes or the work that there may be is used up. False at a contradiction, which is noted
+    /// as the clash.
     pub fn propagate(&mut self) -> Result<bool, AllocError> {
+        self.rises.begin();
         for _ in 0..u64::MAX {
             if !self.follow_changes()? {
                 return Ok(false);
+            }
+            if self.pace.is_cut() {
+                return Ok(true);
             }
             let Some(link) = self.rooms.next() else {
                 return Ok(true);
@@ -26,30 +29,39 @@ impl Search {
         Ok(true)
     }
 
-    // What follows from changes by clauses, arcs and orders.
+    // What follows from changes by clauses, arcs and gaps.
     fn follow_changes(&mut self) -> Result<bool, AllocError> {
         for _ in 0..u64::MAX {
             let Some(event) = self.known.trail.events.get(self.known.trail.looked) else {
                 break;
             };
             let bound = event.bound;
+            if self.pace.is_cut() {
+                break;
+            }
             self.known.trail.looked = next(self.known.trail.looked);
-            if !self.known.trail.follow(bound) {
-                continue;
-            }
-            if !self.follow_clauses(bound)? {
-                return Ok(false);
-            }
-            let goes_on = if bound < self.known.times {
-                self.follow_arcs(bound)?
-            } else {
-                self.follow_order(bound)?
-            };
-            if !goes_on {
+            if self.known.trail.follow(bound) && !self.follow_bound(bound)? {
                 return Ok(false);
             }
         }
         Ok(true)
+    }
+
+    // What follows from a bound that changed.
+    fn follow_bound(&mut self, bound: u32) -> Result<bool, AllocError> {
+        if !self.follow_clauses(bound)? {
+            return Ok(false);
+        }
+        if bound >= self.known.times {
+            return self.follow_gap(bound);
+        }
+        if bound < self.known.span() {
+            return Ok(self.follow_arrival(bound)? && self.follow_rivals(bound)?);
+        }
+        if bound & 1 == 0 {
+            return Ok(true);
+        }
+        self.follow_flowspan()
     }
 
     fn follow_clauses(&mut self, bound: u32) -> Result<bool, AllocError> {
@@ -96,84 +108,37 @@ impl Search {
         for other in self.known.clauses.literals_of(clause) {
             push(&mut self.known.clash, other.opposite())?;
         }
-        self.known.clash_deed = self.known.deed_of(literal.bound, Why::Clause(clause));
+        self.known.clash_deed = self.known.deed_of(literal, Why::Clause(clause));
         self.known.clauses.note_use(clause, self.pace.conflicts);
         Ok(false)
     }
 
-    // The arcs from a bound of an offset or the flowspan.
-    fn follow_arcs(&mut self, bound: u32) -> Result<bool, AllocError> {
-        let from = self.known.arcs.start(bound as usize);
-        let to = self.known.arcs.start(next(bound as usize));
-        self.pace.spend(to.wrapping_sub(from));
-        let value = self.known.trail.value(bound);
-        let mut place = from;
-        for _ in from..to {
-            let Some(number) = self.next_arc(place, to, value) else {
-                break;
-            };
-            if !self.follow_from(number, value)? {
+    // The least flowspan by a stream's least offset.
+    fn follow_arrival(&mut self, bound: u32) -> Result<bool, AllocError> {
+        if bound & 1 != 0 {
+            return Ok(true);
+        }
+        let stream = bound / 2;
+        let arrival = self.known.table.arrival(stream as usize);
+        let least = sum(self.known.trail.value(bound), arrival);
+        let span = self.known.span();
+        self.raise(Literal::of(span, least), Why::Arrive(stream))
+    }
+
+    // The greatest offsets by the greatest flowspan.
+    fn follow_flowspan(&mut self) -> Result<bool, AllocError> {
+        let span = self.known.span();
+        let value = self.known.trail.value(span ^ 1);
+        let streams = self.known.table.streams();
+        self.pace.spend(streams);
+        for stream in 0..streams {
+            let least = sum(value, self.known.table.arrival(stream));
+            let bound = self.known.least(stream);
+            if !self.raise(Literal::of(bound ^ 1, least), Why::Arrive(bound / 2))? {
                 return Ok(false);
             }
-            place = next(number);
         }
         Ok(true)
-    }
-
-    // The first of these arcs by which something follows from its source's value.
-    fn next_arc(&self, from: usize, to: usize, value: i64) -> Option<usize> {
-        let arcs = self.known.arcs.list.get(from..to)?;
-        for (number, reach) in arcs.iter().enumerate() {
-            if self.known.trail.is_moved(reach, sum(value, reach.weight)) {
-                return Some(from.wrapping_add(number));
-            }
-        }
-        None
-    }
-
-    // What follows from the value of an arc's source: the value of its target, or that the order is turned.
-    fn follow_from(&mut self, number: usize, value: i64) -> Result<bool, AllocError> {
-        let arc = self.known.arcs.arc(index(number));
-        if self.known.trail.holds(arc.order) {
-            let least = sum(value, arc.weight);
-            return self.raise(Literal::of(arc.to, least), Why::Arc(index(number)));
-        }
-        let needed = self.least_to_turn(arc);
-        let turned = Literal::of(arc.order ^ 1, holds(arc.order ^ 1));
-        self.raise(turned, Why::Turn(index(number), needed))
-    }
-
-    // An arc can't be met: how great its source has to be for that. What is known before the first decision counts most, then what
-    // came to be known first.
-    fn least_to_turn(&self, arc: Arc) -> i64 {
-        let value = self.known.trail.value(arc.from);
-        let needed = less(less(1, self.known.trail.value(arc.to ^ 1)), arc.weight);
-        let ground = at(&self.known.trail.ground, arc.from as usize);
-        if ground >= needed {
-            return ground;
-        }
-        let most = at(&self.known.trail.ground, (arc.to ^ 1) as usize);
-        let by_ground = less(less(1, most), arc.weight);
-        if by_ground <= value {
-            return by_ground;
-        }
-        match self.known.trail.event_of(Literal::of(arc.from, needed)) {
-            Some(number) => self.known.trail.event(number).new,
-            None => needed,
-        }
-    }
-
-    // An order that is known: its arcs.
-    fn follow_order(&mut self, order: u32) -> Result<bool, AllocError> {
-        let least = self.known.arcs.least_arc(order);
-        let greatest = self.known.arcs.greatest_arc(order);
-        Ok(self.follow_arc(least)? && self.follow_arc(greatest)?)
-    }
-
-    fn follow_arc(&mut self, number: u32) -> Result<bool, AllocError> {
-        let arc = self.known.arcs.arc(number);
-        let least = sum(self.known.trail.value(arc.from), arc.weight);
-        self.raise(Literal::of(arc.to, least), Why::Arc(number))
     }
 
     // Looks at a link from both sides, from the second one only where nothing changed by the first.
@@ -182,12 +147,13 @@ impl Search {
             return Ok(true);
         };
         self.pace.spend(count);
-        if !self.rooms.take(link, &self.known.trail.values) {
+        if !self.rooms.take(link, &self.known.trail.values)? {
             return Ok(true);
         }
-        self.pace.spend(count.wrapping_mul(16));
         for side in 0..2 {
-            if !self.look_from(link, side)? {
+            let goes_on = self.look_from(link, side)?;
+            self.pace.spend(self.rooms.looked.wrapping_mul(16));
+            if !goes_on {
                 return Ok(false);
             }
             if self.known.trail.looked < self.known.trail.events.len() {
@@ -216,24 +182,22 @@ impl Search {
         Ok(true)
     }
 
-    // A stream that goes last of others on a link, by its number among those that were found.
+    // A frame that goes last of others on a link, by its number among those that were found.
     fn place(&mut self, number: usize) -> Result<bool, AllocError> {
         let Some(&found) = self.rooms.found.get(number) else {
             return Ok(true);
         };
-        let visit = self
-            .known
-            .table
-            .visit(found.placing.link as usize, found.placing.place);
+        let placing = found.placing;
+        let visit = self.known.table.visit(placing.link as usize, placing.place);
         let literal = Literal::of(
-            bound_of(visit, found.placing.side),
-            less(found.head, lead(visit, found.placing.side)),
+            bound_of(visit, placing.side),
+            less(found.head, lead(visit, placing.side)),
         );
         if self.known.trail.is_true(literal) {
             return Ok(true);
         }
-        let why = Why::Placing(index(self.known.trail.placings.len()));
-        push(&mut self.known.trail.placings, found.placing)?;
-        self.raise(literal, why)
+        let others = self.rooms.others_of(placing);
+        let kept = self.known.trail.keep_placing(placing, others)?;
+        self.raise(literal, Why::Placing(kept))
     }
 }

@@ -2,7 +2,7 @@
 use crate::clauses::part_of;
 use crate::literal::Literal;
 use crate::number::{index, item_at, next, push};
-use crate::reason::{Deed, Packing, Placing};
+use crate::reason::{Deed, Packing, Part, Placing};
 use std::alloc::{AllocError, Global};
 
 // Where a clause begins in each list.
@@ -23,6 +23,11 @@ pub struct Record {
     grounds: Vec<u32>,
     pub placings: Vec<Placing>,
     pub packings: Vec<Packing>,
+    /// The frames of placings and packings, by their places on the links.
+    pub places: Vec<u16>,
+    // Bounds of gaps whose arcs lead back to where they begin, later than they began; and where each round begins.
+    rounds: Vec<Literal>,
+    starts: Vec<usize>,
 }
 
 impl Record {
@@ -35,6 +40,9 @@ impl Record {
             grounds: Vec::new(alloc),
             placings: Vec::new(alloc),
             packings: Vec::new(alloc),
+            places: Vec::new(alloc),
+            rounds: Vec::new(alloc),
+            starts: Vec::new(alloc),
         }
     }
 
@@ -59,18 +67,58 @@ impl Record {
         Ok(number)
     }
 
-    /// Keeps a placing, and answers its number.
-    pub fn keep_placing(&mut self, placing: Placing) -> Result<u32, AllocError> {
+    /// Keeps a placing of these others, and answers its number.
+    pub fn keep_placing(&mut self, placing: Placing, others: &[u16]) -> Result<u32, AllocError> {
         let number = index(self.placings.len());
-        push(&mut self.placings, placing)?;
+        let start = self.places.len();
+        self.places.extend_from_slice(others)?;
+        let kept = Placing {
+            others: Part {
+                start,
+                count: others.len(),
+            },
+            kept: number,
+            ..placing
+        };
+        push(&mut self.placings, kept)?;
         Ok(number)
     }
 
-    /// Keeps a packing, and answers its number.
-    pub fn keep_packing(&mut self, packing: Packing) -> Result<u32, AllocError> {
+    /// Keeps a packing of these frames, and answers its number.
+    pub fn keep_packing(
+        &mut self,
+        link: u32,
+        side: u32,
+        frames: &[u16],
+    ) -> Result<u32, AllocError> {
         let number = index(self.packings.len());
+        let start = self.places.len();
+        self.places.extend_from_slice(frames)?;
+        let packing = Packing {
+            link,
+            side,
+            frames: Part {
+                start,
+                count: frames.len(),
+            },
+        };
         push(&mut self.packings, packing)?;
         Ok(number)
+    }
+
+    /// Keeps a round, and answers its number.
+    pub fn keep_round(&mut self, round: &[Literal]) -> Result<u32, AllocError> {
+        let number = index(self.starts.len());
+        push(&mut self.starts, self.rounds.len())?;
+        self.rounds.extend_from_slice(round)?;
+        Ok(number)
+    }
+
+    /// The bounds of a round.
+    pub fn round(&self, number: usize) -> &[Literal] {
+        let from = item_at(&self.starts, number, self.rounds.len());
+        let to = item_at(&self.starts, next(number), self.rounds.len());
+        part_of(&self.rounds, from, to.wrapping_sub(from))
     }
 
     /// The literals of a clause.
@@ -114,4 +162,24 @@ impl Record {
             grounds: self.grounds.len(),
         }
     }
+}
+
+/// The places of a part of a list of lists.
+pub fn places_of(places: &[u16], part: Part) -> &[u16] {
+    let end = part.start.wrapping_add(part.count);
+    if part.start <= end && end <= places.len() {
+        &places[part.start..end]
+    } else {
+        &[]
+    }
+}
+
+/// The place at this number; the last possible one where there is none.
+pub fn place_at(places: &[u16], number: usize) -> usize {
+    item_at(places, number, u16::MAX) as usize
+}
+
+/// A place as a short number.
+pub fn short(place: usize) -> u16 {
+    (place & 0xFFFF) as u16
 }

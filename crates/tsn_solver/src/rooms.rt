@@ -1,26 +1,28 @@
-//! What doesn't fit on a link, and which stream goes last of some: overload and edge finding (Carlier and Pinson 1989), by when the link
-//! is busy (Fahimi, Ouellet and Quimper 2018). A stream's head is the least instant at which its frame may start on the link, its end
-//! the greatest at which its occupancy may end. Seen from the end of the cycle, on side 1, each number's sign is turned and heads are
-//! ends. Times are in nanoseconds.
-use crate::line::{Line, Standing, standing_at};
-use crate::number::{FAR, at, index, is_marked, less, mark, next, push, put, sum};
-use crate::reason::{Packing, Placing};
-use crate::rows::{Ease, Room, Rows};
-use crate::set::Set;
+//! What doesn't fit on a link, and which frame goes last of some: overload and edge finding (Carlier and Pinson 1989), by when the link
+//! is busy (Fahimi, Ouellet and Quimper 2018). A frame's head is the least instant at which it may start on the link, its end the
+//! greatest at which its occupancy may end. Seen from the end of the cycle, on side 1, each number's sign is turned and heads are ends.
+//! Times are in nanoseconds.
+use crate::line::{Limit, Line, Standing, standing_at};
+use crate::number::{FAR, NONE, at, index, is_marked, less, mark, next, push, put, sum};
+use crate::ranks::Ranks;
+use crate::reason::{Part, Placing};
+use crate::record::{places_of, short};
+use crate::rows::{Ease, Room};
 use crate::table::{Shared, Table};
 use std::alloc::{AllocError, Global};
 
-/// That a stream goes last of some, and its least head by that.
+/// That a frame goes last of some, and its least head by that.
 #[derive(Clone, Copy)]
 pub struct Found {
     pub placing: Placing,
     pub head: i64,
 }
 
-/// That streams don't fit: with the least head and the greatest end by which they don't, and by how much.
+/// That the frames of the crowd don't fit on a link: with the least head and the greatest end by which they don't, and by how much.
 #[derive(Clone, Copy)]
 pub struct Overload {
-    pub packing: Packing,
+    pub link: u32,
+    pub side: u32,
     pub begin: i64,
     pub end: i64,
     pub slack: i64,
@@ -30,6 +32,8 @@ pub struct Overload {
 #[derive(Drop)]
 pub struct Rooms {
     pub found: Vec<Found>,
+    /// How many frames were looked at.
+    pub looked: usize,
     rooms: Vec<Room>,
     // The links that are to be looked at.
     waiting: Vec<u32>,
@@ -39,20 +43,23 @@ pub struct Rooms {
     view: View,
 }
 
-// A look at a link from one side.
+// A look at a group of a link from one side.
 #[derive(Drop)]
 struct View {
     line: Line,
-    // How many streams begin before those taken in are done.
+    // How many frames begin before those taken in are done.
     late: usize,
     // The ranks of those that aren't taken in.
-    rest_ranks: Set,
+    rest_ranks: Ranks,
     // By the ranks, a lesser head first: of those of no greater end behind it and itself the work, when they are done, and the head that
     // this comes from.
     rest: Vec<i64>,
     done: Vec<i64>,
     source: Vec<i64>,
     ease: Ease,
+    // The others of the placings that were found, and the frames that don't fit, by their places on the link.
+    places: Vec<u16>,
+    crowd: Vec<u16>,
 }
 
 // The link and the side from which it's looked at, and the end that is looked at.
@@ -68,6 +75,7 @@ impl Rooms {
     pub fn none(alloc: Global) -> Rooms {
         Rooms {
             found: Vec::new(alloc),
+            looked: 0,
             rooms: Vec::new(alloc),
             waiting: Vec::new(alloc),
             passed: 0,
@@ -78,12 +86,11 @@ impl Rooms {
 
     /// Puts the links of a network in. The error says that there was no memory.
     pub fn fill(&mut self, alloc: Global, table: &Table) -> Result<(), AllocError> {
-        let mut most: usize = 0;
         for shared in &table.links {
-            most = most.max(shared.visits.len());
             self.add_room(alloc, shared)?;
         }
         self.is_waiting.resize(table.links.len(), false)?;
+        let most = self.most_frames();
         self.view.size(most)
     }
 
@@ -98,6 +105,15 @@ impl Rooms {
     /// How many links there are.
     pub fn count(&self) -> usize {
         self.rooms.len()
+    }
+
+    /// The most frames of a link.
+    pub fn most_frames(&self) -> usize {
+        let mut most: usize = 0;
+        for room in &self.rooms {
+            most = most.max(room.count());
+        }
+        most
     }
 
     /// Notes that a link is to be looked at.
@@ -130,7 +146,7 @@ impl Rooms {
         self.passed = 0;
     }
 
-    /// How many streams a link has.
+    /// How many frames a link has.
     pub fn count_on(&self, link: usize) -> Option<usize> {
         let room = self.rooms.get(link)?;
         Some(room.count())
@@ -138,39 +154,88 @@ impl Rooms {
 
     /// Takes a link in hand, by the bounds of the offsets. False where nothing can be found, by what was seen when it was looked at
     /// last.
-    pub fn take(&mut self, link: usize, values: &[i64]) -> bool {
-        let Some(room) = self.rooms.get_mut(link) else {
-            return false;
-        };
-        self.view.ease = Ease::full();
-        room.take(values)
+    pub fn take(&mut self, link: usize, values: &[i64]) -> Result<bool, AllocError> {
+        match self.rooms.get_mut(link) {
+            Some(room) => room.take(values),
+            None => Ok(false),
+        }
     }
 
     /// Nothing was found from either side of the link in hand.
     pub fn leave(&mut self, link: usize) {
         if let Some(room) = self.rooms.get_mut(link) {
-            room.leave(self.view.ease);
+            room.leave();
         }
     }
 
     /// Looks at the link in hand from one side, from side 0 first.
     pub fn look(&mut self, link: usize, side: u32) -> Result<Option<Overload>, AllocError> {
         self.found.clear();
+        self.view.places.clear();
+        self.looked = 0;
+        let Some(room) = self.rooms.get_mut(link) else {
+            return Ok(None);
+        };
         if side != 0 {
-            self.turn(link);
-        }
-        match self.rooms.get(link) {
-            Some(room) => self
-                .view
-                .search(room.rows(side), index(link), side, &mut self.found),
-            None => Ok(None),
-        }
-    }
-
-    fn turn(&mut self, link: usize) {
-        if let Some(room) = self.rooms.get_mut(link) {
             room.turn();
         }
+        for number in 0..room.groups.len() {
+            let group = room.group(number);
+            if !group.is_open {
+                continue;
+            }
+            let count = group.to.wrapping_sub(group.from);
+            self.looked = self.looked.wrapping_add(count);
+            let from = if side == 0 {
+                group.from
+            } else {
+                room.count().wrapping_sub(group.to)
+            };
+            let sight = Sight {
+                link: index(link),
+                side,
+                end: 0,
+            };
+            let rows = room.rows(side);
+            let heads = row_of(&rows.heads, from, count);
+            let ends = row_of(&rows.ends, from, count);
+            let overload = self.view.search(heads, ends, from, sight, &mut self.found)?;
+            if overload.is_some() {
+                return Ok(overload);
+            }
+            room.note_ease(number, self.view.ease);
+        }
+        Ok(None)
+    }
+
+    /// The others of a placing that was found, by their places on the link.
+    pub fn others_of(&self, placing: Placing) -> &[u16] {
+        places_of(&self.view.places, placing.others)
+    }
+
+    /// The frames that don't fit, by their places on the link.
+    pub fn crowd(&self) -> &[u16] {
+        &self.view.crowd
+    }
+
+    /// Leaves a frame of the crowd out, by its number there.
+    pub fn leave_out(&mut self, number: usize) {
+        let crowd = &mut self.view.crowd;
+        if let Some(last) = crowd.pop() {
+            if number < crowd.len() {
+                crowd[number] = last;
+            }
+        }
+    }
+}
+
+// So many frames of a row, from a place on.
+fn row_of(row: &[Standing], from: usize, count: usize) -> &[Standing] {
+    let to = from.wrapping_add(count);
+    if from <= to && to <= row.len() {
+        &row[from..to]
+    } else {
+        &[]
     }
 }
 
@@ -179,49 +244,54 @@ impl View {
         View {
             line: Line::none(alloc),
             late: 0,
-            rest_ranks: Set::none(),
+            rest_ranks: Ranks::none(alloc),
             rest: Vec::new(alloc),
             done: Vec::new(alloc),
             source: Vec::new(alloc),
             ease: Ease::none(),
+            places: Vec::new(alloc),
+            crowd: Vec::new(alloc),
         }
     }
 
-    // Makes it one of so many streams.
+    // Makes it one of so many frames.
     fn size(&mut self, most: usize) -> Result<(), AllocError> {
         self.line.size(most)?;
+        self.rest_ranks.size(most)?;
         self.rest.resize(most, 0)?;
         self.done.resize(most, 0)?;
         self.source.resize(most, 0)
     }
 
-    // Takes the streams in one after another, a lesser end first.
+    // Takes the frames of a group in one after another, a lesser end first. The group begins at a place of the rows.
     fn search(
         &mut self,
-        rows: &Rows,
-        link: u32,
-        side: u32,
+        heads: &[Standing],
+        ends: &[Standing],
+        first: usize,
+        sight: Sight,
         found: &mut Vec<Found>,
     ) -> Result<Option<Overload>, AllocError> {
         self.line.clear();
         self.late = 0;
-        self.rest_ranks = Set::below(rows.heads.len());
-        for own in &rows.ends {
+        self.ease = Ease::full();
+        self.rest_ranks.fill(heads.len());
+        for own in ends {
             self.line.insert(own.head, own.work);
-            self.rest_ranks.drop_out(own.rank);
+            self.rest_ranks.drop_out(own.rank.wrapping_sub(first));
             let end = own.end;
             let over = self.line.over();
             if over > end {
-                return Ok(Some(overload_of(&rows.heads, Sight { link, side, end })));
+                return Ok(Some(self.overload(heads, Sight { end, ..sight })?));
             }
             // One more is done by then and its work.
             let mut late = sum(over, own.most);
             if late > end {
-                late = self.latest(&rows.heads, own);
+                late = self.latest(heads, own);
             }
             if late > end {
-                self.sum_up_rest(&rows.heads, end);
-                self.place_others(&rows.heads, Sight { link, side, end }, found)?;
+                self.sum_up_rest(heads, end);
+                self.place_others(heads, Sight { end, ..sight }, found)?;
             }
             self.note_room(less(end, over).min(less(end, late)));
         }
@@ -232,7 +302,7 @@ impl View {
         self.ease.closer = self.ease.closer.min(room);
     }
 
-    // When those taken in are done, with one more of a greater end than this one's; and where a stream that begins later may else go
+    // When those taken in are done, with one more of a greater end than this one's; and where a frame that begins later may else go
     // last, it's noted how much later it begins.
     fn latest(&mut self, heads: &[Standing], own: &Standing) -> i64 {
         let over = self.line.over();
@@ -246,11 +316,14 @@ impl View {
             let ahead = less(standing_at(heads, self.late).head, over);
             self.ease.apart = self.ease.apart.min(ahead);
         }
-        let ranks = self.rest_ranks.both(Set::below(self.late));
-        self.line.latest(heads, ranks, own.most, own.end)
+        let limit = Limit {
+            most: own.most,
+            end: own.end,
+        };
+        self.line.latest(heads, &self.rest_ranks, self.late, limit)
     }
 
-    // Of the streams of at most this end, the work behind each rank and when it's done.
+    // Of the frames of at most this end, the work behind each rank and when it's done.
     fn sum_up_rest(&mut self, heads: &[Standing], end: i64) {
         let mut rest = 0i64;
         let mut done = -FAR;
@@ -269,9 +342,9 @@ impl View {
         }
     }
 
-    // Finds which streams of a greater end go last.
+    // Finds which frames of a greater end go last.
     fn place_others(
-        &self,
+        &mut self,
         heads: &[Standing],
         sight: Sight,
         found: &mut Vec<Found>,
@@ -294,66 +367,76 @@ impl View {
                 continue;
             }
             if at(&self.done, from) > own.head {
-                push(found, self.placing(heads, sight, own, from))?;
+                let placed = self.placing(heads, sight, own, from)?;
+                push(found, placed)?;
             }
         }
         Ok(())
     }
 
-    // That a stream goes last of itself and those from a rank on.
-    fn placing(&self, heads: &[Standing], sight: Sight, own: &Standing, from: usize) -> Found {
+    // That a frame goes last of itself and those from a rank on.
+    fn placing(
+        &mut self,
+        heads: &[Standing],
+        sight: Sight,
+        own: &Standing,
+        from: usize,
+    ) -> Result<Found, AllocError> {
         let part = at(&self.source, from);
-        let mut placing = Placing {
-            link: sight.link,
-            side: sight.side,
-            place: own.place,
-            others: Set::none(),
-            some: Set::none(),
-            begin: 0,
-            part,
-            end: sight.end,
-        };
+        let start = self.places.len();
+        let mut idle: usize = 0;
         for other in heads.iter().skip(from) {
             if other.end <= sight.end {
-                placing.others.put(other.place);
-                if other.head >= part {
-                    placing.some.put(other.place);
+                push(&mut self.places, short(other.place))?;
+                if other.head < part {
+                    idle = next(idle);
                 }
             }
         }
         // All may begin before the heads by as much as they are late.
-        placing.begin = less(sum(sight.end, 1), sum(at(&self.rest, from), own.work));
-        Found {
-            placing,
-            head: at(&self.done, from),
-        }
-    }
-}
-
-// The streams of at most this end that aren't done by it.
-fn overload_of(heads: &[Standing], sight: Sight) -> Overload {
-    let mut streams = Set::none();
-    let mut work = 0i64;
-    let mut begin = 0i64;
-    for own in heads.iter().rev() {
-        if own.end > sight.end {
-            continue;
-        }
-        streams.put(own.place);
-        work = sum(work, own.work);
-        begin = own.head;
-        if sum(begin, work) > sight.end {
-            break;
-        }
-    }
-    Overload {
-        packing: Packing {
+        let begin = less(sum(sight.end, 1), sum(at(&self.rest, from), own.work));
+        let placing = Placing {
             link: sight.link,
             side: sight.side,
-            streams,
-        },
-        begin,
-        end: sight.end,
-        slack: less(less(sum(begin, work), sight.end), 1),
+            place: own.place,
+            others: Part {
+                start,
+                count: self.places.len().wrapping_sub(start),
+            },
+            idle,
+            begin,
+            part,
+            end: sight.end,
+            kept: NONE,
+        };
+        Ok(Found {
+            placing,
+            head: at(&self.done, from),
+        })
+    }
+
+    // The frames of at most this end that aren't done by it.
+    fn overload(&mut self, heads: &[Standing], sight: Sight) -> Result<Overload, AllocError> {
+        self.crowd.clear();
+        let mut work = 0i64;
+        let mut begin = 0i64;
+        for own in heads.iter().rev() {
+            if own.end > sight.end {
+                continue;
+            }
+            push(&mut self.crowd, short(own.place))?;
+            work = sum(work, own.work);
+            begin = own.head;
+            if sum(begin, work) > sight.end {
+                break;
+            }
+        }
+        Ok(Overload {
+            link: sight.link,
+            side: sight.side,
+            begin,
+            end: sight.end,
+            slack: less(less(sum(begin, work), sight.end), 1),
+        })
     }
 }

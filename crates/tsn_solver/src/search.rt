@@ -1,14 +1,16 @@
-//! A search that learns: bounds are narrowed by the arcs, the orders, the sets on links and the clauses, and from each contradiction a
+//! A search that learns: bounds are narrowed by the arcs, the gaps, the sets on links and the clauses, and from each contradiction a
 //! further clause is learned. Times are in nanoseconds.
 use crate::analysis::Analysis;
 use crate::choice::Choice;
 use crate::known::Known;
 use crate::literal::Literal;
-use crate::number::{at, index, less, sum};
+use crate::number::{at, index, less};
 use crate::pace::Pace;
-use crate::reason::{Deed, Why};
+use crate::reason::Why;
 use crate::rooms::Rooms;
-use crate::table::Table;
+use crate::round::Rises;
+use crate::table::{Pair, Table, place_of, signed_place};
+use crate::trail::Event;
 use std::alloc::{AllocError, Global};
 
 /// A search over a network.
@@ -20,6 +22,7 @@ pub struct Search {
     pub rooms: Rooms,
     pub choice: Choice,
     pub analysis: Analysis,
+    pub rises: Rises,
     /// What is to hold in the schedule that is asked for.
     pub premises: Vec<Literal>,
     pub pace: Pace,
@@ -27,9 +30,9 @@ pub struct Search {
     pub found: Vec<i64>,
     /// How many learned clauses are kept.
     pub most_kept: usize,
-    /// How many orders were chosen that the least offsets keep.
+    /// How many blocks were chosen that the least offsets keep.
     pub calm: u64,
-    /// By the streams' places on a link that is overloaded, when their bounds came to be what they are.
+    /// By the frames' places on a link that is overloaded, when their bounds came to be what they are.
     pub late: Vec<u32>,
 }
 
@@ -42,6 +45,7 @@ impl Search {
             rooms: Rooms::none(alloc),
             choice: Choice::none(alloc),
             analysis: Analysis::none(alloc),
+            rises: Rises::none(alloc),
             premises: Vec::new(alloc),
             pace: Pace::none(),
             found: Vec::new(alloc),
@@ -60,9 +64,12 @@ impl Search {
     }
 
     fn size(&mut self) -> Result<(), AllocError> {
+        let blocks = self.known.table.blocks.len();
+        let pairs = self.known.table.pairs.len();
         self.analysis.size(self.known.trail.values.len())?;
-        self.choice.fill(self.known.table.orders.len())?;
-        self.late.resize(128, 0)
+        self.choice.fill(blocks, pairs)?;
+        self.rises.size(self.known.times as usize)?;
+        self.late.resize(self.rooms.most_frames(), 0)
     }
 
     // What follows before anything is given.
@@ -78,30 +85,9 @@ impl Search {
         for link in 0..self.rooms.count() {
             self.rooms.call(link)?;
         }
-        for number in 1..self.known.table.orders.len() {
-            self.join(number)?;
-        }
         if !self.propagate()? {
             self.end()?;
         }
-        Ok(())
-    }
-
-    // Two orders of the same streams: where the left stream goes first in the later one, it does in the one before.
-    fn join(&mut self, number: usize) -> Result<(), AllocError> {
-        let before = self.known.table.order(number.wrapping_sub(1));
-        let order = self.known.table.order(number);
-        if before.left != order.left || before.right != order.right {
-            return Ok(());
-        }
-        let bound = self.known.times.wrapping_add(index(number.wrapping_mul(2)));
-        let literals = [
-            Literal::of(bound ^ 1, 0),
-            Literal::of(bound.wrapping_sub(2), 1),
-        ];
-        let deeds = [Deed::Round(index(number))];
-        let shown = self.known.record.add(&literals, &deeds, &[])?;
-        self.known.clauses.add(&literals, shown, 0, 0, false)?;
         Ok(())
     }
 
@@ -140,9 +126,7 @@ impl Search {
                 break;
             };
             if event.bound >= self.known.times {
-                let order = event.bound.wrapping_sub(self.known.times) / 2;
-                self.choice.set_side(order as usize, event.bound & 1 == 0);
-                self.choice.put_in(order)?;
+                self.free_blocks(event)?;
             }
         }
         if level < self.known.trail.level() {
@@ -152,19 +136,73 @@ impl Search {
         Ok(())
     }
 
-    /// On which sides the orders are tried first: as offsets have them.
-    pub fn set_sides(&mut self, offsets: &[i64]) {
-        for (number, order) in self.known.table.orders.iter().enumerate() {
-            let apart = less(at(offsets, order.right), at(offsets, order.left));
-            self.choice.set_side(number, apart >= order.left_first);
+    // A bound of a gap isn't as narrow any longer: the blocks between may be decided again, and at first as they were.
+    fn free_blocks(&mut self, event: Event) -> Result<(), AllocError> {
+        let number = self.known.pair_number(event.bound);
+        let pair = self.known.table.pair(number);
+        let gap = self.choice.gap(number);
+        if event.bound & 1 == 0 {
+            self.choice.set_gap(number, gap.max(event.new));
+            self.put_blocks(pair, event.old, event.new)
+        } else {
+            let most = event.new.wrapping_neg();
+            self.choice.set_gap(number, gap.min(most));
+            self.put_blocks(pair, most, event.old.wrapping_neg())
         }
     }
 
-    /// Whether the least offsets keep the order of this number.
-    pub fn is_kept(&self, number: usize) -> bool {
-        let order = self.known.table.order(number);
-        let left = self.known.low(order.left);
-        let right = self.known.low(order.right);
-        right >= sum(left, order.left_first) || left >= sum(right, order.right_first)
+    fn put_blocks(&mut self, pair: Pair, from: i64, to: i64) -> Result<(), AllocError> {
+        let first = pair.start.wrapping_add(place_of(from));
+        let end = pair.start.wrapping_add(place_of(to));
+        for block in first..end {
+            self.choice.put_in(index(block))?;
+        }
+        Ok(())
+    }
+
+    /// Which gaps are tried first: as offsets have them.
+    pub fn set_sides(&mut self, offsets: &[i64]) {
+        for number in 0..self.known.table.pairs.len() {
+            let gap = self.gap_of(number, offsets);
+            self.choice.set_gap(number, gap);
+        }
+    }
+
+    // The gap of a pair by offsets.
+    fn gap_of(&self, number: usize, offsets: &[i64]) -> i64 {
+        let pair = self.known.table.pair(number);
+        let apart = less(at(offsets, pair.right), at(offsets, pair.left));
+        let count = signed_place(pair.count);
+        self.known.table.first_unpassed(pair, 0, count, apart)
+    }
+
+    /// The least and the greatest gap of a pair that is left.
+    pub fn gaps_left(&self, pair: usize) -> (i64, i64) {
+        let bound = self.known.gap(pair);
+        let least = self.known.trail.value(bound);
+        let greatest = self.known.trail.value(bound ^ 1).wrapping_neg();
+        (least, greatest)
+    }
+
+    /// The block of a pair, by its number there, that isn't decided and that the least offsets violate.
+    pub fn violated(&self, number: usize, pair: Pair) -> Option<i64> {
+        let (least, greatest) = self.gaps_left(number);
+        if least >= greatest {
+            return None;
+        }
+        let left = self.known.low(pair.left);
+        let apart = less(self.known.low(pair.right), left);
+        let first = self
+            .known
+            .table
+            .first_unpassed(pair, least, greatest, apart);
+        if first >= greatest {
+            return None;
+        }
+        let block = self.known.table.block_of(pair.start, first);
+        if apart <= block.right_first.wrapping_neg() {
+            return None;
+        }
+        Some(first)
     }
 }

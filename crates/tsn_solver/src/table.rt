@@ -1,32 +1,36 @@
 //! The numbers of a network that the search asks for. Times are in nanoseconds.
-use crate::number::{item_at, push, sum};
+use crate::number::{index, index_at, item_at, push, sum};
 use std::alloc::{AllocError, Global};
 
 /// A stream.
 #[derive(Clone, Copy)]
 pub struct Body {
+    pub period: i64,
     /// The least offset.
     pub release: i64,
-    /// When it arrives, from its offset on.
+    /// When the last frame of a period arrives, from the offset on.
     pub arrival: i64,
-    /// The greatest offset by which it is done within the cycle and arrives in time.
+    /// The greatest offset by which it is done within its period and arrives in time.
     pub latest: i64,
 }
 
-/// A stream on a link.
+/// A frame on a link.
 #[derive(Clone, Copy)]
 pub struct Visit {
     pub stream: usize,
-    /// When its frame starts there, from its offset on.
+    /// Which of its stream's frames it is: how long after the offset it starts on its first link.
+    pub shift: i64,
+    /// When it starts on this link, from the stream's offset on.
     pub start: i64,
     /// How long it is there.
     pub work: i64,
 }
 
-/// A link that three streams or more share.
+/// A link that two streams or more share, with three frames or more.
 #[derive(Drop)]
 pub struct Shared {
     pub number: usize,
+    /// The frames of the time after which all of them come again.
     pub visits: Vec<Visit>,
 }
 
@@ -36,34 +40,60 @@ pub struct Stays {
     pub links: Vec<u32>,
 }
 
-/// A link that two streams share.
+/// A link that two streams share, and a lag of their frames.
 #[derive(Clone, Copy)]
 pub struct Conflict {
     pub link: usize,
+    /// By how much the right stream's frame comes after the left one's, were both offsets 0.
+    pub lag: i64,
     /// So much later than the left one the right one starts at least, if the left one goes first.
     pub left_first: i64,
     /// So much later than the right one the left one starts at least, if the right one goes first.
     pub right_first: i64,
 }
 
-/// Conflicts of two streams that have the same side in each schedule, since the offsets that they forbid overlap. It's written as the
-/// conflict of its left link; where the right one goes first, that of the right link asks for most.
+/// Conflicts of two streams that have the same side in each schedule, since the differences of offsets that they forbid overlap.
 #[derive(Clone, Copy)]
-pub struct Order {
-    pub left: usize,
-    pub right: usize,
+pub struct Block {
+    /// What the last conflict asks for if the left stream goes first, and the first one if the right stream does: the most.
     pub left_first: i64,
     pub right_first: i64,
-    pub left_link: usize,
-    pub right_link: usize,
-    /// What the conflict of the left link asks for if the right stream goes first.
-    pub own_right_first: i64,
-    /// The number of its first conflict, and the one behind its last.
+    /// The numbers of its first and its last conflict.
     pub first: usize,
-    pub end: usize,
+    pub last: usize,
+}
+
+/// Two streams that can be in each other's way. Between the differences that their blocks forbid are gaps, which are numbered from 0:
+/// in gap v the left stream goes first at the blocks below v, and the right one at the others.
+#[derive(Clone, Copy)]
+pub struct Pair {
+    pub left: usize,
+    pub right: usize,
+    /// The number of its first block, and how many there are.
+    pub start: usize,
+    pub count: usize,
+}
+
+/// A stream that can be in the way of another one.
+#[derive(Clone, Copy)]
+pub struct Rival {
+    pub stream: usize,
+    /// Whether the stream that it is a rival of is the left one of the pair.
+    pub is_right: bool,
+    pub pair: usize,
+    /// Of the pair.
+    pub start: usize,
+    pub count: usize,
+}
+
+/// The rivals of a stream.
+#[derive(Drop)]
+pub struct Rivals {
+    pub list: Vec<Rival>,
 }
 
 const NO_BODY: Body = Body {
+    period: 0,
     release: 0,
     arrival: 0,
     latest: 0,
@@ -71,44 +101,63 @@ const NO_BODY: Body = Body {
 
 const NO_VISIT: Visit = Visit {
     stream: 0,
+    shift: 0,
     start: 0,
     work: 0,
 };
 
-const NO_ORDER: Order = Order {
-    left: 0,
-    right: 0,
+const NO_CONFLICT: Conflict = Conflict {
+    link: 0,
+    lag: 0,
     left_first: 0,
     right_first: 0,
-    left_link: 0,
-    right_link: 0,
-    own_right_first: 0,
+};
+
+const NO_BLOCK: Block = Block {
+    left_first: 0,
+    right_first: 0,
     first: 0,
-    end: 0,
+    last: 0,
+};
+
+const NO_PAIR: Pair = Pair {
+    left: 0,
+    right: 0,
+    start: 0,
+    count: 0,
 };
 
 /// The numbers of a network.
 #[derive(Drop)]
 pub struct Table {
-    pub cycle: i64,
+    /// No schedule of a greater flowspan is in question.
+    pub most: i64,
     pub bodies: Vec<Body>,
     pub links: Vec<Shared>,
     pub stays: Vec<Stays>,
-    /// Of each pair of streams one after another, by what they ask for if the right stream goes first, most of all first.
+    /// Of each pair of streams one after another, by the differences that they forbid. None forbids only what another one does.
     pub conflicts: Vec<Conflict>,
-    pub orders: Vec<Order>,
+    /// The blocks of the pairs, one after another, by the differences that they forbid.
+    pub blocks: Vec<Block>,
+    pub pairs: Vec<Pair>,
+    pub rivals: Vec<Rivals>,
+    // Of each block the number of its pair.
+    owners: Vec<u32>,
 }
 
 impl Table {
-    /// Those of a network without streams, of this cycle.
-    pub fn none(alloc: Global, cycle: i64) -> Table {
+    /// Those of a network without streams.
+    pub fn none(alloc: Global, most: i64) -> Table {
         Table {
-            cycle,
+            most,
             bodies: Vec::new(alloc),
             links: Vec::new(alloc),
             stays: Vec::new(alloc),
             conflicts: Vec::new(alloc),
-            orders: Vec::new(alloc),
+            blocks: Vec::new(alloc),
+            pairs: Vec::new(alloc),
+            rivals: Vec::new(alloc),
+            owners: Vec::new(alloc),
         }
     }
 
@@ -119,12 +168,43 @@ impl Table {
             push(values, body.latest.wrapping_neg())?;
         }
         push(values, 0)?;
-        push(values, self.cycle.wrapping_neg())?;
-        for _ in 0..self.orders.len() {
+        push(values, self.most.wrapping_neg())?;
+        for pair in &self.pairs {
             push(values, 0)?;
-            push(values, -1)?;
+            push(values, signed_place(pair.count).wrapping_neg())?;
         }
         Ok(())
+    }
+
+    /// Notes of each stream which others can be in its way. The error says that there was no memory.
+    pub fn note_rivals(&mut self, alloc: Global) -> Result<(), AllocError> {
+        for _ in 0..self.bodies.len() {
+            let none = Rivals {
+                list: Vec::new(alloc),
+            };
+            push(&mut self.rivals, none)?;
+        }
+        for number in 0..self.pairs.len() {
+            let pair = self.pair(number);
+            self.note_rival(pair.left, rival_of(pair, number, true))?;
+            self.note_rival(pair.right, rival_of(pair, number, false))?;
+            self.note_owner(pair.count, index(number))?;
+        }
+        Ok(())
+    }
+
+    fn note_owner(&mut self, count: usize, pair: u32) -> Result<(), AllocError> {
+        for _ in 0..count {
+            push(&mut self.owners, pair)?;
+        }
+        Ok(())
+    }
+
+    fn note_rival(&mut self, stream: usize, rival: Rival) -> Result<(), AllocError> {
+        match self.rivals.get_mut(stream) {
+            Some(rivals) => push(&mut rivals.list, rival),
+            None => Ok(()),
+        }
     }
 
     /// How many streams there are.
@@ -132,9 +212,29 @@ impl Table {
         self.bodies.len()
     }
 
-    /// The order of this number.
-    pub fn order(&self, number: usize) -> Order {
-        item_at(&self.orders, number, NO_ORDER)
+    /// The conflict of this number.
+    pub fn conflict(&self, number: usize) -> Conflict {
+        item_at(&self.conflicts, number, NO_CONFLICT)
+    }
+
+    /// The block of this number.
+    pub fn block(&self, number: usize) -> Block {
+        item_at(&self.blocks, number, NO_BLOCK)
+    }
+
+    /// The number of a block's pair.
+    pub fn owner(&self, block: usize) -> usize {
+        index_at(&self.owners, block) as usize
+    }
+
+    /// The pair of this number.
+    pub fn pair(&self, number: usize) -> Pair {
+        item_at(&self.pairs, number, NO_PAIR)
+    }
+
+    /// The stream of this number.
+    pub fn body(&self, stream: usize) -> Body {
+        item_at(&self.bodies, stream, NO_BODY)
     }
 
     /// When the stream arrives, from its offset on.
@@ -142,7 +242,7 @@ impl Table {
         item_at(&self.bodies, stream, NO_BODY).arrival
     }
 
-    /// The visit of this place on a shared link.
+    /// The frame of this place on a shared link.
     pub fn visit(&self, link: usize, place: usize) -> Visit {
         match self.links.get(link) {
             Some(shared) => item_at(&shared.visits, place, NO_VISIT),
@@ -158,30 +258,6 @@ impl Table {
         }
     }
 
-    /// Of an order's conflicts that on this link; and of those that overlap with it, the link of the first.
-    pub fn overlapping(&self, order: &Order, link: usize) -> usize {
-        let right_first = self.right_first_on(order, link);
-        for number in order.first..order.end {
-            if let Some(conflict) = self.conflicts.get(number) {
-                if sum(conflict.left_first, right_first) > 0 {
-                    return conflict.link;
-                }
-            }
-        }
-        order.right_link
-    }
-
-    fn right_first_on(&self, order: &Order, link: usize) -> i64 {
-        for number in order.first..order.end {
-            if let Some(conflict) = self.conflicts.get(number) {
-                if conflict.link == link {
-                    return conflict.right_first;
-                }
-            }
-        }
-        0
-    }
-
     /// When the last stream has arrived, by the offsets.
     pub fn flowspan(&self, offsets: &[i64]) -> i64 {
         let mut last = 0i64;
@@ -189,5 +265,49 @@ impl Table {
             last = last.max(sum(*offset, body.arrival));
         }
         last
+    }
+
+    /// The first block of a pair, from one of its blocks on and before another one, that isn't passed by a difference of offsets; the
+    /// latter where there is none.
+    pub fn first_unpassed(&self, pair: Pair, from: i64, to: i64, apart: i64) -> i64 {
+        let mut low = from;
+        let mut high = to;
+        for _ in 0..64 {
+            if low >= high {
+                break;
+            }
+            let middle = sum(low, high) / 2;
+            if self.block_of(pair.start, middle).left_first <= apart {
+                low = sum(middle, 1);
+            } else {
+                high = middle;
+            }
+        }
+        low
+    }
+
+    /// The block of this number among those of a pair whose blocks start at a place.
+    pub fn block_of(&self, start: usize, number: i64) -> Block {
+        self.block(start.wrapping_add(place_of(number)))
+    }
+}
+
+/// A number of blocks as a place.
+pub fn place_of(number: i64) -> usize {
+    (number & 0xFFFF_FFFF) as usize
+}
+
+/// A place as a number with a sign.
+pub fn signed_place(place: usize) -> i64 {
+    (place & 0xFFFF_FFFF) as i64
+}
+
+fn rival_of(pair: Pair, number: usize, is_right: bool) -> Rival {
+    Rival {
+        stream: if is_right { pair.right } else { pair.left },
+        is_right,
+        pair: number,
+        start: pair.start,
+        count: pair.count,
     }
 }

@@ -1,8 +1,7 @@
 //! The bounds of the variables, and the changes that led to them, one after another.
-use crate::arcs::Reach;
 use crate::literal::Literal;
-use crate::number::{NONE, at, index, index_at, is_marked, item_at, mark, push, put, put_index};
-use crate::reason::{Placing, Why};
+use crate::number::{NONE, at, index, index_at, item_at, push, put, put_index};
+use crate::reason::{Part, Placing, Why};
 use std::alloc::{AllocError, Global};
 
 /// A change of a bound.
@@ -35,6 +34,7 @@ const NO_EVENT: Event = Event {
 struct Mark {
     events: usize,
     placings: usize,
+    places: usize,
 }
 
 /// Bounds and their changes.
@@ -45,14 +45,14 @@ pub struct Trail {
     pub ground: Vec<i64>,
     pub events: Vec<Event>,
     pub placings: Vec<Placing>,
+    /// The others of placings, by their places on the links.
+    pub places: Vec<u16>,
     /// How many changes were looked at.
     pub looked: usize,
     // The last change of each bound.
     tops: Vec<u32>,
     // Where each bound stood when it was looked at last what follows from it.
     followed: Vec<i64>,
-    // Of each bound of an order whether its side is known to hold.
-    held: Vec<bool>,
     marks: Vec<Mark>,
 }
 
@@ -64,10 +64,10 @@ impl Trail {
             ground: Vec::new(alloc),
             events: Vec::new(alloc),
             placings: Vec::new(alloc),
+            places: Vec::new(alloc),
             looked: 0,
             tops: Vec::new(alloc),
             followed: Vec::new(alloc),
-            held: Vec::new(alloc),
             marks: Vec::new(alloc),
         }
     }
@@ -75,7 +75,6 @@ impl Trail {
     /// Notes that no bound was changed. The error says that there was no memory.
     pub fn size(&mut self) -> Result<(), AllocError> {
         self.followed.resize(self.values.len(), i64::MIN)?;
-        self.held.resize(self.values.len(), false)?;
         self.tops.resize(self.values.len(), NONE)
     }
 
@@ -97,27 +96,6 @@ impl Trail {
     /// Whether its opposite holds.
     pub fn is_false(&self, literal: Literal) -> bool {
         self.is_true(literal.opposite())
-    }
-
-    /// Whether the order's side of this bound, or its other side, is known.
-    pub fn is_known(&self, order: u32) -> bool {
-        self.holds(order) || self.holds(order ^ 1)
-    }
-
-    /// Whether the order's side of this bound holds; that of no bound always does.
-    pub fn holds(&self, order: u32) -> bool {
-        item_at(&self.held, order as usize, true)
-    }
-
-    /// Whether something follows from an arc by which its target is at least this, if the order holds: that the target is, or that the
-    /// order is turned. (Nearly always nothing does, so it's asked without a branch.)
-    pub fn is_moved(&self, reach: &Reach, least: i64) -> bool {
-        let is_held = self.holds(reach.order);
-        let is_turned = is_marked(&self.held, (reach.order ^ 1) as usize);
-        let side = reach.to ^ (!is_held as u32);
-        let value = at(&self.values, side as usize);
-        let most = if is_held { value } else { value.wrapping_neg() };
-        (least > most) & !is_turned
     }
 
     /// The change of this number.
@@ -146,11 +124,28 @@ impl Trail {
         }
     }
 
+    /// Keeps a placing of these others, and answers its number.
+    pub fn keep_placing(&mut self, placing: Placing, others: &[u16]) -> Result<u32, AllocError> {
+        let number = index(self.placings.len());
+        let start = self.places.len();
+        self.places.extend_from_slice(others)?;
+        let kept = Placing {
+            others: Part {
+                start,
+                count: others.len(),
+            },
+            ..placing
+        };
+        push(&mut self.placings, kept)?;
+        Ok(number)
+    }
+
     /// Begins a level.
     pub fn open(&mut self) -> Result<(), AllocError> {
         let mark = Mark {
             events: self.events.len(),
             placings: self.placings.len(),
+            places: self.places.len(),
         };
         push(&mut self.marks, mark)
     }
@@ -180,7 +175,6 @@ impl Trail {
         push(&mut self.events, event)?;
         put_index(&mut self.tops, literal.place(), number);
         put(&mut self.values, literal.place(), literal.least);
-        mark(&mut self.held, literal.place(), true);
         if self.marks.is_empty() {
             put(&mut self.ground, literal.place(), literal.least);
         }
@@ -196,7 +190,6 @@ impl Trail {
         let event = self.events.pop()?;
         put(&mut self.values, event.bound as usize, event.old);
         put_index(&mut self.tops, event.bound as usize, event.before);
-        mark(&mut self.held, event.bound as usize, false);
         put(&mut self.followed, event.bound as usize, i64::MIN);
         Some(event)
     }
@@ -205,13 +198,9 @@ impl Trail {
     pub fn close(&mut self, level: usize) {
         if let Some(mark) = self.marks.get(level) {
             self.placings.truncate(mark.placings);
+            self.places.truncate(mark.places);
         }
         self.marks.truncate(level);
         self.looked = self.events.len();
     }
-}
-
-/// What the bound of an order's side is where the side holds.
-pub fn holds(order: u32) -> i64 {
-    if order & 1 == 0 { 1 } else { 0 }
 }
