@@ -258,7 +258,7 @@ impl Course {
             }
             let most = turn.target(least, own);
             match self.ask(stream, most, turn.share)? {
-                Answered::Yes => {}
+                Answered::Yes => turn.note_found(),
                 Answered::No => {
                     put(&mut self.lows, stream, sum(most, 1));
                     turn.note_none();

@@ -5,29 +5,28 @@ use tsn_solver::number::{less, sum};
 const FLOWSPAN: Worth = Worth {
     first: 200,
     share: 200,
-    is_above: true,
+    parts: 2,
 };
 
 /// The same after a stream's offset.
 const OFFSET: Worth = Worth {
     first: 300,
     share: 1000,
-    is_above: false,
+    parts: 8,
 };
 
-/// In how many parts what is left is parted at first.
-const PARTS: i64 = 8;
-
-/// In how many it is parted at most.
+/// In how many parts what is left is parted at most.
 const MOST_PARTS: i64 = 1 << 20;
 
-// How many conflicts the first question is worth, and the others at first; and whether the second one is after one less than what is
-// known, though there was nothing at the first.
+/// How much less is asked for after a schedule was found than one less than its value, in nanoseconds; after the next one twice as much.
+const LEAP: i64 = 256;
+
+// How many conflicts the first question is worth, and the others at first; and in how many parts what is left is parted at first.
 #[derive(Clone, Copy)]
 struct Worth {
     first: u64,
     share: u64,
-    is_above: bool,
+    parts: i64,
 }
 
 /// A turn of questions after the least value of a variable.
@@ -36,6 +35,7 @@ pub struct Turn {
     is_first: bool,
     is_above: bool,
     parts: i64,
+    leap: i64,
     /// How many conflicts the question is worth.
     pub share: u64,
     worth: Worth,
@@ -66,22 +66,24 @@ impl Turn {
         Turn {
             is_first: true,
             is_above: false,
-            parts: PARTS,
+            parts: worth.parts,
+            leap: 0,
             share: worth.first,
             worth,
         }
     }
 
-    /// A value from the least one on that is below this one: at first the least, then by turns one less, and a part of what is left.
+    /// A value from the least one on that is below this one: at first the least, then by turns a part of what is left, and one less, or
+    /// some more where schedules are found.
     pub fn target(self, least: i64, below: i64) -> i64 {
         let last = less(below, 1);
         if self.is_first {
             return least;
         }
-        if self.is_above {
-            return last;
-        }
         let room = less(last, least);
+        if self.is_above {
+            return less(last, self.leap.min(room / 2));
+        }
         match room.checked_div(self.parts) {
             Some(part) => sum(least, part),
             None => least,
@@ -92,6 +94,8 @@ impl Turn {
     pub fn note_found(&mut self) {
         if self.share == u64::MAX {
             self.share = self.worth.share;
+        } else if self.is_above {
+            self.leap = self.leap.saturating_mul(2).max(LEAP);
         }
     }
 
@@ -99,8 +103,9 @@ impl Turn {
     pub fn note_none(&mut self) {
         if self.is_first {
             self.end_first();
-            self.is_above = self.worth.is_above;
-        } else if !self.is_above {
+        } else if self.is_above {
+            self.leap = self.leap / 2;
+        } else {
             self.parts = (self.parts / 2).max(2);
         }
     }
@@ -109,11 +114,14 @@ impl Turn {
     pub fn note_unknown(&mut self) {
         if self.is_first {
             self.end_first();
-        } else if !self.is_above {
+        } else if self.is_above {
+            self.leap = 0;
+            self.is_above = false;
+        } else {
             self.parts = self.parts.wrapping_mul(4).min(MOST_PARTS);
             self.share = self.share.saturating_add(self.share / 2);
+            self.is_above = true;
         }
-        self.is_above = !self.is_above;
     }
 
     fn end_first(&mut self) {

@@ -772,10 +772,13 @@ impl Writing<'_> {
         Ok(true)
     }
 
-    // The frames of places on a link. None where there are none.
+    // The frames of places on a link, in their order there. None where there are none.
     fn frames_of(&self, link: usize, places: &[u16]) -> Result<Option<Frames>, AllocError> {
+        let mut sorted = Vec::new(self.alloc);
+        sorted.extend_from_slice(places)?;
+        sorted.sort_unstable();
         let mut list = Vec::new(self.alloc);
-        for place in places {
+        for place in &sorted {
             push(&mut list, self.frame_of(link, *place as usize))?;
         }
         if list.is_empty() || list.len() > MAX_FRAMES {

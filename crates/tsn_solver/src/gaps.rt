@@ -1,16 +1,16 @@
 //! What follows from offsets by the gaps of pairs, and from gaps by the arcs of the blocks that they pass.
 use crate::known::Arc;
 use crate::literal::Literal;
-use crate::number::{at, item_at, less, sum};
+use crate::number::{at, item_at, less, next, sum};
 use crate::reason::Why;
 use crate::search::Search;
 use crate::table::{Rival, signed_place};
 use std::alloc::AllocError;
 
 const NO_RIVAL: Rival = Rival {
-    stream: 0,
-    is_right: false,
-    pair: 0,
+    bound: 0,
+    gap: 0,
+    side: 0,
     start: 0,
     count: 0,
 };
@@ -18,27 +18,43 @@ const NO_RIVAL: Rival = Rival {
 impl Search {
     /// What follows from a bound of an offset for the stream's rivals. False at a contradiction, which is noted as the clash.
     pub fn follow_rivals(&mut self, bound: u32) -> Result<bool, AllocError> {
-        let stream = (bound / 2) as usize;
-        let count = self.rivals_of(stream);
+        let count = self.rivals_of(bound);
         self.pace.spend(count);
-        for place in 0..count {
-            let rival = self.rival(stream, place);
+        let value = self.known.trail.value(bound);
+        let mut from: usize = 0;
+        for _ in 0..count {
+            let Some(place) = self.next_moved(bound, value, from) else {
+                break;
+            };
+            let rival = self.rival(bound, place);
             if !self.follow_rival(bound, rival)? {
                 return Ok(false);
             }
+            from = next(place);
         }
         Ok(true)
     }
 
-    fn rivals_of(&self, stream: usize) -> usize {
-        match self.known.table.rivals.get(stream) {
+    fn rivals_of(&self, bound: u32) -> usize {
+        match self.known.table.rivals.get((bound / 2) as usize) {
             Some(rivals) => rivals.list.len(),
             None => 0,
         }
     }
 
-    fn rival(&self, stream: usize, place: usize) -> Rival {
-        match self.known.table.rivals.get(stream) {
+    // The first of a stream's rivals, from a place on, for which something follows from a value of a bound.
+    fn next_moved(&self, bound: u32, value: i64, from: usize) -> Option<usize> {
+        let rivals = self.known.table.rivals.get((bound / 2) as usize)?;
+        for (place, rival) in rivals.list.iter().enumerate().skip(from) {
+            if self.known.is_moved(bound, value, rival) {
+                return Some(place);
+            }
+        }
+        None
+    }
+
+    fn rival(&self, bound: u32, place: usize) -> Rival {
+        match self.known.table.rivals.get((bound / 2) as usize) {
             Some(rivals) => item_at(&rivals.list, place, NO_RIVAL),
             None => NO_RIVAL,
         }
@@ -47,79 +63,66 @@ impl Search {
     // The arc between the stream and its rival that the pair's gap is known to have, and blocks whose arc can't be met any longer: those
     // on which the left stream goes first for the left one's least offset and the right one's greatest, else those of the other side.
     fn follow_rival(&mut self, bound: u32, rival: Rival) -> Result<bool, AllocError> {
-        let is_left = (bound & 1 == 0) == rival.is_right;
-        let gap = self.known.gap(rival.pair);
-        if is_left {
-            self.follow_to_left(bound, gap, rival)
+        if (bound ^ rival.side) & 1 == 0 {
+            self.follow_to_left(bound, rival)
         } else {
-            self.follow_to_right(bound, gap ^ 1, rival)
+            self.follow_to_right(bound, rival)
         }
     }
 
-    fn follow_to_left(&mut self, bound: u32, gap: u32, rival: Rival) -> Result<bool, AllocError> {
+    fn follow_to_left(&mut self, bound: u32, rival: Rival) -> Result<bool, AllocError> {
+        let gap = rival.gap;
         let least = self.known.trail.value(gap);
         let greatest = self.known.trail.value(gap ^ 1).wrapping_neg();
         if least > 0 {
-            let weight = self.left_first(rival, less(least, 1));
+            let weight = self.known.table.weight(rival.start, less(least, 1), 0);
             if !self.follow_arc(bound, rival, Literal::of(gap, least), weight)? {
                 return Ok(false);
             }
         }
-        if least >= greatest {
-            return Ok(true);
-        }
         let room = self.room(bound, rival);
         let mut most = greatest;
         for _ in least..greatest {
-            if self.left_first(rival, less(most, 1)) <= room {
+            let last = less(most, 1);
+            if self.known.table.weight(rival.start, last, 0) <= room {
                 break;
             }
-            most = less(most, 1);
+            most = last;
         }
-        if most == greatest {
+        if most >= greatest {
             return Ok(true);
         }
         self.turn(Literal::of(gap ^ 1, most.wrapping_neg()))
     }
 
-    fn follow_to_right(&mut self, bound: u32, gap: u32, rival: Rival) -> Result<bool, AllocError> {
-        let greatest = self.known.trail.value(gap).wrapping_neg();
-        let least = self.known.trail.value(gap ^ 1);
-        if greatest < signed_place(rival.count) {
-            let weight = self.right_first(rival, greatest);
-            let passed = Literal::of(gap, greatest.wrapping_neg());
+    fn follow_to_right(&mut self, bound: u32, rival: Rival) -> Result<bool, AllocError> {
+        let gap = rival.gap;
+        let least = self.known.trail.value(gap);
+        let greatest = self.known.trail.value(gap ^ 1).wrapping_neg();
+        if greatest < rival.count as i64 {
+            let weight = self.known.table.weight(rival.start, greatest, 1);
+            let passed = Literal::of(gap ^ 1, greatest.wrapping_neg());
             if !self.follow_arc(bound, rival, passed, weight)? {
                 return Ok(false);
             }
         }
-        if least >= greatest {
-            return Ok(true);
-        }
         let room = self.room(bound, rival);
         let mut most = least;
         for _ in least..greatest {
-            if self.right_first(rival, most) <= room {
+            if self.known.table.weight(rival.start, most, 1) <= room {
                 break;
             }
             most = sum(most, 1);
         }
-        if most == least {
+        if most <= least {
             return Ok(true);
         }
-        self.turn(Literal::of(gap ^ 1, most))
-    }
-
-    fn left_first(&self, rival: Rival, number: i64) -> i64 {
-        self.known.table.block_of(rival.start, number).left_first
-    }
-
-    fn right_first(&self, rival: Rival, number: i64) -> i64 {
-        self.known.table.block_of(rival.start, number).right_first
+        self.turn(Literal::of(gap, most))
     }
 
     // How much later than the one the other one of the pair may start at most: by the bound and that of the rival's.
     fn room(&self, bound: u32, rival: Rival) -> i64 {
-        let other = self.known.least(rival.stream) ^ ((bound ^ 1) & 1);
+        let other = rival.bound ^ ((bound ^ 1) & 1);
         let own = self.known.trail.value(bound);
         less(own.wrapping_neg(), self.known.trail.value(other))
     }
@@ -131,7 +134,7 @@ impl Search {
         gap: Literal,
         weight: i64,
     ) -> Result<bool, AllocError> {
-        let to = self.known.least(rival.stream) ^ (bound & 1);
+        let to = rival.bound ^ (bound & 1);
         let least = sum(self.known.trail.value(bound), weight);
         self.raise_by_arc(Literal::of(to, least), gap)
     }

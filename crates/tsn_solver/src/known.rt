@@ -7,7 +7,7 @@ use crate::number::{NONE, at, index, less, push, sum};
 use crate::reason::{Deed, Placing, Why};
 use crate::record::{Record, place_at, places_of};
 use crate::side::{end_literal, head_literal, lead};
-use crate::table::{Block, Pair, Table, place_of};
+use crate::table::{Block, Pair, Rival, Table, place_of};
 use crate::trail::Trail;
 use std::alloc::{AllocError, Global};
 
@@ -141,6 +141,27 @@ impl Known {
                 weight,
             }
         }
+    }
+
+    /// Whether something follows from a bound of an offset, which has this value, for a rival of its stream: a bound of the rival's offset
+    /// by the arc of the last block that the gap is known to pass, or that the next block can't be passed. (Nearly always nothing does,
+    /// so it's asked with few branches.)
+    pub fn is_moved(&self, bound: u32, value: i64, rival: &Rival) -> bool {
+        let side = (bound ^ rival.side) & 1;
+        let gap = (rival.gap ^ side) as usize;
+        let own = at(&self.trail.values, gap);
+        let other = at(&self.trail.values, gap ^ 1);
+        let (passed, next) = if side == 0 {
+            (less(own, 1), less(other.wrapping_neg(), 1))
+        } else {
+            (own.wrapping_neg(), other)
+        };
+        let is_passed = (passed >= 0) & (passed < rival.count as i64);
+        let to = (rival.bound ^ (bound & 1)) as usize;
+        let least = sum(value, self.table.weight(rival.start, passed, side));
+        let most = sum(value, self.table.weight(rival.start, next, side));
+        is_passed & (least > at(&self.trail.values, to))
+            | (sum(own, other) < 0) & (sum(most, at(&self.trail.values, to ^ 1)) > 0)
     }
 
     /// Whether some variable has no value left.

@@ -1,5 +1,5 @@
 //! The numbers of a network that the search asks for. Times are in nanoseconds.
-use crate::number::{index, index_at, item_at, push, sum};
+use crate::number::{at, index, index_at, item_at, push, sum};
 use std::alloc::{AllocError, Global};
 
 /// A stream.
@@ -77,13 +77,15 @@ pub struct Pair {
 /// A stream that can be in the way of another one.
 #[derive(Clone, Copy)]
 pub struct Rival {
-    pub stream: usize,
-    /// Whether the stream that it is a rival of is the left one of the pair.
-    pub is_right: bool,
-    pub pair: usize,
+    /// The bound of its least offset.
+    pub bound: u32,
+    /// The bound of the pair's least gap.
+    pub gap: u32,
+    /// 0 where it is the right one of the pair, 1 where it is the left one.
+    pub side: u32,
     /// Of the pair.
-    pub start: usize,
-    pub count: usize,
+    pub start: u32,
+    pub count: u32,
 }
 
 /// The rivals of a stream.
@@ -143,6 +145,8 @@ pub struct Table {
     pub rivals: Vec<Rivals>,
     // Of each block the number of its pair.
     owners: Vec<u32>,
+    // Of each block what it asks for if the left stream goes first, and if the right one does.
+    weights: Vec<i64>,
 }
 
 impl Table {
@@ -158,6 +162,7 @@ impl Table {
             pairs: Vec::new(alloc),
             rivals: Vec::new(alloc),
             owners: Vec::new(alloc),
+            weights: Vec::new(alloc),
         }
     }
 
@@ -186,11 +191,40 @@ impl Table {
         }
         for number in 0..self.pairs.len() {
             let pair = self.pair(number);
-            self.note_rival(pair.left, rival_of(pair, number, true))?;
-            self.note_rival(pair.right, rival_of(pair, number, false))?;
+            let gap = self.gap(number);
+            self.note_rival(pair.left, rival_of(pair, gap, 0))?;
+            self.note_rival(pair.right, rival_of(pair, gap, 1))?;
             self.note_owner(pair.count, index(number))?;
         }
+        self.note_weights()
+    }
+
+    fn note_weights(&mut self) -> Result<(), AllocError> {
+        for block in &self.blocks {
+            push(&mut self.weights, block.left_first)?;
+            push(&mut self.weights, block.right_first)?;
+        }
         Ok(())
+    }
+
+    /// What a block, by its number among those of a pair that start at a place, asks for if the left stream goes first, on side 0; if the
+    /// right one does, on side 1.
+    pub fn weight(&self, start: u32, number: i64, side: u32) -> i64 {
+        let block = (start as usize).wrapping_add(place_of(number));
+        at(
+            &self.weights,
+            block.wrapping_mul(2).wrapping_add(side as usize),
+        )
+    }
+
+    /// The bound of the least gap of a pair.
+    pub fn gap(&self, pair: usize) -> u32 {
+        index(
+            self.streams()
+                .wrapping_add(pair)
+                .wrapping_add(1)
+                .wrapping_mul(2),
+        )
     }
 
     fn note_owner(&mut self, count: usize, pair: u32) -> Result<(), AllocError> {
@@ -302,12 +336,13 @@ pub fn signed_place(place: usize) -> i64 {
     (place & 0xFFFF_FFFF) as i64
 }
 
-fn rival_of(pair: Pair, number: usize, is_right: bool) -> Rival {
+fn rival_of(pair: Pair, gap: u32, side: u32) -> Rival {
+    let stream = if side == 0 { pair.right } else { pair.left };
     Rival {
-        stream: if is_right { pair.right } else { pair.left },
-        is_right,
-        pair: number,
-        start: pair.start,
-        count: pair.count,
+        bound: index(stream.wrapping_mul(2)),
+        gap,
+        side,
+        start: index(pair.start),
+        count: index(pair.count),
     }
 }
