@@ -5,8 +5,9 @@ use crate::devices::Opened;
 use crate::refused::{cert_reason, network_reason, offsets_reason, plan_reason};
 use std::alloc::{AllocError, Global};
 use tsn_device::{Action, Failure};
-use tsn_reason::{File, line_of};
+use tsn_reason::File;
 use tsn_run::run::{DEVICE, MAX_FILE, REFUSED, REJECTED};
+use tsn_text::line_of;
 
 /// The line on a source, where it ended a run of this status.
 pub fn source_line<S: Opened>(alloc: Global, status: u8, source: &S) -> Option<String> {

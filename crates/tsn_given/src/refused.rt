@@ -5,11 +5,12 @@ use tsn_argue::check_certificate;
 use tsn_argument::Certificate;
 use tsn_cert_json::plan_from_json;
 use tsn_certificate_json::certificate_from_json;
-use tsn_net::{Problem, read_problem};
+use tsn_net::{Problem, read_or_refuse};
 use tsn_reason::{
-    Claim, File, Reason, Schedule, cert_file_line, line_of, line_of_fault, network_line,
-    offsets_line, plan_file_line, refused_plan,
+    Claim, File, Reason, Schedule, cert_file_line, line_of_fault, network_line, offsets_line,
+    plan_file_line, refused_plan,
 };
+use tsn_text::line_of;
 use tsn_timing::Validity;
 
 /// The most bytes of a network file of which the reason is looked for; reading one takes a second or two then.
@@ -20,12 +21,12 @@ pub fn network_reason(alloc: Global, network: File<'_>) -> Reason {
     if network.bytes.len() > MOST_LOOKED_AT {
         return long_line(alloc, network);
     }
-    match read_problem(alloc, network.bytes) {
+    match read_or_refuse(alloc, network.bytes) {
         Ok(problem) => {
             drop(problem);
             Ok(None)
         }
-        Err(fault) => network_line(alloc, network, fault),
+        Err(refused) => network_line(alloc, network, refused),
     }
 }
 
@@ -43,13 +44,13 @@ pub fn offsets_reason(alloc: Global, network: File<'_>, offsets: &[u64]) -> Reas
     if network.bytes.len() > MOST_LOOKED_AT {
         return long_line(alloc, network);
     }
-    match read_problem(alloc, network.bytes) {
+    match read_or_refuse(alloc, network.bytes) {
         Ok(problem) => {
             let reason = refused_offsets(alloc, network, &problem, offsets);
             drop(problem);
             reason
         }
-        Err(fault) => network_line(alloc, network, fault),
+        Err(refused) => network_line(alloc, network, refused),
     }
 }
 
@@ -74,13 +75,13 @@ pub fn plan_reason(alloc: Global, network: File<'_>, plan: File<'_>) -> Reason {
     if network.bytes.len() > MOST_LOOKED_AT {
         return long_line(alloc, network);
     }
-    match read_problem(alloc, network.bytes) {
+    match read_or_refuse(alloc, network.bytes) {
         Ok(problem) => {
             let reason = refused_plan_file(alloc, &problem, plan);
             drop(problem);
             reason
         }
-        Err(fault) => network_line(alloc, network, fault),
+        Err(refused) => network_line(alloc, network, refused),
     }
 }
 
@@ -102,13 +103,13 @@ pub fn cert_reason(alloc: Global, network: File<'_>, plan: File<'_>, cert: File<
     if network.bytes.len() > MOST_LOOKED_AT {
         return long_line(alloc, network);
     }
-    match read_problem(alloc, network.bytes) {
+    match read_or_refuse(alloc, network.bytes) {
         Ok(problem) => {
             let reason = refused_files(alloc, &problem, plan, cert);
             drop(problem);
             reason
         }
-        Err(fault) => network_line(alloc, network, fault),
+        Err(refused) => network_line(alloc, network, refused),
     }
 }
 

@@ -8,6 +8,7 @@ ghost use Rattle.tsn_net.specs.File.{Spells, States, HasFault, IsFaultless, out_
 use crate::document::Document;
 use crate::fault::{Code, NetFault, Place};
 use crate::problem::Problem;
+use crate::words::{not_toml_words, words_of};
 use std::alloc::Global;
 use toml::{Table, Value};
 
@@ -18,40 +19,76 @@ pub fn read_problem(alloc: Global, bytes: &[u8]) -> Result<Problem, NetFault>
     ensures fault { IfErr result (λ fault. (fault ≡ out_of_memory) ⊎ HasFault bytes.now fault) }
     ensures accepted { IsFaultless bytes.now → IsOkUnless result out_of_memory }
 {
-    let top = Value::Table(parse(alloc, bytes)?);
-    let document = Document::of(&top);
-    if let Some(fault) = document.fault() {
-        return Err(fault);
-    }
-    match Problem::of(alloc, &document) {
+    match read_or_refuse(alloc, bytes) {
         Ok(problem) => Ok(problem),
-        Err(_) => Err(OUT_OF_MEMORY),
+        Err(refused) => {
+            let Refused { fault, words } = refused;
+            drop(words);
+            Err(fault)
+        }
     }
 }
 
-const NOT_TOML: NetFault = NetFault {
-    code: Code::NotToml,
-    place: Place::Text,
-};
+/// Why a network file is refused.
+#[derive(Drop)]
+pub struct Refused {
+    pub fault: NetFault,
+    /// What is the matter, and where, in words; None where there was no memory for them.
+    pub words: Option<String>,
+}
 
-const OUT_OF_MEMORY: NetFault = NetFault {
-    code: Code::Memory,
-    place: Place::Text,
-};
+impl Refused {
+    fn memory() -> Refused
+        ensures { result.fault ≡ out_of_memory }
+    {
+        Refused {
+            fault: NetFault {
+                code: Code::Memory,
+                place: Place::Text,
+            },
+            words: None,
+        }
+    }
+}
 
-fn parse(alloc: Global, bytes: &[u8]) -> Result<Table, NetFault>
+/// Does what `read_problem` does, and says besides in words what is the matter with a file that is refused.
+pub fn read_or_refuse(alloc: Global, bytes: &[u8]) -> Result<Problem, Refused>
+    ensures problem { IfOk result (States bytes.now) }
+    ensures fault { IfErr result (λ refused. (refused.fault ≡ out_of_memory) ⊎ HasFault bytes.now refused.fault) }
+    ensures accepted { IsFaultless bytes.now → IfErr result (λ refused. refused.fault ≡ out_of_memory) }
+{
+    let top = Value::Table(parse(alloc, bytes)?);
+    let document = Document::of(&top);
+    if let Some(amiss) = document.amiss() {
+        return Err(Refused {
+            fault: amiss.fault(),
+            words: words_of(alloc, document.names(amiss.place), amiss),
+        });
+    }
+    match Problem::of(alloc, &document) {
+        Ok(problem) => Ok(problem),
+        Err(_) => Err(Refused::memory()),
+    }
+}
+
+fn parse(alloc: Global, bytes: &[u8]) -> Result<Table, Refused>
     ensures table { IfOk result (λ t. Spells bytes.now (document_of (table (table_view t)))) }
-    ensures fault { IfErr result (λ fault. (fault ≡ out_of_memory) ⊎ HasFault bytes.now fault) }
-    ensures accepted { IsFaultless bytes.now → IsOkUnless result out_of_memory }
+    ensures fault { IfErr result (λ refused. (refused.fault ≡ out_of_memory) ⊎ HasFault bytes.now refused.fault) }
+    ensures accepted { IsFaultless bytes.now → IfErr result (λ refused. refused.fault ≡ out_of_memory) }
 {
     match toml::table_from_slice(alloc, bytes) {
         Ok(table) => Ok(table),
-        Err(e) => {
-            if e.is_memory() {
-                Err(OUT_OF_MEMORY)
-            } else {
-                Err(NOT_TOML)
+        Err(error) => {
+            if error.is_memory() {
+                return Err(Refused::memory());
             }
+            Err(Refused {
+                fault: NetFault {
+                    code: Code::NotToml,
+                    place: Place::Text,
+                },
+                words: not_toml_words(alloc, error),
+            })
         }
     }
 }

@@ -3,7 +3,7 @@
 use crate::{Finding, Spans};
 use std::alloc::{AllocError, Global};
 use tsn_given::Opened;
-use tsn_reason::line_of;
+use tsn_text::line_of;
 
 /// The line on a plan that a valid schedule undercuts; None where none does, or where there is no memory for the line.
 pub(crate) fn undercut_line<S: Opened>(

@@ -3,7 +3,6 @@
 use crate::motion::{judge, wrong_in};
 use crate::offsets::push_stream;
 use crate::target::push_wrong_target;
-use crate::text::line_of;
 use crate::times::signed;
 use crate::view::{News, View};
 use crate::wrong::{Wrong, push_wrong};
@@ -14,7 +13,7 @@ use tsn_cert::Plan;
 use tsn_check::CheckFault;
 use tsn_model::NoMemory;
 use tsn_net::Problem;
-use tsn_text::TextBuilder;
+use tsn_text::{TextBuilder, line_of};
 use tsn_timing::Timing;
 
 /// An argument, and what it is to show of a problem with these times: that the plan is right.

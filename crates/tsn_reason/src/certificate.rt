@@ -3,7 +3,6 @@
 use crate::argument_file::push_argument_value;
 use crate::json::{elements_at, number_at, push_not_json, push_wrong_keys};
 use crate::lags::has_lag;
-use crate::text::line_of;
 use crate::{File, Reason};
 use serde_json::Value;
 use std::alloc::Global;
@@ -13,7 +12,7 @@ use tsn_cert::limits::MAX_LAG;
 use tsn_cert::plan::MAX_TIME;
 use tsn_cert_json::cert_from_json;
 use tsn_model::NoMemory;
-use tsn_text::TextBuilder;
+use tsn_text::{TextBuilder, line_of};
 
 /// Why a certificate file with this fault is refused.
 pub fn cert_file_line(alloc: Global, cert: File<'_>, fault: FileFault) -> Reason {

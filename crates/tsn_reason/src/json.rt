@@ -1,10 +1,9 @@
 //! What plan files and certificate files have in common: they are objects of JSON.
 
-use crate::text::push_name;
 use serde_json::Value;
 use std::alloc::Global;
 use tsn_model::NoMemory;
-use tsn_text::TextBuilder;
+use tsn_text::{TextBuilder, push_name};
 
 /// Writes what the reader of JSON says of bytes that it refuses, with line and column.
 pub fn push_not_json(alloc: Global, text: &mut TextBuilder, bytes: &[u8]) -> Result<(), NoMemory> {

@@ -7,19 +7,13 @@ mod argument_file;
 mod bound;
 mod certificate;
 mod claim;
-mod document;
 mod json;
-mod keys;
 mod lags;
-mod limits;
 mod motion;
-mod names;
 mod network;
 mod offsets;
 mod plan;
-mod routes;
 mod target;
-mod text;
 mod times;
 mod tree;
 mod view;
@@ -30,7 +24,6 @@ pub use claim::{Claim, line_of_fault, refused_plan};
 pub use network::network_line;
 pub use offsets::{Schedule, offsets_line};
 pub use plan::plan_file_line;
-pub use text::line_of;
 use tsn_model::NoMemory;
 
 /// A file that was read.

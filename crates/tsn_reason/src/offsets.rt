@@ -1,12 +1,11 @@
 //! Why offsets are no valid schedule.
 
-use crate::text::line_of;
 use crate::wrong::push_later;
 use crate::{File, Reason};
 use std::alloc::Global;
 use tsn_model::{Link, Triple, Violation};
 use tsn_net::Problem;
-use tsn_text::TextBuilder;
+use tsn_text::{TextBuilder, line_of};
 use tsn_timing::Timing;
 
 /// Offsets of the streams of a network, in nanoseconds.

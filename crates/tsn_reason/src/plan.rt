@@ -2,7 +2,6 @@
 
 use crate::json::{elements_at, is_null_at, number_at, push_not_json, push_wrong_keys};
 use crate::offsets::{Schedule, push_violation};
-use crate::text::line_of;
 use crate::{File, Reason};
 use serde_json::Value;
 use std::alloc::Global;
@@ -11,7 +10,7 @@ use tsn_cert::{FileFault, Plan};
 use tsn_check::CheckFault;
 use tsn_model::NoMemory;
 use tsn_net::Problem;
-use tsn_text::TextBuilder;
+use tsn_text::{TextBuilder, line_of};
 use tsn_timing::{Timing, Validity};
 
 /// A plan of a problem with these times.

@@ -2,12 +2,12 @@
 
 use crate::bound::{Shown, push_low_bound};
 use crate::target::push_wrong_target;
-use crate::text::line_of;
 use crate::{File, Reason};
 use std::alloc::Global;
 use tsn_cert::{Chain, Entries, Leaf, LowerBound, Node};
 use tsn_check::CheckFault;
 use tsn_model::{Frame, NoMemory};
+use tsn_text::line_of;
 use tsn_timing::Timing;
 
 /// Why a tree with this fault is refused, where its plan is right.

@@ -4,8 +4,10 @@
 
 mod field;
 mod list;
+mod shown;
 mod text;
 
 pub use field::write_quoted;
 pub use list::ListBuilder;
+pub use shown::{line_of, push_line, push_name};
 pub use text::TextBuilder;

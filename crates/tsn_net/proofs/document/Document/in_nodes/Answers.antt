@@ -1,0 +1,23 @@
+use Rattle.std.proofs.Common.{◌<◌, length, ap, sym, ◌∙◌}
+use Rattle.std.specs.Prelude.{is_some}
+use Rattle.std.proofs.lemmas.List.{length-map}
+use Rattle.toml.specs.View.{view}
+use Rattle.tsn_net.specs.declared.fault.Place.TheVariants.{Node}
+use Rattle.tsn_net.specs.DocumentView.{document_view}
+use Rattle.tsn_net.specs.Conditions.{holds}
+use Rattle.tsn_net.proofs.PlaceLemmas.{find-here, find-range}
+use Rattle.tsn_net.proofs.document.Document.in_nodes.Goals as goal
+
+pub returns-in-Some : goal.returns-in-Some
+returns-in-Some c =
+    let d = document_view c.args.self.now in
+    let within : c.loop-n.n < length d.nodes = rw (length-map c.args.self.now.nodes.now view) c.loop-n-test.true in
+    let here = find-here (holds c.args.code d) (λ n. Node n) c.loop-n.n (length d.nodes) within (sym c.matter.ensures.0 ∙ ap is_some c.in-Some.is) in
+    (sym (sym c.loop-n.invariant ∙ here), c.in-Some.ensures.1)
+
+pub loop-n-preserved : goal.loop-n-preserved
+loop-n-preserved c =
+    let d = document_view c.args.self.now in
+    let within : c.loop-n.n < length d.nodes = rw (length-map c.args.self.now.nodes.now view) c.loop-n-test.true in
+    sym (find-range (holds c.args.code d) (λ n. Node n) c.loop-n.n (length d.nodes) within (sym c.matter.ensures.0 ∙ ap is_some c.in_default.is))
+        ∙ c.loop-n.invariant

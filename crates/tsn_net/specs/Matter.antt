@@ -1,0 +1,221 @@
+-- What is the matter where a condition holds: the key, the value, the number or the name that is wrong.
+--     matter_code           the condition that a matter is of
+--     IsMatter              what it tells of a place is so
+--     FindsFault            the document's fault, with what is the matter; none where it has none
+use Rattle.std.specs.Prelude.{◌≡◌, ℕ, ℤ, pos, ◌+◌, ◌-◌, ◌<◌, ◌%◌, ◌⊎◌, Bool, true, false, not, ◌||◌, ◌==◌, sum_by, List, [], length, slice_index_or, Option, Some, None, IfSome, is_some, is_none, option_map}
+use Rattle.std.specs.List.{list_any, find}
+use Rattle.std.specs.Str.{bytes_eq}
+use Rattle.toml.specs.Data.{Data, get}
+use Rattle.tsn_net.specs.declared.fault.Place.{Place}
+use Rattle.tsn_net.specs.declared.fault.Place.TheVariants.{Text, Top, Node, Cable, Stream}
+use Rattle.tsn_net.specs.declared.fault.Code.{Code}
+use Rattle.tsn_net.specs.declared.fault.Code.TheVariants as code
+use Rattle.tsn_net.specs.declared.fault.NetFault.{NetFault}
+use Rattle.tsn_net.specs.declared.schema.Key.{Key}
+use Rattle.tsn_net.specs.declared.schema.Key.TheVariants as key
+use Rattle.tsn_net.specs.declared.schema.Table.{Table}
+use Rattle.tsn_net.specs.declared.matter.Matter.{Matter}
+use Rattle.tsn_net.specs.declared.matter.Matter.TheVariants as matter
+use Rattle.tsn_net.specs.declared.conditions.Amiss.{Amiss}
+use Rattle.tsn_net.specs.declared.matter.End.{End}
+use Rattle.tsn_net.specs.declared.matter.End.TheVariants.{First, Last}
+use Rattle.tsn_net.specs.Schema.{name_of, required, known, keys_in, is_table, holds_at, has_kind}
+use Rattle.tsn_net.specs.Document.{Document, value_at, table_at, integer_or, integer_at, number_at, number_or, text_at}
+use Rattle.tsn_net.specs.Conditions.{holds, first_place, fault_of, is_within, is_name, is_rate, route_of, frames_of, has_name, joins, repeats, runs_between_stations, is_joined, names_station, names_bridge, inner}
+
+-- the condition that it is of
+abbrev pub matter_code : Matter → Code
+matter_code (matter.MissingKey k beside) = code.MissingKey
+matter_code matter.NoTable = code.WrongKind
+matter_code (matter.WrongKind k) = code.WrongKind
+matter_code (matter.UnknownKey name) = code.UnknownKey
+matter_code (matter.OutOfRange k number) = code.Limit
+matter_code (matter.TooMany k count) = code.Limit
+matter_code (matter.TooManyFrames count) = code.Limit
+matter_code (matter.NoName k text) = code.Limit
+matter_code (matter.NoRouteName text) = code.Limit
+matter_code (matter.LongRoute count) = code.Limit
+matter_code (matter.TakenName number) = code.DuplicateName
+matter_code (matter.NoNode name) = code.UnknownName
+matter_code (matter.BadRate mbps) = code.BadRate
+matter_code matter.Loop = code.DuplicateCable
+matter_code (matter.TakenCable number) = code.DuplicateCable
+matter_code (matter.ShortRoute count) = code.BadRoute
+matter_code (matter.Twice name before again) = code.BadRoute
+matter_code (matter.NoStation name end) = code.BadRoute
+matter_code (matter.NoBridge name) = code.BadRoute
+matter_code (matter.NoCable hop from to) = code.NoCable
+matter_code matter.NoStream = code.NoStream
+matter_code (matter.BadPeriod period cycle) = code.BadPeriod
+
+-- the first key that a table has to have and hasn't
+abbrev pub absent_key : Table → Data → Option Key
+absent_key t d = find (λ k. is_none (get (name_of k) d)) (required t d)
+
+-- its first key that isn't written
+abbrev pub other_key : Table → Data → Option (List ℕ)
+other_key t d = find (λ name. not (list_any (λ k. bytes_eq (name_of k) name) (known t d))) (keys_in d)
+
+-- the first key of which it has a value of another kind
+abbrev pub amiss_key : Table → Data → Option Key
+amiss_key t d = find (λ k. holds_at k (λ v. not (has_kind k v)) d) (known t d)
+
+-- the least and the greatest number at a key
+abbrev pub least_at : Key → ℕ
+least_at key.Cycle = 1
+least_at key.Octets = 64
+least_at key.Latest = 1
+least_at key.Period = 1
+least_at key.Frames = 1
+least_at _ = 0
+
+abbrev pub most_at : Key → ℕ
+most_at key.Proc = 1000000
+most_at key.Prop = 1000000
+most_at key.Octets = 1522
+most_at key.Frames = 16
+most_at key.Node = 256
+most_at key.Link = 512
+most_at key.Stream = 128
+most_at key.Route = 17
+most_at _ = 1000000000
+
+-- the number at a key, which is the least where there is none that may be left out
+abbrev pub number_of : Key → Data → ℤ
+number_of key.Latest d = integer_or (pos 1) key.Latest d
+number_of key.Period d = integer_or (pos 1) key.Period d
+number_of key.Frames d = integer_or (pos 1) key.Frames d
+number_of k d = integer_at k d
+
+abbrev pub is_in_range : Key → Data → Bool
+is_in_range k d = is_within (least_at k) (most_at k) (number_of k d)
+
+-- how many tables a document has at a key of its top table
+abbrev pub count_at : Key → Document → ℕ
+count_at key.Node d = length d.nodes
+count_at key.Link d = length d.cables
+count_at key.Stream d = length d.streams
+count_at _ d = 0
+
+-- the tables before a place among those like it, and whether two places are of like tables
+abbrev pub like : Place → ℕ → Place
+like (Node n) k = Node k
+like (Cable n) k = Cable k
+like (Stream n) k = Stream k
+like p k = p
+
+abbrev pub number_in : Place → ℕ
+number_in (Node n) = n
+number_in (Cable k) = k
+number_in (Stream i) = i
+number_in _ = 0
+
+-- no node has this name: one that a cable or a route has
+abbrev pub IsNoNode : Document → Place → List ℕ → Type 0
+IsNoNode d (Cable k) name =
+    let cable = value_at d (Cable k) in
+    ((name ≡ text_at key.A cable) ⊎ (name ≡ text_at key.B cable)) × (has_name d.nodes name ≡ false)
+IsNoNode d p name = find (λ n. not (has_name d.nodes n)) (route_of (value_at d p)) ≡ Some name
+
+-- what a matter tells of a table by itself is so
+abbrev pub IsOfTable : Data → Matter → Type 0
+IsOfTable d (matter.OutOfRange k number) = (number ≡ number_of k d) × (is_in_range k d ≡ false)
+IsOfTable d (matter.NoName k text) = (text.now ≡ text_at k d) × (is_name text.now ≡ false)
+IsOfTable d (matter.NoRouteName text) = find (λ t. not (is_name t)) (route_of d) ≡ Some text.now
+IsOfTable d (matter.LongRoute count) = (count ≡ length (route_of d)) × (17 < count)
+IsOfTable d _ = ⊥
+
+-- the name at an end of a route
+abbrev pub end_of : End → List (List ℕ) → List ℕ
+end_of First route = slice_index_or route 0 []
+end_of Last route = slice_index_or route (length route - 1) []
+
+-- what it tells of a route among these nodes is so
+abbrev pub IsOfRoute : List Data → List (List ℕ) → Matter → Type 0
+IsOfRoute nodes route (matter.ShortRoute count) = (count ≡ length route) × (count < 2)
+IsOfRoute nodes route (matter.Twice name before again) =
+    (before < again) × (again < length route) × (name.now ≡ slice_index_or route before []) × (bytes_eq name.now (slice_index_or route again []) ≡ true)
+IsOfRoute nodes route (matter.NoStation name end) = (name.now ≡ end_of end route) × (names_station nodes name.now ≡ false)
+IsOfRoute nodes route (matter.NoBridge name) = find (λ n. not (names_bridge nodes n)) (inner route) ≡ Some name.now
+IsOfRoute nodes route _ = ⊥
+
+-- no cable joins these neighbours of a route
+abbrev pub IsGap : List Data → List (List ℕ) → Matter → Type 0
+IsGap cables route (matter.NoCable hop from to) =
+    (hop + 1 < length route) × (from.now ≡ slice_index_or route hop []) × (to.now ≡ slice_index_or route (hop + 1) [])
+    × (list_any (joins from.now to.now) cables ≡ false)
+IsGap cables route _ = ⊥
+
+-- what a matter tells of a place is so
+abbrev pub IsMatter : Document → Place → Matter → Type 0
+IsMatter d p (matter.MissingKey k beside) =
+    (absent_key (table_at p) (value_at d p) ≡ Some k) × (option_map (λ name. name.now) beside ≡ other_key (table_at p) (value_at d p))
+IsMatter d p matter.NoTable = is_table (value_at d p) ≡ false
+IsMatter d p (matter.WrongKind k) = amiss_key (table_at p) (value_at d p) ≡ Some k
+IsMatter d p (matter.UnknownKey name) = other_key (table_at p) (value_at d p) ≡ Some name.now
+IsMatter d p (matter.OutOfRange k number) = IsOfTable (value_at d p) (matter.OutOfRange k number)
+IsMatter d p (matter.TooMany k count) = (count ≡ count_at k d) × (most_at k < count)
+IsMatter d p (matter.TooManyFrames count) = (count ≡ sum_by (frames_of (number_at key.Cycle d.top)) d.streams) × (1024 < count)
+IsMatter d p (matter.NoName k text) = IsOfTable (value_at d p) (matter.NoName k text)
+IsMatter d p (matter.NoRouteName text) = IsOfTable (value_at d p) (matter.NoRouteName text)
+IsMatter d p (matter.LongRoute count) = IsOfTable (value_at d p) (matter.LongRoute count)
+IsMatter d p (matter.TakenName number) =
+    (number < number_in p) × (bytes_eq (text_at key.Name (value_at d p)) (text_at key.Name (value_at d (like p number))) ≡ true)
+IsMatter d p (matter.NoNode name) = IsNoNode d p name.now
+IsMatter d p (matter.BadRate mbps) = (mbps ≡ integer_at key.Mbps (value_at d p)) × (is_rate mbps ≡ false)
+IsMatter d p matter.Loop = bytes_eq (text_at key.A (value_at d p)) (text_at key.B (value_at d p)) ≡ true
+IsMatter d p (matter.TakenCable number) =
+    let cable = value_at d p in
+    (number < number_in p) × (joins (text_at key.A cable) (text_at key.B cable) (value_at d (Cable number)) ≡ true)
+IsMatter d p (matter.ShortRoute count) = IsOfRoute d.nodes (route_of (value_at d p)) (matter.ShortRoute count)
+IsMatter d p (matter.Twice name before again) = IsOfRoute d.nodes (route_of (value_at d p)) (matter.Twice name before again)
+IsMatter d p (matter.NoStation name end) = IsOfRoute d.nodes (route_of (value_at d p)) (matter.NoStation name end)
+IsMatter d p (matter.NoBridge name) = IsOfRoute d.nodes (route_of (value_at d p)) (matter.NoBridge name)
+IsMatter d p (matter.NoCable hop from to) = IsGap d.cables (route_of (value_at d p)) (matter.NoCable hop from to)
+IsMatter d p matter.NoStream = length d.streams ≡ 0
+IsMatter d p (matter.BadPeriod period cycle) =
+    (cycle ≡ number_at key.Cycle d.top) × (period ≡ number_or cycle key.Period (value_at d p)) × ((cycle % period == 0) ≡ false)
+
+-- ---- what is found
+
+-- where the condition of a code holds a matter of it, and else none
+abbrev pub Finds : Code → Document → Place → Option Matter → Type 0
+Finds c d p found = (is_some found ≡ holds c d p) × IfSome found (λ m. (matter_code m ≡ c) × IsMatter d p m)
+
+-- where a table breaks a limit a matter of that, and else none
+abbrev pub FindsIn : Bool → Data → Option Matter → Type 0
+FindsIn breaks d found = (is_some found ≡ breaks) × IfSome found (λ m. (matter_code m ≡ code.Limit) × IsOfTable d m)
+
+abbrev pub FindsRoute : List Data → List (List ℕ) → Option Matter → Type 0
+FindsRoute nodes route found =
+    (is_some found ≡ (repeats route || not (runs_between_stations nodes route)))
+    × IfSome found (λ m. (matter_code m ≡ code.BadRoute) × IsOfRoute nodes route m)
+
+abbrev pub FindsGap : List Data → List (List ℕ) → Option Matter → Type 0
+FindsGap cables route found =
+    (is_some found ≡ not (is_joined cables route)) × IfSome found (λ m. (matter_code m ≡ code.NoCable) × IsGap cables route m)
+
+-- the index of an element that passes the test, where there is one
+abbrev pub FindsNumber : {A : Type 0} → A → (A → Bool) → List A → Option ℕ → Type 0
+FindsNumber absent test xs found =
+    (is_some found ≡ list_any test xs) × IfSome found (λ n. (n < length xs) × (test (slice_index_or xs n absent) ≡ true))
+
+-- the first place of these where the condition holds, with what is the matter there
+abbrev pub FindsAmong : Code → Document → List Place → Option Amiss → Type 0
+FindsAmong c d ps found =
+    (option_map (λ a. a.place) found ≡ find (holds c d) ps) × IfSome found (λ a. (matter_code a.matter ≡ c) × IsMatter d a.place a.matter)
+
+-- the same of all places
+abbrev pub FindsFirst : Code → Document → Option Amiss → Type 0
+FindsFirst c d found =
+    (option_map (λ a. a.place) found ≡ first_place c d) × IfSome found (λ a. (matter_code a.matter ≡ c) × IsMatter d a.place a.matter)
+
+-- the fault that it is
+abbrev pub amiss_fault : Amiss → NetFault
+amiss_fault a = record { code = matter_code a.matter; place = a.place }
+
+-- the fault of a document, with what is the matter there
+abbrev pub FindsFault : Document → Option Amiss → Type 0
+FindsFault d found =
+    (option_map amiss_fault found ≡ fault_of d)
+    × IfSome found (λ a. IsMatter d a.place a.matter)
