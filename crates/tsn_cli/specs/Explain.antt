@@ -5,7 +5,7 @@
 --     GoesOnOver                    a run that has a certificate left to read
 use Rattle.std.specs.Prelude.{◌≡◌, ◌⊎◌, ℕ, List, [], ◌∷◌, Result, Ok}
 use Rattle.tsn_device.specs.declared.device.ReadFault.{ReadFault}
-use Rattle.tsn_run.specs.declared.answer.Answer.{Answer}
+use Rattle.tsn_cli.specs.declared.showing.Shown.{Shown}
 use Rattle.tsn_net.specs.File.{States}
 use Rattle.tsn_net.specs.Problem.{NamedNetwork}
 use Rattle.tsn_cert.specs.declared.plan.Plan.{Plan}
@@ -18,9 +18,10 @@ use Rattle.tsn_cli.specs.declared.showing.Showing.{Showing}
 use Rattle.tsn_cli.specs.declared.showing.Showing.TheVariants.{Verdict, Words, Picture}
 use Rattle.tsn_cli.specs.declared.table.Table.TheVariants.{Chart}
 use Rattle.tsn_run.specs.Run.{Output, Command, IsLine, SourceRun}
-use Rattle.tsn_run.specs.Outcome.{ComesTo, TellsFailures, output_of}
-use Rattle.tsn_run.specs.Refusal.{RefusesNetwork, RefusesPlan}
-use Rattle.tsn_run.specs.Check.{RefusesCert, ShowsNothing, StatesNetwork, accepted_line}
+use Rattle.tsn_run.specs.Outcome.{ComesTo, TellsFailures}
+use Rattle.tsn_cli.specs.Shown.{shown_output}
+use Rattle.tsn_run.specs.Refusal.{IsOutcome, RefusesNetwork, RefusesPlan}
+use Rattle.tsn_run.specs.Check.{RefusesCert, ShowsNothing, StatesNetwork, accepted}
 use Rattle.tsn_cli.specs.Tables.{ShowsPlan, RejectsPlan}
 
 -- the output is a text, of which nothing more is said
@@ -30,7 +31,7 @@ ShowsText output = (text : List ℕ) × IsLine 0 text output
 -- the output is what is asked for of a certificate that shows what the plan says: the line of `check`, a text, or a picture of the plan, where that is a
 -- schedule
 abbrev pub ShowsAccepted : Showing → NamedNetwork → Plan → Certificate → Output → Type 0
-ShowsAccepted Verdict problem plan certificate output = IsLine 0 (accepted_line (certificate_verdict certificate plan) plan) output
+ShowsAccepted Verdict problem plan certificate output = IsOutcome (accepted (certificate_verdict certificate plan) plan) output
 ShowsAccepted Words problem plan certificate output = ShowsText output
 ShowsAccepted (Picture view) problem plan certificate output = ShowsPlan (Chart view) problem plan output ⊎ RejectsPlan problem.network plan output
 
@@ -58,7 +59,7 @@ abbrev pub MarkedChartAnswers : View → Command
 MarkedChartAnswers view = CertAnswers (Picture view)
 
 -- what becomes of a run that has taken this network and this plan, and has the source of a certificate left
-pub record GoesOnOver (showing : Showing) (problem : NamedNetwork) (stated : Plan) (cert : SourceRun) (outcome : Result Answer ReadFault) : Type 0 where
+pub record GoesOnOver (showing : Showing) (problem : NamedNetwork) (stated : Plan) (cert : SourceRun) (outcome : Result Shown ReadFault) : Type 0 where
   pub comes : (network_file plan_file : List ℕ) → States network_file problem → plan_in plan_file ≡ Ok stated
-      → ComesTo output_of (CertAnswers showing) (network_file ∷ plan_file ∷ []) (cert.reading ∷ []) outcome
+      → ComesTo shown_output (CertAnswers showing) (network_file ∷ plan_file ∷ []) (cert.reading ∷ []) outcome
   pub failures : TellsFailures (cert.reads ∷ []) outcome

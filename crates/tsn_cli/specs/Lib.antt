@@ -1,3 +1,4 @@
+pub mod Shown
 pub mod Valid
 pub mod Tables
 pub mod Explain

@@ -37,7 +37,8 @@ use Rattle.tsn_cli.specs.declared.table.ReplayOptions.{ReplayOptions}
 use Rattle.tsn_cli.specs.declared.table.Table.{Table}
 use Rattle.tsn_cli.specs.declared.table.Table.TheVariants.{Gates, Replay, Chart, Streams}
 use Rattle.tsn_run.specs.Run.{Output, Command, IsLine}
-use Rattle.tsn_run.specs.Refusal.{RefusesNetwork, RefusesPlan, rejected_plan}
+use Rattle.tsn_run.specs.declared.outcome.Outcome.TheVariants.{RefusedPlan}
+use Rattle.tsn_run.specs.Refusal.{IsOutcome, RefusesNetwork, RefusesPlan}
 
 -- the lists in the format that is asked for
 abbrev pub lists_text : GatesOptions → NamedNetwork → List LinkGates → List ℕ
@@ -95,7 +96,7 @@ ShowsPlan table problem plan.None output = ⊥
 
 -- it isn't, and this is the first fault
 abbrev pub RejectsPlan : Network → Plan → Output → Type 0
-RejectsPlan network plan output = (fault : CheckFault) × IsPlanFault network plan fault × IsLine 6 (rejected_plan fault) output
+RejectsPlan network plan output = (fault : CheckFault) × IsPlanFault network plan fault × IsOutcome (RefusedPlan fault) output
 
 -- the answer to a plan file for this problem
 abbrev pub JudgesPlan : Table → NamedNetwork → List ℕ → Output → Type 0

@@ -1,18 +1,19 @@
 //! `check`: judges a plan and its certificate.
-ghost use Rattle.std.specs.Prelude.{◌≡◌, ◌<◌, ◌-◌, ◌^◌, [], ◌∷◌, IfOk, IsErr};
-ghost use Rattle.tsn_run.specs.Run.{IsLine, RunsOver, sink_over, source_over};
-ghost use Rattle.tsn_run.specs.Outcome.{output_of};
-ghost use Rattle.tsn_run.specs.Check.{CheckAnswers, accepted_line, rejected_line};
+ghost use Rattle.std.specs.Prelude.{◌<◌, ◌-◌, ◌^◌, [], ◌∷◌, IfOk, Ok};
+ghost use Rattle.tsn_run.specs.Run.{RunsOver, sink_over, source_over};
+ghost use Rattle.tsn_run.specs.Refusal.{IsOutcome};
+ghost use Rattle.tsn_run.specs.Outcome.{ComesOver, EndsAs, outcome_of, output_of};
+ghost use Rattle.tsn_run.specs.Check.{CheckAnswers, accepted};
 
-use crate::certified::answer_of;
-use crate::showing::Showing;
+use crate::certified;
+use crate::showing::{Showing, Shown};
 use std::alloc::Global;
 use tsn_cert::Plan;
-use tsn_check::{CheckFault, Verdict};
-use tsn_device::device::{Sink, Source};
+use tsn_check::Verdict;
+use tsn_device::device::{ReadFault, Sink, Source};
 use tsn_model::NoMemory;
-use tsn_run::run::{DONE, REJECTED, respond};
-use tsn_run::{Answer, Cause};
+use tsn_run::run::respond;
+use tsn_run::{Answer, Outcome};
 
 /// Reads a network file, a plan file and a certificate file of format 1, 2 or 3, each judged before the next is read, and writes a
 /// line on the first that is refused, or on what the certificate shows. The answer is the status.
@@ -34,40 +35,61 @@ pub fn check_run<N: Source, P: Source, C: Source, W: Sink>(
         ∷ source_over C.given C.failed C.is_at_end cert.old cert.new ∷ [])
         (sink_over W.taken W.failed sink.old sink.new ∷ []) result }
 {
-    respond(
-        sink,
-        answer_of(alloc, network, plan, cert, Showing::Verdict),
-    )
+    respond(sink, answer_of(alloc, network, plan, cert))
+}
+
+/// What `check_run` answers, before it is written.
+pub fn check_answer<N: Source, P: Source, C: Source>(
+    alloc: Global,
+    network: &mut N,
+    plan: &mut P,
+    cert: &mut C,
+) -> Result<Answer, ReadFault>
+    requires network_reads { N.failed network.old < 2 ^ 64 - 1 }
+    requires plan_reads { P.failed plan.old < 2 ^ 64 - 1 }
+    requires cert_reads { C.failed cert.old < 2 ^ 64 - 1 }
+
+    ensures { EndsAs CheckAnswers
+        (source_over N.given N.failed N.is_at_end network.old network.new
+        ∷ source_over P.given P.failed P.is_at_end plan.old plan.new
+        ∷ source_over C.given C.failed C.is_at_end cert.old cert.new ∷ []) [] (outcome_of result) }
+{
+    answer_of(alloc, network, plan, cert)
+}
+
+/// What the run answers.
+fn answer_of<N: Source, P: Source, C: Source>(
+    alloc: Global,
+    network: &mut N,
+    plan: &mut P,
+    cert: &mut C,
+) -> Result<Answer, ReadFault>
+    requires network_reads { N.failed network.old < 2 ^ 64 - 1 }
+    requires plan_reads { P.failed plan.old < 2 ^ 64 - 1 }
+    requires cert_reads { C.failed cert.old < 2 ^ 64 - 1 }
+    ensures { ComesOver output_of CheckAnswers
+        (source_over N.given N.failed N.is_at_end network.old network.new
+        ∷ source_over P.given P.failed P.is_at_end plan.old plan.new
+        ∷ source_over C.given C.failed C.is_at_end cert.old cert.new ∷ []) result }
+{
+    match certified::answer_of(alloc, network, plan, cert, Showing::Verdict) {
+        Ok(Shown::Said(answer)) => Ok(answer),
+        Ok(Shown::Text(_)) => unreachable!(),
+        Err(fault) => Err(fault),
+    }
 }
 
 /// What is said of a plan whose certificate is accepted with this verdict.
 pub(crate) fn acceptance(alloc: Global, verdict: Verdict, plan: &Plan) -> Result<Answer, NoMemory>
-    ensures { IfOk result (λ a. IsLine DONE (accepted_line verdict plan.now) (output_of (Ok a))) }
+    ensures { IfOk result (λ a. IsOutcome (accepted verdict plan.now) (output_of (Ok a))) }
 {
-    let span = match plan {
+    let flowspan = match plan {
         Plan::Schedule { flowspan, .. } => *flowspan,
         Plan::None => 0,
     };
-    let text = match verdict {
-        Verdict::Optimal => format!(in alloc; "accepted optimal {span}\n")?,
-        Verdict::First => format!(in alloc; "accepted first {span}\n")?,
-        Verdict::NoSchedule => format!(in alloc; "accepted no schedule\n")?,
-    };
-    Ok(Answer { status: DONE, text })
-}
-
-/// What is said of a plan and a certificate with this fault.
-pub(crate) fn rejection(alloc: Global, fault: CheckFault) -> Result<Answer, NoMemory>
-    ensures line { IfOk result (λ a. IsLine REJECTED (rejected_line fault) (output_of (Ok a))) }
-    ensures memory { fault ≡ CheckFault.Memory → IsErr result }
-{
-    if fault == CheckFault::Memory {
-        return Err(NoMemory);
+    match verdict {
+        Verdict::Optimal => Answer::of(alloc, Outcome::AcceptedOptimal { flowspan }),
+        Verdict::First => Answer::of(alloc, Outcome::AcceptedFirst { flowspan }),
+        Verdict::NoSchedule => Answer::of(alloc, Outcome::AcceptedNone),
     }
-    let cause = Cause(fault);
-    let text = format!(in alloc; "certificate refused {cause}\n")?;
-    Ok(Answer {
-        status: REJECTED,
-        text,
-    })
 }

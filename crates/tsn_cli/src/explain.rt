@@ -4,11 +4,10 @@ ghost use Rattle.tsn_run.specs.Run.{RunsOver, sink_over, source_over};
 ghost use Rattle.tsn_cli.specs.Explain.{ExplainAnswers, MarkedChartAnswers};
 
 use crate::certified::answer_of;
-use crate::showing::Showing;
+use crate::showing::{Showing, show};
 use std::alloc::Global;
 use tsn_chart::View;
 use tsn_device::device::{Sink, Source};
-use tsn_run::run::respond;
 
 /// Reads a network file, a plan file and a certificate file of format 1, 2 or 3, each judged before the next is read, and writes in
 /// words why no schedule is faster than the plan, or why there is none. Where a file or the certificate is refused, it writes the line
@@ -31,7 +30,7 @@ pub fn explain_run<N: Source, P: Source, C: Source, W: Sink>(
         ∷ source_over C.given C.failed C.is_at_end cert.old cert.new ∷ [])
         (sink_over W.taken W.failed sink.old sink.new ∷ []) result }
 {
-    respond(sink, answer_of(alloc, network, plan, cert, Showing::Words))
+    show(sink, answer_of(alloc, network, plan, cert, Showing::Words))
 }
 
 /// Reads a network file, a plan file and a certificate file of format 1, 2 or 3, each judged before the next is read, and writes a
@@ -56,7 +55,7 @@ pub fn marked_chart_run<N: Source, P: Source, C: Source, W: Sink>(
         ∷ source_over C.given C.failed C.is_at_end cert.old cert.new ∷ [])
         (sink_over W.taken W.failed sink.old sink.new ∷ []) result }
 {
-    respond(
+    show(
         sink,
         answer_of(alloc, network, plan, cert, Showing::Picture(view)),
     )

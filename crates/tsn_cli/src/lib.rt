@@ -10,10 +10,10 @@ mod table;
 mod tables;
 mod valid;
 
-pub use check::check_run;
+pub use check::{check_answer, check_run};
 pub use explain::{explain_run, marked_chart_run};
-pub use judge::judge_run;
+pub use judge::{judge_answer, judge_run};
 pub use table::{GatesOptions, ReplayOptions};
 pub use tables::{chart_run, gates_run, replay_run, streams_run};
 pub use tsn_options::{GatesFormat, ReplayFormat, StreamsFormat};
-pub use valid::valid_run;
+pub use valid::{valid_answer, valid_run};

@@ -1,6 +1,13 @@
 //! What is shown of a plan and its certificate.
+ghost use Rattle.std.specs.Prelude.{◌<◌, ◌-◌, ◌^◌, [], ◌∷◌};
+ghost use Rattle.tsn_run.specs.Run.{sink_over};
+ghost use Rattle.tsn_run.specs.Outcome.{IsWrittenAs};
+ghost use Rattle.tsn_cli.specs.Shown.{IsShownBy};
 
 use tsn_chart::View;
+use tsn_device::device::{ReadFault, Sink};
+use tsn_run::Answer;
+use tsn_run::run::{DONE, finish, respond};
 
 /// What is shown of a plan once its certificate is accepted.
 #[derive(Clone, Copy)]
@@ -11,4 +18,23 @@ pub(crate) enum Showing {
     Words,
     /// A picture of the plan, in which the frames are marked that the certificate is about.
     Picture(View),
+}
+
+/// What is shown: a text that was asked for, or an answer in a line, such as why a file is refused.
+#[derive(Drop)]
+pub(crate) enum Shown {
+    Text(String),
+    Said(Answer),
+}
+
+/// Writes what is shown, or the line of the fault for which nothing is, and says the status.
+pub(crate) fn show<W: Sink>(sink: &mut W, shown: Result<Shown, ReadFault>) -> u8
+    requires few_failures { W.failed sink.old < 2 ^ 64 - 1 }
+    ensures { IsWrittenAs IsShownBy shown (sink_over W.taken W.failed sink.old sink.new ∷ []) result }
+{
+    match shown {
+        Ok(Shown::Text(text)) => finish(sink, DONE, text.as_bytes()),
+        Ok(Shown::Said(answer)) => respond(sink, Ok(answer)),
+        Err(fault) => respond(sink, Err(fault)),
+    }
 }

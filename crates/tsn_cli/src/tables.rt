@@ -3,12 +3,14 @@
 ghost use Rattle.std.specs.Prelude.{◌≡◌, ◌≤◌, ◌<◌, ◌-◌, ◌^◌, ◌⊎◌, [], ◌∷◌, All, IfOk, length, string_bytes};
 ghost use Rattle.tsn_model.specs.Schedule.{IsValid};
 ghost use Rattle.tsn_run.specs.Run.{RunsOver, sink_over, source_over};
-ghost use Rattle.tsn_run.specs.Outcome.{ComesOver, output_of};
+ghost use Rattle.tsn_run.specs.Outcome.{ComesOver};
+ghost use Rattle.tsn_cli.specs.Shown.{shown_output};
 ghost use Rattle.tsn_replay.specs.declared.trace.Row.{Row};
 ghost use Rattle.tsn_streams.specs.declared.link.LinkShare.{LinkShare};
 ghost use Rattle.tsn_streams.specs.declared.stream.StreamShare.{StreamShare};
 ghost use Rattle.tsn_cli.specs.Tables.{CanShow, ChartAnswers, GatesAnswers, RejectsPlan, ReplayAnswers, ShowsLists, ShowsPicture, ShowsPlan, ShowsReplay, ShowsShares, ShowsTable, StreamsAnswers, TableAnswers, rows_text, shares_text};
 
+use crate::showing::{Shown, show};
 use crate::table::{GatesOptions, ReplayOptions, Table};
 use std::alloc::Global;
 use tsn_cert::Plan;
@@ -21,8 +23,7 @@ use tsn_model::NoMemory;
 use tsn_net::Problem;
 use tsn_options::{ReplayFormat, StreamsFormat};
 use tsn_replay::{Background, ReplayFault, ReplayTable, replay_rows};
-use tsn_run::run::{DONE, respond};
-use tsn_run::{Answer, InputsRead, read_inputs, rejection};
+use tsn_run::{InputsRead, read_inputs, rejection};
 use tsn_streams::{Shares, plan_shares, to_csv, to_json, to_text};
 use tsn_timing::Valid;
 
@@ -44,7 +45,7 @@ pub fn gates_run<N: Source, P: Source, W: Sink>(
         ∷ source_over P.given P.failed P.is_at_end plan.old plan.new ∷ [])
         (sink_over W.taken W.failed sink.old sink.new ∷ []) result }
 {
-    respond(sink, answer_of(alloc, network, plan, Table::Gates(options)))
+    show(sink, answer_of(alloc, network, plan, Table::Gates(options)))
 }
 
 /// Reads a network file and a plan file, the first judged before the second is read, and writes, in a format, a
@@ -68,7 +69,7 @@ pub fn replay_run<N: Source, P: Source, W: Sink>(
         ∷ source_over P.given P.failed P.is_at_end plan.old plan.new ∷ [])
         (sink_over W.taken W.failed sink.old sink.new ∷ []) result }
 {
-    respond(
+    show(
         sink,
         answer_of(alloc, network, plan, Table::Replay(options)),
     )
@@ -93,7 +94,7 @@ pub fn chart_run<N: Source, P: Source, W: Sink>(
         ∷ source_over P.given P.failed P.is_at_end plan.old plan.new ∷ [])
         (sink_over W.taken W.failed sink.old sink.new ∷ []) result }
 {
-    respond(sink, answer_of(alloc, network, plan, Table::Chart(view)))
+    show(sink, answer_of(alloc, network, plan, Table::Chart(view)))
 }
 
 /// Reads a network file and a plan file, the first judged before the second is read, and writes, in a format, what each stream
@@ -114,7 +115,7 @@ pub fn streams_run<N: Source, P: Source, W: Sink>(
         ∷ source_over P.given P.failed P.is_at_end plan.old plan.new ∷ [])
         (sink_over W.taken W.failed sink.old sink.new ∷ []) result }
 {
-    respond(
+    show(
         sink,
         answer_of(alloc, network, plan, Table::Streams(format)),
     )
@@ -126,26 +127,26 @@ fn answer_of<N: Source, P: Source>(
     network: &mut N,
     plan: &mut P,
     table: Table,
-) -> Result<Answer, ReadFault>
+) -> Result<Shown, ReadFault>
     requires table { CanShow table }
     requires network_reads { N.failed network.old < 2 ^ 64 - 1 }
     requires plan_reads { P.failed plan.old < 2 ^ 64 - 1 }
-    ensures { ComesOver output_of (TableAnswers table)
+    ensures { ComesOver shown_output (TableAnswers table)
         (source_over N.given N.failed N.is_at_end network.old network.new
         ∷ source_over P.given P.failed P.is_at_end plan.old plan.new ∷ []) result }
 {
     match read_inputs(alloc, network, plan) {
         Ok(InputsRead::Taken(problem, plan)) => Ok(answer_to(alloc, problem, plan, table)?),
-        Ok(InputsRead::Refused(answer)) => Ok(answer),
+        Ok(InputsRead::Refused(answer)) => Ok(Shown::Said(answer)),
         Err(fault) => Err(fault),
     }
 }
 
 /// What the run answers to a network and a plan.
-fn answer_to(alloc: Global, problem: Problem, plan: Plan, table: Table) -> Result<Answer, NoMemory>
+fn answer_to(alloc: Global, problem: Problem, plan: Plan, table: Table) -> Result<Shown, NoMemory>
     requires { CanShow table }
-    ensures { IfOk result (λ a. ShowsPlan table problem plan (output_of (Ok a))
-        ⊎ RejectsPlan problem.network plan (output_of (Ok a))) }
+    ensures { IfOk result (λ a. ShowsPlan table problem plan (shown_output (Ok a))
+        ⊎ RejectsPlan problem.network plan (shown_output (Ok a))) }
 {
     let answer = judgement(alloc, &problem, &plan, table);
     drop(problem);
@@ -154,15 +155,10 @@ fn answer_to(alloc: Global, problem: Problem, plan: Plan, table: Table) -> Resul
 }
 
 /// What is said of a plan.
-fn judgement(
-    alloc: Global,
-    problem: &Problem,
-    plan: &Plan,
-    table: Table,
-) -> Result<Answer, NoMemory>
+fn judgement(alloc: Global, problem: &Problem, plan: &Plan, table: Table) -> Result<Shown, NoMemory>
     requires { CanShow table }
-    ensures { IfOk result (λ a. ShowsPlan table problem.now plan.now (output_of (Ok a))
-        ⊎ RejectsPlan problem.now.network plan.now (output_of (Ok a))) }
+    ensures { IfOk result (λ a. ShowsPlan table problem.now plan.now (shown_output (Ok a))
+        ⊎ RejectsPlan problem.now.network plan.now (shown_output (Ok a))) }
 {
     let timing = problem.timing(alloc)?;
     let checked = check_plan(alloc, &timing, plan);
@@ -173,7 +169,7 @@ fn judgement(
             drop(valid);
             answer
         }
-        Err(fault) => rejection(alloc, fault),
+        Err(fault) => Ok(Shown::Said(rejection(alloc, fault)?)),
     }
 }
 
@@ -183,10 +179,10 @@ fn table_of(
     problem: &Problem,
     valid: &Valid,
     table: Table,
-) -> Result<Answer, NoMemory>
+) -> Result<Shown, NoMemory>
     requires table { CanShow table }
     requires valid { IsValid problem.now.network valid.now }
-    ensures { IfOk result (λ a. ShowsTable table problem.now valid.now (output_of (Ok a))) }
+    ensures { IfOk result (λ a. ShowsTable table problem.now valid.now (shown_output (Ok a))) }
 {
     match table {
         Table::Gates(options) => lists(alloc, problem, valid, options),
@@ -202,11 +198,11 @@ fn replay_table(
     problem: &Problem,
     valid: &Valid,
     options: ReplayOptions,
-) -> Result<Answer, NoMemory>
+) -> Result<Shown, NoMemory>
     requires some { 1 ≤ options.cycles }
     requires few { options.cycles ≤ 16 }
     requires valid { IsValid problem.now.network valid.now }
-    ensures { IfOk result (λ a. ShowsReplay options problem.now valid.now (output_of (Ok a))) }
+    ensures { IfOk result (λ a. ShowsReplay options problem.now valid.now (shown_output (Ok a))) }
 {
     let lists = lists_by(alloc, problem, valid, options.merge)?;
     let background = Background::of(options.greedy);
@@ -217,7 +213,7 @@ fn replay_table(
         Err(fault) => return Err(want_of_memory(fault)),
     };
     let text = rows_text(alloc, problem, &table, options.format)?;
-    Ok(Answer { status: DONE, text })
+    Ok(Shown::Text(text))
 }
 
 /// The rows of a replay.
@@ -249,13 +245,13 @@ fn lists(
     problem: &Problem,
     valid: &Valid,
     options: GatesOptions,
-) -> Result<Answer, NoMemory>
+) -> Result<Shown, NoMemory>
     requires { IsValid problem.now.network valid.now }
-    ensures { IfOk result (λ a. ShowsLists options problem.now valid.now (output_of (Ok a))) }
+    ensures { IfOk result (λ a. ShowsLists options problem.now valid.now (shown_output (Ok a))) }
 {
     let lists = lists_by(alloc, problem, valid, options.merge)?;
     let text = text_in(alloc, problem, &lists, options.format, options.limits)?;
-    Ok(Answer { status: DONE, text })
+    Ok(Shown::Text(text))
 }
 
 /// The picture of a plan in which some frames are marked, each by its stream and its link; a plan that isn't a valid schedule is
@@ -266,9 +262,9 @@ pub(crate) fn picture_of(
     plan: &Plan,
     view: View,
     marked: &[(usize, usize)],
-) -> Result<Answer, NoMemory>
-    ensures { IfOk result (λ a. ShowsPlan (Table.Chart view) problem.now plan.now (output_of (Ok a))
-        ⊎ RejectsPlan problem.now.network plan.now (output_of (Ok a))) }
+) -> Result<Shown, NoMemory>
+    ensures { IfOk result (λ a. ShowsPlan (Table.Chart view) problem.now plan.now (shown_output (Ok a))
+        ⊎ RejectsPlan problem.now.network plan.now (shown_output (Ok a))) }
 {
     let timing = problem.timing(alloc)?;
     let checked = check_plan(alloc, &timing, plan);
@@ -279,7 +275,7 @@ pub(crate) fn picture_of(
             drop(valid);
             answer
         }
-        Err(fault) => rejection(alloc, fault),
+        Err(fault) => Ok(Shown::Said(rejection(alloc, fault)?)),
     }
 }
 
@@ -290,13 +286,13 @@ fn picture(
     valid: &Valid,
     view: View,
     marked: &[(usize, usize)],
-) -> Result<Answer, NoMemory>
+) -> Result<Shown, NoMemory>
     requires valid { IsValid problem.now.network valid.now }
-    ensures { IfOk result (λ a. ShowsPicture (output_of (Ok a))) }
+    ensures { IfOk result (λ a. ShowsPicture (shown_output (Ok a))) }
 {
     let lists = gate_lists(alloc, problem, valid)?;
     let text = marked_chart(alloc, problem, valid, &lists, view, marked)?;
-    Ok(Answer { status: DONE, text })
+    Ok(Shown::Text(text))
 }
 
 /// What each stream and each link gets by a valid schedule.
@@ -305,15 +301,15 @@ fn shares_table(
     problem: &Problem,
     valid: &Valid,
     format: StreamsFormat,
-) -> Result<Answer, NoMemory>
+) -> Result<Shown, NoMemory>
     requires valid { IsValid problem.now.network valid.now }
-    ensures { IfOk result (λ a. ShowsShares format problem.now valid.now (output_of (Ok a))) }
+    ensures { IfOk result (λ a. ShowsShares format problem.now valid.now (shown_output (Ok a))) }
 {
     let shares = plan_shares(alloc, problem, valid)?;
     let text = shares_text(alloc, problem, &shares, format);
     drop(shares);
     let text = text?;
-    Ok(Answer { status: DONE, text })
+    Ok(Shown::Text(text))
 }
 
 /// The text of the shares.

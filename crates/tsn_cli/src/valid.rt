@@ -1,16 +1,15 @@
 //! `valid`: judges a list of offsets.
-ghost use Rattle.std.specs.Prelude.{◌≡◌, ◌<◌, ◌-◌, ◌^◌, ◌⊎◌, [], ◌∷◌, IfOk, Some};
+ghost use Rattle.std.specs.Prelude.{◌<◌, ◌-◌, ◌^◌, ◌⊎◌, [], ◌∷◌, IfOk, Ok};
 ghost use Rattle.tsn_run.specs.Run.{RunsOver, sink_over, source_over};
-ghost use Rattle.tsn_run.specs.Outcome.{ComesOver, output_of};
+ghost use Rattle.tsn_run.specs.Outcome.{ComesOver, EndsAs, outcome_of, output_of};
 ghost use Rattle.tsn_cli.specs.Valid.{ValidAnswers, Accepts, Rejects};
 
 use std::alloc::Global;
-use std::fmt;
 use tsn_device::device::{ReadFault, Sink, Source};
-use tsn_model::{NoMemory, Triple, Violation};
+use tsn_model::NoMemory;
 use tsn_net::Problem;
-use tsn_run::run::{DONE, REJECTED, respond};
-use tsn_run::{Answer, NetworkRead, read_network};
+use tsn_run::run::respond;
+use tsn_run::{Answer, NetworkRead, Outcome, read_network};
 use tsn_timing::{Timing, Validity};
 
 /// Reads a network file, judges the offsets (nanoseconds, of any size, in the order of the file's streams), and writes
@@ -29,6 +28,19 @@ pub fn valid_run<S: Source, W: Sink>(
         (sink_over W.taken W.failed sink.old sink.new ∷ []) result }
 {
     respond(sink, answer_of(alloc, source, offsets))
+}
+
+/// What `valid_run` answers, before it is written.
+pub fn valid_answer<S: Source>(
+    alloc: Global,
+    source: &mut S,
+    offsets: &[u64],
+) -> Result<Answer, ReadFault>
+    requires { S.failed source.old < 2 ^ 64 - 1 }
+    ensures { EndsAs (ValidAnswers offsets.now)
+        (source_over S.given S.failed S.is_at_end source.old source.new ∷ []) [] (outcome_of result) }
+{
+    answer_of(alloc, source, offsets)
 }
 
 /// What the run answers.
@@ -69,60 +81,11 @@ fn judgement(alloc: Global, timing: &Timing, offsets: &[u64]) -> Result<Answer, 
     ensures { IfOk result (λ a. Accepts timing.now offsets.now (output_of (Ok a))
         ⊎ Rejects timing.now offsets.now (output_of (Ok a))) }
 {
-    let (status, text) = match timing.validity(offsets) {
+    match timing.validity(offsets) {
         Validity::Valid => {
             let flowspan = timing.flowspan(offsets);
-            (DONE, format!(in alloc; "valid flowspan {flowspan}\n")?)
+            Answer::of(alloc, Outcome::Valid { flowspan })
         }
-        Validity::Refused(violation) => {
-            let reason = Reason(violation);
-            (REJECTED, format!(in alloc; "not valid {reason}\n")?)
-        }
-    };
-    Ok(Answer { status, text })
-}
-
-/// A violation, printed with its number: `V1`, `V2 stream 0`, `V3 0 1 4`, `V3 0 1 4 -500`, `V4 stream 0`.
-#[derive(Clone, Copy)]
-struct Reason(Violation);
-
-impl fmt::Display for Reason {
-    ghost use Rattle.tsn_cli.specs.Valid.{violation_text};
-
-    ghost output = { λ reason. Some (violation_text reason.0) };
-
-    fn fmt<W: fmt::Write>(&self, f: &mut fmt::Formatter<W>) -> fmt::Result {
-        match self.0 {
-            Violation::WrongCount => write!(f, "V1"),
-            Violation::PastCycle(stream) => write!(f, "V2 stream {stream}"),
-            Violation::Overlap(triple) => {
-                let Triple {
-                    left,
-                    right,
-                    link,
-                    ..
-                } = triple;
-                write!(f, "V3 {left} {right} {link}{}", Behind(triple.lag))
-            }
-            Violation::Early(stream) => write!(f, "V4 stream {stream}"),
-            Violation::TooLate(stream) => write!(f, "V5 stream {stream}"),
-        }
-    }
-}
-
-/// What follows the link of an overlap: its lag, where that isn't 0.
-#[derive(Clone, Copy)]
-struct Behind(i64);
-
-impl fmt::Display for Behind {
-    ghost use Rattle.tsn_cli.specs.Valid.{lag_text};
-
-    ghost output = { λ lag. Some (lag_text lag.0) };
-
-    fn fmt<W: fmt::Write>(&self, f: &mut fmt::Formatter<W>) -> fmt::Result {
-        if self.0 == 0 {
-            return Ok(());
-        }
-        write!(f, " {}", self.0)
+        Validity::Refused(violation) => Answer::of(alloc, Outcome::NotValid(violation)),
     }
 }

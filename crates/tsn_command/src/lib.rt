@@ -8,5 +8,5 @@ mod plan;
 pub mod planning;
 
 pub use command::{run, run_to};
-pub use plan::plan_run;
+pub use plan::{plan_answer, plan_run};
 pub use tsn_plan_output::{NO_SCHEDULE, PlanEnd};

@@ -1,9 +1,10 @@
 //! `plan`: finds the schedule of least flowspan that is first in list order.
-ghost use Rattle.std.specs.Prelude.{◌≡◌, ◌≤◌, ◌<◌, ◌-◌, ◌^◌, ◌↔◌, [], ◌∷◌, IfOk, IfSome, IsTrue, OnErr, is_some};
+ghost use Rattle.std.specs.Prelude.{◌≡◌, ◌≤◌, ◌<◌, ◌-◌, ◌^◌, ◌↔◌, [], ◌∷◌, IfOk, IfSome, IsTrue, Ok, OnErr, is_some};
 ghost use Rattle.tsn_run.specs.Run.{EndsOver, IsOutput, Output, RunsOver, failed_in, readings_of, reads_of, sink_over, source_over, taken_in};
-ghost use Rattle.tsn_run.specs.Outcome.{TellsFailures};
+ghost use Rattle.tsn_run.specs.Said.{line_of, status_of, stop_of};
+ghost use Rattle.tsn_run.specs.Outcome.{EndsAs, TellsFailures, line_taken, outcome_of};
 ghost use Rattle.tsn_plan_output.specs.Plan.{PlanAnswers, PlanStops};
-ghost use Rattle.tsn_plan_output.specs.PlanOutput.{IsPrinted, printed};
+ghost use Rattle.tsn_plan_output.specs.PlanOutput.{IsPrinted, printed, stop_in};
 
 use std::alloc::Global;
 use std::sync::Wait;
@@ -12,10 +13,10 @@ use tsn_answer::Effort;
 use tsn_device::device::{ReadFault, Sink, Source, read_all};
 use tsn_model::NoMemory;
 use tsn_net::read_problem;
-use tsn_plan_output::print::print;
-use tsn_plan_output::{PlanEnd, PlanOutput, alone, output_for, stop_in};
-use tsn_run::refusal;
-use tsn_run::run::{MAX_FILE, STOPPED};
+use tsn_plan_output::print::write_files;
+use tsn_plan_output::{PlanEnd, PlanOutput, alone, output_for};
+use tsn_run::run::{MAX_FILE, STOPPED, respond};
+use tsn_run::{Answer, outcome_of, refusal};
 use tsn_setting::Supervisor;
 use tsn_worker::{Searched, search_by};
 
@@ -65,14 +66,47 @@ pub fn plan_run<
         ∷ sink_over (taken_in C.taken) (failed_in C.failed) cert.old cert.new
         ∷ sink_over W.taken W.failed sink.old sink.new ∷ []) STOPPED) }
 {
+    let answer = plan_answer(rt, alloc, network, effort, supervisor, plan, cert);
+    let stop = outcome_of(&answer).stop();
+    let status = respond(sink, answer);
+    PlanEnd::of(status, stop)
+}
+
+/// Does what `plan_run` does, but for the line: what is said is answered, before it is written.
+pub fn plan_answer<R: Threads + Wait + Sync, N: Source, S: Supervisor + Sync, P: Sink, C: Sink>(
+    rt: &R,
+    alloc: Global,
+    network: &mut N,
+    effort: Effort,
+    supervisor: &S,
+    plan: &mut P,
+    cert: &mut Option<C>,
+) -> Result<Answer, ReadFault>
+    requires workers { (1 ≤ effort.workers) × (effort.workers ≤ 16) }
+    requires some { 1 ≤ effort.limit }
+    requires few { effort.limit ≤ 1_000_000_000 }
+    requires reads { N.failed network.old < 2 ^ 64 - 1 }
+    requires plan_writes { P.failed plan.old < 2 ^ 64 - 1 }
+    requires cert_writes { failed_in C.failed cert.old < 2 ^ 64 - 1 }
+
+    ensures runs { EndsAs (PlanAnswers effort (is_some cert.old))
+        (source_over N.given N.failed N.is_at_end network.old network.new ∷ [])
+        (sink_over P.taken P.failed plan.old plan.new
+        ∷ sink_over (taken_in C.taken) (failed_in C.failed) cert.old cert.new ∷ []) (outcome_of result) }
+
+    // What is known where the limit was met.
+    ensures stop { IfSome (stop_of (outcome_of result)) (λ stop. EndsOver (PlanStops effort.limit stop)
+        (source_over N.given N.failed N.is_at_end network.old network.new ∷ [])
+        (sink_over P.taken P.failed plan.old plan.new
+        ∷ sink_over (taken_in C.taken) (failed_in C.failed) cert.old cert.new
+        ∷ line_taken (line_of (outcome_of result)) ∷ []) (status_of (outcome_of result))) }
+{
     let task = Task {
         effort,
         wanted: cert.is_some(),
     };
-    let outcome = found(rt, alloc, network, task, supervisor);
-    let stop = stop_in(&outcome);
-    let status = print(alloc, plan, cert, sink, outcome);
-    PlanEnd::of(status, stop)
+    let output = found(rt, alloc, network, task, supervisor);
+    write_files(alloc, plan, cert, output)
 }
 
 /// How much is to be done, and whether a certificate is wanted.
@@ -99,7 +133,7 @@ fn found<R: Threads + Wait + Sync, N: Source, S: Supervisor + Sync>(
     ensures answers { IfOk result (λ output. (shown : Output) → IsPrinted (Ok output) shown
         → IsOutput (PlanAnswers task.effort task.wanted)
         (readings_of (source_over N.given N.failed N.is_at_end network.old network.new ∷ [])) shown) }
-    ensures stops { IfOk result (λ output. IfSome output.stop (λ stop. IsOutput (PlanStops task.effort.limit stop)
+    ensures stops { IfOk result (λ output. IfSome (stop_in (Ok output)) (λ stop. IsOutput (PlanStops task.effort.limit stop)
         (readings_of (source_over N.given N.failed N.is_at_end network.old network.new ∷ [])) (printed result))) }
     ensures wanted { IfOk result (λ output. IsTrue (is_some output.cert) → IsTrue task.wanted) }
     ensures failures { TellsFailures (reads_of (source_over N.given N.failed N.is_at_end network.old network.new ∷ [])) result }
@@ -124,7 +158,7 @@ fn plan_file<R: Threads + Wait + Sync, S: Supervisor + Sync>(
     requires few { task.effort.limit ≤ 1_000_000_000 }
     ensures answers { IfOk result (λ output. (shown : Output) → IsPrinted (Ok output) shown
         → PlanAnswers task.effort task.wanted (file.now ∷ []) shown) }
-    ensures stops { IfOk result (λ output. IfSome output.stop (λ stop. PlanStops task.effort.limit stop (file.now ∷ []) (printed (Ok output)))) }
+    ensures stops { IfOk result (λ output. IfSome (stop_in (Ok output)) (λ stop. PlanStops task.effort.limit stop (file.now ∷ []) (printed (Ok output)))) }
     ensures wanted { IfOk result (λ output. IsTrue (is_some output.cert) → IsTrue task.wanted) }
 {
     match read_problem(alloc, file) {

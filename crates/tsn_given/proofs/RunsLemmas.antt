@@ -1,7 +1,13 @@
--- What follows of a run over some source is so over it; and what is told of a run whose line was kept.
-use Rattle.std.proofs.Common.{◌≡◌, ℕ, List, [], ◌∷◌, ◌++◌, Bool, true, Option, Some, Result, Ok, Err, IfOk, subst, sym}
-use Rattle.tsn_run.specs.Run.{Command, RunsOver, SinkRun, SourceRun, writing_of}
-use Rattle.tsn_given.specs.Runs.{LeavesSource, OverSource, RunsTold, IsTellingOf}
+-- What follows of a run over sources, and of one whose answer is told.
+use Rattle.std.proofs.Common.{◌≡◌, ◌≢◌, ◌++◌, ◌∷◌, [], ℕ, List, Bool, true, false, Option, Result, Ok, Err, IfOk, ap, ◌∙◌}
+use Rattle.tsn_device.specs.declared.device.ReadFault.{ReadFault}
+use Rattle.tsn_run.specs.declared.answer.Answer.{Answer}
+use Rattle.tsn_device.specs.declared.run.TheConstants.{DEVICE}
+use Rattle.tsn_run.specs.Run.{Command, EndsOver, Output, SinkRun, SourceRun}
+use Rattle.tsn_run.specs.Said.{line_of, status_of}
+use Rattle.tsn_run.specs.Outcome.{EndsAs, IsOutputOf, IsWrittenAs, line_taken, outcome_of}
+use Rattle.tsn_run.proofs.LineLemmas.{ends_over, said_over}
+use Rattle.tsn_given.specs.Runs.{IsToldBy, LeavesSource, OverSource, RunsTold}
 
 -- what follows of a run that left a source so
 pub leaves_over : {S : Type 0} {given : S → Option (List ℕ)} {failed : S → ℕ} {is_at_end : S → Bool} {IsAsked : S → Type 0} {left : S}
@@ -15,25 +21,25 @@ pub over_along : {S : Type 0} {given : S → Option (List ℕ)} {failed : S → 
     → OverSource given failed is_at_end IsAsked Q
 over_along run follows = leaves_over run.1 follows
 
--- what kept a line, of which so many writes failed
-abbrev pub line_over : List ℕ → List ℕ → ℕ → ℕ → SinkRun
-line_over before written failed lost = record { writing = writing_of (Some before) (Some written); writes = record { before = failed; after = lost } }
+-- a run that has come to an outcome, which is then told
+pub told_over : (json : Bool) (command : Command) (sources : List SourceRun) (files : List SinkRun) (answer : Result Answer ReadFault) (output : SinkRun)
+    (status : ℕ) → EndsAs command sources files (outcome_of answer) → IsToldBy json answer output status
+    → RunsTold json command sources files output status
+told_over false command sources files answer output status ends told = said_over command sources files answer output status ends told
+told_over true command sources files answer output status ends told = record { outcome = outcome_of answer; ends = ends; told = told }
 
--- a run whose line was kept, in what was empty
-pub told_in_json : (json : Bool) (command : Command) (sources : List SourceRun) (files : List SinkRun) (before written : List ℕ)
-    (failed lost run_status : ℕ) (output : SinkRun) (status : ℕ) → json ≡ true → before ≡ [] → failed ≡ 0
-    → RunsOver command sources (files ++ line_over before written failed lost ∷ []) run_status
-    → IsTellingOf run_status written lost output status → RunsTold json command sources files output status
-told_in_json json command sources files before written failed lost run_status output status is_json empty unfailing runs telling =
-    subst (λ b. RunsTold b command sources files output status) (sym is_json)
-    (record {
-      run_status = run_status;
-      written = written;
-      lost = lost;
-      runs = subst (λ n. RunsOver command sources (files ++ line_over [] written n lost ∷ []) run_status) unfailing
-          (subst (λ items. RunsOver command sources (files ++ line_over items written failed lost ∷ []) run_status) empty runs);
-      told = telling;
-    })
+-- what was written of an answer has its status
+pub status_told : (answer : Result Answer ReadFault) (sinks : List SinkRun) (status : ℕ) → IsWrittenAs IsOutputOf answer sinks status → status ≢ DEVICE
+    → status ≡ status_of (outcome_of answer)
+status_told answer sinks status written done = let whole = written.whole done in whole.2 ∙ ap (λ (o : Output). o.status) whole.1
+
+-- and ends the run
+pub ends_told : (command : Command) (sources : List SourceRun) (files : List SinkRun) (answer : Result Answer ReadFault) (output : SinkRun) (status : ℕ)
+    → EndsOver command sources (files ++ line_taken (line_of (outcome_of answer)) ∷ []) (status_of (outcome_of answer))
+    → IsWrittenAs IsOutputOf answer (output ∷ []) status → status ≢ DEVICE → EndsOver command sources (files ++ output ∷ []) status
+ends_told command sources files answer output status ends written done =
+    ends_over command sources files answer output status (λ broken. done (written.unread broken).0)
+    (λ device. done (status_told answer (output ∷ []) status written done ∙ device)) written ends done
 
 -- what follows of a value, where there was no error
 pub ok_along : {T E : Type 0} (result : Result T E) (P Q : T → Type 0) → IfOk result P → ((x : T) → P x → Q x) → IfOk result Q

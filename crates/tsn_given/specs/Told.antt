@@ -1,12 +1,11 @@
--- An answer as a line of JSON.
+-- An outcome as a line of JSON.
 --     text_or_null, line_or_null, number_or_null     a value that may be absent
---     told_value, told_text            the object, and its line
---     IsTold                           the parts of a line
-use Rattle.std.specs.Prelude.{◌≡◌, ℕ, List, [], ◌∷◌, ◌++◌, codes, Option, Some, None, option_map}
+--     told_object, told_value, told_text             the object, and its line
+use Rattle.std.specs.Prelude.{ℕ, List, [], ◌∷◌, ◌++◌, codes, Option, Some, None}
 use Rattle.serde_json.specs.Data.{Data, null, number, unsigned, string, object, no_members, member}
 use Rattle.serde_json.specs.Written.{compact_text}
-use Rattle.tsn_given.specs.declared.report.Told.{Told}
-use Rattle.tsn_given.specs.Line.{code_in, place_in, IsNumberBehind, IsFirstNumber, flowspan_keys}
+use Rattle.tsn_run.specs.declared.outcome.Outcome.{Outcome}
+use Rattle.tsn_run.specs.Said.{code_of, flowspan_of, place_of, said, settled_of, status_of}
 
 abbrev pub text_or_null : Option (List ℕ) → Data
 text_or_null (Some text) = string text
@@ -21,26 +20,22 @@ abbrev pub number_or_null : Option ℕ → Data
 number_or_null (Some n) = number (unsigned n)
 number_or_null None = null
 
--- the keys in byte order; what isn't there is null
-abbrev pub told_value : Told → Data
-told_value told =
-    object (member (codes "code") (text_or_null (option_map (λ text. text.now) told.code)) (member (codes "flowspan") (number_or_null told.flowspan)
-    (member (codes "line") (line_or_null told.line.now) (member (codes "place") (text_or_null (option_map (λ text. text.now) told.place))
-    (member (codes "reason") (text_or_null (option_map (λ text. text.now) told.reason)) (member (codes "settled") (number_or_null told.settled)
-    (member (codes "status") (number (unsigned told.status)) no_members)))))))
+-- the keys in byte order, with the values that are texts
+abbrev pub told_object : Outcome → Data → Data → Data → Data → Data
+told_object outcome code line place reason =
+    object (member (codes "code") code (member (codes "flowspan") (number_or_null (flowspan_of outcome)) (member (codes "line") line
+    (member (codes "place") place (member (codes "reason") reason (member (codes "settled") (number_or_null (settled_of outcome))
+    (member (codes "status") (number (unsigned (status_of outcome))) no_members)))))))
+
+-- what isn't there is null
+abbrev pub told_value : Outcome → Option (List ℕ) → Data
+told_value outcome reason =
+    told_object outcome (text_or_null (code_of outcome)) (line_or_null (said outcome)) (text_or_null (place_of outcome)) (text_or_null reason)
 
 -- a value as JSON with no space, and a line feed
 abbrev pub line_text : Data → List ℕ
 line_text value = compact_text value ++ 10 ∷ []
 
-abbrev pub told_text : Told → List ℕ
-told_text told = line_text (told_value told)
-
--- the parts of this line, of a command that ended with this status
-pub record IsTold (status : ℕ) (line : List ℕ) (told : Told) : Type 0 where
-  pub status_is : told.status ≡ status
-  pub line_is : told.line.now ≡ line
-  pub code : option_map (λ text. text.now) told.code ≡ code_in line
-  pub place : option_map (λ text. text.now) told.place ≡ place_in line
-  pub flowspan : IsFirstNumber line flowspan_keys told.flowspan
-  pub settled : IsNumberBehind line (codes "settled") told.settled
+-- an outcome, and the reason in words, if one is told
+abbrev pub told_text : Outcome → Option (List ℕ) → List ℕ
+told_text outcome reason = line_text (told_value outcome reason)

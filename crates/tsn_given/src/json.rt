@@ -1,60 +1,81 @@
-//! An answer as a line of JSON, in place of its own line.
-ghost use Rattle.std.specs.Prelude.{◌≡◌, [], IfOk, codes, string_bytes};
+//! What a run answers is told: in a line, or in an object of JSON in its place.
+ghost use Rattle.std.specs.Prelude.{◌≡◌, [], ◌∷◌, IfOk, codes, string_bytes};
 ghost use Rattle.tsn_run.specs.Run.{sink_over};
-ghost use Rattle.tsn_given.specs.Runs.{IsLineIn, IsObjectOf, IsTellingOf, IsWithoutFeed, Says};
+ghost use Rattle.tsn_run.specs.Said.{status_of};
+ghost use Rattle.tsn_run.specs.Outcome.{IsOutputOf, IsWrittenAs, outcome_of};
+ghost use Rattle.tsn_given.specs.Runs.{IsObjectOf, IsTellingOf, IsToldBy, Says};
 
 use crate::devices::{Given, Made};
+use crate::object::format_told;
 use crate::reason::failure_line;
-use crate::report::{Told, format_told};
-use crate::told::{Ended, Ran, say, tell};
+use crate::told::{Ran, Told, say, tell};
 use std::alloc::Global;
 use tsn_model::NoMemory;
-use tsn_run::memory::{MemorySink, NEVER};
-use tsn_run::run::{DEVICE, MEMORY, NO_MEMORY_LINE};
+use tsn_run::run::{DEVICE, MEMORY, NO_MEMORY_LINE, respond};
+use tsn_run::{Outcome, outcome_of};
 
-/// The most bytes that are kept of a line at a time.
-const PIECE: usize = 4096;
-
-/// What keeps a run's line until it is told.
-pub fn line_keeper(alloc: Global) -> MemorySink
-    ensures failures { result.failures ≡ 0 }
-    ensures bytes { result.bytes.items ≡ [] }
-{
-    MemorySink::new(alloc, PIECE, NEVER)
-}
-
-/// Writes how a run ended, with its line, as a line of JSON; that memory was refused is said as ever. What there is to tell is told
-/// on standard error.
-pub fn end_as_json<'a, G: Given<'a>, W: Made>(
+/// Writes what a run answers, in a line or, where `json`, as a line of JSON, and tells the reason on standard error.
+pub fn tell_answer<'a, G: Given<'a>, W: Made>(
     alloc: Global,
     given: &mut G,
     output: W,
-    ended: Ended,
-    line: MemorySink,
+    told: Told,
+    json: bool,
 ) -> Ran<W>
     requires { W.failed output ≡ 0 }
-    ensures { IsTellingOf ended.status line.bytes.items line.failures
-        (sink_over W.taken W.failed output result.output) result.status }
+    ensures { IsToldBy json told.answer (sink_over W.taken W.failed output result.output) result.status }
 {
-    if line.failures > 0 {
-        drop(ended);
-        drop(line);
+    if json {
+        let Told { answer, reason } = told;
+        let outcome = outcome_of(&answer);
+        drop(answer);
+        tell_as_json(alloc, given, output, outcome, reason)
+    } else {
+        tell_in_line(alloc, given, output, told)
+    }
+}
+
+/// Writes the line, and tells why it can't be written, or else the reason.
+fn tell_in_line<'a, G: Given<'a>, W: Made>(
+    alloc: Global,
+    given: &mut G,
+    mut output: W,
+    told: Told,
+) -> Ran<W>
+    requires { W.failed output ≡ 0 }
+    ensures { IsWrittenAs IsOutputOf told.answer (sink_over W.taken W.failed output result.output ∷ []) result.status }
+{
+    let Told { answer, reason } = told;
+    let status = respond(&mut output, answer);
+    let failed = failure_line(alloc, status, output.failure());
+    tell(given, failed.or(reason));
+    Ran { status, output }
+}
+
+/// Writes an outcome as a line of JSON; that memory was refused is said as ever.
+fn tell_as_json<'a, G: Given<'a>, W: Made>(
+    alloc: Global,
+    given: &mut G,
+    output: W,
+    outcome: Outcome,
+    reason: Option<String>,
+) -> Ran<W>
+    requires { W.failed output ≡ 0 }
+    ensures { IsTellingOf outcome (sink_over W.taken W.failed output result.output) result.status }
+{
+    let status = outcome.status();
+    if status == MEMORY {
+        drop(reason);
         return say_no_memory(output);
     }
-    if ended.status == MEMORY {
-        drop(ended);
-        drop(line);
-        return say_no_memory(output);
-    }
-    let object = object_of(alloc, &ended, &line);
-    drop(line);
-    match object {
-        Ok(object) => end_told(alloc, given, output, ended, object),
+    match object_of(alloc, outcome, &reason) {
+        Ok(object) => end_told(alloc, given, output, status, object, reason),
         Err(NoMemory) => {
-            if ended.status == DEVICE {
-                return end_silently(given, output, ended);
+            if status == DEVICE {
+                tell(given, reason);
+                return say(output, DEVICE, b"");
             }
-            drop(ended);
+            drop(reason);
             say_no_memory(output)
         }
     }
@@ -69,62 +90,30 @@ pub fn say_no_memory<W: Made>(output: W) -> Ran<W>
 }
 
 /// The line of JSON.
-fn object_of(alloc: Global, ended: &Ended, line: &MemorySink) -> Result<String, NoMemory>
-    ensures { IfOk result (λ text. IsObjectOf ended.now.status line.now.bytes.items (string_bytes text)) }
+fn object_of(alloc: Global, outcome: Outcome, reason: &Option<String>) -> Result<String, NoMemory>
+    ensures { IfOk result (λ text. IsObjectOf outcome (string_bytes text)) }
 {
-    let reason = match &ended.line {
+    let reason = match reason {
         Some(reason) => Some(reason.as_str()),
         None => None,
     };
-    let told = Told::of(ended.status, line_in(line.bytes.as_slice()), reason);
-    format_told(alloc, &told)
+    format_told(alloc, outcome, reason)
 }
 
-/// The line that was written, without its line feed; empty where nothing was written.
-fn line_in(written: &[u8]) -> &str
-    ensures { IsLineIn written.now result.now }
-{
-    match std::str::from_utf8(written) {
-        Ok(text) => without_feed(text),
-        Err(_) => "",
-    }
-}
-
-/// A text without the line feed at its end.
-fn without_feed(text: &str) -> &str
-    ensures { IsWithoutFeed text.now result.now }
-{
-    match text.strip_suffix('\n') {
-        Some(line) => line,
-        None => text,
-    }
-}
-
-/// Writes an object that tells how a run ended. Where that can't be written, this is told on standard error, and else what the run has
-/// to tell.
+/// Writes an object that tells how a run ended. Where that can't be written, this is told on standard error, and else the reason.
 fn end_told<'a, G: Given<'a>, W: Made>(
     alloc: Global,
     given: &mut G,
     output: W,
-    ended: Ended,
+    status: u8,
     object: String,
+    reason: Option<String>,
 ) -> Ran<W>
     requires { W.failed output ≡ 0 }
-    ensures { Says ended.status (string_bytes object) (sink_over W.taken W.failed output result.output) result.status }
+    ensures { Says status (string_bytes object) (sink_over W.taken W.failed output result.output) result.status }
 {
-    let Ended { status, line } = ended;
     let ran = say(output, status, object.as_bytes());
     let failed = failure_line(alloc, ran.status, ran.output.failure());
-    tell(given, failed.or(line));
+    tell(given, failed.or(reason));
     ran
-}
-
-/// Ends a run in which a device failed, and for whose object there is no memory.
-fn end_silently<'a, G: Given<'a>, W: Made>(given: &mut G, output: W, ended: Ended) -> Ran<W>
-    requires { W.failed output ≡ 0 }
-    ensures { Says DEVICE [] (sink_over W.taken W.failed output result.output) result.status }
-{
-    let Ended { status: _, line } = ended;
-    tell(given, line);
-    say(output, DEVICE, b"")
 }

@@ -1,14 +1,13 @@
-//! What a command is given, and how any command ends: what is told, on which output, and with which status, its line as an object of
+//! What a command is given, and how any command ends: what is told, on which output, and with which status, an outcome as an object of
 //! JSON too, for whoever reads it by a program; and why what it read is refused.
 #![tactic(auto)]
 
 pub mod devices;
 mod files;
 pub mod json;
-mod line;
+mod object;
 pub mod reason;
 mod refused;
-pub mod report;
 pub mod told;
 
 pub use devices::{Given, Made, Opened};

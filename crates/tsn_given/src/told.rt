@@ -6,7 +6,8 @@ ghost use Rattle.tsn_given.specs.Runs.{Says};
 use crate::devices::{Given, Made};
 use crate::reason::failure_line;
 use std::alloc::Global;
-use tsn_device::device::write_all;
+use tsn_device::device::{ReadFault, write_all};
+use tsn_run::Answer;
 use tsn_run::run::DEVICE;
 
 /// How a command ended: its status, and standard output as the command left it.
@@ -23,10 +24,17 @@ pub struct Ended {
     pub line: Option<String>,
 }
 
-/// How a run over a network ended, and its source.
+/// What a run answers, and the line on standard error that says why.
+#[derive(Drop)]
+pub struct Told {
+    pub answer: Result<Answer, ReadFault>,
+    pub reason: Option<String>,
+}
+
+/// What a run over a network answers, and its source.
 #[derive(Drop)]
 pub struct NetworkRun<S> {
-    pub status: u8,
+    pub answer: Result<Answer, ReadFault>,
     pub network: S,
 }
 

@@ -19,13 +19,18 @@ use Rattle.tsn_answer.specs.declared.effort.Effort.{Effort}
 use Rattle.tsn_answer.specs.declared.found.Found.{Found}
 use Rattle.tsn_answer.specs.declared.found.Found.TheVariants as found
 use Rattle.tsn_answer.specs.Answer.{IsArgued, IsFinished, IsFound, IsFoundBy, IsFoundPlan, MayArgue, plan_kept}
+use Rattle.tsn_run.specs.declared.answer.Answer.{Answer}
 use Rattle.tsn_run.specs.declared.stop.Stop.{Stop}
+use Rattle.tsn_run.specs.Outcome.{outcome_of}
 use Rattle.tsn_plan_output.specs.declared.plan_output.PlanOutput.{PlanOutput}
 use Rattle.tsn_plan_output.specs.declared.plan_output.Written.{Written}
 use Rattle.tsn_plan_output.specs.declared.plan_output.Written.TheVariants.{Argued}
 use Rattle.tsn_run.specs.Run.{Output, Command, Reading, GivesFile, IsOutput}
 use Rattle.tsn_plan_output.specs.PlanOutput.{HasFormIfAny, IsCut, IsPrinted, cert_bytes, printed, stop_in, written_in}
-use Rattle.tsn_plan_output.specs.Plan.{IsTreeOf, IsWanted, PlanAnswers, PlanStops, ShowsIfAny, TellsPlan, TellsStop, finished_output, found_status, optimal_line, stopped_output, stop_of}
+use Rattle.tsn_run.specs.declared.outcome.Outcome.{Outcome}
+use Rattle.tsn_run.specs.Said.{line_of, status_of, stop_of}
+use Rattle.tsn_plan_output.specs.Plan.{IsTreeOf, IsWanted, PlanAnswers, PlanStops, ShowsIfAny, TellsPlan, TellsStop, finished_output, found_outcome, stop_for, stopped_output}
+use Rattle.tsn_run.proofs.SaidLemmas.{stop_known}
 use Rattle.tsn_plan_output.proofs.TreeLemmas.{cert_is_there}
 
 abbrev three : ℕ → List ℕ → List ℕ → List ℕ → Output
@@ -66,34 +71,33 @@ tree_if_any network effort book (Some (certificate.Tree cert)) finished is = (fi
 tree_if_any network effort book (Some (certificate.Argument argument)) finished is = absurd is
 
 -- what is printed of a plan that was found tells of it
-tells_plan : (network : Network) (effort : Effort) (wanted : Bool) (found : Plan) (count status : ℕ) (plan : List ℕ)
-    (cert : Option Certificate) (line : List ℕ) → IsFoundPlan network found → ShowsIfAny network effort found cert count → is_some cert ≡ wanted
-    → status ≡ found_status found → plan ≡ plan_text found → line ≡ optimal_line found count
-    → (shown : Output) → ((shown ≡ three status plan (cert_bytes cert) line) × HasFormIfAny cert) ⊎ IsCut plan cert shown
+tells_plan : (network : Network) (effort : Effort) (wanted : Bool) (found : Plan) (count : ℕ) (answered : Outcome) (plan : List ℕ)
+    (cert : Option Certificate) → IsFoundPlan network found → ShowsIfAny network effort found cert count → is_some cert ≡ wanted
+    → answered ≡ found_outcome found count → plan ≡ plan_text found
+    → (shown : Output) → ((shown ≡ three (status_of answered) plan (cert_bytes cert) (line_of answered)) × HasFormIfAny cert) ⊎ IsCut plan cert shown
     → TellsPlan network effort wanted shown
-tells_plan network effort wanted found count status plan cert line is_found shows is_wanted is_status is_plan is_line shown (inl is) =
-    let texts : three status plan (cert_bytes cert) line ≡ finished_output found cert count =
-    ap (λ s. three s plan (cert_bytes cert) line) is_status
-    ∙ ap (λ p. three (found_status found) p (cert_bytes cert) line) is_plan
-    ∙ ap (λ l. three (found_status found) (plan_text found) (cert_bytes cert) l) is_line in
+tells_plan network effort wanted found count answered plan cert is_found shows is_wanted is_outcome is_plan shown (inl is) =
+    let texts : three (status_of answered) plan (cert_bytes cert) (line_of answered) ≡ finished_output found cert count =
+    ap (λ (o : Outcome). three (status_of o) plan (cert_bytes cert) (line_of o)) is_outcome
+    ∙ ap (λ p. three (status_of (found_outcome found count)) p (cert_bytes cert) (line_of (found_outcome found count))) is_plan in
     (found, (cert, (count, is_wanted, is_found, shows, inl (is.0 ∙ texts, is.1))))
-tells_plan network effort wanted found count status plan cert line is_found shows is_wanted is_status is_plan is_line shown (inr cut) =
+tells_plan network effort wanted found count answered plan cert is_found shows is_wanted is_outcome is_plan shown (inr cut) =
     let told : IsCut (plan_text found) cert shown = subst (λ p. IsCut p cert shown) is_plan cut in
     (found, (cert, (count, is_wanted, is_found, shows, inr told)))
 
 -- what is printed of a finished search tells of it
-pub tells_finished : (network : Network) (effort : Effort) (book : Progress) (wanted : Bool) (status : ℕ) (plan : List ℕ)
-    (cert : Option Certificate) (line : List ℕ) → IsFinished network effort.limit book
-    → status ≡ found_status (plan_kept book.network (kept_of book.network book.history))
+pub tells_finished : (network : Network) (effort : Effort) (book : Progress) (wanted : Bool) (answered : Outcome) (plan : List ℕ)
+    (cert : Option Certificate) → IsFinished network effort.limit book
+    → answered ≡ found_outcome (plan_kept book.network (kept_of book.network book.history)) (length book.history)
     → plan ≡ plan_text (plan_kept book.network (kept_of book.network book.history))
-    → line ≡ optimal_line (plan_kept book.network (kept_of book.network book.history)) (length book.history)
-    → IsWanted wanted book cert → (shown : Output) → ((shown ≡ three status plan (cert_bytes cert) line) × HasFormIfAny cert) ⊎ IsCut plan cert shown
+    → IsWanted wanted book cert
+    → (shown : Output) → ((shown ≡ three (status_of answered) plan (cert_bytes cert) (line_of answered)) × HasFormIfAny cert) ⊎ IsCut plan cert shown
     → TellsPlan network effort wanted shown
-tells_finished network effort book wanted status plan cert line finished is_status is_plan is_line is_cert shown is =
+tells_finished network effort book wanted answered plan cert finished is_outcome is_plan is_cert shown is =
     let own : IsFinished book.network effort.limit book = subst (λ (n : Network). IsFinished n effort.limit book) (sym finished.same_network) finished in
     subst (λ (n : Network). TellsPlan n effort wanted shown) finished.same_network
-    (tells_plan book.network effort wanted (plan_kept book.network (kept_of book.network book.history)) (length book.history) status plan cert line own.found
-    (tree_if_any book.network effort book cert own is_cert.1) is_cert.0 is_status is_plan is_line shown is)
+    (tells_plan book.network effort wanted (plan_kept book.network (kept_of book.network book.history)) (length book.history) answered plan cert own.found
+    (tree_if_any book.network effort book cert own is_cert.1) is_cert.0 is_outcome is_plan shown is)
 
 -- the argument shows it, whether or not it is written
 argument_if_any : (network : Network) (effort : Effort) (plan : Plan) (argument : Argument) (wanted : Bool) → IsArgued network effort.limit plan argument
@@ -106,20 +110,21 @@ is_wanted argument true = refl
 is_wanted argument false = refl
 
 -- what is printed of a plan with an argument tells of it
-pub tells_argued : (network : Network) (effort : Effort) (plan : Plan) (argument : Argument) (wanted : Bool) (status : ℕ) (text : List ℕ) (cert : Option Written)
-    (line : List ℕ) (count : ℕ) → IsArgued network effort.limit plan argument → MayArgue effort.method effort.limit → count ≡ length argument.steps
+pub tells_argued : (network : Network) (effort : Effort) (plan : Plan) (argument : Argument) (wanted : Bool) (answered : Outcome) (text : List ℕ)
+    (cert : Option Written) (count : ℕ) → IsArgued network effort.limit plan argument → MayArgue effort.method effort.limit → count ≡ length argument.steps
     → cert ≡ (if wanted then Some (Argued argument) else None)
-    → status ≡ found_status plan → text ≡ plan_text plan → line ≡ optimal_line plan count
-    → (shown : Output) → ((shown ≡ three status text (cert_bytes (written_in cert)) line) × HasFormIfAny (written_in cert)) ⊎ IsCut text (written_in cert) shown
+    → answered ≡ found_outcome plan count → text ≡ plan_text plan
+    → (shown : Output) → ((shown ≡ three (status_of answered) text (cert_bytes (written_in cert)) (line_of answered)) × HasFormIfAny (written_in cert))
+    ⊎ IsCut text (written_in cert) shown
     → TellsPlan network effort wanted shown
-tells_argued network effort plan argument wanted status text cert line count argued may is_count is_cert is_status is_text is_line shown is =
+tells_argued network effort plan argument wanted answered text cert count argued may is_count is_cert is_outcome is_text shown is =
     let kept : Option Certificate = written_in cert in
     let shows : ShowsIfAny network effort plan kept count =
     subst (λ (c : Option Written). ShowsIfAny network effort plan (written_in c) count) (sym is_cert)
     (subst (λ n. ShowsIfAny network effort plan (written_in (if wanted then Some (Argued argument) else None)) n) (sym is_count)
     (argument_if_any network effort plan argument wanted argued may)) in
     let asked : is_some kept ≡ wanted = ap (λ (c : Option Written). is_some (written_in c)) is_cert ∙ is_wanted argument wanted in
-    tells_plan network effort wanted plan count status text kept line argued.0 shows asked is_status is_text is_line shown is
+    tells_plan network effort wanted plan count answered text kept argued.0 shows asked is_outcome is_text shown is
 
 -- an argument is written only where it is wanted
 pub argument_wanted : (argument : Argument) (wanted : Bool) (cert : Option Written) → cert ≡ (if wanted then Some (Argued argument) else None)
@@ -153,24 +158,24 @@ told_argued (Err fault) left plan argument wanted same tells = tt
 
 -- a search that was stopped, with what is known then, tells of it
 tells_stop : (output : PlanOutput) (left : Found) (book : Progress) (known : Known) (count : ℕ) → left ≡ found.Stopped book known → count ≡ length book.history
-    → printed (Ok output) ≡ stopped_output known.best count
-    → (network : Network) (limit : ℕ) → IsFound network limit left → TellsStop network limit (stop_of known) (printed (Ok output))
+    → printed (Ok output) ≡ stopped_output known count
+    → (network : Network) (limit : ℕ) → IsFound network limit left → TellsStop network limit (stop_for known) (printed (Ok output))
 tells_stop output left book known count same counted is network limit found =
-    (book, (known, subst (λ (l : Found). IsFound network limit l) same found, refl, is ∙ ap (λ n. stopped_output known.best n) counted))
+    (book, (known, subst (λ (l : Found). IsFound network limit l) same found, refl, is ∙ ap (λ n. stopped_output known n) counted))
 
 pub told_stopped : (result : Result PlanOutput NoMemory) (left : Found) (book : Progress) (known : Known) (count : ℕ) (wanted : Bool)
     → left ≡ found.Stopped book known → count ≡ length book.history
-    → IfOk result (λ output. printed (Ok output) ≡ stopped_output known.best count) → IfOk result (λ output. output.cert ≡ None)
+    → IfOk result (λ output. printed (Ok output) ≡ stopped_output known count) → IfOk result (λ output. output.cert ≡ None)
     → Tells result left wanted
 told_stopped (Ok output) left book known count wanted same counted is none = λ network effort found by shown prints.
     let alone : shown ≡ printed (Ok output) = printed_alone output shown none prints in
-    inr (stop_of known, subst (λ (o : Output). TellsStop network effort.limit (stop_of known) o) (sym alone) (tells_stop output left book known count same counted is network effort.limit found))
+    inr (stop_for known, subst (λ (o : Output). TellsStop network effort.limit (stop_for known) o) (sym alone) (tells_stop output left book known count same counted is network effort.limit found))
 told_stopped (Err fault) left book known count wanted same counted is none = tt
 
 pub stops_stopped : (result : Result PlanOutput NoMemory) (left : Found) (book : Progress) (known : Known) (count : ℕ)
     → left ≡ found.Stopped book known → count ≡ length book.history
-    → IfOk result (λ output. printed (Ok output) ≡ stopped_output known.best count) → IfOk result (λ output. output.stop ≡ Some (stop_of known))
-    → IfOk result (λ output. IfSome output.stop (λ stop. (network : Network) (limit : ℕ) → IsFound network limit left → TellsStop network limit stop (printed (Ok output))))
+    → IfOk result (λ output. printed (Ok output) ≡ stopped_output known count) → IfOk result (λ output. stop_in (Ok output) ≡ Some (stop_for known))
+    → IfOk result (λ output. IfSome (stop_in (Ok output)) (λ stop. (network : Network) (limit : ℕ) → IsFound network limit left → TellsStop network limit stop (printed (Ok output))))
 stops_stopped (Ok output) left book known count same counted is stop =
     let told = tells_stop output left book known count same counted is in
     subst (λ (s : Option Stop). IfSome s (λ stop. (network : Network) (limit : ℕ) → IsFound network limit left → TellsStop network limit stop (printed (Ok output))))
@@ -188,10 +193,10 @@ told_found (Err fault) left problem effort wanted file states is by tells = tt
 -- and so does what is known where it was stopped
 pub stops_found : (result : Result PlanOutput NoMemory) (left : Found) (problem : NamedNetwork) (limit : ℕ) (file : List ℕ) → States file problem
     → IsFound problem.network limit left
-    → IfOk result (λ output. IfSome output.stop (λ stop. (network : Network) (limit : ℕ) → IsFound network limit left → TellsStop network limit stop (printed (Ok output))))
-    → IfOk result (λ output. IfSome output.stop (λ stop. PlanStops limit stop (file ∷ []) (printed (Ok output))))
+    → IfOk result (λ output. IfSome (stop_in (Ok output)) (λ stop. (network : Network) (limit : ℕ) → IsFound network limit left → TellsStop network limit stop (printed (Ok output))))
+    → IfOk result (λ output. IfSome (stop_in (Ok output)) (λ stop. PlanStops limit stop (file ∷ []) (printed (Ok output))))
 stops_found (Err fault) left problem limit file states is tells = tt
-stops_found (Ok output) left problem limit file states is tells = stopped output.stop tells
+stops_found (Ok output) left problem limit file states is tells = stopped (stop_in (Ok output)) tells
   where
     stopped : (stop : Option Stop) → IfSome stop (λ s. (network : Network) (limit : ℕ) → IsFound network limit left → TellsStop network limit s (printed (Ok output)))
         → IfSome stop (λ s. PlanStops limit s (file ∷ []) (printed (Ok output)))
@@ -199,24 +204,16 @@ stops_found (Ok output) left problem limit file states is tells = stopped output
     stopped (Some stop) told = (problem, states, told problem.network limit is)
 
 -- what holds of a plan that was found isn't known of a stop
-pub stops_none : (result : Result PlanOutput NoMemory) (P : PlanOutput → Stop → Type 0) → IfOk result (λ output. output.stop ≡ None)
-    → IfOk result (λ output. IfSome output.stop (P output))
+pub stops_none : (result : Result PlanOutput NoMemory) (P : PlanOutput → Stop → Type 0) → IfOk result (λ output. stop_in (Ok output) ≡ None)
+    → IfOk result (λ output. IfSome (stop_in (Ok output)) (P output))
 stops_none (Ok output) P none = subst (λ (stop : Option Stop). IfSome stop (P output)) (sym none) tt
 stops_none (Err fault) P none = tt
 
--- a status that isn't that of a stop
-pub no_stop : (stop : Option Stop) (status : ℕ) → stop ≡ None → (status ≡ 5 → ⊥) → is_some stop ≡ nat_eq status 5
-no_stop stop status none other =
-    elim (eqb_tells status 5) [
-      | inl same ↦ absurd (other same.1)
-      | inr differs ↦ ap is_some none ∙ sym differs.0
-    ]
-
 -- a file was read, and the search that it asks for was stopped
 pub took_stop : (limit : ℕ) (reading : Reading) (bytes : List ℕ) (output : PlanOutput) → GivesFile reading bytes
-    → IfSome output.stop (λ stop. PlanStops limit stop (bytes ∷ []) (printed (Ok output)))
-    → IfSome output.stop (λ stop. IsOutput (PlanStops limit stop) (reading ∷ []) (printed (Ok output)))
-took_stop limit reading bytes output gives stops = each output.stop stops
+    → IfSome (stop_in (Ok output)) (λ stop. PlanStops limit stop (bytes ∷ []) (printed (Ok output)))
+    → IfSome (stop_in (Ok output)) (λ stop. IsOutput (PlanStops limit stop) (reading ∷ []) (printed (Ok output)))
+took_stop limit reading bytes output gives stops = each (stop_in (Ok output)) stops
   where
     each : (stop : Option Stop) → IfSome stop (λ s. PlanStops limit s (bytes ∷ []) (printed (Ok output)))
         → IfSome stop (λ s. IsOutput (PlanStops limit s) (reading ∷ []) (printed (Ok output)))
@@ -229,8 +226,7 @@ took_stop limit reading bytes output gives stops = each output.stop stops
 pub stop_printed : (outcome : Result PlanOutput ReadFault) (shown : Output) → IsPrinted outcome shown → shown.status ≡ 5
     → IsTrue (is_some (stop_in outcome)) × (shown ≡ printed outcome)
 stop_printed (Ok output) shown (inl (is, form)) five =
-    let status : output.status ≡ 5 = ap (λ (o : Output). o.status) (sym is) ∙ five in
-    (output.stopped ∙ ap (λ n. nat_eq n 5) status, is)
+    (stop_known output.answer.outcome (ap (λ (o : Output). o.status) (sym is) ∙ five), is)
 stop_printed (Ok output) shown (inr cut) five = absurd (no_cut (written_in output.cert) cut)
   where
     no_cut : (cert : Option Certificate) → IsCut (string_bytes output.plan) cert shown → ⊥
@@ -244,7 +240,15 @@ stop_printed (Err Broken) shown is five = absurd (omega (arith, ap (λ (o : Outp
 
 -- what is known where it was stopped is what the answer tells
 pub stop_answered : (limit : ℕ) (readings : List Reading) (outcome : Result PlanOutput ReadFault) (stop : Stop) → stop_in outcome ≡ Some stop
-    → IfOk outcome (λ output. IfSome output.stop (λ s. IsOutput (PlanStops limit s) readings (printed outcome)))
+    → IfOk outcome (λ output. IfSome (stop_in (Ok output)) (λ s. IsOutput (PlanStops limit s) readings (printed outcome)))
     → IsOutput (PlanStops limit stop) readings (printed outcome)
 stop_answered limit readings (Ok output) stop is told = subst (λ (s : Option Stop). IfSome s (λ s. IsOutput (PlanStops limit s) readings (printed (Ok output)))) is told
 stop_answered limit readings (Err fault) stop is told = cc
+
+-- what is known where the search was stopped is what is told then
+pub kept_stop : (outcome : Result PlanOutput ReadFault) (answer : Result Answer ReadFault) (stop : Stop)
+    → IfOk answer (λ a. stop_of a.outcome ≡ stop_in outcome) → stop_of (outcome_of answer) ≡ Some stop → stop_in outcome ≡ Some stop
+kept_stop outcome (Ok answer) stop same is = sym same ∙ is
+kept_stop outcome (Err TooLong) stop same is = cc
+kept_stop outcome (Err Memory) stop same is = cc
+kept_stop outcome (Err Broken) stop same is = cc

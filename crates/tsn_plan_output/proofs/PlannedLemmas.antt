@@ -24,12 +24,13 @@ use Rattle.tsn_argue.specs.Certified.{Certifies, certificate_verdict}
 use Rattle.tsn_argue.specs.Laws.{FirstFaultsRefute}
 use Rattle.tsn_answer.specs.declared.effort.Effort.{Effort}
 use Rattle.tsn_answer.specs.Answer.{Shows, whole_verdict, IsWhole}
-use Rattle.tsn_run.specs.Run.{Output, IsLine}
-use Rattle.tsn_run.specs.Check.{CheckAnswers, accepted_line}
+use Rattle.tsn_run.specs.Run.{Output}
+use Rattle.tsn_run.specs.Refusal.{IsOutcome}
+use Rattle.tsn_run.specs.Check.{CheckAnswers, accepted}
 use Rattle.tsn_plan_output.specs.Plan.{TellsPlan}
 use Rattle.tsn_plan_output.specs.PlanOutput.{HasForm}
 use Rattle.tsn_plan_output.specs.PlanLaws.{PlannedIsAccepted}
-use Rattle.tsn_run.proofs.Accepting.{accepted}
+use Rattle.tsn_run.proofs.Accepting.{certificate_accepted}
 
 abbrev IsDone : ℕ → Type 0
 IsDone status = (status ≡ 0) ⊎ (status ≡ 4)
@@ -73,22 +74,22 @@ module _ (refutes : FirstFaultsRefute) (plans_fit : RightPlansFit) (trees_fit : 
       → limit ≤ max_number → States network_file problem → Shows problem.network limit stated whole count → HasForm whole
       → plan_file ≡ plan_text stated → cert_file ≡ certificate_text whole
       → CheckAnswers (network_file ∷ plan_file ∷ cert_file ∷ []) checked
-      → (plan : Plan) × (plan_in plan_file ≡ Ok plan) × IsLine 0 (accepted_line (whole_verdict plan) plan) checked
+      → (plan : Plan) × (plan_in plan_file ≡ Ok plan) × IsOutcome (accepted (whole_verdict plan) plan) checked
   shown limit network_file plan_file cert_file checked problem stated whole count few states shows form is_plan is_cert answers =
       let formed = formed_by network_file problem states in
       let right = right_by problem.network stated whole shows.certifies in
       let reads : plan_in plan_file ≡ Ok stated = ap plan_in is_plan ∙ plan_read stated (plans_fit problem.network stated formed right) in
       let cert : certificate_in cert_file ≡ Ok whole =
       ap certificate_in is_cert ∙ read_by trees_fit cert_read problem.network limit stated whole count formed few shows form in
-      let line = accepted refutes network_file plan_file cert_file problem stated whole checked states reads shows.certifies cert answers in
-      (stated, reads, subst (λ v. IsLine 0 (accepted_line v stated) checked) (verdict_by stated whole shows.whole) line)
+      let line = certificate_accepted refutes network_file plan_file cert_file problem stated whole checked states reads shows.certifies cert answers in
+      (stated, reads, subst (λ v. IsOutcome (accepted v stated) checked) (verdict_by stated whole shows.whole) line)
 
   -- what tells of a plan
   told : (effort : Effort) (network_file plan_file cert_file : List ℕ) (output checked : Output) (problem : NamedNetwork) → effort.limit ≤ max_number
       → States network_file problem → TellsPlan problem.network effort true output → IsDone output.status
       → slice_get output.texts 0 ≡ Some plan_file → slice_get output.texts 1 ≡ Some cert_file
       → CheckAnswers (network_file ∷ plan_file ∷ cert_file ∷ []) checked
-      → (plan : Plan) × (plan_in plan_file ≡ Ok plan) × IsLine 0 (accepted_line (whole_verdict plan) plan) checked
+      → (plan : Plan) × (plan_in plan_file ≡ Ok plan) × IsOutcome (accepted (whole_verdict plan) plan) checked
   told effort network_file plan_file cert_file output checked problem few states (stated, (None, (count, some, found, shows, tells))) done is_plan is_cert answers =
       absurd (cc)
   told effort network_file plan_file cert_file output checked problem few states (stated, (Some whole, (count, some, found, shows, inr cut))) done is_plan is_cert

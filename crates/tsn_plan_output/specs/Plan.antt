@@ -1,11 +1,10 @@
 -- What `plan` answers.
---     optimal_line, settled_line, stopped_line     its lines
---     finished_output, stopped_output              the texts of what was found
+--     found_outcome                what is answered of a plan that was found
+--     finished_output, stop_for, stopped_output    the texts of what was found, and what is known where the search was stopped
 --     ShowsBy, ShowsIfAny, IsTreeOf, IsWanted      a certificate, if one is written
 --     TellsPlan, TellsStop                         an output that tells of a search of the network
---     stop_of                                      what is told of what a search knows
 --     PlanAnswers, PlanStops                       the answer to the file read
-use Rattle.std.specs.Prelude.{◌≡◌, ◌⊎◌, ℕ, Bool, List, [], ◌∷◌, ◌++◌, codes, decimal, length, MatchOption, Option, Some, None, is_some, option_map}
+use Rattle.std.specs.Prelude.{◌≡◌, ◌⊎◌, ℕ, Bool, List, [], ◌∷◌, length, MatchOption, Option, Some, None, is_some, option_map}
 use Rattle.tsn_model.specs.Network.{Network}
 use Rattle.tsn_timing.specs.Solution.{Solution}
 use Rattle.tsn_net.specs.File.{States}
@@ -20,45 +19,40 @@ use Rattle.tsn_answer.specs.declared.known.Known.{Known}
 use Rattle.tsn_answer.specs.declared.effort.Effort.{Effort}
 use Rattle.tsn_answer.specs.Answer.{IsCertificateBy, IsCertOf, IsFoundPlan, IsStoppedWith, Shows}
 use Rattle.tsn_run.specs.declared.stop.Stop.{Stop}
+use Rattle.tsn_run.specs.declared.outcome.Outcome.{Outcome}
+use Rattle.tsn_run.specs.declared.outcome.Outcome.TheVariants.{Optimal, NoSchedule, Stopped}
 use Rattle.tsn_run.specs.Run.{Output, Command}
+use Rattle.tsn_run.specs.Said.{line_of, status_of}
 use Rattle.tsn_plan_output.specs.PlanOutput.{cert_bytes, HasFormIfAny, IsCut}
 use Rattle.tsn_run.specs.Refusal.{RefusesNetwork}
 
--- how many nodes were settled, or steps there are, and the line's end
-abbrev pub settled_text : ℕ → List ℕ
-settled_text count = codes " settled " ++ decimal count ++ codes "\n"
-
--- what is said of a plan that was found; of a plan that there is none, as of no schedule
-abbrev pub optimal_line : Plan → ℕ → List ℕ
-optimal_line (plan.Schedule span offsets) count = codes "optimal " ++ decimal span ++ settled_text count
-optimal_line plan.None count = codes "no schedule" ++ settled_text count
-
--- the status of a plan that was found
-abbrev pub found_status : Plan → ℕ
-found_status (plan.Schedule span offsets) = 0
-found_status plan.None = 4
+-- what is answered of a plan that was found, after so many nodes were settled, or by so many steps; of a plan that there is none, as of no schedule
+abbrev pub found_outcome : Plan → ℕ → Outcome
+found_outcome (plan.Schedule span offsets) count = Optimal span count
+found_outcome plan.None count = NoSchedule count
 
 -- the best plan of a search that was stopped, if it has one
 abbrev pub best_plan_text : Option Solution → List ℕ
 best_plan_text None = []
 best_plan_text (Some best) = plan_text (plan.Schedule best.flowspan best.offsets)
 
-abbrev pub best_text : Option Solution → List ℕ
-best_text None = codes "none"
-best_text (Some best) = decimal best.flowspan
-
 -- what a finished search is told by: the plan file, the certificate file, if one is written, and the line
 abbrev pub finished_output : Plan → Option Certificate → ℕ → Output
-finished_output plan certificate count =
-    record { status = found_status plan; texts = plan_text plan ∷ cert_bytes certificate ∷ optimal_line plan count ∷ [] }
+finished_output plan certificate count = record {
+  status = status_of (found_outcome plan count);
+  texts = plan_text plan ∷ cert_bytes certificate ∷ line_of (found_outcome plan count) ∷ [];
+}
 
--- what is said of a search that was stopped
-abbrev pub stopped_line : Option Solution → ℕ → List ℕ
-stopped_line best count = codes "stopped " ++ best_text best ++ settled_text count
+-- what is told of what a search knows: the flowspan of its best schedule, if any, and the bound
+abbrev pub stop_for : Known → Stop
+stop_for known = record { best = option_map (λ solution. solution.flowspan) known.best; bound = known.bound }
 
--- what it is told by: its best schedule, and how many nodes were settled
-abbrev pub stopped_output : Option Solution → ℕ → Output
-stopped_output best count = record { status = 5; texts = best_plan_text best ∷ [] ∷ stopped_line best count ∷ [] }
+-- what a search that was stopped is told by: its best schedule, if any, and what is known and how many nodes were settled
+abbrev pub stopped_output : Known → ℕ → Output
+stopped_output known count = record {
+  status = status_of (Stopped (stop_for known) count);
+  texts = best_plan_text known.best ∷ [] ∷ line_of (Stopped (stop_for known) count) ∷ [];
+}
 
 -- the certificate is of the kind that was asked for, and shows what the plan says, by so many nodes or steps, at most the limit
 abbrev pub ShowsBy : Network → Effort → Plan → Certificate → ℕ → Type 0
@@ -86,15 +80,11 @@ TellsPlan network effort wanted output =
     × ShowsIfAny network effort plan certificate count
     × (((output ≡ finished_output plan certificate count) × HasFormIfAny certificate) ⊎ IsCut (plan_text plan) certificate output)))
 
--- what is told of what a search knows: the flowspan of its best schedule, if any, and the bound
-abbrev pub stop_of : Known → Stop
-stop_of known = record { best = option_map (λ solution. solution.flowspan) known.best; bound = known.bound }
-
 -- it tells of a search that was stopped at its limit, where so much was known; the count is of the nodes that were settled
 abbrev pub TellsStop : Network → ℕ → Stop → Output → Type 0
 TellsStop network limit stop output =
-    (book : Progress) × ((known : Known) × IsStoppedWith network limit book known × (stop ≡ stop_of known)
-    × (output ≡ stopped_output known.best (length book.history)))
+    (book : Progress) × ((known : Known) × IsStoppedWith network limit book known × (stop ≡ stop_for known)
+    × (output ≡ stopped_output known (length book.history)))
 
 -- the answer to a network file, where so much is to be done and a certificate is wanted or not
 abbrev pub PlanAnswers : Effort → Bool → Command

@@ -5,9 +5,10 @@ use Rattle.tsn_cert.specs.Plan.{plan_in}
 use Rattle.tsn_cert.specs.declared.plan.Plan.{Plan}
 use Rattle.tsn_answer.specs.declared.effort.Effort.{Effort}
 use Rattle.tsn_answer.specs.Answer.{whole_verdict}
-use Rattle.tsn_run.specs.Run.{Output, IsLine}
+use Rattle.tsn_run.specs.Run.{Output}
+use Rattle.tsn_run.specs.Refusal.{IsOutcome}
 use Rattle.tsn_plan_output.specs.Plan.{PlanAnswers}
-use Rattle.tsn_run.specs.Check.{CheckAnswers, accepted_line}
+use Rattle.tsn_run.specs.Check.{CheckAnswers, accepted}
 
 -- where `plan` has found a plan, or that there is none, and has written its certificate, whatever `check` answers to the network file and these two texts is
 -- that they are accepted: as the first plan, or as no schedule
@@ -16,4 +17,4 @@ PlannedIsAccepted = (effort : Effort) (network_file plan_file cert_file : List �
     → PlanAnswers effort true (network_file ∷ []) output → (output.status ≡ 0) ⊎ (output.status ≡ 4)
     → slice_get output.texts 0 ≡ Some plan_file → slice_get output.texts 1 ≡ Some cert_file
     → CheckAnswers (network_file ∷ plan_file ∷ cert_file ∷ []) checked
-    → (plan : Plan) × (plan_in plan_file ≡ Ok plan) × IsLine 0 (accepted_line (whole_verdict plan) plan) checked
+    → (plan : Plan) × (plan_in plan_file ≡ Ok plan) × IsOutcome (accepted (whole_verdict plan) plan) checked

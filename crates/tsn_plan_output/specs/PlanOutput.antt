@@ -17,7 +17,10 @@ use Rattle.tsn_argument.specs.declared.certificate.Certificate.TheVariants.{Tree
 use Rattle.tsn_cert.specs.Laws.{AreInGrammar}
 use Rattle.tsn_argument.specs.Certificate.{certificate_text}
 use Rattle.tsn_run.specs.declared.stop.Stop.{Stop}
+use Rattle.tsn_run.specs.declared.outcome.Outcome.{Outcome}
+use Rattle.tsn_run.specs.declared.outcome.Outcome.TheVariants as ends
 use Rattle.tsn_run.specs.Run.{Output}
+use Rattle.tsn_run.specs.Said.{line_of, status_of, stop_of}
 
 -- the certificate that is to be written
 abbrev pub certificate_of : Written → Certificate
@@ -44,17 +47,19 @@ abbrev pub HasFormIfAny : Option Certificate → Type 0
 HasFormIfAny None = Unit {0}
 HasFormIfAny (Some certificate) = HasForm certificate
 
--- a line, with nothing in the other texts
-abbrev pub line_alone : ℕ → List ℕ → Output
-line_alone status line = record { status = status; texts = [] ∷ [] ∷ line ∷ [] }
+-- the line of an outcome, with nothing in the other texts
+abbrev pub line_alone : Outcome → Output
+line_alone outcome = record { status = status_of outcome; texts = [] ∷ [] ∷ line_of outcome ∷ [] }
 
 -- what such a run has to print
 abbrev pub printed : Result PlanOutput ReadFault → Output
-printed (Ok output) =
-    record { status = output.status; texts = string_bytes output.plan ∷ cert_bytes (written_in output.cert) ∷ string_bytes output.line ∷ [] }
-printed (Err TooLong) = line_alone 3 (codes "too long\n")
-printed (Err Memory) = line_alone 7 (codes "no memory\n")
-printed (Err Broken) = line_alone 8 []
+printed (Ok output) = record {
+  status = status_of output.answer.outcome;
+  texts = string_bytes output.plan ∷ cert_bytes (written_in output.cert) ∷ line_of output.answer.outcome ∷ [];
+}
+printed (Err TooLong) = line_alone ends.TooLong
+printed (Err Memory) = line_alone ends.NoMemory
+printed (Err Broken) = line_alone ends.Failed
 
 -- the plan, a beginning of the certificate, and the line that says that memory was refused
 abbrev pub IsCut : List ℕ → Option Certificate → Output → Type 0
@@ -70,5 +75,5 @@ IsPrinted (Err fault) shown = shown ≡ printed (Err fault)
 
 -- what is known where the search was stopped
 abbrev pub stop_in : Result PlanOutput ReadFault → Option Stop
-stop_in (Ok output) = output.stop
+stop_in (Ok output) = stop_of output.answer.outcome
 stop_in (Err fault) = None

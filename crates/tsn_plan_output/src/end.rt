@@ -1,14 +1,8 @@
 //! How a run of `plan` ended.
 ghost use Rattle.std.specs.Prelude.{◌≡◌, IsTrue, is_some};
-ghost use Rattle.tsn_plan_output.specs.PlanOutput.{stop_in};
 
-use crate::plan_output::PlanOutput;
-use tsn_device::device::ReadFault;
 use tsn_run::Stop;
 use tsn_run::run::STOPPED;
-
-/// There is no schedule.
-pub const NO_SCHEDULE: u8 = 4;
 
 /// How a run of `plan` ended: its status, and what is known where that is `STOPPED`.
 #[derive(Clone, Copy)]
@@ -28,15 +22,5 @@ impl PlanEnd {
             status,
             stop: if status == STOPPED { stop } else { None },
         }
-    }
-}
-
-/// What is known where the search was stopped.
-pub fn stop_in(outcome: &Result<PlanOutput, ReadFault>) -> Option<Stop>
-    ensures { result ≡ stop_in outcome.now }
-{
-    match outcome {
-        Ok(output) => output.stop,
-        Err(_) => None,
     }
 }

@@ -9,6 +9,7 @@ pub mod plan_laws;
 pub mod plan_output;
 pub mod print;
 
-pub use end::{NO_SCHEDULE, PlanEnd, stop_in};
+pub use end::PlanEnd;
 pub use output::{alone, output_for};
 pub use plan_output::PlanOutput;
+pub use tsn_run::run::NO_SCHEDULE;

@@ -1,15 +1,15 @@
 //! What a run of `plan` prints of what its search found.
-ghost use Rattle.std.specs.Prelude.{◌≡◌, ◌≢◌, ◌⊎◌, ℕ, [], IfOk, IfSome, IsTrue, None, Some, if◌then◌else◌, is_some, length, string_bytes};
+ghost use Rattle.std.specs.Prelude.{◌≡◌, ◌⊎◌, ℕ, [], IfOk, IfSome, IsTrue, None, Ok, Some, if◌then◌else◌, is_some, length, string_bytes};
 ghost use Rattle.tsn_model.specs.Network.{Network};
 ghost use Rattle.tsn_model.specs.Search.{kept_of, open_paths};
 ghost use Rattle.tsn_run.specs.Run.{Output};
-ghost use Rattle.tsn_plan_output.specs.Plan.{IsWanted, TellsPlan, TellsStop, best_plan_text, stop_of, optimal_line, found_status, stopped_line, stopped_output};
-ghost use Rattle.tsn_plan_output.specs.PlanOutput.{IsPrinted, line_alone, printed, written_in};
+ghost use Rattle.tsn_run.specs.Said.{stop_of};
+ghost use Rattle.tsn_plan_output.specs.Plan.{IsWanted, TellsPlan, TellsStop, best_plan_text, found_outcome, stop_for, stopped_output};
+ghost use Rattle.tsn_plan_output.specs.PlanOutput.{IsPrinted, line_alone, printed, stop_in, written_in};
 ghost use Rattle.tsn_cert.specs.Plan.{plan_text};
 ghost use Rattle.tsn_answer.specs.declared.effort.Effort.{Effort};
 ghost use Rattle.tsn_answer.specs.Answer.{IsArgued, IsFinished, IsFound, IsFoundBy, MayArgue, plan_kept};
 
-use crate::end::NO_SCHEDULE;
 use crate::plan_output::{PlanOutput, Written};
 use std::alloc::Global;
 use std::mem;
@@ -19,8 +19,7 @@ use tsn_book::Book;
 use tsn_cert::{Offsets, Plan};
 use tsn_cert_json::plan_to_json;
 use tsn_model::NoMemory;
-use tsn_run::run::{DONE, STOPPED};
-use tsn_run::{Answer as Line, Stop};
+use tsn_run::{Answer, Outcome, Stop};
 use tsn_timing::Solved;
 
 /// What is printed of what a search found.
@@ -32,7 +31,7 @@ pub fn output_for(alloc: Global, found: Found, wanted: bool) -> Result<PlanOutpu
     ensures tells { IfOk result (λ output. (network : Network) (effort : Effort) → IsFound network effort.limit found
         → IsFoundBy effort found → (shown : Output) → IsPrinted (Ok output) shown
         → TellsPlan network effort wanted shown ⊎ ((stop : Stop) × TellsStop network effort.limit stop shown)) }
-    ensures stops { IfOk result (λ output. IfSome output.stop (λ stop. (network : Network) (limit : ℕ) → IsFound network limit found
+    ensures stops { IfOk result (λ output. IfSome (stop_in (Ok output)) (λ stop. (network : Network) (limit : ℕ) → IsFound network limit found
         → TellsStop network limit stop (printed (Ok output)))) }
     ensures wanted { IfOk result (λ output. IsTrue (is_some output.cert) → IsTrue wanted) }
 {
@@ -53,19 +52,16 @@ pub fn output_for(alloc: Global, found: Found, wanted: bool) -> Result<PlanOutpu
 }
 
 /// An answer that is a line alone.
-pub fn alone(alloc: Global, answer: Line) -> PlanOutput
-    requires { answer.status ≢ STOPPED }
-    ensures alone { printed (Ok result) ≡ line_alone answer.status (string_bytes answer.text) }
+pub fn alone(alloc: Global, answer: Answer) -> PlanOutput
+    requires { stop_of answer.outcome ≡ None }
+    ensures alone { printed (Ok result) ≡ line_alone answer.outcome }
     ensures none { result.cert ≡ None }
-    ensures not_stopped { result.stop ≡ None }
+    ensures not_stopped { stop_in (Ok result) ≡ None }
 {
-    let Line { status, text } = answer;
     PlanOutput {
-        status,
+        answer,
         plan: String::new(alloc),
         cert: None,
-        line: text,
-        stop: None,
     }
 }
 
@@ -74,10 +70,10 @@ fn finished(alloc: Global, book: Book, wanted: bool) -> Result<PlanOutput, NoMem
     requires { (network : Network) × ((limit : ℕ) × IsFinished network limit book) }
     ensures tells { IfOk result (λ output. (network : Network) (effort : Effort) → IsFinished network effort.limit book
         → (shown : Output) → IsPrinted (Ok output) shown → TellsPlan network effort wanted shown) }
-    ensures not_stopped { IfOk result (λ output. output.stop ≡ None) }
+    ensures not_stopped { IfOk result (λ output. stop_in (Ok output) ≡ None) }
     ensures wanted { IfOk result (λ output. IsTrue (is_some output.cert) → IsTrue wanted) }
 {
-    let (status, plan, line) = match texts_of(alloc, &book) {
+    let (answer, plan) = match texts_of(alloc, &book) {
         Ok(texts) => texts,
         Err(fault) => {
             drop(book);
@@ -85,13 +81,7 @@ fn finished(alloc: Global, book: Book, wanted: bool) -> Result<PlanOutput, NoMem
         }
     };
     let cert = spelled(book, wanted)?;
-    Ok(PlanOutput {
-        status,
-        plan,
-        cert,
-        line,
-        stop: None,
-    })
+    Ok(PlanOutput { answer, plan, cert })
 }
 
 /// The certificate of a finished search, where that is wanted.
@@ -107,31 +97,40 @@ fn spelled(book: Book, wanted: bool) -> Result<Option<Written>, NoMemory>
     }
 }
 
-/// The status of a finished search, the text of its plan, and its line.
-fn texts_of(alloc: Global, book: &Book) -> Result<(u8, String, String), NoMemory>
-    ensures status { IfOk result (λ texts. texts.0 ≡ found_status (plan_kept book.now.network (kept_of book.now.network book.now.history))) }
-    ensures not_stopped { IfOk result (λ texts. texts.0 ≢ STOPPED) }
+/// The answer of a finished search, and the text of its plan.
+fn texts_of(alloc: Global, book: &Book) -> Result<(Answer, String), NoMemory>
+    ensures outcome { IfOk result (λ texts. texts.0.outcome ≡ found_outcome (plan_kept book.now.network (kept_of book.now.network book.now.history)) (length book.now.history)) }
+    ensures not_stopped { IfOk result (λ texts. stop_of texts.0.outcome ≡ None) }
     ensures plan { IfOk result (λ texts. string_bytes texts.1 ≡ plan_text (plan_kept book.now.network (kept_of book.now.network book.now.history))) }
-    ensures line { IfOk result (λ texts. string_bytes texts.2 ≡ optimal_line (plan_kept book.now.network (kept_of book.now.network book.now.history)) (length book.now.history)) }
 {
     let plan = plan_of(alloc, book)?;
     texts_for(alloc, &plan, book.count())
 }
 
-/// The status of a plan that was found, its text, and its line.
-fn texts_for(alloc: Global, plan: &Plan, count: usize) -> Result<(u8, String, String), NoMemory>
-    ensures status { IfOk result (λ texts. texts.0 ≡ found_status plan.now) }
-    ensures not_stopped { IfOk result (λ texts. texts.0 ≢ STOPPED) }
+/// The answer of a plan that was found, and its text.
+fn texts_for(alloc: Global, plan: &Plan, count: usize) -> Result<(Answer, String), NoMemory>
+    ensures outcome { IfOk result (λ texts. texts.0.outcome ≡ found_outcome plan.now count) }
+    ensures not_stopped { IfOk result (λ texts. stop_of texts.0.outcome ≡ None) }
     ensures plan { IfOk result (λ texts. string_bytes texts.1 ≡ plan_text plan.now) }
-    ensures line { IfOk result (λ texts. string_bytes texts.2 ≡ optimal_line plan.now count) }
 {
     let text = plan_to_json(alloc, plan)?;
-    let line = line_of(alloc, plan, count)?;
-    let status = match plan {
-        Plan::Schedule { .. } => DONE,
-        Plan::None => NO_SCHEDULE,
-    };
-    Ok((status, text, line))
+    let answer = answer_of(alloc, plan, count)?;
+    Ok((answer, text))
+}
+
+/// What is said of a plan that is shown to be optimal, or that there is none.
+fn answer_of(alloc: Global, plan: &Plan, count: usize) -> Result<Answer, NoMemory>
+    ensures outcome { IfOk result (λ answer. answer.outcome ≡ found_outcome plan.now count) }
+    ensures not_stopped { IfOk result (λ answer. stop_of answer.outcome ≡ None) }
+{
+    let settled = count;
+    match plan {
+        Plan::Schedule { flowspan, .. } => {
+            let flowspan = *flowspan;
+            Answer::of(alloc, Outcome::Optimal { flowspan, settled })
+        }
+        Plan::None => Answer::of(alloc, Outcome::NoSchedule { settled }),
+    }
 }
 
 /// What is said of a plan with an argument for it, and the argument, where that is wanted.
@@ -143,11 +142,11 @@ fn argued(
 ) -> Result<PlanOutput, NoMemory>
     ensures tells { IfOk result (λ output. (network : Network) (effort : Effort) → IsArgued network effort.limit plan.now argument
         → MayArgue effort.method effort.limit → (shown : Output) → IsPrinted (Ok output) shown → TellsPlan network effort wanted shown) }
-    ensures not_stopped { IfOk result (λ output. output.stop ≡ None) }
+    ensures not_stopped { IfOk result (λ output. stop_in (Ok output) ≡ None) }
     ensures wanted { IfOk result (λ output. IsTrue (is_some output.cert) → IsTrue wanted) }
 {
     let count = argument.steps.list().len();
-    let (status, text, line) = match texts_for(alloc, plan, count) {
+    let (answer, text) = match texts_for(alloc, plan, count) {
         Ok(texts) => texts,
         Err(fault) => {
             mem::forget(argument);
@@ -155,11 +154,9 @@ fn argued(
         }
     };
     Ok(PlanOutput {
-        status,
+        answer,
         plan: text,
         cert: argument_if(argument, wanted),
-        line,
-        stop: None,
     })
 }
 
@@ -175,31 +172,20 @@ fn argument_if(argument: Argument, wanted: bool) -> Option<Written>
     }
 }
 
-/// What is said of a plan that is shown to be optimal, or that there is none.
-fn line_of(alloc: Global, plan: &Plan, count: usize) -> Result<String, NoMemory>
-    ensures { IfOk result (λ line. string_bytes line ≡ optimal_line plan.now count) }
-{
-    let line = match plan {
-        Plan::Schedule { flowspan, .. } => format!(in alloc;
-            "optimal {flowspan} settled {count}\n"
-        )?,
-        Plan::None => format!(in alloc; "no schedule settled {count}\n")?,
-    };
-    Ok(line)
-}
-
 /// What is said of a search that was stopped after so many settlements.
 fn stopped(alloc: Global, count: usize, known: &Known) -> Result<PlanOutput, NoMemory>
-    ensures output { IfOk result (λ output. printed (Ok output) ≡ stopped_output known.now.best count) }
+    ensures output { IfOk result (λ output. printed (Ok output) ≡ stopped_output known.now count) }
     ensures none { IfOk result (λ output. output.cert ≡ None) }
-    ensures stop { IfOk result (λ output. output.stop ≡ Some (stop_of known.now)) }
+    ensures stop { IfOk result (λ output. stop_in (Ok output) ≡ Some (stop_for known.now)) }
 {
+    let outcome = Outcome::Stopped {
+        known: stop_for(known),
+        settled: count,
+    };
     Ok(PlanOutput {
-        status: STOPPED,
+        answer: Answer::of(alloc, outcome)?,
         plan: best_text(alloc, &known.best)?,
         cert: None,
-        line: stopped_line(alloc, &known.best, count)?,
-        stop: Some(stop_of(known)),
     })
 }
 
@@ -219,22 +205,9 @@ fn best_text(alloc: Global, best: &Option<Solved>) -> Result<String, NoMemory>
     text
 }
 
-fn stopped_line(alloc: Global, best: &Option<Solved>, count: usize) -> Result<String, NoMemory>
-    ensures { IfOk result (λ line. string_bytes line ≡ stopped_line best.now count) }
-{
-    let line = match best {
-        Some(best) => {
-            let span = best.flowspan();
-            format!(in alloc; "stopped {span} settled {count}\n")?
-        }
-        None => format!(in alloc; "stopped none settled {count}\n")?,
-    };
-    Ok(line)
-}
-
 /// What is told of what a search knows.
-fn stop_of(known: &Known) -> Stop
-    ensures { result ≡ stop_of known.now }
+fn stop_for(known: &Known) -> Stop
+    ensures { result ≡ stop_for known.now }
 {
     let best = match &known.best {
         Some(best) => Some(best.flowspan()),

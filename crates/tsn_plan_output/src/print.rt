@@ -1,70 +1,64 @@
-//! How a run of `plan` ends: it prints a plan, its certificate, where one is wanted, and a line.
-ghost use Rattle.std.specs.Prelude.{◌<◌, ◌-◌, ◌^◌, [], ◌∷◌, IfOk, IsSome};
+//! How a run of `plan` writes what it found: a plan, and its certificate, where one is wanted.
+ghost use Rattle.std.specs.Prelude.{◌≡◌, ◌<◌, ◌-◌, ◌^◌, [], ◌∷◌, IfOk, IsSome, Ok};
 ghost use Rattle.tsn_run.specs.Run.{failed_in, sink_over, taken_in};
-ghost use Rattle.tsn_run.specs.Outcome.{IsWrittenAs};
-ghost use Rattle.tsn_plan_output.specs.PlanOutput.{IsPrinted};
+ghost use Rattle.tsn_run.specs.Said.{line_of, status_of, stop_of};
+ghost use Rattle.tsn_run.specs.Outcome.{IsWrittenAs, line_taken, outcome_of};
+ghost use Rattle.tsn_plan_output.specs.PlanOutput.{IsPrinted, stop_in};
 
 use crate::certificate::{CertFault, write_wanted};
 use crate::plan_output::PlanOutput;
 use std::alloc::Global;
-use tsn_device::device::{ReadFault, Sink, write_whole};
-use tsn_run::run::{DEVICE, MEMORY, NO_MEMORY_LINE, REFUSED, TOO_LONG_LINE, finish};
+use tsn_device::device::{ReadFault as Unanswered, Sink, write_whole};
+use tsn_run::Answer;
 
-/// Writes the texts, or the line of the fault for which there are none, and says the status.
-pub fn print<P: Sink, C: Sink, W: Sink>(
+/// Writes the texts of the files, and answers what is said then: of a write that failed nothing is.
+pub fn write_files<P: Sink, C: Sink>(
     alloc: Global,
     plan: &mut P,
     cert: &mut Option<C>,
-    sink: &mut W,
-    outcome: Result<PlanOutput, ReadFault>,
-) -> u8
+    outcome: Result<PlanOutput, Unanswered>,
+) -> Result<Answer, Unanswered>
     requires plan_writes { P.failed plan.old < 2 ^ 64 - 1 }
     requires cert_writes { failed_in C.failed cert.old < 2 ^ 64 - 1 }
-    requires writes { W.failed sink.old < 2 ^ 64 - 1 }
     requires wanted { IfOk outcome (λ output. IsSome output.cert → IsSome cert.old) }
-    ensures { IsWrittenAs IsPrinted outcome (sink_over P.taken P.failed plan.old plan.new
+    ensures written { IsWrittenAs IsPrinted outcome (sink_over P.taken P.failed plan.old plan.new
         ∷ sink_over (taken_in C.taken) (failed_in C.failed) cert.old cert.new
-        ∷ sink_over W.taken W.failed sink.old sink.new ∷ []) result }
+        ∷ line_taken (line_of (outcome_of result)) ∷ []) (status_of (outcome_of result)) }
+    ensures stop { IfOk result (λ answer. stop_of answer.outcome ≡ stop_in outcome) }
 {
     match outcome {
-        Ok(output) => print_all(alloc, plan, cert, sink, output),
-        Err(ReadFault::TooLong) => finish(sink, REFUSED, TOO_LONG_LINE),
-        Err(ReadFault::Memory) => finish(sink, MEMORY, NO_MEMORY_LINE),
-        Err(ReadFault::Broken) => DEVICE,
+        Ok(output) => write_output(alloc, plan, cert, output),
+        Err(fault) => Err(fault),
     }
 }
 
-/// Writes the texts, each to its sink, and says the status, or `DEVICE` where a write fails. The plan is in its place before the
-/// certificate is written, and both before the line.
-fn print_all<P: Sink, C: Sink, W: Sink>(
+/// Writes the texts of the files. The plan is in its place before the certificate is written, and both before the line.
+fn write_output<P: Sink, C: Sink>(
     alloc: Global,
     plan: &mut P,
     cert: &mut Option<C>,
-    sink: &mut W,
     output: PlanOutput,
-) -> u8
+) -> Result<Answer, Unanswered>
     requires plan_writes { P.failed plan.old < 2 ^ 64 - 1 }
     requires cert_writes { failed_in C.failed cert.old < 2 ^ 64 - 1 }
-    requires writes { W.failed sink.old < 2 ^ 64 - 1 }
     requires wanted { IsSome output.cert → IsSome cert.old }
-    ensures { IsWrittenAs IsPrinted (Ok output) (sink_over P.taken P.failed plan.old plan.new
+    ensures written { IsWrittenAs IsPrinted (Ok output) (sink_over P.taken P.failed plan.old plan.new
         ∷ sink_over (taken_in C.taken) (failed_in C.failed) cert.old cert.new
-        ∷ sink_over W.taken W.failed sink.old sink.new ∷ []) result }
+        ∷ line_taken (line_of (outcome_of result)) ∷ []) (status_of (outcome_of result)) }
+    ensures stop { IfOk result (λ answer. stop_of answer.outcome ≡ stop_of output.answer.outcome) }
 {
     let PlanOutput {
-        status,
+        answer,
         plan: text,
         cert: found,
-        line,
-        stop: _,
     } = output;
     if write_whole(plan, text.as_bytes()).is_err() {
         drop(found);
-        return DEVICE;
+        return Err(Unanswered::Broken);
     }
     match write_wanted(alloc, cert, found) {
-        Ok(()) => finish(sink, status, line.as_bytes()),
-        Err(CertFault::Memory) => finish(sink, MEMORY, NO_MEMORY_LINE),
-        Err(CertFault::Broken) => DEVICE,
+        Ok(()) => Ok(answer),
+        Err(CertFault::Memory) => Err(Unanswered::Memory),
+        Err(CertFault::Broken) => Err(Unanswered::Broken),
     }
 }

@@ -19,11 +19,12 @@ use Rattle.tsn_argue.specs.Laws.{FirstFaultsRefute}
 use Rattle.tsn_proving.specs.declared.proof.Proof.{Proof}
 use Rattle.tsn_proving.specs.declared.proof.Proof.TheVariants.{Proved, Undercut, Stopped}
 use Rattle.tsn_proving.specs.Proof.{IsProof}
-use Rattle.tsn_run.specs.Run.{Output, IsLine}
-use Rattle.tsn_run.specs.Check.{CheckAnswers, accepted_line}
+use Rattle.tsn_run.specs.Run.{Output}
+use Rattle.tsn_run.specs.Refusal.{IsOutcome}
+use Rattle.tsn_run.specs.Check.{CheckAnswers, accepted}
 use Rattle.tsn_prover.specs.Prove.{output_of}
 use Rattle.tsn_prover.specs.ProveLaws.{ProvedIsAccepted, proved_verdict}
-use Rattle.tsn_run.proofs.Accepting.{accepted}
+use Rattle.tsn_run.proofs.Accepting.{certificate_accepted}
 
 -- an argument that isn't for the first plan is for one that is optimal, or for none
 verdict_is : (goal : Goal) (stated : Plan) (found : model.Goal) → goal_for goal stated ≡ Some found → (argument_verdict goal ≡ First → ⊥)
@@ -38,13 +39,13 @@ verdict_is aim.None plan.None found fits least = refl
 found_by : FirstFaultsRefute → (limit : ℕ) (network_file plan_file cert_file : List ℕ) (problem : NamedNetwork) (stated : Plan) (proof : Proof)
     (output checked : Output) → States network_file problem → plan_in plan_file ≡ Ok stated → IsProof problem.network limit stated proof
     → output ≡ output_of stated proof → output.status ≡ 0 → slice_get output.texts 0 ≡ Some cert_file
-    → CheckAnswers (network_file ∷ plan_file ∷ cert_file ∷ []) checked → IsLine 0 (accepted_line (proved_verdict stated) stated) checked
+    → CheckAnswers (network_file ∷ plan_file ∷ cert_file ∷ []) checked → IsOutcome (accepted (proved_verdict stated) stated) checked
 found_by refutes limit network_file plan_file cert_file problem stated (Proved argument count) output checked states reads proof is done text answers =
     let shown = proof.0 in
     let file : cert_file ≡ argument_text argument = same_Some _ _ (sym text ∙ ap (λ (o : Output). slice_get o.texts 0) is) in
     let read : certificate_in cert_file ≡ Ok (certificate.Argument argument) = ap certificate_in file ∙ shown.read_again in
-    let line = accepted refutes network_file plan_file cert_file problem stated (certificate.Argument argument) checked states reads shown.shows read answers in
-    subst (λ v. IsLine 0 (accepted_line v stated) checked)
+    let line = certificate_accepted refutes network_file plan_file cert_file problem stated (certificate.Argument argument) checked states reads shown.shows read answers in
+    subst (λ v. IsOutcome (accepted v stated) checked)
     (verdict_is argument.goal stated shown.shows.goal shown.shows.fitting.1 shown.least) line
 found_by refutes limit network_file plan_file cert_file problem stated (Undercut better count) output checked states reads proof is done text answers =
     let status : 6 ≡ 0 = ap (λ (o : Output). o.status) (sym is) ∙ done in

@@ -1,9 +1,9 @@
 -- What `prove` answers.
---     claim_text, proved_line, undercut_line, stopped_line     its lines
---     output_of                                                the texts of what was found of a plan
+--     outcome_for                                              what is answered of a plan
+--     cert_for, plan_for, output_of                            the texts of what was found of it
 --     ProveAnswers                                             the answer to the files read so far
---     finding_of, FindsAs, FindsIn, ProveFinds                 what is found of a plan, as a value
-use Rattle.std.specs.Prelude.{◌≡◌, ◌⊎◌, ℕ, List, [], ◌∷◌, ◌++◌, codes, decimal, Ok, Option, Some, None}
+--     FindsAs, FindsIn, ProveFinds                             what is found of a plan, as a value
+use Rattle.std.specs.Prelude.{◌≡◌, ◌⊎◌, ℕ, List, [], ◌∷◌, Ok, Option, Some, None}
 use Rattle.tsn_model.specs.Network.{Network}
 use Rattle.tsn_net.specs.File.{States}
 use Rattle.tsn_net.specs.Problem.{NamedNetwork}
@@ -18,37 +18,40 @@ use Rattle.tsn_proving.specs.declared.proof.Proof.{Proof}
 use Rattle.tsn_proving.specs.declared.proof.Proof.TheVariants.{Proved, Undercut, Stopped}
 use Rattle.tsn_proving.specs.Proof.{IsProof}
 use Rattle.tsn_prover.specs.declared.finding.Finding.{Finding}
-use Rattle.tsn_prover.specs.declared.finding.Finding.TheVariants as finding
-use Rattle.tsn_run.specs.Run.{Output, Command, IsLine}
-use Rattle.tsn_run.specs.Refusal.{RefusesNetwork, RefusesPlan, rejected_plan}
+use Rattle.tsn_prover.specs.Finding.{finding_of}
+use Rattle.tsn_run.specs.declared.outcome.Outcome.{Outcome}
+use Rattle.tsn_run.specs.declared.outcome.Outcome.TheVariants as ends
+use Rattle.tsn_run.specs.declared.outcome.Outcome.TheVariants.{RefusedPlan}
+use Rattle.tsn_run.specs.Run.{Output, Command}
+use Rattle.tsn_run.specs.Said.{line_of, status_of}
+use Rattle.tsn_run.specs.Refusal.{IsOutcome, RefusesNetwork, RefusesPlan}
 
--- how many steps an argument has, or how many conflicts there were, and the line's end
-abbrev pub count_text : ℕ → List ℕ
-count_text count = codes " settled " ++ decimal count ++ codes "\n"
+-- the flowspan of a plan, if it is a schedule
+abbrev pub span_if_any : Plan → Option ℕ
+span_if_any (plan.Schedule span offsets) = Some span
+span_if_any plan.None = None
 
--- the plan's flowspan, if it is a schedule
-abbrev pub claim_text : Plan → List ℕ
-claim_text (plan.Schedule span offsets) = decimal span
-claim_text plan.None = codes "none"
+-- what is answered of a plan; the count is of the argument's steps, or else of the conflicts
+abbrev pub outcome_for : Plan → Proof → Outcome
+outcome_for stated (Proved argument count) = ends.Proved (span_if_any stated) count
+outcome_for stated (Undercut better count) = ends.Undercut (span_if_any stated) (span_in better) count
+outcome_for stated (Stopped bound count) = ends.Stopped (record { best = span_if_any stated; bound = bound }) count
 
--- what is said of a plan that no valid schedule undercuts; of a plan that there is none, as of no schedule
-abbrev pub proved_line : Plan → ℕ → List ℕ
-proved_line (plan.Schedule span offsets) count = codes "proved " ++ decimal span ++ count_text count
-proved_line plan.None count = codes "proved no schedule" ++ count_text count
+-- the certificate file, and the plan file
+abbrev pub cert_for : Proof → List ℕ
+cert_for (Proved argument count) = argument_text argument
+cert_for (Undercut better count) = []
+cert_for (Stopped bound count) = []
 
--- what is said of a plan that this one undercuts
-abbrev pub undercut_line : Plan → Plan → ℕ → List ℕ
-undercut_line stated better count = codes "undercut " ++ claim_text stated ++ codes " by " ++ decimal (span_in better) ++ count_text count
-
--- what is said of a plan where the limit was met
-abbrev pub stopped_line : Plan → ℕ → List ℕ
-stopped_line stated count = codes "stopped " ++ claim_text stated ++ count_text count
+abbrev pub plan_for : Proof → List ℕ
+plan_for (Proved argument count) = []
+plan_for (Undercut better count) = plan_text better
+plan_for (Stopped bound count) = []
 
 -- what is found of a plan is told by: the certificate file, the plan file, and the line
 abbrev pub output_of : Plan → Proof → Output
-output_of stated (Proved argument count) = record { status = 0; texts = argument_text argument ∷ [] ∷ proved_line stated count ∷ [] }
-output_of stated (Undercut better count) = record { status = 6; texts = [] ∷ plan_text better ∷ undercut_line stated better count ∷ [] }
-output_of stated (Stopped bound count) = record { status = 5; texts = [] ∷ [] ∷ stopped_line stated count ∷ [] }
+output_of stated proof =
+    record { status = status_of (outcome_for stated proof); texts = cert_for proof ∷ plan_for proof ∷ line_of (outcome_for stated proof) ∷ [] }
 
 -- the plan is a valid schedule with its own flowspan, or that there is none, and this is found of it
 abbrev pub FindsOf : ℕ → Network → Plan → Output → Type 0
@@ -57,7 +60,7 @@ FindsOf limit network stated output =
 
 -- it isn't, and this is the first fault
 abbrev pub RejectsClaim : Network → Plan → Output → Type 0
-RejectsClaim network stated output = (fault : CheckFault) × IsClaimFault network stated fault × IsLine 6 (rejected_plan fault) output
+RejectsClaim network stated output = (fault : CheckFault) × IsClaimFault network stated fault × IsOutcome (RefusedPlan fault) output
 
 -- the answer to a plan file for this network, by at most so many steps or conflicts
 abbrev pub ProvesPlan : ℕ → Network → List ℕ → Output → Type 0
@@ -71,21 +74,11 @@ ProveAnswers limit (network ∷ []) output = RefusesNetwork network output
 ProveAnswers limit (network ∷ plan ∷ []) output = (problem : NamedNetwork) × States network problem × ProvesPlan limit problem.network plan output
 ProveAnswers limit _ output = ⊥
 
--- the flowspan of a plan, if it is a schedule
-abbrev pub span_if_any : Plan → Option ℕ
-span_if_any (plan.Schedule span offsets) = Some span
-span_if_any plan.None = None
-
--- what is found of a plan, as a value: that it is proved; by what it is undercut; or what is known where the limit was met: its own flowspan, and a bound
-abbrev pub finding_of : Plan → Proof → Finding
-finding_of stated (Proved argument count) = finding.Proved
-finding_of stated (Undercut better count) = finding.Undercut (record { stated = span_if_any stated; better = span_in better })
-finding_of stated (Stopped bound count) = finding.Stopped (record { best = span_if_any stated; bound = bound })
-
 -- this is found of the plan, which is a valid schedule with its own flowspan, or that there is none
 abbrev pub FindsAs : ℕ → Network → Plan → Finding → Output → Type 0
 FindsAs limit network stated found output =
-    IsPlanRight network stated × ((proof : Proof) × IsProof network limit stated proof × (found ≡ finding_of stated proof) × (output ≡ output_of stated proof))
+    IsPlanRight network stated × ((proof : Proof) × IsProof network limit stated proof × (finding_of (outcome_for stated proof) ≡ Some found)
+    × (output ≡ output_of stated proof))
 
 -- and of the plan of this file
 abbrev pub FindsIn : ℕ → Network → List ℕ → Finding → Output → Type 0

@@ -5,8 +5,9 @@ use Rattle.tsn_cert.specs.declared.plan.Plan.TheVariants as plan
 use Rattle.tsn_cert.specs.Plan.{plan_in}
 use Rattle.tsn_check.specs.declared.verdict.Verdict.{Verdict}
 use Rattle.tsn_check.specs.declared.verdict.Verdict.TheVariants.{Optimal, NoSchedule}
-use Rattle.tsn_run.specs.Run.{Output, IsLine}
-use Rattle.tsn_run.specs.Check.{CheckAnswers, accepted_line}
+use Rattle.tsn_run.specs.Run.{Output}
+use Rattle.tsn_run.specs.Refusal.{IsOutcome}
+use Rattle.tsn_run.specs.Check.{CheckAnswers, accepted}
 use Rattle.tsn_prover.specs.Prove.{ProveAnswers}
 
 -- what a proof shows of a plan: that no valid schedule undercuts it, or that there is none
@@ -20,4 +21,4 @@ abbrev pub ProvedIsAccepted : Type 0
 ProvedIsAccepted = (limit : ℕ) (network_file plan_file cert_file : List ℕ) (output checked : Output)
     → ProveAnswers limit (network_file ∷ plan_file ∷ []) output → output.status ≡ 0 → slice_get output.texts 0 ≡ Some cert_file
     → CheckAnswers (network_file ∷ plan_file ∷ cert_file ∷ []) checked
-    → (stated : Plan) × (plan_in plan_file ≡ Ok stated) × IsLine 0 (accepted_line (proved_verdict stated) stated) checked
+    → (stated : Plan) × (plan_in plan_file ≡ Ok stated) × IsOutcome (accepted (proved_verdict stated) stated) checked

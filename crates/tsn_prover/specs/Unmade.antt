@@ -1,36 +1,30 @@
 -- How a run ended before its search, since a file of it can't be made.
---     RunsUnmade                     the network alone was judged
---     UnmadeInJson, UnmadeTold       how that is told
---     IsUnmade                       it was judged, or memory was refused
-use Rattle.std.specs.Prelude.{◌≡◌, ◌≢◌, ◌⊎◌, ℕ, List, [], ◌∷◌, Bool, true, false, Option, codes}
-use Rattle.tsn_device.specs.declared.run.TheConstants.{DEVICE}
+--     IsUnmadeOutcome                what is answered, by what is of the network alone
+--     UnmadeTold                     the network alone was judged, and that was told
+--     IsUnmade                       it was, or memory was refused
+use Rattle.std.specs.Prelude.{◌≡◌, ◌≢◌, ◌⊎◌, ℕ, List, [], Bool, Option, Result, codes}
+use Rattle.tsn_device.specs.declared.device.ReadFault.{ReadFault}
+use Rattle.tsn_run.specs.declared.answer.Answer.{Answer}
+use Rattle.tsn_run.specs.declared.outcome.Outcome.{Outcome}
+use Rattle.tsn_run.specs.declared.outcome.Outcome.TheVariants.{Failed}
 use Rattle.tsn_run.specs.declared.run.TheConstants.{DONE, MEMORY}
-use Rattle.tsn_run.specs.Run.{RunsOver, SinkRun, SourceRun}
+use Rattle.tsn_run.specs.Run.{SinkRun, SourceRun}
+use Rattle.tsn_run.specs.Said.{status_of}
+use Rattle.tsn_run.specs.Outcome.{EndsAs, outcome_of}
 use Rattle.tsn_cli.specs.Valid.{JudgeAnswers}
-use Rattle.tsn_given.specs.Runs.{IsTellingOf, OverNetwork, Says, kept_line}
+use Rattle.tsn_given.specs.Runs.{IsToldBy, OverNetwork, Says}
 
--- the status where the network was judged with this one: it is refused so, or else a device failed
-abbrev pub IsUnmadeStatus : ℕ → ℕ → Type 0
-IsUnmadeStatus judged status = ((judged ≡ DONE) × (status ≡ DEVICE)) ⊎ ((judged ≢ DONE) × (status ≡ judged))
+-- what is answered where the network was judged so: that it is refused, or else that a device failed
+abbrev pub IsUnmadeOutcome : Outcome → Outcome → Type 0
+IsUnmadeOutcome judged outcome = ((status_of judged ≡ DONE) × (outcome ≡ Failed)) ⊎ ((status_of judged ≢ DONE) × (outcome ≡ judged))
 
--- the network alone was judged, and the line went to this sink
-pub record RunsUnmade (sources : List SourceRun) (line : SinkRun) (status : ℕ) : Type 0 where
-  pub judged : ℕ
-  pub runs : RunsOver JudgeAnswers sources (line ∷ []) judged
-  pub status_is : IsUnmadeStatus judged status
-
--- it was, with the line kept, and what is said of that went to the output
-pub record UnmadeInJson (sources : List SourceRun) (output : SinkRun) (status : ℕ) : Type 0 where
-  pub run_status : ℕ
-  pub written : List ℕ
-  pub lost : ℕ
-  pub runs : RunsUnmade sources (kept_line written lost) run_status
-  pub told : IsTellingOf run_status written lost output status
-
--- how such a run is told: by the line of the network that is refused, or with `--json` by what is said of it
-abbrev pub UnmadeTold : Bool → List SourceRun → SinkRun → ℕ → Type 0
-UnmadeTold false sources output status = RunsUnmade sources output status
-UnmadeTold true sources output status = UnmadeInJson sources output status
+-- the network alone was judged, and what is answered then was told: in a line, or with `--json` in an object
+pub record UnmadeTold (json : Bool) (sources : List SourceRun) (output : SinkRun) (status : ℕ) : Type 0 where
+  pub judged : Outcome
+  pub answer : Result Answer ReadFault
+  pub ends : EndsAs JudgeAnswers sources [] judged
+  pub unmade : IsUnmadeOutcome judged (outcome_of answer)
+  pub told : IsToldBy json answer output status
 
 -- no search began: memory is refused, or the network alone is judged
 abbrev pub IsUnmade : {S : Type 0} → (S → Option (List ℕ)) → (S → ℕ) → (S → Bool) → (S → Type 0) → Bool → SinkRun → ℕ → Type 0

@@ -1,6 +1,8 @@
 //! What is found of a plan.
+ghost use Rattle.std.specs.Prelude.{◌≡◌};
+ghost use Rattle.tsn_prover.specs.Finding.{finding_of};
 
-use tsn_run::Stop;
+use tsn_run::{Outcome, Stop};
 
 /// What is found of a plan.
 #[derive(Clone, Copy)]
@@ -18,4 +20,33 @@ pub enum Finding {
 pub struct Spans {
     pub stated: Option<u64>,
     pub better: u64,
+}
+
+/// What is found of a plan, if that is what a run answers.
+pub fn finding_of(outcome: Outcome) -> Option<Finding>
+    ensures { result ≡ finding_of outcome }
+{
+    match outcome {
+        Outcome::Proved { .. } => Some(Finding::Proved),
+        Outcome::Undercut { stated, better, .. } => Some(Finding::Undercut(Spans {
+            stated,
+            better,
+        })),
+        Outcome::Stopped { known, .. } => Some(Finding::Stopped(known)),
+        Outcome::Taken
+        | Outcome::Valid { .. }
+        | Outcome::NotValid(_)
+        | Outcome::Optimal { .. }
+        | Outcome::NoSchedule { .. }
+        | Outcome::AcceptedOptimal { .. }
+        | Outcome::AcceptedFirst { .. }
+        | Outcome::AcceptedNone
+        | Outcome::RefusedNetwork(_)
+        | Outcome::RefusedFile(..)
+        | Outcome::RefusedPlan(_)
+        | Outcome::RefusedCert(_)
+        | Outcome::TooLong
+        | Outcome::NoMemory
+        | Outcome::Failed => None,
+    }
 }

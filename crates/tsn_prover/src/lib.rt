@@ -16,7 +16,7 @@ pub mod unwritten;
 
 pub use ended::{file_line, stop_or};
 pub use files::{PlanFiles, plan_files};
-pub use finding::{Finding, Spans};
+pub use finding::{Finding, Spans, finding_of};
 pub use proof::prove;
-pub use run::{ProofEnd, prove_run};
+pub use run::{ProofEnd, prove_answer, prove_run};
 pub use unwritten::{Unwritten, unwritable};

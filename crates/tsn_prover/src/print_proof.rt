@@ -1,52 +1,57 @@
-//! How a run of `prove` ends: it prints a certificate, a better plan, and a line.
-ghost use Rattle.std.specs.Prelude.{◌<◌, ◌-◌, ◌^◌, [], ◌∷◌};
+//! How a run of `prove` writes what it found: a certificate, or a better plan.
+ghost use Rattle.std.specs.Prelude.{◌≡◌, ◌<◌, ◌-◌, ◌^◌, [], ◌∷◌, IfOk, Ok};
 ghost use Rattle.tsn_run.specs.Run.{sink_over};
-ghost use Rattle.tsn_run.specs.Outcome.{IsWrittenAs};
-ghost use Rattle.tsn_prover.specs.ProofOutput.{IsShown};
+ghost use Rattle.tsn_run.specs.Said.{line_of, status_of};
+ghost use Rattle.tsn_run.specs.Outcome.{IsWrittenAs, line_taken, outcome_of};
+ghost use Rattle.tsn_prover.specs.Finding.{finding_of};
+ghost use Rattle.tsn_prover.specs.ProofOutput.{IsShown, finding_in};
 
 use crate::proof_output::ProofOutput;
-use tsn_device::device::{ReadFault, Sink, write_whole};
-use tsn_run::run::{DEVICE, MEMORY, NO_MEMORY_LINE, REFUSED, TOO_LONG_LINE, finish};
+use tsn_device::device::{ReadFault as Unanswered, Sink, write_whole};
+use tsn_run::Answer;
 
-/// Writes the texts, or the line of the fault for which there are none, and says the status.
-pub(crate) fn print_proof<C: Sink, P: Sink, W: Sink>(
+/// Writes the texts of the files, and answers what is said then: of a write that failed nothing is.
+pub(crate) fn write_files<C: Sink, P: Sink>(
     cert: &mut C,
     plan: &mut P,
-    sink: &mut W,
-    outcome: Result<ProofOutput, ReadFault>,
-) -> u8
+    output: Result<ProofOutput, Unanswered>,
+) -> Result<Answer, Unanswered>
     requires cert_writes { C.failed cert.old < 2 ^ 64 - 1 }
     requires plan_writes { P.failed plan.old < 2 ^ 64 - 1 }
-    requires writes { W.failed sink.old < 2 ^ 64 - 1 }
-    ensures { IsWrittenAs IsShown outcome (sink_over C.taken C.failed cert.old cert.new
-        ∷ sink_over P.taken P.failed plan.old plan.new ∷ sink_over W.taken W.failed sink.old sink.new ∷ []) result }
+    ensures written { IsWrittenAs IsShown output (sink_over C.taken C.failed cert.old cert.new
+        ∷ sink_over P.taken P.failed plan.old plan.new
+        ∷ line_taken (line_of (outcome_of result)) ∷ []) (status_of (outcome_of result)) }
+    ensures found { IfOk result (λ answer. finding_of answer.outcome ≡ finding_in output) }
 {
-    match outcome {
-        Ok(output) => print_all(cert, plan, sink, &output),
-        Err(ReadFault::TooLong) => finish(sink, REFUSED, TOO_LONG_LINE),
-        Err(ReadFault::Memory) => finish(sink, MEMORY, NO_MEMORY_LINE),
-        Err(ReadFault::Broken) => DEVICE,
+    match output {
+        Ok(output) => write_output(cert, plan, output),
+        Err(fault) => Err(fault),
     }
 }
 
-/// Writes the texts, each to its sink, and says the status, or `DEVICE` where a write fails.
-fn print_all<C: Sink, P: Sink, W: Sink>(
+/// Writes the texts of the files, each to its own.
+fn write_output<C: Sink, P: Sink>(
     cert: &mut C,
     plan: &mut P,
-    sink: &mut W,
-    output: &ProofOutput,
-) -> u8
+    output: ProofOutput,
+) -> Result<Answer, Unanswered>
     requires cert_writes { C.failed cert.old < 2 ^ 64 - 1 }
     requires plan_writes { P.failed plan.old < 2 ^ 64 - 1 }
-    requires writes { W.failed sink.old < 2 ^ 64 - 1 }
-    ensures { IsWrittenAs IsShown (Ok output.now) (sink_over C.taken C.failed cert.old cert.new
-        ∷ sink_over P.taken P.failed plan.old plan.new ∷ sink_over W.taken W.failed sink.old sink.new ∷ []) result }
+    ensures written { IsWrittenAs IsShown (Ok output) (sink_over C.taken C.failed cert.old cert.new
+        ∷ sink_over P.taken P.failed plan.old plan.new
+        ∷ line_taken (line_of (outcome_of result)) ∷ []) (status_of (outcome_of result)) }
+    ensures found { IfOk result (λ answer. answer.outcome ≡ output.answer.outcome) }
 {
-    if write_whole(cert, output.cert.as_bytes()).is_err() {
-        return DEVICE;
+    let ProofOutput {
+        answer,
+        cert: found,
+        plan: better,
+    } = output;
+    if write_whole(cert, found.as_bytes()).is_err() {
+        return Err(Unanswered::Broken);
     }
-    if write_whole(plan, output.plan.as_bytes()).is_err() {
-        return DEVICE;
+    if write_whole(plan, better.as_bytes()).is_err() {
+        return Err(Unanswered::Broken);
     }
-    finish(sink, output.status, output.line.as_bytes())
+    Ok(answer)
 }

@@ -1,17 +1,18 @@
 //! By what a plan is undercut, in a line of words.
 
-use crate::{Finding, Spans};
+use crate::finding::{Finding, Spans, finding_of};
 use std::alloc::{AllocError, Global};
 use tsn_given::Opened;
+use tsn_run::Outcome;
 use tsn_text::line_of;
 
 /// The line on a plan that a valid schedule undercuts; None where none does, or where there is no memory for the line.
 pub(crate) fn undercut_line<S: Opened>(
     alloc: Global,
     plan: &S,
-    finding: Option<Finding>,
+    outcome: Outcome,
 ) -> Option<String> {
-    match finding {
+    match finding_of(outcome) {
         Some(Finding::Undercut(spans)) => undercut_text(alloc, plan.name(), spans).ok(),
         Some(Finding::Proved) => None,
         Some(Finding::Stopped(_)) => None,

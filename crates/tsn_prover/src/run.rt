@@ -1,17 +1,17 @@
 //! `prove`: shows that no valid schedule undercuts a plan, whoever made it, or finds one that does.
-ghost use Rattle.std.specs.Prelude.{◌≡◌, ◌≢◌, ◌<◌, ◌-◌, ◌^◌, ◌⊎◌, ◌↔◌, [], ◌∷◌, IfOk, IfErr, IfSome, IsTrue, None, OnOk, Some, is_some, string_bytes};
-ghost use Rattle.tsn_cert.specs.declared.plan.Plan.{Plan};
+ghost use Rattle.std.specs.Prelude.{◌≡◌, ◌≢◌, ◌<◌, ◌-◌, ◌^◌, ◌⊎◌, ◌↔◌, [], ◌∷◌, IfOk, IfErr, IfSome, IsTrue, None, Ok, OnOk, is_some};
 ghost use Rattle.tsn_check.specs.Plans.{IsPlanRight, span_in};
 ghost use Rattle.tsn_check.specs.Faults.{IsClaimFault};
 ghost use Rattle.tsn_proving.specs.declared.proof.Proof.TheVariants.{Proved, Stopped, Undercut};
 ghost use Rattle.tsn_run.specs.Run.{EndsOver, RunsOver, readings_of, sink_over, source_over};
-ghost use Rattle.tsn_run.specs.Outcome.{ComesOver};
-ghost use Rattle.tsn_prover.specs.Finding.{stop_among};
+ghost use Rattle.tsn_run.specs.Said.{line_of, status_of};
+ghost use Rattle.tsn_run.specs.Outcome.{ComesOver, EndsAs, line_taken, outcome_of};
+ghost use Rattle.tsn_prover.specs.Finding.{finding_of, stop_among};
 ghost use Rattle.tsn_prover.specs.ProofOutput.{Finds, finding_in, line_after, shown};
-ghost use Rattle.tsn_prover.specs.Prove.{FindsAs, FindsOf, ProveAnswers, ProveFinds, RejectsClaim, finding_of, output_of, proved_line, span_if_any, stopped_line, undercut_line};
+ghost use Rattle.tsn_prover.specs.Prove.{FindsAs, FindsOf, ProveAnswers, ProveFinds, RejectsClaim, outcome_for, output_of, span_if_any};
 
-use crate::finding::{Finding, Spans};
-use crate::print_proof::print_proof;
+use crate::finding::{Finding, finding_of};
+use crate::print_proof::write_files;
 use crate::proof_output::ProofOutput;
 use std::alloc::Global;
 use tsn_argument::Argument;
@@ -23,8 +23,8 @@ use tsn_device::device::{ReadFault, Sink, Source};
 use tsn_model::NoMemory;
 use tsn_net::Problem;
 use tsn_proving::{Proof, prove};
-use tsn_run::run::{DEVICE, DONE, REJECTED, STOPPED};
-use tsn_run::{Answer as Line, InputsRead, Stop, read_inputs, rejection};
+use tsn_run::run::{DEVICE, STOPPED, respond};
+use tsn_run::{Answer, InputsRead, Outcome, Stop, outcome_of, read_inputs, rejection};
 use tsn_setting::Supervisor;
 use tsn_timing::Timing;
 
@@ -97,24 +97,45 @@ pub fn prove_run<N: Source, P: Source, S: Supervisor, C: Sink, B: Sink, W: Sink>
         (sink_over C.taken C.failed cert.old cert.new ∷ sink_over B.taken B.failed better.old better.new
         ∷ sink_over W.taken W.failed sink.old sink.new ∷ []) result.status) }
 {
-    let outcome = answer_of(alloc, network, plan, limit, supervisor);
-    let finding = finding_in(&outcome);
-    let status = print_proof(cert, better, sink, outcome);
+    let answer = prove_answer(alloc, network, plan, limit, supervisor, cert, better);
+    let finding = finding_of(outcome_of(&answer));
+    let status = respond(sink, answer);
     ProofEnd::of(status, finding)
 }
 
-/// What was found of the plan, where one was judged.
-fn finding_in(outcome: &Result<ProofOutput, ReadFault>) -> Option<Finding>
-    ensures { result ≡ finding_in outcome.now }
+/// Does what `prove_run` does, but for the line: what is said is answered, before it is written.
+pub fn prove_answer<N: Source, P: Source, S: Supervisor, C: Sink, B: Sink>(
+    alloc: Global,
+    network: &mut N,
+    plan: &mut P,
+    limit: usize,
+    supervisor: &S,
+    cert: &mut C,
+    better: &mut B,
+) -> Result<Answer, ReadFault>
+    requires network_reads { N.failed network.old < 2 ^ 64 - 1 }
+    requires plan_reads { P.failed plan.old < 2 ^ 64 - 1 }
+    requires cert_writes { C.failed cert.old < 2 ^ 64 - 1 }
+    requires plan_writes { B.failed better.old < 2 ^ 64 - 1 }
+
+    ensures runs { EndsAs (ProveAnswers limit)
+        (source_over N.given N.failed N.is_at_end network.old network.new
+        ∷ source_over P.given P.failed P.is_at_end plan.old plan.new ∷ [])
+        (sink_over C.taken C.failed cert.old cert.new ∷ sink_over B.taken B.failed better.old better.new ∷ []) (outcome_of result) }
+
+    // What was found of the plan, as a value.
+    ensures found { IfSome (finding_of (outcome_of result)) (λ finding. EndsOver (ProveFinds limit finding)
+        (source_over N.given N.failed N.is_at_end network.old network.new
+        ∷ source_over P.given P.failed P.is_at_end plan.old plan.new ∷ [])
+        (sink_over C.taken C.failed cert.old cert.new ∷ sink_over B.taken B.failed better.old better.new
+        ∷ line_taken (line_of (outcome_of result)) ∷ []) (status_of (outcome_of result))) }
 {
-    match outcome {
-        Ok(output) => output.finding,
-        Err(_) => None,
-    }
+    let output = output_of(alloc, network, plan, limit, supervisor);
+    write_files(cert, better, output)
 }
 
 /// What the run prints.
-fn answer_of<N: Source, P: Source, S: Supervisor>(
+fn output_of<N: Source, P: Source, S: Supervisor>(
     alloc: Global,
     network: &mut N,
     plan: &mut P,
@@ -149,7 +170,7 @@ fn answer_to<S: Supervisor>(
 ) -> Result<ProofOutput, NoMemory>
     ensures judges { IfOk result (λ output. FindsOf limit problem.network plan (shown (Ok output))
         ⊎ RejectsClaim problem.network plan (shown (Ok output))) }
-    ensures finds { IfOk result (λ output. IfSome output.finding (λ finding.
+    ensures finds { IfOk result (λ output. IfSome (finding_in (Ok output)) (λ finding.
         FindsAs limit problem.network plan finding (shown (Ok output)))) }
 {
     let output = judgement(alloc, &problem, &plan, limit, supervisor);
@@ -168,7 +189,7 @@ fn judgement<S: Supervisor>(
 ) -> Result<ProofOutput, NoMemory>
     ensures judges { IfOk result (λ output. FindsOf limit problem.now.network plan.now (shown (Ok output))
         ⊎ RejectsClaim problem.now.network plan.now (shown (Ok output))) }
-    ensures finds { IfOk result (λ output. IfSome output.finding (λ finding.
+    ensures finds { IfOk result (λ output. IfSome (finding_in (Ok output)) (λ finding.
         FindsAs limit problem.now.network plan.now finding (shown (Ok output)))) }
 {
     let timing = problem.timing(alloc)?;
@@ -196,25 +217,22 @@ fn judge_claim(alloc: Global, timing: &Timing, plan: &Plan) -> Result<(), CheckF
 }
 
 /// An output that is a line alone.
-fn alone(alloc: Global, answer: Line) -> ProofOutput
-    requires { answer.status ≢ STOPPED }
-    ensures line { shown (Ok result) ≡ line_after answer.status (string_bytes answer.text) }
-    ensures none { result.finding ≡ None }
+fn alone(alloc: Global, answer: Answer) -> ProofOutput
+    requires { finding_of answer.outcome ≡ None }
+    ensures line { shown (Ok result) ≡ line_after answer.outcome }
+    ensures none { finding_in (Ok result) ≡ None }
 {
-    let Line { status, text } = answer;
     ProofOutput {
-        status,
+        answer,
         cert: String::new(alloc),
         plan: String::new(alloc),
-        line: text,
-        finding: None,
     }
 }
 
 /// What is printed of what was found of a plan.
 fn output_for(alloc: Global, plan: &Plan, proof: Proof) -> Result<ProofOutput, NoMemory>
     ensures output { IfOk result (λ output. shown (Ok output) ≡ output_of plan.now proof) }
-    ensures finding { IfOk result (λ output. output.finding ≡ Some (finding_of plan.now proof)) }
+    ensures outcome { IfOk result (λ output. output.answer.outcome ≡ outcome_for plan.now proof) }
 {
     match proof {
         Proof::Proved(argument, count) => {
@@ -239,14 +257,16 @@ fn proved(
     count: usize,
 ) -> Result<ProofOutput, NoMemory>
     ensures output { IfOk result (λ output. shown (Ok output) ≡ output_of plan.now (Proved argument.now count)) }
-    ensures finding { IfOk result (λ output. output.finding ≡ Some (finding_of plan.now (Proved argument.now count))) }
+    ensures outcome { IfOk result (λ output. output.answer.outcome ≡ outcome_for plan.now (Proved argument.now count)) }
 {
+    let outcome = Outcome::Proved {
+        stated: span_if_any(plan),
+        settled: count,
+    };
     Ok(ProofOutput {
-        status: DONE,
         cert: argument_to_json(alloc, argument)?,
         plan: String::new(alloc),
-        line: proved_line(alloc, plan, count)?,
-        finding: Some(Finding::Proved),
+        answer: Answer::of(alloc, outcome)?,
     })
 }
 
@@ -258,34 +278,37 @@ fn undercut(
     count: usize,
 ) -> Result<ProofOutput, NoMemory>
     ensures output { IfOk result (λ output. shown (Ok output) ≡ output_of plan.now (Undercut better.now count)) }
-    ensures finding { IfOk result (λ output. output.finding ≡ Some (finding_of plan.now (Undercut better.now count))) }
+    ensures outcome { IfOk result (λ output. output.answer.outcome ≡ outcome_for plan.now (Undercut better.now count)) }
 {
+    let outcome = Outcome::Undercut {
+        stated: span_if_any(plan),
+        better: span_of(better),
+        settled: count,
+    };
     Ok(ProofOutput {
-        status: REJECTED,
         cert: String::new(alloc),
         plan: plan_to_json(alloc, better)?,
-        line: undercut_line(alloc, plan, span_of(better), count)?,
-        finding: Some(Finding::Undercut(Spans {
-            stated: span_if_any(plan),
-            better: span_of(better),
-        })),
+        answer: Answer::of(alloc, outcome)?,
     })
 }
 
 /// What is printed of a plan where the limit was met.
 fn stopped(alloc: Global, plan: &Plan, bound: u64, count: usize) -> Result<ProofOutput, NoMemory>
     ensures output { IfOk result (λ output. shown (Ok output) ≡ output_of plan.now (Stopped bound count)) }
-    ensures finding { IfOk result (λ output. output.finding ≡ Some (finding_of plan.now (Stopped bound count))) }
+    ensures outcome { IfOk result (λ output. output.answer.outcome ≡ outcome_for plan.now (Stopped bound count)) }
 {
+    let known = Stop {
+        best: span_if_any(plan),
+        bound,
+    };
+    let outcome = Outcome::Stopped {
+        known,
+        settled: count,
+    };
     Ok(ProofOutput {
-        status: STOPPED,
         cert: String::new(alloc),
         plan: String::new(alloc),
-        line: stopped_line(alloc, plan, count)?,
-        finding: Some(Finding::Stopped(Stop {
-            best: span_if_any(plan),
-            bound,
-        })),
+        answer: Answer::of(alloc, outcome)?,
     })
 }
 
@@ -307,41 +330,4 @@ fn span_of(plan: &Plan) -> u64
         Plan::Schedule { flowspan, .. } => *flowspan,
         Plan::None => 0,
     }
-}
-
-fn proved_line(alloc: Global, plan: &Plan, count: usize) -> Result<String, NoMemory>
-    ensures { IfOk result (λ line. string_bytes line ≡ proved_line plan.now count) }
-{
-    let line = match plan {
-        Plan::Schedule { flowspan, .. } => format!(in alloc;
-            "proved {flowspan} settled {count}\n"
-        )?,
-        Plan::None => format!(in alloc; "proved no schedule settled {count}\n")?,
-    };
-    Ok(line)
-}
-
-fn undercut_line(alloc: Global, plan: &Plan, span: u64, count: usize) -> Result<String, NoMemory>
-    ensures { IfOk result (λ line. (better : Plan) → span ≡ span_in better
-        → string_bytes line ≡ undercut_line plan.now better count) }
-{
-    let line = match plan {
-        Plan::Schedule { flowspan, .. } => format!(in alloc;
-            "undercut {flowspan} by {span} settled {count}\n"
-        )?,
-        Plan::None => format!(in alloc; "undercut none by {span} settled {count}\n")?,
-    };
-    Ok(line)
-}
-
-fn stopped_line(alloc: Global, plan: &Plan, count: usize) -> Result<String, NoMemory>
-    ensures { IfOk result (λ line. string_bytes line ≡ stopped_line plan.now count) }
-{
-    let line = match plan {
-        Plan::Schedule { flowspan, .. } => format!(in alloc;
-            "stopped {flowspan} settled {count}\n"
-        )?,
-        Plan::None => format!(in alloc; "stopped none settled {count}\n")?,
-    };
-    Ok(line)
 }

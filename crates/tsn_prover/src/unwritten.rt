@@ -1,20 +1,22 @@
 //! Runs that end before their search, since a file can't be written.
 ghost use Rattle.std.specs.Prelude.{◌≡◌, [], ◌∷◌};
-ghost use Rattle.tsn_run.specs.Run.{RunsOver, sink_over};
+ghost use Rattle.tsn_run.specs.Run.{sink_over};
+ghost use Rattle.tsn_run.specs.Outcome.{EndsAs, outcome_of};
 ghost use Rattle.tsn_cli.specs.Valid.{JudgeAnswers};
-ghost use Rattle.tsn_given.specs.Runs.{LeavesSource, OverNetwork};
-ghost use Rattle.tsn_prover.specs.Unmade.{IsUnmade, IsUnmadeStatus, RunsUnmade};
+ghost use Rattle.tsn_given.specs.Runs.{LeavesSource};
+ghost use Rattle.tsn_prover.specs.Unmade.{IsUnmade, IsUnmadeOutcome};
 
 use std::alloc::Global;
 use std::io::ErrorKind;
-use tsn_cli::judge_run;
+use tsn_cli::judge_answer;
 use tsn_device::Failure;
-use tsn_given::json::{end_as_json, line_keeper, say_no_memory};
+use tsn_given::json::{say_no_memory, tell_answer};
 use tsn_given::reason::{failure_line, network_line, source_line};
-use tsn_given::told::{Ended, NetworkRun, end_at};
+use tsn_given::told::{NetworkRun, Told};
 use tsn_given::{Given, Made, Ran};
-use tsn_run::device::Sink;
+use tsn_run::device::ReadFault;
 use tsn_run::run::{DEVICE, DONE};
+use tsn_run::{Answer, outcome_of};
 
 /// Why no search began: a file can't be written.
 #[derive(Clone, Copy)]
@@ -29,7 +31,7 @@ pub struct Unwritten<'a> {
 pub fn unwritable<'a, G: Given<'a>, W: Made>(
     alloc: Global,
     given: &mut G,
-    mut output: W,
+    output: W,
     unwritten: Unwritten<'a>,
 ) -> Ran<W>
     requires { W.failed output ≡ 0 }
@@ -39,58 +41,45 @@ pub fn unwritable<'a, G: Given<'a>, W: Made>(
     if unwritten.failure.cause.kind() == ErrorKind::OutOfMemory {
         return say_no_memory(output);
     }
-    if unwritten.json {
-        let mut line = line_keeper(alloc);
-        let ended = judge_to(alloc, given, &unwritten, &mut line);
-        return end_as_json(alloc, given, output, ended, line);
-    }
-    let ended = judge_to(alloc, given, &unwritten, &mut output);
-    end_at(alloc, given, ended, output)
-}
-
-/// Judges the network, and writes why it is refused to a sink.
-fn judge_to<'a, G: Given<'a>, W: Sink>(
-    alloc: Global,
-    given: &G,
-    unwritten: &Unwritten<'a>,
-    sink: &mut W,
-) -> Ended
-    requires { W.failed sink.old ≡ 0 }
-    ensures { OverNetwork G.Source.given G.Source.failed G.Source.is_at_end (G.opens_network given.now unwritten.now.network.now)
-        (λ sources. RunsUnmade sources (sink_over W.taken W.failed sink.old sink.new) result.status) }
-{
-    let NetworkRun { status, network } = judge_over(alloc, given, unwritten.network, sink);
-    let line = if status == DONE {
+    let NetworkRun { answer, network } = judge_over(alloc, given, unwritten.network);
+    let status = outcome_of(&answer).status();
+    let reason = if status == DONE {
         failure_line(alloc, DEVICE, Some(unwritten.failure))
     } else {
         source_line(alloc, status, &network).or(network_line(alloc, status, &network))
     };
     drop(network);
-    Ended {
-        status: unmade_status(status),
-        line,
-    }
+    let answer = unmade(answer);
+    tell_answer(
+        alloc,
+        given,
+        output,
+        Told { answer, reason },
+        unwritten.json,
+    )
 }
 
-/// The status of a run of which a file can't be made, where its network was judged with this one.
-fn unmade_status(judged: u8) -> u8
-    ensures { IsUnmadeStatus judged result }
+/// What is answered where a file can't be made, and this of the network alone: that a device failed, where it isn't refused.
+fn unmade(judged: Result<Answer, ReadFault>) -> Result<Answer, ReadFault>
+    ensures { IsUnmadeOutcome (outcome_of judged) (outcome_of result) }
 {
-    if judged == DONE { DEVICE } else { judged }
+    if outcome_of(&judged).status() == DONE {
+        drop(judged);
+        return Err(ReadFault::Broken);
+    }
+    judged
 }
 
-/// Judges the network of a word alone, and writes why it is refused to a sink.
-pub fn judge_over<'a, G: Given<'a>, W: Sink>(
+/// Judges the network of a word alone.
+pub fn judge_over<'a, G: Given<'a>>(
     alloc: Global,
     given: &G,
     word: &'a str,
-    sink: &mut W,
 ) -> NetworkRun<G::Source>
-    requires { W.failed sink.old ≡ 0 }
     ensures { LeavesSource G.Source.given G.Source.failed G.Source.is_at_end (G.opens_network given.now word.entry.now) result.network
-        (λ network. RunsOver JudgeAnswers (network ∷ []) (sink_over W.taken W.failed sink.old sink.new ∷ []) result.status) }
+        (λ network. EndsAs JudgeAnswers (network ∷ []) [] (outcome_of result.answer)) }
 {
     let mut network = given.network(word);
-    let status = judge_run(alloc, &mut network, sink);
-    NetworkRun { status, network }
+    let answer = judge_answer(alloc, &mut network);
+    NetworkRun { answer, network }
 }

@@ -17,7 +17,7 @@ use Rattle.tsn_run.specs.Refusal.{RefusesNetwork, RefusesPlan}
 use Rattle.tsn_run.specs.Outcome.{ComesOver, ComesTo, TellsFailures, output_of}
 use Rattle.tsn_run.specs.Inputs.{AreInputsOver, IsNetworkOver, IsPlanOver, ReadsInputs, inputs_with}
 use Rattle.tsn_run.proofs.CheckLemmas.{goes_on_after_network}
-use Rattle.tsn_run.proofs.RunLemmas.{ComesTo-next, TellsFaults, line_faults, tells_before, tells_err, tells_left, tells_next, tells_ok, tells_then}
+use Rattle.tsn_run.proofs.RunLemmas.{ComesTo-next, TellsFaults, tells_before, tells_err, tells_left, tells_next, tells_ok, tells_then}
 
 -- a command that refuses a network and a plan as they are read, and else goes on
 pub record TakesInputs (command : Command) : Type 0 where
@@ -132,29 +132,30 @@ module _ {A : Type 0} (output : Result A ReadFault → Output) (command : Comman
   }
 
 -- and over the source of a certificate too
-module _ (command : Command) (network plan cert : SourceRun) where
-  pub comes_after : (problem : NamedNetwork) (stated : Plan) (outcome : Result Answer ReadFault) → AreInputsOver network plan (Ok (Taken problem stated))
+module _ {A : Type 0} (output : Result A ReadFault → Output) (command : Command) (network plan cert : SourceRun) where
+  pub comes_after : (problem : NamedNetwork) (stated : Plan) (outcome : Result A ReadFault) → AreInputsOver network plan (Ok (Taken problem stated))
       → TellsFailures (cert.reads ∷ []) outcome
       → ((file plan_file : List ℕ) → States file problem → plan_in plan_file ≡ Ok stated
-      → ComesTo output_of command (file ∷ plan_file ∷ []) (cert.reading ∷ []) outcome)
-      → ComesOver output_of command (network ∷ plan ∷ cert ∷ []) outcome
+      → ComesTo output command (file ∷ plan_file ∷ []) (cert.reading ∷ []) outcome)
+      → ComesOver output command (network ∷ plan ∷ cert ∷ []) outcome
   comes_after problem stated outcome over tells then = record {
-    comes = inputs_taken output_of command network.reading plan.reading (cert.reading ∷ []) problem stated outcome over.reads then;
+    comes = inputs_taken output command network.reading plan.reading (cert.reading ∷ []) problem stated outcome over.reads then;
     failures = tells_then network.reads plan.reads cert.reads _ outcome over.failures tells;
   }
 
-  pub comes_without : TakesInputs command → IsUnread cert.reading → cert.reads.after ≡ cert.reads.before → (answer : Answer)
-      → AreInputsOver network plan (Ok (Refused answer)) → ComesOver output_of command (network ∷ plan ∷ cert ∷ []) (Ok answer)
-  comes_without takes unread left answer over = record {
-    comes = inl (inputs_refused output_of command takes network.reading plan.reading (cert.reading ∷ []) (All-cons IsUnread cert.reading [] unread (All-nil IsUnread))
-        (λ network_file plan_file shown answers. inl (answers, unread, All-nil IsUnread)) answer (output_of (Ok answer)) (λ line is. is) over.reads);
-    failures = tells_left network.reads plan.reads cert.reads _ left (tells_ok _ _ answer over.failures);
+  pub comes_without : TakesInputs command → IsUnread cert.reading → cert.reads.after ≡ cert.reads.before → (answer : Answer) (value : A)
+      → ((line : List ℕ) → IsLine 3 line (output_of (Ok answer)) → IsLine 3 line (output (Ok value)))
+      → AreInputsOver network plan (Ok (Refused answer)) → ComesOver output command (network ∷ plan ∷ cert ∷ []) (Ok value)
+  comes_without takes unread left answer value same over = record {
+    comes = inl (inputs_refused output command takes network.reading plan.reading (cert.reading ∷ []) (All-cons IsUnread cert.reading [] unread (All-nil IsUnread))
+        (λ network_file plan_file shown answers. inl (answers, unread, All-nil IsUnread)) answer (output (Ok value)) same over.reads);
+    failures = tells_left network.reads plan.reads cert.reads _ left (tells_ok _ _ value over.failures);
   }
 
-  pub comes_unread : TakesInputs command → IsUnread cert.reading → cert.reads.after ≡ cert.reads.before → (fault : ReadFault)
-      → AreInputsOver network plan (Err fault) → ComesOver output_of command (network ∷ plan ∷ cert ∷ []) (Err fault)
-  comes_unread takes unread left fault over = record {
-    comes = inputs_failed output_of command takes network.reading plan.reading (cert.reading ∷ []) (All-cons IsUnread cert.reading [] unread (All-nil IsUnread))
-        line_faults fault over.reads;
+  pub comes_unread : TellsFaults output → TakesInputs command → IsUnread cert.reading → cert.reads.after ≡ cert.reads.before → (fault : ReadFault)
+      → AreInputsOver network plan (Err fault) → ComesOver output command (network ∷ plan ∷ cert ∷ []) (Err fault)
+  comes_unread tells takes unread left fault over = record {
+    comes = inputs_failed output command takes network.reading plan.reading (cert.reading ∷ []) (All-cons IsUnread cert.reading [] unread (All-nil IsUnread))
+        tells fault over.reads;
     failures = tells_left network.reads plan.reads cert.reads _ left (tells_err _ fault over.failures);
   }

@@ -1,8 +1,9 @@
 -- What `check` answers.
 --     RefusesCert                   the certificate file is refused
+--     accepted                      what is answered where it shows what the plan says
 --     ShowsClaim, ShowsNothing      what the certificate shows
 --     CheckAnswers                  the answer to the files read so far
-use Rattle.std.specs.Prelude.{◌≡◌, ◌⊎◌, ℕ, List, [], ◌∷◌, ◌++◌, codes, decimal, Ok, Err}
+use Rattle.std.specs.Prelude.{◌≡◌, ◌⊎◌, ℕ, List, [], ◌∷◌, Ok, Err}
 use Rattle.tsn_model.specs.Network.{Network}
 use Rattle.tsn_net.specs.File.{States}
 use Rattle.tsn_net.specs.Problem.{NamedNetwork}
@@ -17,32 +18,31 @@ use Rattle.tsn_check.specs.declared.verdict.Verdict.TheVariants.{Optimal, First,
 use Rattle.tsn_check.specs.Plans.{span_in}
 use Rattle.tsn_argue.specs.Certified.{Certifies, certificate_verdict}
 use Rattle.tsn_argue.specs.Faults.{IsFirstFault}
-use Rattle.tsn_run.specs.Run.{Output, Command, IsLine}
-use Rattle.tsn_run.specs.Refusal.{RefusesNetwork, RefusesPlan, cause_text, refusal_line}
+use Rattle.tsn_run.specs.declared.outcome.FileKind.TheVariants as kind
+use Rattle.tsn_run.specs.declared.outcome.Outcome.{Outcome}
+use Rattle.tsn_run.specs.declared.outcome.Outcome.TheVariants.{AcceptedOptimal, AcceptedFirst, AcceptedNone, RefusedFile, RefusedCert}
+use Rattle.tsn_run.specs.Run.{Output, Command}
+use Rattle.tsn_run.specs.Refusal.{IsOutcome, RefusesNetwork, RefusesPlan}
 
 -- the certificate file, of any format, is refused
 abbrev pub RefusesCert : List ℕ → Output → Type 0
-RefusesCert file output = (fault : FileFault) × (certificate_in file ≡ Err fault) × IsLine 3 (refusal_line (codes "cert") fault) output
+RefusesCert file output = (fault : FileFault) × (certificate_in file ≡ Err fault) × IsOutcome (RefusedFile kind.Cert fault) output
 
--- what is said where the certificate shows what the plan says, with this verdict
-abbrev pub accepted_line : Verdict → Plan → List ℕ
-accepted_line Optimal plan = codes "accepted optimal " ++ decimal (span_in plan) ++ codes "\n"
-accepted_line First plan = codes "accepted first " ++ decimal (span_in plan) ++ codes "\n"
-accepted_line NoSchedule plan = codes "accepted no schedule\n"
-
--- what is said of a fault
-abbrev pub rejected_line : CheckFault → List ℕ
-rejected_line fault = codes "certificate refused " ++ cause_text fault ++ codes "\n"
+-- what is answered where the certificate shows what the plan says, with this verdict
+abbrev pub accepted : Verdict → Plan → Outcome
+accepted Optimal plan = AcceptedOptimal (span_in plan)
+accepted First plan = AcceptedFirst (span_in plan)
+accepted NoSchedule plan = AcceptedNone
 
 -- the certificate shows what the plan says
 abbrev pub ShowsClaim : Network → Plan → Certificate → Output → Type 0
 ShowsClaim network plan certificate output =
-    Certifies network plan certificate × IsLine 0 (accepted_line (certificate_verdict certificate plan) plan) output
+    Certifies network plan certificate × IsOutcome (accepted (certificate_verdict certificate plan) plan) output
 
 -- it doesn't, and this is the first fault
 abbrev pub ShowsNothing : Network → Plan → Certificate → Output → Type 0
 ShowsNothing network plan certificate output =
-    (fault : CheckFault) × IsFirstFault network plan certificate fault × IsLine 6 (rejected_line fault) output
+    (fault : CheckFault) × IsFirstFault network plan certificate fault × IsOutcome (RefusedCert fault) output
 
 -- the answer to a certificate file for this plan
 abbrev pub JudgesCert : Network → Plan → List ℕ → Output → Type 0

@@ -1,23 +1,29 @@
 -- The outcome of a run before it is written, how far the run has come with it, and how it is written.
---     line_of, output_of            the output of a run that answers a line or a text
+--     outcome_of, output_of         what a run answers, as a value, and its output
 --     ComesTo, ComesOver            how far a run has come
 --     TellsFailures                 a read failed where the outcome says so
 --     IsWrittenAs                   the output was written
-use Rattle.std.specs.Prelude.{◌≡◌, ◌≢◌, ◌+◌, ℕ, ◌⊎◌, List, [], ◌∷◌, codes, string_bytes, Result, Ok, Err}
+--     line_taken, EndsAs            a run that has come to an outcome whose line isn't written yet
+use Rattle.std.specs.Prelude.{◌≡◌, ◌≢◌, ◌+◌, ℕ, ◌⊎◌, List, [], ◌∷◌, ◌++◌, codes, Result, Ok, Err, Some}
 use Rattle.tsn_run.specs.declared.answer.Answer.{Answer}
+use Rattle.tsn_run.specs.declared.outcome.Outcome.{Outcome}
+use Rattle.tsn_run.specs.declared.outcome.Outcome.TheVariants as ends
 use Rattle.tsn_device.specs.declared.device.ReadFault.{ReadFault}
 use Rattle.tsn_device.specs.declared.device.ReadFault.TheVariants.{Broken, TooLong, Memory}
 use Rattle.tsn_device.specs.declared.run.TheConstants.{DEVICE}
-use Rattle.tsn_run.specs.Run.{AreUnwritten, Output, Command, Reading, Answers, BreaksOff, Failures, IsLine, NoneFailed, SinkRun, SourceRun, TakesAll, TakesBeginning, failed_after, failed_before, readings_of, reads_of, writes_of, writings_of}
+use Rattle.tsn_run.specs.Said.{line_of, status_of}
+use Rattle.tsn_run.specs.Refusal.{told}
+use Rattle.tsn_run.specs.Run.{AreUnwritten, Output, Command, Reading, Answers, BreaksOff, Failures, IsLine, NoneFailed, RunsOver, SinkRun, SourceRun, TakesAll, TakesBeginning, failed_after, failed_before, readings_of, reads_of, writes_of, writing_of, writings_of}
 
-abbrev pub line_of : ℕ → List ℕ → Output
-line_of status line = record { status = status; texts = line ∷ [] }
+-- what a run answers, as a value
+abbrev pub outcome_of : Result Answer ReadFault → Outcome
+outcome_of (Ok answer) = answer.outcome
+outcome_of (Err TooLong) = ends.TooLong
+outcome_of (Err Memory) = ends.NoMemory
+outcome_of (Err Broken) = ends.Failed
 
 abbrev pub output_of : Result Answer ReadFault → Output
-output_of (Ok answer) = line_of answer.status (string_bytes answer.text)
-output_of (Err TooLong) = line_of 3 (codes "too long\n")
-output_of (Err Memory) = line_of 7 (codes "no memory\n")
-output_of (Err Broken) = line_of 8 []
+output_of answer = told (outcome_of answer)
 
 abbrev pub IsOutputOf : Result Answer ReadFault → Output → Type 0
 IsOutputOf outcome output = output ≡ output_of outcome
@@ -48,3 +54,12 @@ pub record IsWrittenAs {A : Type 0} (Prints : Result A ReadFault → Output → 
   pub device : status ≡ DEVICE → (outcome ≡ Err Broken → ⊥) → failed_after (writes_of sinks) ≡ failed_before (writes_of sinks) + 1
   pub beginning : failed_after (writes_of sinks) ≢ failed_before (writes_of sinks) → (outcome ≡ Err Broken → ⊥)
       × ((output : Output) × Prints outcome output × TakesBeginning (writings_of sinks) output.texts)
+
+-- what took this line whole, and nothing else
+abbrev pub line_taken : List ℕ → SinkRun
+line_taken line = record { writing = writing_of (Some []) (Some line); writes = record { before = 0; after = 0 } }
+
+-- A run over these sources and files has come to this outcome, and its line isn't written yet: what takes it whole is the last sink of a run that ended with
+-- the status of the outcome.
+abbrev pub EndsAs : Command → List SourceRun → List SinkRun → Outcome → Type 0
+EndsAs command sources files outcome = RunsOver command sources (files ++ line_taken (line_of outcome) ∷ []) (status_of outcome)

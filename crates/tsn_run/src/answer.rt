@@ -1,10 +1,14 @@
-//! What a command answers, before any of it is written.
-ghost use Rattle.std.specs.Prelude.{◌<◌};
+//! What a command answers, with its line, before any of it is written.
+ghost use Rattle.std.specs.Prelude.{◌≡◌, ◌<◌, string_bytes};
+ghost use Rattle.tsn_run.specs.Said.{line_of, status_of};
 
-/// A status, and the text that goes with it.
+use crate::outcome::Outcome;
+
+/// An outcome, and its line.
 #[derive(Drop)]
 pub struct Answer {
-    pub status: u8,
-    pub text: String,
-    pub ghost not_device: { status < 8 },
+    pub outcome: Outcome,
+    pub line: String,
+    pub ghost line_is: { string_bytes line ≡ line_of outcome },
+    pub ghost not_device: { status_of outcome < 8 },
 }

@@ -4,6 +4,7 @@ ghost use Rattle.tsn_run.specs.Run.{source_over};
 ghost use Rattle.tsn_run.specs.Inputs.{AreInputsOver, IsNetworkOver, IsPlanOver, inputs_with};
 
 use crate::answer::Answer;
+use crate::outcome::FileKind;
 use crate::refusals::{file_refusal, refusal};
 use crate::run::MAX_FILE;
 use std::alloc::Global;
@@ -53,7 +54,7 @@ fn read_plan<P: Source>(alloc: Global, plan: &mut P) -> Result<PlanRead, ReadFau
     let file = read_all(alloc, plan, MAX_FILE)?;
     match plan_from_json(alloc, &file) {
         Ok(plan) => Ok(PlanRead::Taken(plan)),
-        Err(fault) => Ok(PlanRead::Refused(file_refusal(alloc, "plan", fault)?)),
+        Err(fault) => Ok(PlanRead::Refused(file_refusal(alloc, FileKind::Plan, fault)?)),
     }
 }
 

@@ -16,6 +16,9 @@ pub const WORDS: u8 = 2;
 /// An input is refused.
 pub const REFUSED: u8 = 3;
 
+/// There is no schedule.
+pub const NO_SCHEDULE: u8 = 4;
+
 /// The limit of settlements, or of conflicts, was met.
 pub const STOPPED: u8 = 5;
 
@@ -34,13 +37,13 @@ pub const TOO_LONG_LINE: &[u8] = b"too long\n";
 /// The most bytes of a file.
 pub const MAX_FILE: usize = 1_099_511_627_776;
 
-/// Writes the answer, or the line of the fault for which there is none, and says the status.
-pub fn respond<W: Sink>(sink: &mut W, outcome: Result<Answer, ReadFault>) -> u8
+/// Writes the line of the answer, or that of the fault for which there is none, and says the status.
+pub fn respond<W: Sink>(sink: &mut W, answer: Result<Answer, ReadFault>) -> u8
     requires few_failures { W.failed sink.old < 2 ^ 64 - 1 }
-    ensures { IsWrittenAs IsOutputOf outcome (sink_over W.taken W.failed sink.old sink.new ∷ []) result }
+    ensures { IsWrittenAs IsOutputOf answer (sink_over W.taken W.failed sink.old sink.new ∷ []) result }
 {
-    match outcome {
-        Ok(answer) => finish(sink, answer.status, answer.text.as_bytes()),
+    match answer {
+        Ok(answer) => finish(sink, answer.outcome.status(), answer.line.as_bytes()),
         Err(ReadFault::TooLong) => finish(sink, REFUSED, TOO_LONG_LINE),
         Err(ReadFault::Memory) => finish(sink, MEMORY, NO_MEMORY_LINE),
         Err(ReadFault::Broken) => DEVICE,

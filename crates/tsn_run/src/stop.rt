@@ -3,6 +3,7 @@ ghost use Rattle.std.specs.Prelude.{◌≡◌, [], IfOk, None, Some, false, stri
 ghost use Rattle.tsn_run.specs.Stop.{known_text, stop_text};
 
 use std::alloc::Global;
+use std::fmt;
 use tsn_model::NoMemory;
 
 /// What is known where a search was stopped, in nanoseconds.
@@ -12,6 +13,23 @@ pub struct Stop {
     pub best: Option<u64>,
     /// What no valid schedule's flowspan is below.
     pub bound: u64,
+}
+
+/// A number of nanoseconds, printed as `none` where there is none.
+#[derive(Clone, Copy)]
+pub(crate) struct Span(pub(crate) Option<u64>);
+
+impl fmt::Display for Span {
+    ghost use Rattle.tsn_run.specs.Stop.{span_text};
+
+    ghost output = { λ span. Some (span_text span.0) };
+
+    fn fmt<W: fmt::Write>(&self, f: &mut fmt::Formatter<W>) -> fmt::Result {
+        match self.0 {
+            Some(span) => write!(f, "{span}"),
+            None => write!(f, "none"),
+        }
+    }
 }
 
 impl Stop {

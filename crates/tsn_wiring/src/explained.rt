@@ -6,7 +6,6 @@ ghost use Rattle.tsn_wiring.specs.Options.{IsViewOf};
 ghost use Rattle.tsn_wiring.specs.Charts.{RunsChart};
 ghost use Rattle.tsn_given.specs.Runs.{OverCert, LeavesSource, WithSome};
 
-use crate::judged::CertRun;
 use crate::options::view_of;
 use crate::tables::chart;
 use std::alloc::Global;
@@ -16,6 +15,15 @@ use tsn_given::told::{Ended, Ran, end_at};
 use tsn_given::{Given, Made};
 use tsn_run::device::Sink;
 use tsn_words::{ChartWords, ExplainWords};
+
+/// How a run over a network, a plan and a certificate ended, and its sources.
+#[derive(Drop)]
+pub struct CertRun<S> {
+    pub status: u8,
+    pub network: S,
+    pub plan: S,
+    pub cert: S,
+}
 
 /// Says in words why no schedule is faster; the network `-` is standard input.
 pub fn explain<'a, G: Given<'a>, W: Made>(

@@ -1,7 +1,7 @@
-use Rattle.tsn_run.specs.Outcome.{output_of}
+use Rattle.tsn_cli.specs.Shown.{shown_output}
 use Rattle.tsn_cli.specs.Tables.{ReplayAnswers}
 use Rattle.tsn_run.proofs.RunLemmas.{runs_with}
 use Rattle.tsn_cli.proofs.tables.replay_run.Goals as goal
 
 pub returns : goal.returns
-returns g c = runs_with output_of (ReplayAnswers c.args.options) _ _ c.answer_of.result c.respond.result c.answer_of.ensures c.respond.ensures
+returns g c = runs_with shown_output (ReplayAnswers c.args.options) _ _ c.answer_of.result c.show.result c.answer_of.ensures c.show.ensures

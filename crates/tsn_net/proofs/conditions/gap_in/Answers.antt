@@ -19,7 +19,7 @@ returns-then-not-are_joined c =
     let to = second ∙ text-at route k c.index-route-k-in-loop-k.result c.loop-k-test.true c.index-route-k-in-loop-k.is in
     let within : k < length (texts_view route) = rw (length-map route text_in) c.loop-k-test.true in
     let gap : is_joined cables (texts_view route) ≡ false = sym c.loop-k.invariant ∙ step
-            ∙ rw (← first, ← second, ← c.are_joined.ensures, c.if-not-are_joined.true) in
+    ∙ rw (← first, ← second, ← c.are_joined.ensures, c.if-not-are_joined.true) in
     (ap not (sym gap), (refl, (rw back within, from, rw back to, sym c.are_joined.ensures ∙ c.if-not-are_joined.true)))
 
 pub loop-k-preserved : goal.loop-k-preserved

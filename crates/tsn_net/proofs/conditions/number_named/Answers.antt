@@ -17,6 +17,6 @@ pub loop-number-preserved : goal.loop-number-preserved
 loop-number-preserved c =
     let test : Data → Bool = λ t. bytes_eq c.args.name.now (text_at key.Name t) in
     sym (failed_at test view c.args.tables.now c.loop-number.number c.index-tables-number.result
-        (table no_members) c.loop-number-test.true c.index-tables-number.is
+    (table no_members) c.loop-number-test.true c.index-tables-number.is
     (ap (bytes_eq c.args.name.now) (sym c.text_at.ensures) ∙ sym c.eq.ensures ∙ c.if-eq.false))
     ∙ c.loop-number.invariant

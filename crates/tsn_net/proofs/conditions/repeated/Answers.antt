@@ -13,7 +13,7 @@ returns-in-Some-clause-twice c =
     sym (sym c.loop-i.invariant ∙ repeats-found names c.loop-i.i c.index-names-i.result c.loop-i-test.true c.index-names-i.is
     (ap (λ t. list_any (bytes_eq t) (texts_view (drop (c.loop-i.i + 1) names))) (sym c.text-name.ensures)
     ∙ ap (λ vs. list_any (bytes_eq c.text-name.result.now) (texts_view vs)) (sym (rest_of names (c.loop-i.i + 1))) ∙ sym c.number_of_text.ensures.0
-        ∙ ap is_some c.in-Some.is))
+    ∙ ap is_some c.in-Some.is))
 
 pub returns-in-Some-clause-so : goal.returns-in-Some-clause-so
 returns-in-Some-clause-so c = λ nodes.
@@ -29,5 +29,5 @@ loop-i-preserved c =
     sym (repeats-passed names c.loop-i.i c.index-names-i.result c.loop-i-test.true c.index-names-i.is
     (ap (λ t. list_any (bytes_eq t) (texts_view (drop (c.loop-i.i + 1) names))) (sym c.text-name.ensures)
     ∙ ap (λ vs. list_any (bytes_eq c.text-name.result.now) (texts_view vs)) (sym (rest_of names (c.loop-i.i + 1))) ∙ sym c.number_of_text.ensures.0
-        ∙ ap is_some c.in_default.is))
+    ∙ ap is_some c.in_default.is))
     ∙ c.loop-i.invariant

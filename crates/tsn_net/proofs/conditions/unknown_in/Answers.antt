@@ -14,7 +14,7 @@ pub returns-in-Some-clause-first : goal.returns-in-Some-clause-first
 returns-in-Some-clause-first c =
     let test : List ℕ → Bool = λ t. not (has_name (map view c.args.tables.now) t) in
     let found = find_from_yields_List (λ (v : Value). test (text_of (view v))) _ _ _ c.find.ensures.ran (YieldsList-from_slice c.args.names.now cc)
-            (λ x b q k. search (rules, tests)) in
+    (λ x b q k. search (rules, tests)) in
     rw (find-map test (λ (v : Value). text_of (view v)) c.args.names.now, ← found, c.in-Some.is, c.text.ensures)
 
 pub returns-in-Some-clause-found : goal.returns-in-Some-clause-found
@@ -24,7 +24,7 @@ pub returns-in-None-clause-first : goal.returns-in-None-clause-first
 returns-in-None-clause-first c =
     let test : List ℕ → Bool = λ t. not (has_name (map view c.args.tables.now) t) in
     let found = find_from_yields_List (λ (v : Value). test (text_of (view v))) _ _ _ c.find.ensures.ran (YieldsList-from_slice c.args.names.now cc)
-            (λ x b q k. search (rules, tests)) in
+    (λ x b q k. search (rules, tests)) in
     rw (find-map test (λ (v : Value). text_of (view v)) c.args.names.now, ← found, c.in-None.is)
 
 pub returns-in-None-clause-found : goal.returns-in-None-clause-found

@@ -14,7 +14,7 @@ returns-in-Some-key_outside-clause-first c =
     let m = c.in-Some.members.now in
     let test : List ℕ → Bool = λ name. not (list_any (λ k. bytes_eq (name_of k) name) (known c.args.table d)) in
     let inner : find (λ (s : String Global). test (string_bytes s)) (keys_of m) ≡ Some c.in-Some-key_outside.name.now =
-            rw (← c.known.ensures) (sym c.in-Some-key_outside.ensures) in
+    rw (← c.known.ensures) (sym c.in-Some-key_outside.ensures) in
     let whole : other_key c.args.table d ≡ Some (string_bytes c.in-Some-key_outside.name.now) =
     ap (find test) (keys_in-view d m c.in-Some.ensures) ∙ find-map test string_bytes (keys_of m) ∙ ap (option_map string_bytes) inner in
     sym (whole ∙ ap Some (sym c.as_str.ensures.value))

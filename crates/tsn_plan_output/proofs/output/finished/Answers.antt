@@ -5,5 +5,5 @@ use Rattle.tsn_plan_output.proofs.output.finished.Goals as goal
 
 pub returns-clause-tells : goal.returns-clause-tells
 returns-clause-tells c = λ network effort is_finished shown is.
-    tells_finished network effort c.args.book c.args.wanted c.in-Ok.texts.0 (string_bytes c.in-Ok.texts.1) (written_in c.in_ok-cert.cert)
-    (string_bytes c.in-Ok.texts.2) is_finished c.in-Ok.ensures.status c.in-Ok.ensures.plan c.in-Ok.ensures.line c.in_ok-cert.ensures shown is
+    tells_finished network effort c.args.book c.args.wanted c.in-Ok.texts.0.outcome (string_bytes c.in-Ok.texts.1) (written_in c.in_ok-cert.cert)
+    is_finished c.in-Ok.ensures.outcome c.in-Ok.ensures.plan c.in_ok-cert.ensures shown is

@@ -6,11 +6,11 @@ returns-then-not-words g c =
     let run = c.prove_over-run in
     leaves_over run.ensures.runs
     (λ network left. leaves_over left
-    (λ plan runs. record { cert_left = run.result.cert; better_left = run.result.better; ran = rw c.end_proof.ensures.status runs }))
+    (λ plan ends. record { cert_left = run.result.cert; better_left = run.result.better; ran = rw c.end_proof.ensures.answer ends }))
 
 pub returns : goal.returns
 returns g c =
     let run = c.prove_over-run-2 in
     leaves_over run.ensures.runs
     (λ network left. leaves_over left
-    (λ plan runs. record { cert_left = run.result.cert; better_left = run.result.better; ran = rw c.end_proof-ended.ensures.status runs }))
+    (λ plan ends. record { cert_left = run.result.cert; better_left = run.result.better; ran = rw c.end_proof-told.ensures.answer ends }))

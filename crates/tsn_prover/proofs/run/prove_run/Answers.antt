@@ -1,37 +1,39 @@
-use Rattle.std.proofs.Common.{◌≡◌, List, [], ◌∷◌, Some, IsTrue, is_some, ap, sym, ◌∙◌, subst, arith}
-use Rattle.tsn_run.specs.Run.{Reading, reading_of}
-use Rattle.tsn_prover.specs.Finding.{stop_among}
-use Rattle.tsn_prover.specs.ProofOutput.{finding_in, shown}
-use Rattle.tsn_prover.specs.Prove.{ProveAnswers, ProveFinds}
-use Rattle.tsn_run.proofs.RunLemmas.{runs_along, some_of, runs_with}
-use Rattle.tsn_prover.proofs.ProveLemmas.{IsOutput-finds, found_stop, some_stop, status_shown, stop_found, taken_shown}
+use Rattle.std.proofs.Common.{◌≡◌, IsTrue, is_some, ap, sym, ◌∙◌, subst, arith}
+use Rattle.tsn_run.specs.Outcome.{outcome_of}
+use Rattle.tsn_prover.specs.Finding.{finding_of, stop_among}
+use Rattle.tsn_prover.specs.Prove.{ProveFinds}
+use Rattle.tsn_run.proofs.RunLemmas.{runs_along}
+use Rattle.tsn_run.proofs.SaidLemmas.{known_stop, stop_known}
+use Rattle.tsn_given.proofs.RunsLemmas.{status_told}
+use Rattle.tsn_prover.proofs.FilesLemmas.{two_found, two_said}
+use Rattle.tsn_prover.proofs.ProveLemmas.{finding_stop, some_stop}
 use Rattle.tsn_prover.proofs.run.prove_run.Goals as goal
 
 pub returns-clause-runs : goal.returns-clause-runs
 returns-clause-runs g c =
-    runs_along _ _ _ c.print_proof-status.result _ c.of.ensures.status
-    (runs_with shown (ProveAnswers c.args.limit) _ _ c.answer_of-outcome.result c.print_proof-status.result c.answer_of-outcome.ensures.comes c.print_proof-status.ensures)
+    runs_along _ _ _ c.respond-status.result _ c.of.ensures.status
+    (two_said _ _ _ _ c.prove_answer-answer.result _ c.respond-status.result c.prove_answer-answer.ensures.runs c.respond-status.ensures)
 
 pub returns-clause-stopped : goal.returns-clause-stopped
-returns-clause-stopped g c = (
-  λ five.
-      let ended : c.print_proof-status.result ≡ 5 = sym c.of.ensures.status ∙ five in
-      let done : c.print_proof-status.result ≡ 8 → ⊥ = λ broken. omega (arith, ended, broken) in
-      let there = stop_found c.answer_of-outcome.result (sym (status_shown c.answer_of-outcome.result _ _ c.print_proof-status.ensures done) ∙ ended) in
-      subst (λ found. IsTrue (is_some (stop_among found))) (sym (c.of.ensures.found done ∙ c.finding_in-finding.ensures)) there,
-  λ some.
-      let done = c.of.ensures.only (some_stop c.of.result.finding some) in
-      let there = subst (λ found. IsTrue (is_some (stop_among found))) (c.of.ensures.found done ∙ c.finding_in-finding.ensures) some in
-      c.of.ensures.status ∙ status_shown c.answer_of-outcome.result _ _ c.print_proof-status.ensures done ∙ found_stop c.answer_of-outcome.result there,
-)
+returns-clause-stopped g c =
+    let outcome = outcome_of c.prove_answer-answer.result in
+    let found_is = c.finding_of-finding.ensures ∙ ap finding_of c.outcome_of.ensures in (
+      λ five.
+          let ended : c.respond-status.result ≡ 5 = sym c.of.ensures.status ∙ five in
+          let done : c.respond-status.result ≡ 8 → ⊥ = λ broken. omega (arith, ended, broken) in
+          let told = status_told c.prove_answer-answer.result _ _ c.respond-status.ensures done in
+          let there = subst (λ stop. IsTrue (is_some stop)) (sym (finding_stop outcome)) (stop_known outcome (sym told ∙ ended)) in
+          subst (λ found. IsTrue (is_some (stop_among found))) (sym (c.of.ensures.found done ∙ found_is)) there,
+      λ some.
+          let done = c.of.ensures.only (some_stop c.of.result.finding some) in
+          let told = status_told c.prove_answer-answer.result _ _ c.respond-status.ensures done in
+          let there = subst (λ found. IsTrue (is_some (stop_among found))) (c.of.ensures.found done ∙ found_is) some in
+          c.of.ensures.status ∙ told ∙ known_stop outcome (subst (λ stop. IsTrue (is_some stop)) (finding_stop outcome) there),
+    )
 
 pub returns-clause-found : goal.returns-clause-found
 returns-clause-found g c =
-    let readings : List Reading =
-    reading_of (g.N.Source.given c.args.network.now) (g.N.Source.given c.answer_of-outcome.new.network) (g.N.Source.is_at_end c.answer_of-outcome.new.network)
-    ∷ reading_of (g.P.Source.given c.args.plan.now) (g.P.Source.given c.answer_of-outcome.new.plan) (g.P.Source.is_at_end c.answer_of-outcome.new.plan) ∷ [] in
-    some_of c.of.result.finding _
-    (λ finding is.
-    let done = c.of.ensures.only (ap is_some is) in
-    let kept : finding_in c.answer_of-outcome.result ≡ Some finding = sym (c.of.ensures.found done ∙ c.finding_in-finding.ensures) ∙ is in
-    record { output = shown c.answer_of-outcome.result; answer = IsOutput-finds (ProveFinds c.args.limit) readings c.answer_of-outcome.result finding kept c.answer_of-outcome.ensures.finds; status_is = c.of.ensures.status ∙ status_shown c.answer_of-outcome.result _ _ c.print_proof-status.ensures done; written = taken_shown c.answer_of-outcome.result _ _ c.print_proof-status.ensures done })
+    two_found c.of.result.finding _ (ProveFinds c.args.limit) _ _ _ _ c.prove_answer-answer.result _ c.respond-status.result c.of.result.status
+    (returns-clause-runs g c)
+    c.prove_answer-answer.ensures.found c.respond-status.ensures c.of.ensures.only
+    (λ done. c.of.ensures.found done ∙ c.finding_of-finding.ensures ∙ ap finding_of c.outcome_of.ensures) c.of.ensures.status

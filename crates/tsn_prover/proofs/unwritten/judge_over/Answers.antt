@@ -5,5 +5,5 @@ returns g c = record {
   source = c.network-network.result;
   opened = c.network-network.ensures.opened;
   unfailing = c.network-network.ensures.failures;
-  ran = c.judge_run-status.ensures;
+  ran = c.judge_answer-answer.ensures;
 }

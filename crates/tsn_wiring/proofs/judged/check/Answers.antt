@@ -1,17 +1,9 @@
-use Rattle.tsn_given.proofs.RunsLemmas.{over_along, told_in_json}
+use Rattle.tsn_given.proofs.RunsLemmas.{leaves_over, told_over}
 use Rattle.tsn_wiring.proofs.judged.check.Goals as goal
-
-pub returns-then-words : goal.returns-then-words
-returns-then-words g c =
-    over_along c.check_to-ended.ensures
-    (λ network over. over_along over
-    (λ plan over. over_along over
-    (λ cert runs. told_in_json _ _ _ _ _ _ _ _ _ _ _ c.if-words.true c.line_keeper-line.ensures.bytes c.line_keeper-line.ensures.failures runs
-    c.end_as_json.ensures)))
 
 pub returns : goal.returns
 returns g c =
-    over_along c.check_to-ended-2.ensures
-    (λ network over. over_along over
-    (λ plan over. over_along over
-    (λ cert runs. rw (c.if-words.false, c.end_at.ensures.status, c.end_at.ensures.output) runs)))
+    leaves_over c.check_over-answer.ensures
+    (λ network left. leaves_over left
+    (λ plan left. leaves_over left
+    (λ cert ends. told_over _ _ _ _ c.check_over-answer.result.answer _ _ ends c.tell_answer.ensures)))

@@ -13,7 +13,7 @@ returns g c = record {
       source = c.cert-cert.result;
       opened = c.cert-cert.ensures.opened;
       unfailing = c.cert-cert.ensures.failures;
-      ran = c.check_run-status.ensures;
+      ran = c.check_answer-answer.ensures;
     };
   };
 }

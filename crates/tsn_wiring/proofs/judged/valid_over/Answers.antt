@@ -5,5 +5,5 @@ returns g c = record {
   source = c.network-network.result;
   opened = c.network-network.ensures.opened;
   unfailing = c.network-network.ensures.failures;
-  ran = rw c.deref.ensures.value at c.valid_run-status.ensures;
+  ran = rw c.deref.ensures.value at c.valid_answer-answer.ensures;
 }

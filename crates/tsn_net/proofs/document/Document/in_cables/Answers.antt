@@ -20,4 +20,4 @@ loop-k-preserved c =
     let d = document_view c.args.self.now in
     let within : c.loop-k.k < length d.cables = rw (length-map c.args.self.now.cables.now view) c.loop-k-test.true in
     sym (find-range (holds c.args.code d) (λ n. Cable n) c.loop-k.k (length d.cables) within (sym c.matter.ensures.0 ∙ ap is_some c.in_default.is))
-        ∙ c.loop-k.invariant
+    ∙ c.loop-k.invariant

@@ -20,4 +20,4 @@ loop-n-preserved c =
     let d = document_view c.args.self.now in
     let within : c.loop-n.n < length d.nodes = rw (length-map c.args.self.now.nodes.now view) c.loop-n-test.true in
     sym (find-range (holds c.args.code d) (λ n. Node n) c.loop-n.n (length d.nodes) within (sym c.matter.ensures.0 ∙ ap is_some c.in_default.is))
-        ∙ c.loop-n.invariant
+    ∙ c.loop-n.invariant

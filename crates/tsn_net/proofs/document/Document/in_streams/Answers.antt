@@ -20,4 +20,4 @@ loop-i-preserved c =
     let d = document_view c.args.self.now in
     let within : c.loop-i.i < length d.streams = rw (length-map c.args.self.now.streams.now view) c.loop-i-test.true in
     sym (find-range (holds c.args.code d) (λ n. Stream n) c.loop-i.i (length d.streams) within (sym c.matter.ensures.0 ∙ ap is_some c.in_default.is))
-        ∙ c.loop-i.invariant
+    ∙ c.loop-i.invariant

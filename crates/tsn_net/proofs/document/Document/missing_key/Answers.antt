@@ -13,9 +13,9 @@ returns-in-Some c =
     let d = value_at (document_view c.args.self.now) c.args.place in
     let is : is_table d ≡ true = search (rules, tests) in
     let found : absent_key (table_at c.args.place) d ≡ Some c.in-Some.key =
-            rw (← c.value_at-value.ensures, ← c.table_at-table.ensures) (sym c.absent_key.ensures ∙ c.in-Some.is) in
+    rw (← c.value_at-value.ensures, ← c.table_at-table.ensures) (sym c.absent_key.ensures ∙ c.in-Some.is) in
     let beside : option_map (λ name. name.now) c.other_key.result ≡ other_key (table_at c.args.place) d =
-            rw (← c.value_at-value.ensures, ← c.table_at-table.ensures) c.other_key.ensures.first in
+    rw (← c.value_at-value.ensures, ← c.table_at-table.ensures) c.other_key.ensures.first in
     (missing-found (table_at c.args.place) d (Some c.in-Some.key) is found, (refl, (found, beside)))
 
 pub returns-in-None : goal.returns-in-None
@@ -24,5 +24,5 @@ returns-in-None c =
     let d = value_at (document_view c.args.self.now) c.args.place in
     let is : is_table d ≡ true = search (rules, tests) in
     let found : absent_key (table_at c.args.place) d ≡ None = rw (← c.value_at-value.ensures, ← c.table_at-table.ensures) (sym c.absent_key.ensures
-            ∙ c.in-None.is) in
+    ∙ c.in-None.is) in
     (missing-found (table_at c.args.place) d None is found, tt)

@@ -14,7 +14,7 @@ returns-in-Some c =
     let d = value_at (document_view c.args.self.now) c.args.place in
     let is : is_table d ≡ true = search (rules, tests) in
     let found : amiss_key (table_at c.args.place) d ≡ Some c.in-Some.key =
-            rw (← c.value_at-value.ensures, ← c.table_at.ensures) (sym c.amiss_key.ensures ∙ c.in-Some.is) in
+    rw (← c.value_at-value.ensures, ← c.table_at.ensures) (sym c.amiss_key.ensures ∙ c.in-Some.is) in
     (amiss-found (table_at c.args.place) d (Some c.in-Some.key) is found, (refl, found))
 
 pub returns-in-None : goal.returns-in-None

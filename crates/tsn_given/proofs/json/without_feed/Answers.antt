@@ -1,9 +1,0 @@
-use Rattle.std.proofs.Common.{Some, None, inl, inr, refl, lit<}
-use Rattle.std.proofs.lemmas.Str.Pattern.{strip_suffix_char}
-use Rattle.tsn_given.proofs.json.without_feed.Goals as goal
-
-pub returns-in-Some : goal.returns-in-Some
-returns-in-Some c = inl (strip_suffix_char 10 c.args.text.now (Some c.in-Some.line) c.in-Some.ensures.cases (lit< tt))
-
-pub returns-in-None : goal.returns-in-None
-returns-in-None c = inr (refl, strip_suffix_char 10 c.args.text.now None c.in-None.ensures.cases (lit< tt))

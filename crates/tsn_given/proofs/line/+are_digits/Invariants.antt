@@ -1,5 +1,0 @@
-use Rattle.std.proofs.Common.{length}
-use Rattle.tsn_given.proofs.line.+are_digits.Given as goal
-
-abbrev pub decreases-are_digits : goal.decreases-are_digits
-decreases-are_digits l = length l.bytes.now

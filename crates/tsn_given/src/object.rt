@@ -1,0 +1,129 @@
+//! An outcome as an object of JSON.
+ghost use Rattle.std.specs.Prelude.{◌≡◌, IfOk, false, option_map, string_bytes};
+ghost use Rattle.serde_json.specs.View.{view};
+ghost use Rattle.serde_json.specs.Written.{has_float};
+ghost use Rattle.tsn_run.specs.Said.{said};
+ghost use Rattle.tsn_given.specs.Told.{line_or_null, line_text, text_or_null, told_object, told_text, told_value};
+
+use serde_json::{Value, json};
+use std::alloc::{AllocError, Global};
+use tsn_model::NoMemory;
+use tsn_run::Outcome;
+
+/// An outcome as a line of JSON, with the reason in words, if one is told: an object with the keys `code`, `flowspan`, `line`, `place`,
+/// `reason`, `settled` and `status`; what isn't there is `null`.
+///
+/// # Errors
+///
+/// There was no memory.
+pub fn format_told(
+    alloc: Global,
+    outcome: Outcome,
+    reason: Option<&str>,
+) -> Result<String, NoMemory>
+    ensures { IfOk result (λ text. string_bytes text ≡ told_text outcome (option_map (λ text. text.now) reason.entry)) }
+{
+    let value = value_of(alloc, outcome, reason)?;
+    Ok(line(alloc, &value)?)
+}
+
+/// The line of a value.
+fn line(alloc: Global, value: &Value) -> Result<String, AllocError>
+    ensures { IfOk result (λ text. has_float (view value.now) ≡ false → string_bytes text ≡ line_text (view value.now)) }
+{
+    let mut text = value.to_string(alloc)?;
+    text.push_str("\n")?;
+    Ok(text)
+}
+
+/// The values of an object that are texts.
+#[derive(Drop)]
+struct Texts {
+    code: Value,
+    line: Value,
+    place: Value,
+    reason: Value,
+}
+
+/// The object of an outcome.
+fn value_of(alloc: Global, outcome: Outcome, reason: Option<&str>) -> Result<Value, NoMemory>
+    ensures { IfOk result (λ value. view value ≡ told_value outcome (option_map (λ text. text.now) reason.entry)) }
+{
+    let code = owned_or_null(outcome.code(alloc)?);
+    let line = said_or_null(alloc, outcome)?;
+    let place = owned_or_null(outcome.place(alloc)?);
+    let reason = text_or_null(alloc, reason)?;
+    let texts = Texts {
+        code,
+        line,
+        place,
+        reason,
+    };
+    Ok(object(alloc, outcome, texts)?)
+}
+
+/// The object of an outcome with these texts.
+fn object(alloc: Global, outcome: Outcome, texts: Texts) -> Result<Value, AllocError>
+    ensures { IfOk result (λ value. view value ≡ told_object outcome (view texts.code) (view texts.line) (view texts.place) (view texts.reason)) }
+{
+    let Texts {
+        code,
+        line,
+        place,
+        reason,
+    } = texts;
+    let flowspan = outcome.flowspan();
+    let settled = count_of(outcome.settled());
+    let status = outcome.status();
+    json!(in alloc; {
+        "code": code,
+        "flowspan": flowspan,
+        "line": line,
+        "place": place,
+        "reason": reason,
+        "settled": settled,
+        "status": status,
+    })
+}
+
+/// A count, as a number of 64 bits.
+fn count_of(count: Option<usize>) -> Option<u64>
+    ensures { result ≡ count }
+{
+    match count {
+        Some(count) => Some(count as u64),
+        None => None,
+    }
+}
+
+/// The line of an outcome without its end, or null where nothing is said.
+#[tactic(auto, using(crate::proofs::Objects::line_not_empty))]
+fn said_or_null(alloc: Global, outcome: Outcome) -> Result<Value, AllocError>
+    ensures { IfOk result (λ value. view value ≡ line_or_null (said outcome)) }
+{
+    let line = format!(in alloc; "{outcome}")?;
+    if line.is_empty() {
+        return Ok(Value::Null);
+    }
+    Ok(Value::String(line))
+}
+
+/// A text, or null where there is none.
+fn owned_or_null(text: Option<String>) -> Value
+    ensures { view result ≡ text_or_null (option_map string_bytes text) }
+{
+    match text {
+        Some(text) => Value::String(text),
+        None => Value::Null,
+    }
+}
+
+/// A copy of a text, or null where there is none.
+fn text_or_null(alloc: Global, text: Option<&str>) -> Result<Value, AllocError>
+    ensures { IfOk result (λ value. view value ≡ text_or_null (option_map (λ text. text.now) text.entry)) }
+{
+    match text {
+        Some(text) => Ok(Value::String(String::from_str(alloc, text)?)),
+        None => Ok(Value::Null),
+    }
+}
