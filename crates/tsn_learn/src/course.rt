@@ -7,10 +7,13 @@ use crate::turn::Turn;
 use std::alloc::{AllocError, Global};
 use tsn_solver::ask::Answered;
 use tsn_solver::literal::Literal;
-use tsn_solver::number::{at, copy, less, next, put, signed, signed_list, sum};
+use tsn_solver::number::{FAR, at, copy, less, next, put, signed, signed_list, sum};
 use tsn_solver::search::Search;
-use tsn_solver::table::Table;
+use tsn_solver::table::{Table, Visit};
 use tsn_timing::Timing;
+
+/// How many conflicts the question by the links is worth.
+const SHARE: u64 = 50;
 
 /// A search for the first of the optimal schedules.
 #[derive(Drop)]
@@ -134,13 +137,32 @@ fn take_schedules(
     Ok(())
 }
 
-// No flowspan is less by the streams alone.
+// No flowspan is less by the streams alone, and by what each link has to carry.
 fn least_flowspan(table: &Table) -> i64 {
     let mut least = 0i64;
     for body in &table.bodies {
         least = least.max(sum(body.release, body.arrival));
     }
+    for shared in &table.links {
+        least = least.max(least_by_link(table, &shared.visits));
+    }
     least
+}
+
+// The same by the first frames of a link's streams: they go one after another, and the last one has no shorter way left than any.
+fn least_by_link(table: &Table, visits: &[Visit]) -> i64 {
+    let mut begin = FAR;
+    let mut work = 0i64;
+    let mut rest = FAR;
+    for visit in visits {
+        if visit.shift == 0 {
+            let body = table.body(visit.stream);
+            begin = begin.min(sum(body.release, visit.start));
+            work = sum(work, visit.work);
+            rest = rest.min(less(body.arrival, sum(visit.start, visit.work)));
+        }
+    }
+    sum(sum(begin, work), rest)
 }
 
 /// A search with nothing given but the network, in which no schedule of more than this flowspan is in question, and so much work may
@@ -200,6 +222,7 @@ impl Course {
         let streams = self.search.known.table.streams();
         let mut turn = Turn::of_flowspan(!self.best.is_empty());
         self.take_part(1);
+        self.ask_by_links()?;
         for _ in 0..u64::MAX {
             self.tell(hear, None);
             if !self.search.known.is_open {
@@ -214,12 +237,22 @@ impl Course {
             }
             let most = turn.target(least, self.flowspan);
             match self.ask(streams, most, turn.share)? {
-                Answered::Yes => turn.note_found(),
+                Answered::Yes => turn.note_found(less(most, least)),
                 Answered::No => turn.note_none(),
                 Answered::Unknown => turn.note_unknown(),
             }
         }
         Ok(State::Open)
+    }
+
+    // Asks for less than what the links have to carry takes: there is nothing, which is found at once where the bounds of offsets say so.
+    fn ask_by_links(&mut self) -> Result<(), AllocError> {
+        let streams = self.search.known.table.streams();
+        let least = least_flowspan(&self.search.known.table).min(self.flowspan);
+        if self.search.known.is_open && self.search.known.low(streams) < least {
+            let _ = self.ask(streams, less(least, 1), SHARE)?;
+        }
+        Ok(())
     }
 
     // What it means that nothing is in question.
@@ -258,7 +291,7 @@ impl Course {
             }
             let most = turn.target(least, own);
             match self.ask(stream, most, turn.share)? {
-                Answered::Yes => turn.note_found(),
+                Answered::Yes => turn.note_found(less(most, least)),
                 Answered::No => {
                     put(&mut self.lows, stream, sum(most, 1));
                     turn.note_none();

@@ -3,9 +3,10 @@ use tsn_solver::number::{less, sum};
 
 /// How many conflicts the first question after the flowspan is worth, and the others at first.
 const FLOWSPAN: Worth = Worth {
-    first: 200,
-    share: 200,
+    first: 50,
+    share: 50,
     parts: 2,
+    leaps: 128,
 };
 
 /// The same after a stream's offset.
@@ -13,20 +14,23 @@ const OFFSET: Worth = Worth {
     first: 300,
     share: 1000,
     parts: 8,
+    leaps: MOST_PARTS,
 };
 
 /// In how many parts what is left is parted at most.
 const MOST_PARTS: i64 = 1 << 20;
 
-/// How much less is asked for after a schedule was found than one less than its value, in nanoseconds; after the next one twice as much.
+/// How much less is asked for at the least, after a schedule was found, than one less than its value, in nanoseconds.
 const LEAP: i64 = 256;
 
-// How many conflicts the first question is worth, and the others at first; and in how many parts what is left is parted at first.
+// How many conflicts the first question is worth, and the others at first; in how many parts what is left is parted at first; and the
+// part of it that a leap is at the least.
 #[derive(Clone, Copy)]
 struct Worth {
     first: u64,
     share: u64,
     parts: i64,
+    leaps: i64,
 }
 
 /// A turn of questions after the least value of a variable.
@@ -90,12 +94,16 @@ impl Turn {
         }
     }
 
-    /// A schedule was found.
-    pub fn note_found(&mut self) {
+    /// A schedule was found, with so much left: the next leap is twice as long.
+    pub fn note_found(&mut self, room: i64) {
         if self.share == u64::MAX {
             self.share = self.worth.share;
         } else if self.is_above {
-            self.leap = self.leap.saturating_mul(2).max(LEAP);
+            let part = match room.checked_div(self.worth.leaps) {
+                Some(part) => part,
+                None => 0,
+            };
+            self.leap = self.leap.saturating_mul(2).max(LEAP).max(part);
         }
     }
 
@@ -110,12 +118,14 @@ impl Turn {
         }
     }
 
-    /// It wasn't decided: it is asked from the other end, and from the lower one for less.
+    /// It wasn't decided: a shorter leap is asked for; after the shortest one it is asked from the other end, and from the lower one for
+    /// less.
     pub fn note_unknown(&mut self) {
         if self.is_first {
             self.end_first();
+        } else if self.is_above && self.leap > 0 {
+            self.leap = self.leap / 4;
         } else if self.is_above {
-            self.leap = 0;
             self.is_above = false;
         } else {
             self.parts = self.parts.wrapping_mul(4).min(MOST_PARTS);
