@@ -19,3 +19,4 @@ pub mod Taking
 pub mod Verdicts
 pub mod ViewLemmas
 pub mod TakingAll
+pub mod Telling

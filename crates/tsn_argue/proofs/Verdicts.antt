@@ -1,5 +1,5 @@
 -- What an accepted argument shows, and what a fault of its steps is.
-use Rattle.std.proofs.Common.{◌≡◌, List, Some, inr, subst}
+use Rattle.std.proofs.Common.{◌≡◌, List, Option, Some, ◌∙◌, inr, subst}
 use Rattle.tsn_model.specs.Network.{Network, IsWellFormed}
 use Rattle.tsn_model.specs.Schedule.{HasNoSchedule}
 use Rattle.tsn_model.specs.Argument as model
@@ -17,6 +17,7 @@ use Rattle.tsn_check.specs.declared.fault.CheckFault.{CheckFault}
 use Rattle.tsn_check.specs.declared.verdict.Verdict.TheVariants.{Optimal, First, NoSchedule}
 use Rattle.tsn_argue.specs.Certified.{goal_for, IsFitting, ArgumentCertifies, argument_verdict}
 use Rattle.tsn_argue.specs.Faults.{IsArgumentFault, IsShowFault}
+use Rattle.tsn_argue.specs.Told.{Event, with_told, told_of}
 
 -- ---- what a goal shows of a plan
 
@@ -89,3 +90,14 @@ module _ (network timing : Network) (p : Plan) (argument : Argument) (goal : mod
       let here : IsArgumentFault timing goal (steps_of argument.steps) fault = subst (λ s. IsArgumentFault timing goal (steps_of s) fault) listed is in
       let whole = subst (λ n. IsArgumentFault n goal (steps_of argument.steps) fault) same here in
       inr (inr (subst (λ n. IsPlanRight n p) same right, (goal, subst (λ n. IsFitting n p argument goal) same fitting, whole)))
+
+-- what is told by the goal that was found is told by any goal that fits
+pub told_fitting : (network timing : Network) (p : Plan) (argument : Argument) (asked other : model.Goal) (steps : List Step)
+    (heard after : Option (List Event)) → timing ≡ network → IsFitting timing p argument asked → steps ≡ argument.steps
+    → after ≡ with_told heard (told_of timing asked (steps_of steps)) → IsFitting network p argument other
+    → after ≡ with_told heard (told_of network other (steps_of argument.steps))
+told_fitting network timing p argument asked other steps heard after same fits are told also =
+    let one : goal_for argument.goal p ≡ Some asked = fits.1 in
+    let two : goal_for argument.goal p ≡ Some other = also.1 in
+    let goals : asked ≡ other = cc in
+    told ∙ (λ i. with_told heard (told_of (same i) (goals i) (steps_of (are i))))

@@ -11,3 +11,4 @@ pub mod Motion
 pub mod Steps
 pub mod Aims
 pub mod Laws
+pub mod Told

@@ -54,6 +54,16 @@ impl Numbers {
         self.view[stream]
     }
 
+    /// The same, and 0 where there is no such stream.
+    pub fn at_or_zero(&self, stream: usize) -> i128
+        ensures { result ≡ slice_index_or self.now.view stream (pos 0) }
+    {
+        match self.view.get(stream) {
+            Some(number) => *number,
+            None => 0,
+        }
+    }
+
     /// Changes the number of a stream in the view.
     pub fn set(&mut self, stream: usize, number: i128) -> Result<(), NoMemory>
         requires { stream < length self.old.view }

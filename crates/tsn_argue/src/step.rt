@@ -1,15 +1,17 @@
 //! The steps of an argument, one after another.
-ghost use Rattle.std.specs.Prelude.{◌≡◌, ◌⊎◌, OnOk, IfOk, IfErr, MatchBool, map, length, All};
+ghost use Rattle.std.specs.Prelude.{◌≡◌, ◌⊎◌, OnOk, IfOk, IfErr, [], ◌∷◌, MatchBool, map, length, All};
 ghost use Rattle.tsn_model.specs.Network.{stream_count};
-ghost use Rattle.tsn_model.specs.Argument.{IsFact, IsSettled, Argues, opposite, learned_all, settled};
+ghost use Rattle.tsn_model.specs.Argument.{IsFact, IsSettled, Argues, opposite, learned_all, settled, shown};
 ghost use Rattle.tsn_argument.specs.Meaning.{fact_of, clause_of, move_of, step_of, steps_of};
 ghost use Rattle.tsn_argue.specs.Faults.{IsArgumentFault};
 ghost use Rattle.tsn_argue.specs.State.{view_of, base_of, IsSound, Becomes};
 ghost use Rattle.tsn_argue.specs.Motion.{clauses_of, facts_of, AreFacts};
-ghost use Rattle.tsn_argue.specs.Steps.{goal_of, IsAim, IsReady, IsFirst, capped_view, JudgesFact, JudgesFacts, TakesMove, TakesMoves, ShowsStep, TakesStep, KeepsClause, Reaches};
+ghost use Rattle.tsn_argue.specs.Steps.{goal_of, IsAim, IsReady, IsFirst, capped_view, JudgesFact, JudgesFacts, TakesMove, TakesMoves, ShowsStep, TakesStep, KeepsClause, Reaches, known_of, known_on};
+ghost use Rattle.tsn_argue.specs.Told.{makes, told_moves, told_shown, told_step, told_of, with_told};
 
 use crate::aim::{Aim, Stop};
 use crate::fault::StepFault;
+use crate::listener::Listener;
 use crate::motion::{Shown, judge};
 use crate::news::News;
 use crate::view::View;
@@ -71,15 +73,23 @@ fn suppose(view: &mut View<'_>, clause: &[Fact]) -> Result<(), NoMemory>
 }
 
 /// Makes the move on the view, if that is possible.
-fn make(view: &mut View<'_>, clauses: &[&Clause], motion: &Move) -> Result<(), Stop>
+fn make<L: Listener>(
+    view: &mut View<'_>,
+    clauses: &[&Clause],
+    motion: &Move,
+    listener: &mut L,
+) -> Result<(), Stop>
     requires sound { IsSound view.old }
     requires facts { AreFacts view.old.timing.now (clauses_of clauses.now) }
-    ensures { TakesMove view.old view.new (clauses_of clauses.now) (move_of motion.now) result }
+    ensures taken { TakesMove view.old view.new (clauses_of clauses.now) (move_of motion.now) result }
+    ensures told { OnOk result (L.heard listener.new ≡ with_told (L.heard listener.old)
+        (makes (view_of view.old) (move_of motion.now) (shown view.old.timing.now (clauses_of clauses.now) (view_of view.old) (move_of motion.now)) ∷ [])) }
 {
     if view.crossed {
         return Err(Stop::Wrong(StepFault::Settled));
     }
     let shown = judge(view, clauses, motion)?;
+    listener.make(view, clauses, motion, shown);
     learn_all(view, shown)?;
     Ok(())
 }
@@ -98,31 +108,46 @@ fn learn_all(view: &mut View<'_>, shown: Shown) -> Result<(), NoMemory>
 }
 
 /// Makes the moves one after another, as far as that is possible.
-fn make_all(view: &mut View<'_>, clauses: &[&Clause], moves: &[Move]) -> Result<(), Stop>
+fn make_all<L: Listener>(
+    view: &mut View<'_>,
+    clauses: &[&Clause],
+    moves: &[Move],
+    listener: &mut L,
+) -> Result<(), Stop>
     requires sound { IsSound view.old }
     requires facts { AreFacts view.old.timing.now (clauses_of clauses.now) }
-    ensures { TakesMoves view.old view.new (clauses_of clauses.now) (map move_of moves.now) result }
+    ensures taken { TakesMoves view.old view.new (clauses_of clauses.now) (map move_of moves.now) result }
+    ensures told { OnOk result (L.heard listener.new ≡ with_told (L.heard listener.old)
+        (told_moves view.old.timing.now (clauses_of clauses.now) (view_of view.old) (map move_of moves.now))) }
 {
     for motion in moves {
-        make(view, clauses, motion)?;
+        make(view, clauses, motion, listener)?;
     }
     Ok(())
 }
 
 /// The moves of a step, from the opposites of its clause's facts on: whether they show the clause.
-fn show(view: &mut View<'_>, clauses: &[&Clause], step: &Step) -> Result<(), Stop>
+fn show<L: Listener>(
+    view: &mut View<'_>,
+    clauses: &[&Clause],
+    step: &Step,
+    listener: &mut L,
+) -> Result<(), Stop>
     requires sound { IsSound view.old }
     requires ready { view_of view.old ≡ base_of view.old }
     requires facts { AreFacts view.old.timing.now (clauses_of clauses.now) }
-    ensures { ShowsStep view.old view.new (clauses_of clauses.now) (step_of step.now) result }
+    ensures shows { ShowsStep view.old view.new (clauses_of clauses.now) (step_of step.now) result }
+    ensures told { OnOk result (L.heard listener.new ≡ with_told (L.heard listener.old)
+        (told_shown view.old.timing.now (known_on view.old (clauses_of clauses.now)) (step_of step.now))) }
 {
     if view.crossed {
         return Err(Stop::Wrong(StepFault::Settled));
     }
     let clause = step.clause.list();
     judge_facts(view.timing, clause)?;
+    listener.begin(view, step);
     suppose(view, clause)?;
-    make_all(view, clauses, step.moves.list())?;
+    make_all(view, clauses, step.moves.list(), listener)?;
     if clause.is_empty() {
         return Ok(());
     }
@@ -178,12 +203,20 @@ impl<'a> Known<'a> {
     }
 
     /// Takes a step, if it is right.
-    fn take(&mut self, aim: &Aim<'_>, step: &'a Step) -> Result<(), Stop>
+    fn take<L: Listener>(
+        &mut self,
+        aim: &Aim<'_>,
+        step: &'a Step,
+        listener: &mut L,
+    ) -> Result<(), Stop>
         requires ready { IsReady self.old }
         requires aim { IsAim self.old.view.timing.now aim.now }
-        ensures { TakesStep (goal_of aim.now) self.old self.new (step_of step.now) result }
+        ensures taken { TakesStep (goal_of aim.now) self.old self.new (step_of step.now) result }
+        ensures told { OnOk result (L.heard listener.new ≡ with_told (L.heard listener.old)
+            (told_step self.old.view.timing.now (known_of self.old) (step_of step.now))) }
     {
-        show(&mut self.view, self.clauses.as_slice(), step)?;
+        show(&mut self.view, self.clauses.as_slice(), step, listener)?;
+        listener.end(&self.view, step);
         self.keep_clause(&step.clause)?;
         if step.clause.list().len() <= 1 {
             settle(&mut self.view, aim)?;
@@ -246,20 +279,23 @@ fn reaches(view: &View<'_>, plan: &[u64]) -> bool
 }
 
 /// Whether the steps are right and settle what is to be shown; else their first fault.
-pub fn check_steps(
+pub fn check_steps<L: Listener>(
     alloc: Global,
     timing: &Timing,
     aim: &Aim<'_>,
     steps: &[Step],
+    listener: &mut L,
 ) -> Result<(), CheckFault>
     requires { IsAim timing.now aim.now }
     ensures ok { OnOk result (Argues timing.now (goal_of aim.now) (steps_of steps.now)) }
     ensures err { IfErr result (λ fault. (fault ≡ CheckFault.Memory)
         ⊎ IsArgumentFault timing.now (goal_of aim.now) (steps_of steps.now) fault) }
+    ensures told { OnOk result (L.heard listener.new ≡ with_told (L.heard listener.old)
+        (told_of timing.now (goal_of aim.now) (steps_of steps.now))) }
 {
     let mut known = Known::first(alloc, timing, aim)?;
     for (number, step) in steps.iter().enumerate() {
-        if let Err(stop) = known.take(aim, step) {
+        if let Err(stop) = known.take(aim, step, listener) {
             return Err(stop.at(number));
         }
     }

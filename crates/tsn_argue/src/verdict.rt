@@ -1,13 +1,17 @@
 //! Whether a certificate of either kind shows what it is to show of a plan.
 ghost use Rattle.std.specs.Prelude.{◌≡◌, ◌⊎◌, IfOk, IfErr, IsOkUnless, Ok, OnOk};
 ghost use Rattle.tsn_model.specs.Schedule.{HasNoSchedule};
+ghost use Rattle.tsn_model.specs.Argument.{Goal as ModelGoal};
+ghost use Rattle.tsn_argument.specs.Meaning.{steps_of};
 ghost use Rattle.tsn_check.specs.Plans.{IsOptimalPlan, IsFirstPlan, IsPlanRight};
 ghost use Rattle.tsn_check.specs.Faults.{IsClaimFault};
-ghost use Rattle.tsn_argue.specs.Certified.{ArgumentCertifies, Certifies, argument_verdict, certificate_verdict};
+ghost use Rattle.tsn_argue.specs.Certified.{ArgumentCertifies, Certifies, IsFitting, argument_verdict, certificate_verdict};
 ghost use Rattle.tsn_argue.specs.Faults.{IsShowFault, IsFirstFault};
 ghost use Rattle.tsn_argue.specs.Aims.{FindsAim};
+ghost use Rattle.tsn_argue.specs.Told.{told_of, with_told};
 
 use crate::aim::Aim;
+use crate::listener::{Listener, Silent};
 use crate::step::check_steps;
 use std::alloc::Global;
 use tsn_argument::{Argument, Certificate, Goal};
@@ -61,11 +65,34 @@ pub fn check_argument(
     ensures fault { IfErr result (λ fault. (fault ≡ CheckFault.Memory)
         ⊎ IsShowFault problem.now.network plan.now argument.now fault) }
 {
+    let mut silent = Silent;
+    hear_argument(alloc, problem, plan, argument, &mut silent)
+}
+
+/// The same, and the listener is told of each step and each move.
+pub fn hear_argument<L: Listener>(
+    alloc: Global,
+    problem: &Problem,
+    plan: &Plan,
+    argument: &Argument,
+    listener: &mut L,
+) -> Result<Verdict, CheckFault>
+    ensures accepted { IfOk result (λ verdict. ArgumentCertifies problem.now.network plan.now argument.now) }
+    ensures verdict { IfOk result (λ verdict. verdict ≡ argument_verdict argument.now.goal) }
+    ensures optimal { result ≡ Ok Verdict.Optimal → IsOptimalPlan problem.now.network plan.now }
+    ensures first { result ≡ Ok Verdict.First → IsFirstPlan problem.now.network plan.now }
+    ensures no_schedule { result ≡ Ok Verdict.NoSchedule → HasNoSchedule problem.now.network }
+    ensures complete { ArgumentCertifies problem.now.network plan.now argument.now → IsOkUnless result CheckFault.Memory }
+    ensures fault { IfErr result (λ fault. (fault ≡ CheckFault.Memory)
+        ⊎ IsShowFault problem.now.network plan.now argument.now fault) }
+    ensures told { OnOk result ((goal : ModelGoal) → IsFitting problem.now.network plan.now argument.now goal
+        → L.heard listener.new ≡ with_told (L.heard listener.old) (told_of problem.now.network goal (steps_of argument.now.steps))) }
+{
     let timing = problem.timing(alloc)?;
     let _cycle = timing.cycle();
     judge_plan(alloc, &timing, plan)?;
     let aim = aim_of(&timing, plan, argument)?;
-    check_steps(alloc, &timing, &aim, argument.steps.list())?;
+    check_steps(alloc, &timing, &aim, argument.steps.list(), listener)?;
     Ok(verdict_of(argument.goal))
 }
 

@@ -3,10 +3,10 @@ ghost use Rattle.std.specs.Prelude.{◌≡◌, ◌⊎◌, ◌<◌, ◌≤ℤ◌,
 ghost use Rattle.std.specs.List.{range_with_len};
 ghost use Rattle.tsn_model.specs.Network.{stream_count, release_of};
 ghost use Rattle.tsn_argue.specs.Steps.{goal_of, IsAim, IsFirstView, AreCrossed};
-ghost use Rattle.tsn_model.specs.Argument.{from, until, order, done_from, done_until, IsFact, contradicts, learned, greatest_flowspan};
+ghost use Rattle.tsn_model.specs.Argument.{from, until, order, done_from, done_until, IsFact, contradicts, learned, greatest_flowspan, low_at, high_at};
 ghost use Rattle.tsn_model.specs.Schedule.{latest_offset};
 ghost use Rattle.tsn_argue.specs.State.{view_of, base_of, IsSound, Becomes};
-ghost use Rattle.tsn_argue.specs.News.{news_of};
+ghost use Rattle.tsn_argue.specs.News.{news_of, Knows};
 
 use crate::aim::Aim;
 use crate::decided::Decided;
@@ -146,17 +146,42 @@ impl<'a> View<'a> {
     #[tactic(auto, unfolding(tsn_model::specs::Argument::contradicts))]
     /// Whether the view itself shows that no valid schedule that fits it meets the fact.
     pub fn contradicts(&self, news: News) -> bool
-        requires sound { IsSound self.now }
-        requires fact { IsFact self.now.timing.now (news_of news) }
         ensures { result ≡ contradicts (view_of self.now) (news_of news) }
     {
         match news {
-            News::From(stream, number) => self.high.at(stream) < number,
-            News::Until(stream, number) => number < self.low.at(stream),
+            News::From(stream, number) => self.greatest(stream) < number,
+            News::Until(stream, number) => number < self.least(stream),
             News::Order(decision) => self.orders.has(turned(decision)),
             News::DoneFrom(number) => self.done.high < number,
             News::DoneUntil(number) => number < self.done.low,
         }
+    }
+
+    /// Whether the view itself shows the fact.
+    pub fn knows(&self, news: News) -> bool
+        ensures { MatchBool result (Knows (view_of self.now) (news_of news)) (Knows (view_of self.now) (news_of news) → ⊥) }
+    {
+        match news {
+            News::From(stream, number) => number <= self.least(stream),
+            News::Until(stream, number) => self.greatest(stream) <= number,
+            News::Order(decision) => self.orders.has(decision),
+            News::DoneFrom(number) => number <= self.done.low,
+            News::DoneUntil(number) => self.done.high <= number,
+        }
+    }
+
+    /// The least offset of a stream, in nanoseconds; 0 where there is none.
+    pub fn least(&self, stream: usize) -> i128
+        ensures { result ≡ low_at (view_of self.now) stream }
+    {
+        self.low.at_or_zero(stream)
+    }
+
+    /// The greatest offset of a stream, in nanoseconds; 0 where there is none.
+    pub fn greatest(&self, stream: usize) -> i128
+        ensures { result ≡ high_at (view_of self.now) stream }
+    {
+        self.high.at_or_zero(stream)
     }
 
     /// Makes the view the ground once more.

@@ -1,6 +1,5 @@
 use Rattle.std.proofs.Common.{◌≡◌, ◌+◌, true, false, Ok, get_or, take, refl, sym, ap, ◌∙◌, subst}
-use Rattle.tsn_model.specs.Argument.{IsFact, contradicts, left_open}
-use Rattle.tsn_model.proofs.Lists.{All-unmap}
+use Rattle.tsn_model.specs.Argument.{contradicts, left_open}
 use Rattle.tsn_argument.specs.Meaning.{fact_of, clause_of}
 use Rattle.tsn_argument.specs.declared.fact.Fact.{Fact}
 use Rattle.tsn_argument.specs.declared.fact.Fact.TheVariants.{From}
@@ -16,12 +15,6 @@ blank = From 0 0
 pub loop-fact-init : goal.loop-fact-init
 unfolding left_open
 loop-fact-init c = refl
-
-pub contradicts-requires-clause-fact : goal.contradicts-requires-clause-fact
-contradicts-requires-clause-fact c =
-    let network = c.args.view.now.timing.now in
-    subst (IsFact network) (sym c.of.ensures)
-    (All-unmap (IsFact network) fact_of c.args.clause.now c.requires.facts c.loop-fact.fact-index blank c.loop-fact-test.true)
 
 pub returns-then-is_some : goal.returns-then-is_some
 returns-then-is_some c =

@@ -1,6 +1,14 @@
+use Rattle.std.proofs.Common.{◌≡◌, map, take}
+use Rattle.tsn_argument.specs.Meaning.{step_of}
+use Rattle.tsn_argue.specs.Faults.{first_known}
+use Rattle.tsn_argue.specs.Told.{with_told, told_steps}
 use Rattle.tsn_argue.specs.Steps.{goal_of}
 use Rattle.tsn_argue.proofs.TakingAll.{Reached}
 use Rattle.tsn_argue.proofs.step.check_steps.Given as goal
 
 abbrev pub invariant-loop-number : goal.invariant-loop-number
-invariant-loop-number l = Reached l.timing (goal_of l.aim) l.known l.steps l.number
+invariant-loop-number g l = record {
+  reached : Reached l.timing (goal_of l.aim) l.known l.steps l.number;
+  told : g.L.Listener.heard l.listener ≡ with_told (g.L.Listener.heard l.initial.listener)
+      (told_steps l.timing (goal_of l.aim) (first_known l.timing (goal_of l.aim)) (map step_of (take l.number l.steps)));
+}

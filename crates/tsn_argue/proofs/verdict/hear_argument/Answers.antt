@@ -2,11 +2,11 @@ use Rattle.std.proofs.Common.{inl, inr, ◌∙◌, sym}
 use Rattle.std.proofs.lemmas.Result.{err_from_is_err_and}
 use Rattle.tsn_argue.specs.Steps.{goal_of}
 use Rattle.tsn_argue.proofs.Refuted.{shows_refuted}
-use Rattle.tsn_argue.proofs.Verdicts.{argued, step_fault_first, shown_optimal, shown_first, shown_none}
-use Rattle.tsn_argue.proofs.verdict.check_argument.Goals as goal
+use Rattle.tsn_argue.proofs.Verdicts.{told_fitting, argued, step_fault_first, shown_optimal, shown_first, shown_none}
+use Rattle.tsn_argue.proofs.verdict.hear_argument.Goals as goal
 
 pub returns-in_err-check_steps-clause-complete : goal.returns-in_err-check_steps-clause-complete
-returns-in_err-check_steps-clause-complete c shows =
+returns-in_err-check_steps-clause-complete g c shows =
     let p = err_from_is_err_and c.from_residual-in_err-check_steps.result c.from_residual-in_err-check_steps.ensures.1 in
     rw (p.1, p.2) (elim c.in_err-check_steps.ensures.err [
       | inl memory ↦ memory
@@ -16,7 +16,7 @@ returns-in_err-check_steps-clause-complete c shows =
     ])
 
 pub returns-in_err-check_steps-clause-fault : goal.returns-in_err-check_steps-clause-fault
-returns-in_err-check_steps-clause-fault c =
+returns-in_err-check_steps-clause-fault g c =
     let p = err_from_is_err_and c.from_residual-in_err-check_steps.result c.from_residual-in_err-check_steps.ensures.1 in
     rw (p.1, p.2) (elim c.in_err-check_steps.ensures.err [
       | inl memory ↦ inl memory
@@ -25,22 +25,28 @@ returns-in_err-check_steps-clause-fault c =
     ])
 
 pub returns-clause-optimal : goal.returns-clause-optimal
-returns-clause-optimal c is =
+returns-clause-optimal g c is =
     let shows = argued c.args.problem.now.network c.in_ok-timing.timing c.args.plan.now c.args.argument.now (goal_of c.in_ok-aim.aim) _
     c.in_ok-timing.ensures c.in_ok-judge_plan.ensures.right c.in_ok-aim.ensures.1 c.list.ensures c.in_ok-check_steps.ensures.ok in
     shown_optimal c.args.problem.now.network c.in_ok-timing.timing c.args.plan.now c.args.argument.now c.in_ok-timing.ensures c.cycle-cycle.ensures.well_formed
     shows (sym c.verdict_of.ensures ∙ cc is)
 
 pub returns-clause-first : goal.returns-clause-first
-returns-clause-first c is =
+returns-clause-first g c is =
     let shows = argued c.args.problem.now.network c.in_ok-timing.timing c.args.plan.now c.args.argument.now (goal_of c.in_ok-aim.aim) _
     c.in_ok-timing.ensures c.in_ok-judge_plan.ensures.right c.in_ok-aim.ensures.1 c.list.ensures c.in_ok-check_steps.ensures.ok in
     shown_first c.args.problem.now.network c.in_ok-timing.timing c.args.plan.now c.args.argument.now c.in_ok-timing.ensures c.cycle-cycle.ensures.well_formed
     shows (sym c.verdict_of.ensures ∙ cc is)
 
 pub returns-clause-no_schedule : goal.returns-clause-no_schedule
-returns-clause-no_schedule c is =
+returns-clause-no_schedule g c is =
     let shows = argued c.args.problem.now.network c.in_ok-timing.timing c.args.plan.now c.args.argument.now (goal_of c.in_ok-aim.aim) _
     c.in_ok-timing.ensures c.in_ok-judge_plan.ensures.right c.in_ok-aim.ensures.1 c.list.ensures c.in_ok-check_steps.ensures.ok in
     shown_none c.args.problem.now.network c.in_ok-timing.timing c.args.plan.now c.args.argument.now c.in_ok-timing.ensures c.cycle-cycle.ensures.well_formed
     shows (sym c.verdict_of.ensures ∙ cc is)
+
+pub returns-clause-told : goal.returns-clause-told
+returns-clause-told g c asked fits =
+    told_fitting c.args.problem.now.network c.in_ok-timing.timing c.args.plan.now c.args.argument.now (goal_of c.in_ok-aim.aim) asked _
+    (g.L.Listener.heard c.args.listener.now) (g.L.Listener.heard c.check_steps.new.listener)
+    c.in_ok-timing.ensures c.in_ok-aim.ensures.1 c.list.ensures c.in_ok-check_steps.ensures.told fits
