@@ -41,7 +41,11 @@ pub struct View<'a> {
 
 impl<'a> View<'a> {
     /// The ground before the first step, and the view on it.
-    pub fn first(alloc: Global, timing: &'a Timing, aim: &Aim<'_>) -> Result<View<'a>, NoMemory>
+    pub(crate) fn first(
+        alloc: Global,
+        timing: &'a Timing,
+        aim: &Aim<'_>,
+    ) -> Result<View<'a>, NoMemory>
         requires { IsAim timing.now aim.now }
         ensures { IfOk result (IsFirstView timing.now (goal_of aim.now)) }
     {
@@ -65,7 +69,7 @@ impl<'a> View<'a> {
     }
 
     /// The view learns a fact.
-    pub fn learn(&mut self, news: News) -> Result<(), NoMemory>
+    pub(crate) fn learn(&mut self, news: News) -> Result<(), NoMemory>
         requires sound { IsSound self.old }
         requires fact { IsFact self.old.timing.now (news_of news) }
         ensures { OnOk result (Becomes self.old self.new (learned (view_of self.old) (news_of news))) }
@@ -100,7 +104,7 @@ impl<'a> View<'a> {
 
     #[tactic(auto, unfolding(tsn_model::specs::Argument::learned))]
     /// An offset is at most a number.
-    pub fn lower(&mut self, stream: usize, number: i128) -> Result<(), NoMemory>
+    pub(crate) fn lower(&mut self, stream: usize, number: i128) -> Result<(), NoMemory>
         requires sound { IsSound self.old }
         requires there { stream < stream_count self.old.timing.now }
         ensures { OnOk result (Becomes self.old self.new (learned (view_of self.old) (until stream number))) }
@@ -185,7 +189,7 @@ impl<'a> View<'a> {
     }
 
     /// Makes the view the ground once more.
-    pub fn go_back(&mut self)
+    pub(crate) fn go_back(&mut self)
         requires { IsSound self.old }
         ensures base { base_of self.new ≡ base_of self.old }
         ensures view { view_of self.new ≡ base_of self.old }
@@ -200,7 +204,7 @@ impl<'a> View<'a> {
     }
 
     /// Makes the view the ground.
-    pub fn keep(&mut self)
+    pub(crate) fn keep(&mut self)
         requires { IsSound self.old }
         ensures base { base_of self.new ≡ view_of self.old }
         ensures view { view_of self.new ≡ view_of self.old }

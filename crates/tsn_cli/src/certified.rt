@@ -20,8 +20,9 @@ use tsn_certificate_json::certificate_from_json;
 use tsn_chart::View;
 use tsn_check::Verdict;
 use tsn_device::device::{ReadFault, Source, read_all};
-use tsn_explain::{explanation, marked_frames};
+use tsn_explain::explanation;
 use tsn_model::NoMemory;
+use tsn_needs::marked_frames;
 use tsn_net::Problem;
 use tsn_run::run::MAX_FILE;
 use tsn_run::{FileKind, InputsRead, cert_rejection, file_refusal, read_inputs};
@@ -168,7 +169,7 @@ fn marked_picture(
     ensures { IfOk result (λ a. ShowsPlan (Chart view) problem.now plan.now (shown_output (Ok a))
         ⊎ RejectsPlan problem.now.network plan.now (shown_output (Ok a))) }
 {
-    let marked = marked_frames(alloc, problem, certificate)?;
+    let marked = marked_frames(alloc, problem, plan, certificate)?;
     let answer = picture_of(alloc, problem, plan, view, &marked);
     drop(marked);
     answer

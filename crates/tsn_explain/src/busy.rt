@@ -1,16 +1,15 @@
 //! The links that most of the steps of an argument use, in words.
-use crate::load::Load;
-use crate::mention::{Mention, add_step};
-use crate::needs::Part;
-use crate::network::{Network, first_frame};
-use crate::number::{
-    NONE, count_at, count_up, counts, most, push_count, push_time, put_count, step_at,
-};
-use crate::replay::Replay;
-use crate::view::{View, least_tail};
+use crate::count::{count_up, most};
+use crate::load::push_begin;
+use crate::words::{push_count, push_time};
 use std::alloc::{AllocError, Global};
-use tsn_argument::{Argument, Step};
+use tsn_argument::{Argument, Goal, Step};
 use tsn_model::Frame;
+use tsn_needs::load::{Load, least_tail};
+use tsn_needs::mention::{Mention, add_step};
+use tsn_needs::needs::Part;
+use tsn_needs::network::{Network, first_frame};
+use tsn_needs::number::{NONE, at, less, put, signed, sum};
 use tsn_text::{ListBuilder, TextBuilder};
 
 /// How many links are told.
@@ -27,37 +26,48 @@ pub fn push_links(
     argument: &Argument,
     part: &Part,
 ) -> Result<(), AllocError> {
-    let replay = Replay::first(alloc, network, argument)?;
     let mut busy = Busy {
         alloc,
+        network,
+        until: greatest_flowspan(network, argument),
         steps: argument.steps.list(),
         part,
         mentions: ListBuilder::new(alloc),
     };
-    push_head(text, &replay.view);
-    let mut uses = busy.uses_of_links(network.problem.links())?;
+    push_time(
+        text,
+        "The links that most of these are about, if all is to be done by ",
+        busy.until,
+    );
+    text.push_str(":\n");
+    let mut uses = busy.uses_of(None, network.problem.links())?;
     for _ in 0..MOST_LINKS {
         let Some(link) = most(&uses) else {
             break;
         };
-        busy.push_link(text, &replay.view, link, count_at(&uses, link));
-        put_count(&mut uses, link, 0);
+        busy.push_link(text, link, at(&uses, link, 0));
+        put(&mut uses, link, 0);
     }
     let Busy { mentions, .. } = busy;
     drop(mentions.finish()?);
-    replay.finish()
+    Ok(())
 }
 
-// Writes what the links are, and by when all has to be done.
-fn push_head(text: &mut TextBuilder, view: &View<'_>) {
-    text.push_str("The links that most of these are about, if all is to be done by ");
-    push_time(text, view.high(view.done()));
-    text.push_str(":\n")
+// The greatest flowspan in question.
+fn greatest_flowspan(network: Network<'_>, argument: &Argument) -> i64 {
+    match argument.goal {
+        Goal::First => signed(argument.target),
+        Goal::Least => less(signed(argument.target), 1),
+        Goal::None => network.cycle(),
+    }
 }
 
 #[derive(Drop)]
 struct Busy<'a> {
     alloc: Global,
+    network: Network<'a>,
+    // By when all is to be done.
+    until: i64,
     steps: &'a [Step],
     part: &'a Part,
     mentions: ListBuilder<Mention>,
@@ -70,30 +80,20 @@ impl Busy<'_> {
         add_step(&mut self.mentions, self.steps, self.part, step)
     }
 
-    // How many steps name frames on each link.
-    fn uses_of_links(&mut self, links: usize) -> Result<Vec<usize>, AllocError> {
-        let mut uses = counts(self.alloc, 0, links)?;
-        let mut last = counts(self.alloc, NONE, links)?;
+    // How many steps name frames on each link, or each stream on one of them.
+    fn uses_of(&mut self, on: Option<usize>, places: usize) -> Result<Vec<usize>, AllocError> {
+        let mut uses = vec![in self.alloc; 0; places]?;
+        let mut last = vec![in self.alloc; NONE; places]?;
         let part = self.part;
         for step in &part.steps {
             self.name(*step);
             for mention in self.mentions.list() {
-                count_once(&mut uses, &mut last, mention.link, *step);
-            }
-        }
-        Ok(uses)
-    }
-
-    // How many steps name each stream on a link.
-    fn uses_of_streams(&mut self, link: usize, streams: usize) -> Result<Vec<usize>, AllocError> {
-        let mut uses = counts(self.alloc, 0, streams)?;
-        let mut last = counts(self.alloc, NONE, streams)?;
-        let part = self.part;
-        for step in &part.steps {
-            self.name(*step);
-            for mention in self.mentions.list() {
-                if mention.link == link {
-                    count_once(&mut uses, &mut last, mention.stream, *step);
+                match on {
+                    None => count_once(&mut uses, &mut last, mention.link, *step),
+                    Some(link) if mention.link == link => {
+                        count_once(&mut uses, &mut last, mention.stream, *step)
+                    }
+                    Some(_) => {}
                 }
             }
         }
@@ -113,14 +113,14 @@ impl Busy<'_> {
     }
 
     fn streams_on(&mut self, link: usize, streams: usize) -> Result<Vec<usize>, AllocError> {
-        let mut uses = self.uses_of_streams(link, streams)?;
+        let mut uses = self.uses_of(Some(link), streams)?;
         let mut found = ListBuilder::new(self.alloc);
         let mut greatest = 0;
         for _ in 0..MOST_STREAMS {
             let Some(stream) = most(&uses) else {
                 break;
             };
-            let count = count_at(&uses, stream);
+            let count = at(&uses, stream, 0);
             if greatest == 0 {
                 greatest = count;
             }
@@ -128,55 +128,62 @@ impl Busy<'_> {
                 break;
             }
             found.push(stream);
-            put_count(&mut uses, stream, 0);
+            put(&mut uses, stream, 0);
         }
         let mut found = found.finish()?;
         found.sort()?;
         Ok(found)
     }
 
-    fn push_link(&mut self, text: &mut TextBuilder, view: &View<'_>, link: usize, uses: usize) {
-        let Ok(frames) = self.frames_on(link, view.done()) else {
+    fn push_link(&mut self, text: &mut TextBuilder, link: usize, uses: usize) {
+        let network = self.network;
+        let Ok(frames) = self.frames_on(link, network.timing.streams()) else {
             return text.refuse();
         };
-        push_count(text, uses);
+        push_count(text, "", uses);
         text.push_str(if uses == 1 {
             " step: on "
         } else {
             " steps: on "
         });
-        push_window(text, view, link, &frames)
+        let load = load_of(network, link, &frames);
+        push_begin(text, network, load);
+        let end = latest_end(network, link, &frames).min(less(self.until, load.tail));
+        push_time(text, ", and the last one has to be through by ", end);
+        text.push_str(".\n")
     }
 }
 
 // Counts one more at a place, where the last that counted there was another step.
 fn count_once(uses: &mut [usize], last: &mut [usize], place: usize, step: usize) {
-    if step_at(last, place) != step {
-        put_count(last, place, step);
+    if at(last, place, NONE) != step {
+        put(last, place, step);
         count_up(uses, place);
     }
 }
 
-// Writes how long frames take on a link, and from when to when they may be there.
-fn push_window(text: &mut TextBuilder, view: &View<'_>, link: usize, frames: &[Frame]) {
-    let network = view.network();
-    let load = Load {
+// What frames come to on a link, from their releases on.
+fn load_of<'a>(network: Network<'_>, link: usize, frames: &'a [Frame]) -> Load<'a> {
+    let mut head = i64::MAX;
+    for frame in frames {
+        let release = network.times(frame.stream).release;
+        head = head.min(sum(release, network.begin(*frame, link)));
+    }
+    Load {
         link,
         frames,
-        head: view.first_head(link, frames),
+        head,
         work: network.work(link, frames),
         tail: least_tail(network, link, frames),
-    };
-    load.push_begin(text, network);
-    text.push_str(", and the last one has to be through by ");
-    push_time(text, latest_end(view, link, frames));
-    text.push_str(".\n")
+    }
 }
 
-// By when the last of some frames is through on a link, where all is done in time.
-fn latest_end(view: &View<'_>, link: usize, frames: &[Frame]) -> i64 {
-    let network = view.network();
-    let tail = least_tail(network, link, frames);
-    let done = view.high(view.done()).wrapping_sub(tail);
-    done.min(view.last_end(link, frames))
+// By when the last of some frames is through on a link, by their latest offsets.
+fn latest_end(network: Network<'_>, link: usize, frames: &[Frame]) -> i64 {
+    let mut end = i64::MIN;
+    for frame in frames {
+        let offset = network.times(frame.stream).latest_offset;
+        end = end.max(sum(offset, network.end(*frame, link)));
+    }
+    end
 }

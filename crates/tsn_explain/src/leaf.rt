@@ -1,16 +1,14 @@
 //! The leaves of a tree of decisions, in words.
 use crate::argument::push_no_room;
-use crate::load::{Load, push_load};
-use crate::network::{Network, push_joint};
-use crate::number::{push_time, sum};
-use crate::path::{Path, frames_of};
-use crate::round::{has_order, push_round};
-use crate::view::least_tail;
-use std::alloc::{AllocError, Global};
-use tsn_argument::Order;
-use tsn_cert::{Chain, Entries, Leaf, LowerBound, Node};
-use tsn_model::Frame;
-use tsn_text::{ListBuilder, TextBuilder};
+use crate::load::{push_begin, push_load, push_past};
+use crate::round::push_round;
+use crate::words::{push_joint, push_order, push_stream, push_time};
+use std::alloc::Global;
+use tsn_cert::{Chain, Leaf, LowerBound, Node};
+use tsn_needs::network::Network;
+use tsn_needs::number::sum;
+use tsn_needs::path::{Path, frames_of, load_of};
+use tsn_text::TextBuilder;
 
 /// Writes what a leaf shows, where the decisions of the path to it hold.
 pub fn push_leaf(
@@ -48,7 +46,7 @@ fn push_path(text: &mut TextBuilder, network: Network<'_>, path: &Path) {
         if place > 0 {
             push_joint(text, place, count, "and");
         }
-        network.push_order(text, decided.order);
+        push_order(text, network, decided.order);
     }
     text.push_str(": ")
 }
@@ -73,8 +71,8 @@ fn push_shown(
             };
             let load = load_of(network, path, *link, entries, &frames);
             text.push_str("on ");
-            load.push_begin(text, network);
-            load.push_past(text, network.cycle());
+            push_begin(text, network, load);
+            push_past(text, load, network.cycle());
             drop(frames);
         }
     }
@@ -109,50 +107,14 @@ fn push_bound(
 
 /// Writes when a stream arrives that can't start before an offset.
 fn push_late(text: &mut TextBuilder, network: Network<'_>, stream: usize, offset: i64) {
-    network.push_stream(text, stream);
-    text.push_str(" can't start before ");
-    push_time(text, offset);
-    text.push_str(" and arrives at ");
-    push_time(text, sum(offset, network.arrival(stream)));
+    push_stream(text, network, stream);
+    push_time(text, " can't start before ", offset);
+    push_time(
+        text,
+        " and arrives at ",
+        sum(offset, network.times(stream).arrival),
+    );
     text.push_str(" or later")
-}
-
-/// What the entries of a leaf come to on a link; the frames are theirs.
-pub fn load_of<'a>(
-    network: Network<'_>,
-    path: &Path,
-    link: usize,
-    entries: &Entries,
-    frames: &'a [Frame],
-) -> Load<'a> {
-    Load {
-        link,
-        frames,
-        head: path.head(network, link, entries),
-        work: network.work(link, frames),
-        tail: least_tail(network, link, frames),
-    }
-}
-
-// The orders of a chain.
-fn orders_of(alloc: Global, path: &Path, chain: &Chain) -> Result<Vec<Order>, AllocError> {
-    let mut orders = ListBuilder::new(alloc);
-    for place in 0..chain.len() {
-        if let Some(order) = path.order(chain.at(place)) {
-            orders.push(order);
-        }
-    }
-    orders.finish()
-}
-
-// Whether no order of a path is left out of these.
-fn are_all(path: &Path, orders: &[Order]) -> bool {
-    for decided in path.decided() {
-        if !has_order(orders, decided.order) {
-            return false;
-        }
-    }
-    true
 }
 
 /// Writes that the orders of a closed chain can't all hold.
@@ -163,10 +125,13 @@ fn push_closed(
     path: &Path,
     chain: &Chain,
 ) {
-    let Ok(orders) = orders_of(alloc, path, chain) else {
+    let Ok(orders) = path.orders(alloc, chain) else {
         return text.refuse();
     };
-    let is_said = are_all(path, &orders);
+    let is_said = path
+        .decided()
+        .iter()
+        .all(|decided| orders.contains(&decided.order));
     push_round(text, network, &orders, is_said);
     drop(orders);
 }

@@ -4,29 +4,24 @@
 
 mod argument;
 mod busy;
+mod count;
 mod leaf;
 mod load;
-mod marked;
-mod mention;
-mod needs;
-mod network;
-mod number;
-mod path;
 mod placing;
-mod replay;
 mod round;
 mod told;
 mod tree;
-mod view;
+mod words;
 
 use crate::argument::push_argument;
-use crate::network::Network;
-use crate::number::{push_time, signed};
 use crate::tree::push_tree;
+use crate::words::push_time;
 use std::alloc::{AllocError, Global};
 use tsn_argument::Certificate;
 use tsn_cert::Plan;
 use tsn_model::NoMemory;
+use tsn_needs::network::Network;
+use tsn_needs::number::signed;
 use tsn_net::Problem;
 use tsn_text::TextBuilder;
 
@@ -50,24 +45,6 @@ pub fn explanation(
     Ok(text.finish()?)
 }
 
-/// The stream and the link of each frame that matters for this, in the order of the streams and of their routes: those that an
-/// argument's steps name on links, and those of a tree's branches and loads; of a tree of more than 12 nodes, those of the load
-/// that comes to the least. Where none is named on a link, the last links of the streams that arrive too late.
-pub fn marked_frames(
-    alloc: Global,
-    problem: &Problem,
-    certificate: &Certificate,
-) -> Result<Vec<(usize, usize)>, NoMemory> {
-    let timing = problem.timing(alloc)?;
-    let network = Network {
-        problem,
-        timing: &timing,
-    };
-    let frames = marked::frames(alloc, network, certificate)?;
-    drop(timing);
-    Ok(frames)
-}
-
 fn push_explanation(
     alloc: Global,
     text: &mut TextBuilder,
@@ -78,7 +55,7 @@ fn push_explanation(
     push_claim(text, network, plan);
     match certificate {
         Certificate::Tree(cert) => push_tree(alloc, text, network, cert),
-        Certificate::Argument(argument) => push_argument(alloc, text, network, argument),
+        Certificate::Argument(argument) => push_argument(alloc, text, network, plan, argument),
     }
 }
 
@@ -86,12 +63,14 @@ fn push_explanation(
 fn push_claim(text: &mut TextBuilder, network: Network<'_>, plan: &Plan) {
     match plan {
         Plan::Schedule { flowspan, .. } => {
-            text.push_str("No schedule is done before ");
-            push_time(text, signed(*flowspan));
+            push_time(text, "No schedule is done before ", signed(*flowspan));
         }
         Plan::None => {
-            text.push_str("There is no schedule within the cycle of ");
-            push_time(text, network.cycle());
+            push_time(
+                text,
+                "There is no schedule within the cycle of ",
+                network.cycle(),
+            );
         }
     }
     text.push_str(" ns.\n")

@@ -1,93 +1,64 @@
 //! Frames that take a link up together, in words.
-use crate::network::Network;
-use crate::number::{less, push_time, sum};
-use tsn_model::Frame;
+use crate::words::{push_frames, push_link, push_time};
+use tsn_needs::load::Load;
+use tsn_needs::network::Network;
+use tsn_needs::number::less;
 use tsn_text::TextBuilder;
 
-/// Frames on a link: when the first of them can start there, how long they take it up together, and how long after its
-/// occupancy the last of them arrives, in nanoseconds.
-#[derive(Clone, Copy)]
-pub struct Load<'a> {
-    pub link: usize,
-    pub frames: &'a [Frame],
-    pub head: i64,
-    pub work: i64,
-    pub tail: i64,
+fn is_one(load: Load<'_>) -> bool {
+    load.frames.len() == 1
 }
 
-impl Load<'_> {
-    /// When the link is free again.
-    pub fn end(self) -> i64 {
-        sum(self.head, self.work)
-    }
+/// Writes the link, how long the frames take, and from when on.
+pub fn push_begin(text: &mut TextBuilder, network: Network<'_>, load: Load<'_>) {
+    push_link(text, network, load.link);
+    text.push_str(", ");
+    push_frames(text, network, load.frames);
+    let (take, start) = if is_one(load) {
+        (" takes ", " ns; it can't start before ")
+    } else {
+        (" take ", " ns together; the first can't start before ")
+    };
+    push_time(text, take, load.work);
+    push_time(text, start, load.head)
+}
 
-    /// Before this not all of the frames have arrived.
-    pub fn bound(self) -> i64 {
-        sum(self.end(), self.tail)
+fn push_tail(text: &mut TextBuilder, load: Load<'_>) {
+    let it = if is_one(load) { "it" } else { "the last one" };
+    if load.tail > 0 {
+        text.push_str(", and after ");
+        text.push_str(it);
+        push_time(text, " ", load.tail);
+        text.push_str(" ns pass");
+    } else if load.tail < 0 {
+        text.push_str(", and ");
+        text.push_str(it);
+        push_time(text, " has arrived ", less(0, load.tail));
+        text.push_str(" ns before the gap behind it ends");
     }
+}
 
-    fn is_one(self) -> bool {
-        self.frames.len() == 1
-    }
+/// Writes that the frames have to be through sooner.
+pub fn push_too_late(text: &mut TextBuilder, load: Load<'_>, end: i64) {
+    let has = if is_one(load) {
+        ", and has to be through by "
+    } else {
+        ", and the last one has to be through by "
+    };
+    push_time(text, has, end);
+    push_time(text, ", which is ", less(load.end(), end));
+    text.push_str(" ns too soon")
+}
 
-    /// Writes the link, how long the frames take, and from when on.
-    pub fn push_begin(self, text: &mut TextBuilder, network: Network<'_>) {
-        network.push_link(text, self.link);
-        text.push_str(", ");
-        network.push_frames(text, self.frames);
-        text.push_str(if self.is_one() { " takes " } else { " take " });
-        push_time(text, self.work);
-        text.push_str(if self.is_one() {
-            " ns; it can't start before "
-        } else {
-            " ns together; the first can't start before "
-        });
-        push_time(text, self.head)
-    }
-
-    fn push_tail(self, text: &mut TextBuilder) {
-        let it = if self.is_one() { "it" } else { "the last one" };
-        if self.tail > 0 {
-            text.push_str(", and after ");
-            text.push_str(it);
-            text.push(' ');
-            push_time(text, self.tail);
-            text.push_str(" ns pass");
-        } else if self.tail < 0 {
-            text.push_str(", and ");
-            text.push_str(it);
-            text.push_str(" has arrived ");
-            push_time(text, less(0, self.tail));
-            text.push_str(" ns before the gap behind it ends");
-        }
-    }
-
-    /// Writes that the frames have to be through sooner.
-    pub fn push_too_late(self, text: &mut TextBuilder, end: i64) {
-        text.push_str(if self.is_one() {
-            ", and has to be through by "
-        } else {
-            ", and the last one has to be through by "
-        });
-        push_time(text, end);
-        text.push_str(", which is ");
-        push_time(text, less(self.end(), end));
-        text.push_str(" ns too soon")
-    }
-
-    /// Writes that the link is taken up past the cycle's end.
-    pub fn push_past(self, text: &mut TextBuilder, cycle: i64) {
-        text.push_str(": so the link is taken up until ");
-        push_time(text, self.end());
-        text.push_str(", past the cycle's end at ");
-        push_time(text, cycle)
-    }
+/// Writes that the link is taken up past the cycle's end.
+pub fn push_past(text: &mut TextBuilder, load: Load<'_>, cycle: i64) {
+    push_time(text, ": so the link is taken up until ", load.end());
+    push_time(text, ", past the cycle's end at ", cycle)
 }
 
 /// Writes before when nothing is done because of the frames on a link, from the link on.
 pub fn push_load(text: &mut TextBuilder, network: Network<'_>, load: Load<'_>) {
-    load.push_begin(text, network);
-    load.push_tail(text);
-    text.push_str(": so nothing is done before ");
-    push_time(text, load.bound())
+    push_begin(text, network, load);
+    push_tail(text, load);
+    push_time(text, ": so nothing is done before ", load.bound())
 }

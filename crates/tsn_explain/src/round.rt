@@ -1,7 +1,8 @@
 //! Orders that lead from a stream back to it, in words.
-use crate::network::{Network, push_joint};
-use crate::number::{push_time, sum};
+use crate::words::{push_joint, push_order, push_stream, push_time};
 use tsn_argument::Order;
+use tsn_needs::network::Network;
+use tsn_needs::number::sum;
 use tsn_text::TextBuilder;
 
 /// Writes that these orders can't all hold; the orders too, unless they stand there already.
@@ -14,20 +15,9 @@ pub fn push_round(text: &mut TextBuilder, network: Network<'_>, orders: &[Order]
         text.push_str(": ");
     }
     text.push_str("by these orders ");
-    network.push_stream(text, first.first);
-    text.push_str(" would start ");
-    push_time(text, weight_of(network, orders));
+    push_stream(text, network, first.first);
+    push_time(text, " would start ", weight_of(network, orders));
     text.push_str(" ns later than it does, so they can't all hold")
-}
-
-/// Whether an order is one of these.
-pub fn has_order(orders: &[Order], order: Order) -> bool {
-    for other in orders {
-        if *other == order {
-            return true;
-        }
-    }
-    false
 }
 
 fn weight_of(network: Network<'_>, orders: &[Order]) -> i64 {
@@ -43,6 +33,6 @@ fn push_orders(text: &mut TextBuilder, network: Network<'_>, orders: &[Order]) {
         if place > 0 {
             push_joint(text, place, orders.len(), "and");
         }
-        network.push_order(text, *order);
+        push_order(text, network, *order);
     }
 }

@@ -1,177 +1,200 @@
-//! Facts and the steps of an argument in words.
-use crate::load::{Load, push_load};
-use crate::needs::{Halves, Part};
-use crate::network::push_joint;
-use crate::number::{less, push_count, push_time, signed, sum};
-use crate::placing::{push_first, push_last};
-use crate::replay::Replay;
-use crate::round::{has_order, push_round};
-use crate::view::{Crossing, Learned, View, least_tail, opposite, turned};
-use std::alloc::Global;
-use tsn_argument::{Fact, Goal, Move, Order, Placing};
+//! The steps of an argument in words, as they are checked.
+ghost use Rattle.std.specs.Prelude.{None};
+
+use crate::load::{push_begin, push_load, push_too_late};
+use crate::placing::push_placing;
+use crate::round::push_round;
+use crate::words::{push_count, push_frames, push_joint, push_order, push_stream, push_time};
+use std::alloc::{AllocError, Global};
+use tsn_argue::{Listener, News, Shown, View};
+use tsn_argument::{Argument, Clause, Fact, Goal, Move, Order, Placing, Step};
 use tsn_model::Frame;
-use tsn_text::TextBuilder;
+use tsn_needs::load::{end_on, load_on};
+use tsn_needs::needs::{Halves, Part};
+use tsn_needs::network::{Network, order_of, turned};
+use tsn_needs::number::{NONE, at, next, signed, sum, time};
+use tsn_text::{ListBuilder, TextBuilder};
 
-/// Writes what a fact says.
-fn push_fact(text: &mut TextBuilder, view: &View<'_>, fact: Learned) {
-    match fact {
-        Learned::From(subject, time) if subject == view.done() => {
-            text.push_str("nothing is done before ");
-            push_time(text, time)
-        }
-        Learned::Until(subject, time) if subject == view.done() => {
-            text.push_str("all is done by ");
-            push_time(text, time)
-        }
-        Learned::From(stream, time) => {
-            push_start(text, view, stream, time);
-            text.push_str(" or later")
-        }
-        Learned::Until(stream, time) => {
-            push_start(text, view, stream, time);
-            text.push_str(" or earlier")
-        }
-        Learned::Order(order) => view.network().push_order(text, order),
-    }
-}
-
-fn push_start(text: &mut TextBuilder, view: &View<'_>, stream: usize, time: i64) {
-    view.network().push_stream(text, stream);
-    text.push_str(" starts at ");
-    push_time(text, time)
-}
-
-/// Writes a step and takes it: what is supposed, its moves that are of the part, and what follows.
-pub fn push_step(
-    alloc: Global,
-    text: &mut TextBuilder,
-    replay: &mut Replay<'_>,
-    part: &Part,
-    step: usize,
-) {
-    text.push_str("Step ");
-    push_count(text, step);
-    text.push_str(": ");
-    push_supposed(text, replay, step);
-    replay.begin(step);
-    push_crossing(text, &replay.view);
-    let mut teller = Teller {
-        alloc,
-        text,
-        limited: Vec::new(alloc),
-        is_begun: !replay.facts(step).is_empty(),
-        facts: replay.facts(step),
-        said: i64::MIN,
-    };
-    for (place, motion) in replay.moves(step).iter().enumerate() {
-        let halves = part.halves(step, place);
-        if halves.first || halves.second {
-            teller.push_move(replay, motion, halves);
-        } else {
-            replay.make(motion);
-        }
-    }
-    teller.push_limited(replay);
-    let said = teller.said;
-    drop(teller);
-    push_shown(text, replay, step, said);
-    replay.end(step)
-}
-
-/// Writes the opposites of the facts of a step, or which schedules it is about.
-fn push_supposed(text: &mut TextBuilder, replay: &Replay<'_>, step: usize) {
-    let facts = replay.facts(step);
-    let view = &replay.view;
-    if facts.is_empty() && replay.goal == Goal::None {
-        return text.push_str("In any schedule, ");
-    }
-    if facts.is_empty() {
-        return push_schedules(text, view);
-    }
-    text.push_str("Suppose that ");
-    for (place, fact) in facts.iter().enumerate() {
-        if place > 0 {
-            push_joint(text, place, facts.len(), "and");
-        }
-        push_fact(text, view, opposite(view.learned_of(*fact)));
-    }
-}
-
-/// Writes which schedules are in question.
-fn push_schedules(text: &mut TextBuilder, view: &View<'_>) {
-    let most = view.high(view.done());
-    text.push_str("In a schedule that is done by ");
-    push_time(text, most);
-    text.push_str(", ")
-}
-
-/// Writes what a step shows, where it was last said that nothing is done before some instant.
-fn push_shown(text: &mut TextBuilder, replay: &Replay<'_>, step: usize, said: i64) {
-    let facts = replay.facts(step);
-    let view = &replay.view;
-    if facts.is_empty() {
-        return push_left(text, replay);
-    }
-    if let [Fact::DoneFrom(time)] = facts {
-        if signed(*time) == said {
-            return text.push_str(".\n");
-        }
-    }
-    text.push_str(". So ");
-    for (place, fact) in facts.iter().enumerate() {
-        if place > 0 {
-            push_joint(text, place, facts.len(), "or");
-        }
-        push_fact(text, view, view.learned_of(*fact));
-    }
-    text.push_str(".\n")
-}
-
-/// Writes what a step without facts leaves.
-fn push_left(text: &mut TextBuilder, replay: &Replay<'_>) {
-    if replay.view.crossing().is_some() {
-        text.push_str(". So there is none.\n")
-    } else if replay.is_shown() {
-        text.push_str(". So nothing is done before ");
-        push_time(text, replay.target);
-        text.push_str(".\n")
-    } else {
-        text.push_str(".\n")
-    }
-}
-
-/// Writes whose numbers don't go together, if any.
-fn push_crossing(text: &mut TextBuilder, view: &View<'_>) {
-    let Some(Crossing { subject, is_least }) = view.crossing() else {
-        return;
-    };
-    if subject == view.done() {
-        text.push_str(", but all has to be done by ");
-        push_time(text, view.high(subject))
-    } else if is_least {
-        text.push_str(", but it can't start after ");
-        push_time(text, view.high(subject))
-    } else {
-        text.push_str(", but it can't start before ");
-        push_time(text, view.low(subject))
-    }
-}
-
-/// A step that is told.
+/// Writes the steps of a part as it hears them: what is supposed, the moves that are of the part, and what follows.
 #[derive(Drop)]
-struct Teller<'a> {
+pub struct Teller<'a> {
     alloc: Global,
     text: &'a mut TextBuilder,
+    network: Network<'a>,
+    argument: &'a Argument,
+    part: &'a Part,
+    // The step that each clause is of.
+    clauses: ListBuilder<usize>,
+    // The step under way, and how many moves of it were made.
+    step: usize,
+    count: usize,
     // The last frames of the streams whose arrival was bounded and isn't told yet.
-    limited: Vec<Frame>,
+    limited: ListBuilder<Frame>,
     is_begun: bool,
-    facts: &'a [Fact],
     // Before when the last move lets nothing be done.
     said: i64,
 }
 
-impl Teller<'_> {
-    /// Writes what goes before a move.
+impl Listener for Teller<'_> {
+    ghost heard = { λ _. None };
+
+    fn begin(&mut self, ground: &View<'_>, step: &Step) {
+        self.count = 0;
+        if self.part.has_step(self.step) {
+            self.push_begin(ground, step.clause.list());
+        }
+    }
+
+    fn make(&mut self, view: &View<'_>, clauses: &[&Clause], motion: &Move, shown: Shown) {
+        let halves = self.part.halves(self.step, self.count);
+        self.count = next(self.count);
+        if halves.first || halves.second {
+            self.push_move(view, clauses, motion, shown, halves);
+        }
+    }
+
+    fn end(&mut self, view: &View<'_>, step: &Step) {
+        let facts = step.clause.list();
+        if self.part.has_step(self.step) {
+            self.push_limited(view);
+            self.push_shown(view, facts);
+        }
+        if !facts.is_empty() {
+            self.clauses.push(self.step);
+        }
+        self.step = next(self.step);
+    }
+}
+
+impl<'a> Teller<'a> {
+    /// Before the first step.
+    pub fn new(
+        alloc: Global,
+        text: &'a mut TextBuilder,
+        network: Network<'a>,
+        argument: &'a Argument,
+        part: &'a Part,
+    ) -> Teller<'a> {
+        Teller {
+            alloc,
+            text,
+            network,
+            argument,
+            part,
+            clauses: ListBuilder::new(alloc),
+            step: 0,
+            count: 0,
+            limited: ListBuilder::new(alloc),
+            is_begun: false,
+            said: 0,
+        }
+    }
+
+    /// There was no memory for all of it.
+    pub fn refuse(&mut self) {
+        self.text.refuse();
+    }
+
+    /// Whether there was memory for all of it.
+    pub fn finish(self) -> Result<(), AllocError> {
+        let Teller {
+            clauses,
+            limited,
+            ..
+        } = self;
+        drop(clauses.finish()?);
+        drop(limited.finish()?);
+        Ok(())
+    }
+
+    // Writes the opposites of the facts of a step, or which schedules it is about.
+    fn push_begin(&mut self, ground: &View<'_>, facts: &[Fact]) {
+        self.limited.clear();
+        self.is_begun = !facts.is_empty();
+        self.said = i64::MIN;
+        push_count(self.text, "Step ", self.step);
+        self.text.push_str(": ");
+        if facts.is_empty() {
+            return self.push_schedules(ground);
+        }
+        self.text.push_str("Suppose that ");
+        for (place, fact) in facts.iter().enumerate() {
+            if place > 0 {
+                push_joint(self.text, place, facts.len(), "and");
+            }
+            self.push_fact(News::opposite_of(*fact));
+        }
+        for fact in facts {
+            if push_clash(self.text, ground, News::opposite_of(*fact)) {
+                break;
+            }
+        }
+    }
+
+    // Writes which schedules are in question.
+    fn push_schedules(&mut self, ground: &View<'_>) {
+        if self.argument.goal == Goal::None {
+            return self.text.push_str("In any schedule, ");
+        }
+        push_time(
+            self.text,
+            "In a schedule that is done by ",
+            time(ground.done.high),
+        );
+        self.text.push_str(", ")
+    }
+
+    // Writes what a step shows.
+    fn push_shown(&mut self, view: &View<'_>, facts: &[Fact]) {
+        if facts.is_empty() {
+            return self.push_left(view);
+        }
+        if let [Fact::DoneFrom(from)] = facts {
+            if signed(*from) == self.said {
+                return self.text.push_str(".\n");
+            }
+        }
+        self.text.push_str(". So ");
+        for (place, fact) in facts.iter().enumerate() {
+            if place > 0 {
+                push_joint(self.text, place, facts.len(), "or");
+            }
+            self.push_fact(News::of(*fact));
+        }
+        self.text.push_str(".\n")
+    }
+
+    // Writes what a step without facts leaves.
+    fn push_left(&mut self, view: &View<'_>) {
+        let target = signed(self.argument.target);
+        if view.crossed {
+            self.text.push_str(". So there is none.\n")
+        } else if self.argument.goal == Goal::First && time(view.done.low) >= target {
+            push_time(self.text, ". So nothing is done before ", target);
+            self.text.push_str(".\n")
+        } else {
+            self.text.push_str(".\n")
+        }
+    }
+
+    // Writes what a fact says.
+    fn push_fact(&mut self, news: News) {
+        match news {
+            News::DoneFrom(from) => { push_time(self.text, "nothing is done before ", time(from)) }
+            News::DoneUntil(until) => { push_time(self.text, "all is done by ", time(until)) }
+            News::From(stream, from) => self.push_start(stream, from, " or later"),
+            News::Until(stream, until) => self.push_start(stream, until, " or earlier"),
+            News::Order(decision) => push_order(self.text, self.network, order_of(decision)),
+        }
+    }
+
+    fn push_start(&mut self, stream: usize, offset: i128, end: &str) {
+        push_stream(self.text, self.network, stream);
+        push_time(self.text, " starts at ", time(offset));
+        self.text.push_str(end)
+    }
+
+    // Writes what goes before a move.
     fn push_then(&mut self) {
         if self.is_begun {
             return self.text.push_str(". Then ");
@@ -179,254 +202,232 @@ impl Teller<'_> {
         self.is_begun = true;
     }
 
-    /// Writes a move and makes it.
-    fn push_move(&mut self, replay: &mut Replay<'_>, motion: &Move, halves: Halves) {
-        if replay.view.crossing().is_some() {
-            return;
-        }
-        if let Move::Arrive(stream) = motion {
-            return self.push_arrive(replay, motion, *stream, halves);
-        }
-        self.push_limited(replay);
-        match motion {
-            Move::Go(order) => self.push_go(replay, *order, halves),
-            Move::Turn(order) => self.push_turn(replay, *order),
-            Move::Use(number) => self.push_use(replay, *number),
-            Move::Last(placing) => self.push_last(replay, placing),
-            Move::First(placing) => self.push_first(replay, placing),
-            Move::Pack(link, frames) => self.push_pack(replay, *link, frames.list()),
-            Move::Round(orders) => self.push_round(replay, orders.list()),
-            Move::Follow(known, weaker) => self.push_follow(replay, *known, *weaker),
-            Move::Arrive(_) => {}
-        }
-        replay.make(motion);
-        self.push_end(replay, motion)
-    }
-
-    /// Writes whose numbers don't go together after a move that bounds a stream.
-    fn push_end(&mut self, replay: &Replay<'_>, motion: &Move) {
-        match motion {
-            Move::Pack(..) | Move::Round(_) => {}
-            Move::Use(_) if self.is_refuted(replay) => {}
-            _ => push_crossing(self.text, &replay.view),
-        }
-    }
-
-    // Whether all has to be done too soon.
-    fn is_refuted(&self, replay: &Replay<'_>) -> bool {
-        match replay.view.crossing() {
-            Some(crossing) => crossing.subject == replay.view.done(),
-            None => false,
-        }
-    }
-
-    fn push_arrive(
+    fn push_move(
         &mut self,
-        replay: &mut Replay<'_>,
+        view: &View<'_>,
+        clauses: &[&Clause],
         motion: &Move,
-        stream: usize,
+        shown: Shown,
         halves: Halves,
     ) {
-        let done = replay.view.done();
-        let before = replay.view.low(done);
-        let greatest = replay.view.high(stream);
-        replay.make(motion);
-        let low = replay.view.low(done);
-        if halves.first && low > before {
-            self.push_limited(replay);
-            self.push_arrival(replay, stream, low);
-            push_crossing(self.text, &replay.view);
+        if let Move::Arrive(stream) = motion {
+            return self.push_arrive(view, *stream, shown, halves);
         }
-        if low > replay.view.high(done) {
+        self.push_limited(view);
+        match motion {
+            Move::Go(_) => self.push_go(view, shown, halves),
+            Move::Turn(order) => self.push_turn(view, *order, shown.first),
+            Move::Use(number) => return self.push_use(view, clauses, *number, shown.first),
+            Move::Last(placing) => self.push_placing(view, placing, shown.first, true),
+            Move::First(placing) => self.push_placing(view, placing, shown.first, false),
+            Move::Pack(link, frames) => return self.push_pack(view, *link, frames.list()),
+            Move::Round(orders) => return self.push_round(orders.list()),
+            Move::Follow(known, _) => self.push_follow(view, *known, shown.first),
+            Move::Arrive(_) => {}
+        }
+        if !push_clash(self.text, view, shown.first) {
+            if let Some(second) = shown.second {
+                push_clash(self.text, view, second);
+            }
+        }
+    }
+
+    fn push_arrive(&mut self, view: &View<'_>, stream: usize, shown: Shown, halves: Halves) {
+        if halves.first && !view.knows(shown.first) {
+            self.push_limited(view);
+            self.push_arrival(stream, shown.first);
+            push_clash(self.text, view, shown.first);
+        }
+        let Some(second) = shown.second else {
+            return;
+        };
+        if view.contradicts(shown.first) {
             return;
         }
-        if halves.second && replay.view.high(stream) < greatest {
-            self.limit(replay.view.network().last_frame(stream));
+        if halves.second && !view.knows(second) {
+            self.limited.push(self.network.last_frame(stream));
         }
-        if replay.view.crossing().is_some() {
-            self.push_limited(replay);
-            return push_crossing(self.text, &replay.view);
-        }
-    }
-
-    // The frame's arrival is to be told.
-    fn limit(&mut self, frame: Frame) {
-        if self.limited.push(frame).is_err() {
-            self.text.refuse();
+        if view.contradicts(second) {
+            self.push_limited(view);
+            push_clash(self.text, view, second);
         }
     }
 
-    /// Writes from when on a stream's first period may have arrived.
-    fn push_arrival(&mut self, replay: &Replay<'_>, stream: usize, low: i64) {
+    // Writes from when on a stream's first period may have arrived.
+    fn push_arrival(&mut self, stream: usize, news: News) {
         self.push_then();
-        let network = replay.view.network();
-        network.push_frames(self.text, &[network.last_frame(stream)]);
-        self.text.push_str(" arrives at ");
-        push_time(self.text, low);
+        let network = self.network;
+        push_frames(self.text, network, &[network.last_frame(stream)]);
+        if let News::DoneFrom(from) = news {
+            push_time(self.text, " arrives at ", time(from));
+        }
         self.text.push_str(" or later")
     }
 
-    /// Writes by when the frames have to arrive that aren't told yet.
-    fn push_limited(&mut self, replay: &Replay<'_>) {
-        if self.limited.is_empty() {
+    // Writes by when the frames have to arrive that aren't told yet.
+    fn push_limited(&mut self, view: &View<'_>) {
+        let count = self.limited.list().len();
+        if count == 0 {
             return;
         }
         self.push_then();
-        let view = &replay.view;
-        view.network().push_frames(self.text, &self.limited);
-        let has = if self.limited.len() == 1 {
+        push_frames(self.text, self.network, self.limited.list());
+        let has = if count == 1 {
             " has to arrive by "
         } else {
             " have to arrive by "
         };
-        self.text.push_str(has);
         self.limited.clear();
-        push_time(self.text, view.high(view.done()))
+        push_time(self.text, has, time(view.done.high))
     }
 
-    fn push_go(&mut self, replay: &Replay<'_>, order: Order, halves: Halves) {
-        let view = &replay.view;
-        let weight = view.network().weight(order);
-        let low = sum(view.low(order.first), weight);
-        let high = less(view.high(order.second), weight);
-        let is_later = halves.first && low > view.low(order.second);
+    fn push_go(&mut self, view: &View<'_>, shown: Shown, halves: Halves) {
+        let is_later = halves.first && !view.knows(shown.first);
         if is_later {
             self.push_then();
-            push_fact(self.text, view, Learned::From(order.second, low));
+            self.push_fact(shown.first);
         }
-        if halves.second && high < view.high(order.first) {
+        let Some(second) = shown.second else {
+            return;
+        };
+        if halves.second && !view.knows(second) {
             if is_later {
                 self.text.push_str(", and ");
             } else {
                 self.push_then();
             }
-            push_fact(self.text, view, Learned::Until(order.first, high));
+            self.push_fact(second);
         }
     }
 
-    fn push_turn(&mut self, replay: &Replay<'_>, order: Order) {
-        let view = &replay.view;
-        if view.has(order) {
+    fn push_turn(&mut self, view: &View<'_>, order: Order, news: News) {
+        if view.knows(news) {
             return;
         }
         self.push_then();
-        view.network().push_order(self.text, order);
+        self.push_fact(news);
+        let network = self.network;
         self.text.push_str(", since the other order would put ");
-        view.network().push_stream(self.text, order.first);
-        self.text.push_str(" at ");
-        push_time(self.text, replay.turned_low(order));
-        self.text.push_str(" or later, past its latest start ");
-        push_time(self.text, view.high(order.first))
+        push_stream(self.text, network, order.first);
+        let least = time(view.least(order.second));
+        push_time(self.text, " at ", sum(least, network.weight(turned(order))));
+        push_time(
+            self.text,
+            " or later, past its latest start ",
+            time(view.greatest(order.first)),
+        )
     }
 
-    fn push_follow(&mut self, replay: &Replay<'_>, known: Order, weaker: Order) {
-        let view = &replay.view;
-        if view.has(weaker) {
+    fn push_follow(&mut self, view: &View<'_>, known: Order, news: News) {
+        if view.knows(news) {
             return;
         }
         self.push_then();
-        view.network().push_order(self.text, weaker);
+        self.push_fact(news);
         self.text.push_str(", since ");
-        view.network().push_order(self.text, known)
+        push_order(self.text, self.network, known)
     }
 
-    fn push_use(&mut self, replay: &Replay<'_>, number: usize) {
-        let step = replay.step_of_clause(number);
-        let view = &replay.view;
+    fn push_use(&mut self, view: &View<'_>, clauses: &[&Clause], number: usize, news: News) {
+        let step = at(self.clauses.list(), number, NONE);
         self.push_then();
-        match replay.left_of(step) {
-            Some(fact) => {
-                self.text.push_str("by step ");
-                push_count(self.text, step);
-                self.text.push_str(", ");
-                push_fact(self.text, view, view.learned_of(fact))
+        if is_open(view, clauses, number) {
+            push_count(self.text, "by step ", step);
+            self.text.push_str(", ");
+            self.push_fact(news);
+            if is_of_stream(news) {
+                push_clash(self.text, view, news);
             }
-            None => {
-                self.text.push_str("none of what step ");
-                push_count(self.text, step);
-                self.text.push_str(" says can hold");
-            }
+        } else {
+            push_count(self.text, "none of what step ", step);
+            self.text.push_str(" says can hold");
         }
     }
 
-    fn push_last(&mut self, replay: &Replay<'_>, placing: &Placing) {
-        let from = replay.from_last(placing);
-        if from <= replay.view.low(placing.frame.stream) {
+    fn push_placing(&mut self, view: &View<'_>, placing: &Placing, news: News, is_last: bool) {
+        if view.knows(news) {
             return;
         }
         self.push_then();
-        push_last(self.alloc, self.text, &replay.view, placing);
-        push_fact(
-            self.text,
-            &replay.view,
-            Learned::From(placing.frame.stream, from),
-        )
+        push_placing(self.alloc, self.text, self.network, view, placing, is_last);
+        self.push_fact(news)
     }
 
-    fn push_first(&mut self, replay: &Replay<'_>, placing: &Placing) {
-        let until = replay.until_first(placing);
-        if until >= replay.view.high(placing.frame.stream) {
-            return;
-        }
-        self.push_then();
-        push_first(self.alloc, self.text, &replay.view, placing);
-        push_fact(
-            self.text,
-            &replay.view,
-            Learned::Until(placing.frame.stream, until),
-        )
-    }
-
-    fn push_pack(&mut self, replay: &Replay<'_>, link: usize, frames: &[Frame]) {
-        let view = &replay.view;
-        let network = view.network();
-        let load = Load {
-            link,
-            frames,
-            head: view.first_head(link, frames),
-            work: network.work(link, frames),
-            tail: least_tail(network, link, frames),
-        };
+    fn push_pack(&mut self, view: &View<'_>, link: usize, frames: &[Frame]) {
+        let network = self.network;
+        let load = load_on(network, view, link, frames);
         self.push_then();
         self.text.push_str("on ");
-        if load.bound() > view.high(view.done()) {
+        if load.bound() > time(view.done.high) {
             self.said = load.bound();
             push_load(self.text, network, load)
         } else {
-            load.push_begin(self.text, network);
-            load.push_too_late(self.text, view.last_end(link, frames))
+            push_begin(self.text, network, load);
+            push_too_late(self.text, load, end_on(network, view, link, frames))
         }
     }
 
-    fn push_round(&mut self, replay: &Replay<'_>, orders: &[Order]) {
+    fn push_round(&mut self, orders: &[Order]) {
         self.push_then();
-        let is_said = are_supposed(self.facts, orders);
-        push_round(self.text, replay.view.network(), orders, is_said)
+        let is_said = match self.argument.steps.list().get(self.step) {
+            Some(step) => are_supposed(step.clause.list(), orders),
+            None => false,
+        };
+        push_round(self.text, self.network, orders, is_said)
     }
+}
+
+// Whether a clause has a fact that the view doesn't contradict.
+fn is_open(view: &View<'_>, clauses: &[&Clause], number: usize) -> bool {
+    let Some(clause) = clauses.get(number) else {
+        return false;
+    };
+    for fact in clause.list() {
+        if !view.contradicts(News::of(*fact)) {
+            return true;
+        }
+    }
+    false
+}
+
+// Whether the fact is of a stream's offset.
+fn is_of_stream(news: News) -> bool {
+    match news {
+        News::From(..) | News::Until(..) => true,
+        News::Order(_) | News::DoneFrom(_) | News::DoneUntil(_) => false,
+    }
+}
+
+// Writes which number of the view contradicts the fact, if one does.
+fn push_clash(text: &mut TextBuilder, view: &View<'_>, news: News) -> bool {
+    if let News::Order(_) = news {
+        return false;
+    }
+    if !view.contradicts(news) {
+        return false;
+    }
+    let (words, end) = match news {
+        News::From(stream, _) => (", but it can't start after ", view.greatest(stream)),
+        News::Until(stream, _) => (", but it can't start before ", view.least(stream)),
+        News::DoneUntil(number) => (", but all has to be done by ", number),
+        News::Order(_) | News::DoneFrom(_) => (", but all has to be done by ", view.done.high),
+    };
+    push_time(text, words, time(end));
+    true
 }
 
 // Whether the opposites of a clause's facts are these orders and nothing else.
 fn are_supposed(facts: &[Fact], orders: &[Order]) -> bool {
     for fact in facts {
         match fact {
-            Fact::Order(order) if has_order(orders, turned(*order)) => {}
+            Fact::Order(order) if orders.contains(&turned(*order)) => {}
             _ => return false,
         }
     }
     for order in orders {
-        if !has_fact(facts, turned(*order)) {
+        if !facts.contains(&Fact::Order(turned(*order))) {
             return false;
         }
     }
     true
-}
-
-// Whether an order is one of the facts.
-fn has_fact(facts: &[Fact], order: Order) -> bool {
-    for fact in facts {
-        if *fact == Fact::Order(order) {
-            return true;
-        }
-    }
-    false
 }

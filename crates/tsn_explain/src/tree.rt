@@ -1,16 +1,16 @@
 //! What a tree of decisions shows, in words.
-use crate::leaf::{load_of, push_leaf};
-use crate::load::{Load, push_load};
-use crate::network::Network;
-use crate::number::{count_at, count_up, counts, most, push_count, put_count};
-use crate::path::{Path, frames_of};
+use crate::count::{count_up, most};
+use crate::leaf::push_leaf;
+use crate::load::push_load;
+use crate::words::{push_count, push_link};
 use std::alloc::{AllocError, Global};
-use tsn_cert::{Cert, Entries, Format, Leaf, LowerBound, Node};
-use tsn_model::Frame;
+use tsn_cert::{Cert, Format, Leaf, LowerBound, Node};
+use tsn_needs::least::{bound_of, least_of};
+use tsn_needs::marked::MOST_TOLD;
+use tsn_needs::network::Network;
+use tsn_needs::number::{at, put};
+use tsn_needs::path::{Path, frames_of, load_of};
 use tsn_text::TextBuilder;
-
-/// The most nodes whose leaves are told one by one.
-pub const MOST_TOLD: usize = 12;
 
 /// How many links are told.
 const MOST_LINKS: usize = 5;
@@ -25,9 +25,7 @@ pub fn push_tree(
     if cert.nodes.list().len() <= MOST_TOLD {
         push_leaves(alloc, text, network, cert.nodes.list())?;
     } else {
-        let tally = tally_of(alloc, network, cert.nodes.list())?;
-        tally.push_counts(alloc, text, network);
-        drop(tally);
+        push_counts(alloc, text, network, cert.nodes.list())?;
     }
     if cert.format == Format::Two && has_schedule(network, cert) {
         text.push_str("Of the schedules of this flowspan the plan is the first in list order.\n");
@@ -77,178 +75,96 @@ fn kind_of(node: &Node) -> usize {
     }
 }
 
-/// The link whose load rules a leaf out, with the entries where they bound the flowspan.
-fn load_in(node: &Node) -> Option<(usize, Option<&Entries>)> {
-    match node {
-        Node::Leaf(Leaf::Bound(LowerBound::Load(link, entries))) => Some((*link, Some(entries))),
-        Node::Tie(LowerBound::Load(link, entries), _) => Some((*link, Some(entries))),
-        Node::Leaf(Leaf::Overload(link, _)) => Some((*link, None)),
-        _ => None,
-    }
-}
-
-/// How many leaves of each kind there are, how many are of each link's load, and the load that comes to the least.
-#[derive(Drop)]
-pub struct Tally {
-    kinds: Vec<usize>,
-    links: Vec<usize>,
-    least: Least,
-}
-
-/// The load that comes to the least, if there is one.
-#[derive(Drop)]
-pub struct Least {
-    pub link: usize,
-    pub frames: Vec<Frame>,
-    head: i64,
-    work: i64,
-    tail: i64,
-}
-
-impl Least {
-    fn none(alloc: Global) -> Least {
-        Least {
-            link: 0,
-            frames: Vec::new(alloc),
-            head: 0,
-            work: 0,
-            tail: 0,
-        }
-    }
-
-    fn load(&self) -> Load<'_> {
-        Load {
-            link: self.link,
-            frames: &self.frames,
-            head: self.head,
-            work: self.work,
-            tail: self.tail,
-        }
-    }
-
-    fn is_there(&self) -> bool {
-        !self.frames.is_empty()
-    }
-}
-
-/// Counts the leaves.
-pub fn tally_of(alloc: Global, network: Network<'_>, nodes: &[Node]) -> Result<Tally, AllocError> {
-    let mut path = Path::first(alloc);
-    let mut tally = Tally {
-        kinds: counts(alloc, 0, KINDS.len())?,
-        links: counts(alloc, 0, network.problem.links())?,
-        least: Least::none(alloc),
-    };
+/// Writes how many leaves there are, and how many of each kind; then how many the load of each link rules out, and the load that comes
+/// to the least.
+fn push_counts(
+    alloc: Global,
+    text: &mut TextBuilder,
+    network: Network<'_>,
+    nodes: &[Node],
+) -> Result<(), AllocError> {
+    let mut kinds = vec![in alloc; 0; KINDS.len()]?;
     for node in nodes {
-        tally.count(alloc, network, &path, node)?;
-        path.go_on(node);
-    }
-    path.finish()?;
-    Ok(tally)
-}
-
-impl Tally {
-    /// The load that comes to the least.
-    pub fn least(&self) -> &Least {
-        &self.least
-    }
-
-    fn count(
-        &mut self,
-        alloc: Global,
-        network: Network<'_>,
-        path: &Path,
-        node: &Node,
-    ) -> Result<(), AllocError> {
         let kind = kind_of(node);
         if kind < KINDS.len() {
-            count_up(&mut self.kinds, 0);
+            count_up(&mut kinds, 0);
         }
-        count_up(&mut self.kinds, kind);
-        let Some((link, entries)) = load_in(node) else {
-            return Ok(());
-        };
-        count_up(&mut self.links, link);
-        match entries {
-            Some(entries) => self.weigh_load(alloc, network, path, link, entries),
-            None => Ok(()),
-        }
+        count_up(&mut kinds, kind);
     }
+    push_kinds(text, &kinds);
+    drop(kinds);
+    push_links(alloc, text, network, nodes)?;
+    push_least(alloc, text, network, nodes)
+}
 
-    fn weigh_load(
-        &mut self,
-        alloc: Global,
-        network: Network<'_>,
-        path: &Path,
-        link: usize,
-        entries: &Entries,
-    ) -> Result<(), AllocError> {
-        let frames = frames_of(alloc, entries)?;
-        let load = load_of(network, path, link, entries, &frames);
-        let Load {
-            head,
-            work,
-            tail,
-            ..
-        } = load;
-        if !self.least.is_there() || load.bound() < self.least.load().bound() {
-            self.least = Least {
-                link,
-                frames,
-                head,
-                work,
-                tail,
+fn push_kinds(text: &mut TextBuilder, kinds: &[usize]) {
+    let mut is_begun = false;
+    for (kind, words) in KINDS.iter().enumerate() {
+        let count = at(kinds, kind, 0);
+        if count > 0 {
+            let joint = if kind == 0 {
+                ""
+            } else if is_begun {
+                ", "
+            } else {
+                ": "
             };
-        } else {
-            drop(frames);
+            is_begun = kind > 0;
+            push_count(text, joint, count);
+            text.push_str(words);
         }
-        Ok(())
     }
+    text.push_str(".\n")
+}
 
-    /// Writes the counts.
-    fn push_counts(&self, alloc: Global, text: &mut TextBuilder, network: Network<'_>) {
-        let mut is_begun = false;
-        for (kind, words) in KINDS.iter().enumerate() {
-            let count = count_at(&self.kinds, kind);
-            if count > 0 {
-                if kind > 0 {
-                    text.push_str(if is_begun { ", " } else { ": " });
-                    is_begun = true;
-                }
-                push_count(text, count);
-                text.push_str(words);
-            }
+fn push_links(
+    alloc: Global,
+    text: &mut TextBuilder,
+    network: Network<'_>,
+    nodes: &[Node],
+) -> Result<(), AllocError> {
+    let mut links = vec![in alloc; 0; network.problem.links()]?;
+    for node in nodes {
+        if let Some((link, _)) = bound_of(node) {
+            count_up(&mut links, link);
+        } else if let Node::Leaf(Leaf::Overload(link, _)) = node {
+            count_up(&mut links, *link);
         }
+    }
+    for _ in 0..MOST_LINKS {
+        let Some(link) = most(&links) else {
+            break;
+        };
+        text.push_str("The load of ");
+        push_link(text, network, link);
+        push_count(text, ", rules out ", at(&links, link, 0));
         text.push_str(".\n");
-        self.push_loads(alloc, text, network);
-        self.push_least(text, network)
+        put(&mut links, link, 0);
     }
+    Ok(())
+}
 
-    fn push_loads(&self, alloc: Global, text: &mut TextBuilder, network: Network<'_>) {
-        let Ok(mut links) = self.links.as_slice().to_vec(alloc) else {
-            return text.refuse();
-        };
-        for _ in 0..MOST_LINKS {
-            let Some(link) = most(&links) else {
-                break;
-            };
-            let count = count_at(&links, link);
-            text.push_str("The load of ");
-            network.push_link(text, link);
-            text.push_str(", rules out ");
-            push_count(text, count);
-            text.push_str(".\n");
-            put_count(&mut links, link, 0);
-        }
-        drop(links);
-    }
-
-    fn push_least(&self, text: &mut TextBuilder, network: Network<'_>) {
-        if !self.least.is_there() {
-            return;
-        }
-        text.push_str("In the tightest of these ways, on ");
-        push_load(text, network, self.least.load());
-        text.push_str(".\n")
-    }
+fn push_least(
+    alloc: Global,
+    text: &mut TextBuilder,
+    network: Network<'_>,
+    nodes: &[Node],
+) -> Result<(), AllocError> {
+    let Some(number) = least_of(alloc, network, nodes)? else {
+        return Ok(());
+    };
+    let Some(node) = nodes.get(number) else {
+        return Ok(());
+    };
+    let Some((link, entries)) = bound_of(node) else {
+        return Ok(());
+    };
+    let path = Path::to(alloc, nodes, number);
+    let frames = frames_of(alloc, entries)?;
+    let load = load_of(network, &path, link, entries, &frames);
+    text.push_str("In the tightest of these ways, on ");
+    push_load(text, network, load);
+    text.push_str(".\n");
+    drop(frames);
+    path.finish()
 }

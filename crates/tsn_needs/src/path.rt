@@ -1,11 +1,11 @@
 //! The way through a tree of decisions, and what its chains come to.
-use crate::network::Network;
+use crate::load::{Load, least_tail};
+use crate::network::{Network, order_of, turned};
 use crate::number::sum;
-use crate::view::turned;
 use std::alloc::{AllocError, Global};
 use tsn_argument::Order;
 use tsn_cert::{Chain, Entries, Node};
-use tsn_model::{Frame, Triple};
+use tsn_model::{Decision, Frame, Side, Triple};
 use tsn_text::ListBuilder;
 
 /// A decision of a path.
@@ -30,6 +30,15 @@ impl Path {
         }
     }
 
+    /// The way to the node of this number.
+    pub fn to(alloc: Global, nodes: &[Node], number: usize) -> Path {
+        let mut path = Path::first(alloc);
+        for node in nodes.iter().take(number) {
+            path.go_on(node);
+        }
+        path
+    }
+
     /// Whether there was memory for all of it.
     pub fn finish(self) -> Result<(), AllocError> {
         let Path { list } = self;
@@ -52,12 +61,10 @@ impl Path {
 
     // Goes on to the left child of a branch.
     fn branch(&mut self, triple: Triple) {
-        let order = Order {
-            first: triple.left,
-            second: triple.right,
-            link: triple.link,
-            lag: triple.lag,
-        };
+        let order = order_of(Decision {
+            triple,
+            side: Side::Left,
+        });
         let is_left = true;
         self.list.push(Decided { order, is_left });
     }
@@ -85,6 +92,17 @@ impl Path {
         }
     }
 
+    /// The orders of a chain.
+    pub fn orders(&self, alloc: Global, chain: &Chain) -> Result<Vec<Order>, AllocError> {
+        let mut orders = ListBuilder::new(alloc);
+        for place in 0..chain.len() {
+            if let Some(order) = self.order(chain.at(place)) {
+                orders.push(order);
+            }
+        }
+        orders.finish()
+    }
+
     /// What the weights of a chain add up to.
     pub fn weight(&self, network: Network<'_>, chain: &Chain) -> i64 {
         let mut weight = 0;
@@ -104,7 +122,7 @@ impl Path {
                 first = order.first;
             }
         }
-        sum(network.release(first), self.weight(network, chain))
+        sum(network.times(first).release, self.weight(network, chain))
     }
 
     /// The earliest start of one of the entries' frames on a link.
@@ -125,4 +143,21 @@ pub fn frames_of(alloc: Global, entries: &Entries) -> Result<Vec<Frame>, AllocEr
         frames.push(*frame);
     }
     frames.finish()
+}
+
+/// What the entries of a leaf come to on a link; the frames are theirs.
+pub fn load_of<'a>(
+    network: Network<'_>,
+    path: &Path,
+    link: usize,
+    entries: &Entries,
+    frames: &'a [Frame],
+) -> Load<'a> {
+    Load {
+        link,
+        frames,
+        head: path.head(network, link, entries),
+        work: network.work(link, frames),
+        tail: least_tail(network, link, frames),
+    }
 }
