@@ -1,4 +1,4 @@
-"""Networks, schedules and gates by docs/definitions.md and docs/formats.md, once more and slowly, for a second look.
+"""Networks, schedules and gates by the definitions of tsn_model and docs/formats.md, once more and slowly, for a second look.
 
 Nothing of the program is used. Instants and lengths are nanoseconds.
 """
