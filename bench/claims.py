@@ -1,11 +1,12 @@
 #!/usr/bin/env python3
-"""Checks docs/proved.md against the sources: that each call, clause, definition and file that it names is there, that each public
-function with a contract is named, and that what it quotes stands where its links lead. And that the documents tell right within a
-twentieth how many functions have a contract: those of the program and of the crates below it that have an `ensures` at their head.
+"""Checks README.md and docs/proved.md against the sources: that what they quote stands where their links lead, that each crate has its
+row, and that the definitions and files that rows name are there. And that they tell right within a twentieth how many functions have a
+contract: those of the program and of the crates below it that have an `ensures` at their head.
 
-Usage: bench/claims.py [--list | --mend]. With --list it prints each public function with its file and clauses; with --mend it writes
-the lines of links anew where their words have moved, and the counts of functions to the nearest 50. It looks at the crates below the
-program, which is what a user's call goes through, and at the shared search without threads. It reads texts and proves nothing: `rt ci` does.
+Usage: bench/claims.py [--list [CRATE..] | --mend]. With --list it prints what is promised: each public function that has a contract, by
+crate, with its line, its comment and the clauses of its `ensures`. With --mend it writes the lines of links anew where their words have
+moved, and the counts of functions to the nearest 50. It looks at the crates below the program, which is what a user's call goes through,
+and at the shared search without threads. It reads texts and proves nothing: `rt ci` does.
 """
 
 import glob
@@ -45,11 +46,11 @@ def is_open(crate, path, name):
 
 
 def functions(crate):
-    """Each public function of a crate that has an `ensures`: its name with its type, its file, and the names of its clauses."""
+    """Each public function of a crate that has an `ensures`: its name with its type, its file, the clauses, its line and its comment."""
     found = []
     for path in sorted(glob.glob(os.path.join(ROOT, "crates", crate, "src", "**", "*.rt"), recursive=True)):
-        kind, opened, is_trait, name, clauses = "", False, False, None, []
-        for line in read(path).splitlines() + ["fn"]:
+        kind, is_trait, name, clauses, at, words, comment = "", False, None, [], 0, "", []
+        for number, line in enumerate(read(path).splitlines() + ["fn"], 1):
             begun = re.match(r"(?:unsafe )?impl\b(?:<.*?>)?\s+(.*?)\s*(?:\bwhere\b.*)?\{?$", line) or re.match(r"pub trait (\w+)", line)
             if begun:
                 is_trait = line.startswith("pub trait") or " for " in line
@@ -59,11 +60,13 @@ def functions(crate):
             if re.match(r"\s*(pub(\(\w+\))? )?(const )?fn\b", line) or begun:
                 inside = os.path.relpath(path, os.path.join(ROOT, "crates", crate))
                 if name and clauses and is_open(crate, inside, name):
-                    found.append((name, inside, clauses))
-                name, clauses = None, []
+                    found.append((name, inside, clauses, at, words))
+                name, clauses, at, words = None, [], number, " ".join(comment)
                 head = re.match(r"\s*(pub )?(?:const )?fn (\w+)", line)
                 if head and (head[1] or is_trait and line.startswith("    ")):
                     name = f"{kind}::{head[2]}" if kind else head[2]
+            said = re.match(r"\s*/// ?(.*)", line)
+            comment = [*comment, said[1]] if said else comment if line.strip().startswith("#[") else []
             clause = re.match(r"\s+ensures(?:\s+(\w+))?\s*[({*]", line)
             if clause:
                 clauses.append(clause[1] or "")
@@ -115,49 +118,45 @@ def definitions(crate):
     return {it for text in texts for it in re.findall(r"^(?:abbrev pub|unfoldable pub|pub record|pub data|pub|  pub) (\w+)", text, re.M)}
 
 
-def sections(text):
-    """The rows of each crate's tables, by the crate's name, each row with its line."""
-    crate, found = None, {}
+def rows(text):
+    """The row of each crate in the page on proofs, with its line."""
+    found = {}
     for number, line in enumerate(text.splitlines(), 1):
-        head = re.match(r"#+ (?:`(\w+)`)?", line)
+        head = re.match(r"\| `(tsn_\w+)`", line)
         if head:
-            crate = head[1]
-        elif crate and line.startswith("| ") and not line.startswith(("| Call |", "| Law |")):
-            found.setdefault(crate, []).append((number, [it.strip() for it in re.split(r"(?<!\\)\|", line.strip("|"))]))
+            cells = [it.strip() for it in re.split(r"(?<!\\)\|", line.strip("|"))]
+            for crate in re.findall(r"`(tsn_\w+)`", cells[0]):
+                found[crate] = (number, cells)
     return found
 
 
-def calls_in(cell):
-    """The calls of a row: the first of each group has its type, and those behind it have the same."""
-    for group in cell.split(";"):
-        kind = ""
-        for name in re.findall(r"`([^`]+)`", group):
-            kind = name.rpartition("::")[0] or kind
-            yield name if "::" in name or not kind else f"{kind}::{name}"
-
-
-def wrong_in_row(crate, cells, found, words):
-    """What a row names that isn't there; and the calls that it names."""
-    wrong, calls, clauses, known = [], set(), set(), {name: rest for name, *rest in found}
-    for call in calls_in(cells[0]):
-        call = call if call in known else call.rpartition("::")[2] if call.rpartition("::")[2] in known else call
-        calls.add(call)
-        if call not in known:
-            wrong.append(f"no public call {call} with a contract")
-        clauses |= {clause for name, _, names in found if name == call for clause in names}
-    if not calls:
-        clauses = {clause for _, _, names in found for clause in names}
-    for word in re.findall(r"`([^`]+)`", cells[2] if len(cells) > 2 else ""):
+def wrong_in_row(crate, cells, words):
+    """What a row names that isn't there: a file, or a definition of whatever crate."""
+    wrong = []
+    for word in re.findall(r"`([^`]+)`", cells[1] if len(cells) > 1 else ""):
         if word.endswith((".rt", ".antt")):
             places = [os.path.join("crates", crate, word), os.path.join("crates", word)]
             if not any(os.path.isfile(os.path.join(ROOT, it)) for it in places):
                 wrong.append(f"no file {word}")
-        elif word not in clauses and word not in words:
-            wrong.append(f"no clause or definition {word}")
-    for path in {it for name, it, _ in found if name in calls}:
-        if len(cells) > 2 and ".rt`" in cells[2] and f"`{path}`" not in cells[2] and len(calls) < 3:
-            wrong.append(f"{path} isn't named")
-    return wrong, calls
+        elif re.fullmatch(r"[A-Z]\w+", word) and word not in words:
+            wrong.append(f"no definition {word}")
+    return wrong
+
+
+def first_sentence(text):
+    """The first sentence of a comment."""
+    return re.split(r"(?<=\.) ", text)[0] if text else "(no comment)"
+
+
+def tell(listed, named):
+    """Prints what is promised, by crate."""
+    for crate, found in listed.items():
+        if named and crate not in named or not found:
+            continue
+        print(f"{crate}: {len(found)}")
+        for name, path, clauses, at, words in found:
+            told = " ".join(it for it in clauses if it)
+            print(f"  {name}  {path}:{at}\n    {first_sentence(words)}" + (f"\n    [{told}]" if told else ""))
 
 
 def wrong_links(path, mend):
@@ -221,32 +220,27 @@ def main():
     used = uses()
     crates = [it for it in used if it in below("tsn", used) or it == "tsn_core"]
     listed = {crate: functions(crate) for crate in crates}
-    if sys.argv[1:] == ["--list"]:
-        for crate, found in listed.items():
-            for name, path, clauses in found:
-                print(crate, name, path, " ".join(it or "-" for it in clauses))
+    if sys.argv[1:2] == ["--list"]:
+        tell(listed, sys.argv[2:])
         return 0
     mend = sys.argv[1:] == ["--mend"]
     wrong = [it for page in PAGES for it in wrong_links(page, mend)] + wrong_quotes(PAGE)
     counted = counts([*crates, "tsn"])
     wrong += [it for page in PAGES for it in wrong_counts(page, counted, mend)]
     words = set().union(*(definitions(it) for it in used))
-    rows = sections(read(PAGE))
+    told = rows(read(PAGE))
     for crate in crates:
-        named = set()
-        for number, cells in rows.get(crate, []):
-            faults, calls = wrong_in_row(crate, cells, listed[crate], words)
-            named |= calls
-            wrong += [f"docs/proved.md:{number}: {it}" for it in faults]
-        wrong += [f"docs/proved.md: {crate}: {name} in {path} isn't named" for name, path, _ in listed[crate] if name not in named]
-        if f"`{crate}`" not in read(PAGE):
+        if crate in told:
+            number, cells = told[crate]
+            wrong += [f"docs/proved.md:{number}: {it}" for it in wrong_in_row(crate, cells, words)]
+        elif listed[crate] or f"`{crate}`" not in read(PAGE):
             wrong.append(f"docs/proved.md: {crate} isn't named")
     proved_with = re.search(r'VERSION: &str = "[^"]*proved with ([^"]*)"', read(os.path.join(ROOT, "crates", "tsn_words", "src", "words.rt")))
     if not proved_with or f"\n{proved_with[1]} (the line" not in read(PAGES[1]):
         wrong.append("README.md and tsn_words/src/words.rt name different toolchains")
     wrong += [f"minutes.txt and crates.txt differ in {it}" for it in set(minutes()) ^ set(used)]
     wrong += [f"crates.txt: {it} stands before {low}" for it in used for low in used[it] if list(used).index(low) > list(used).index(it)]
-    print("\n".join(wrong) or f"all of {sum(map(len, listed.values()))} public calls with a contract are named, and what is named is there")
+    print("\n".join(wrong) or f"{sum(map(len, listed.values()))} public calls have a contract, and what the pages quote and name is there")
     return 1 if wrong else 0
 
 
