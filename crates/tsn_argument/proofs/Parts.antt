@@ -61,7 +61,7 @@ frame_back_if : (b : Bool) (f : Frame) → (f.shift == 0) ≡ b
 frame_back_if true f is = ap (λ s. Some (record { stream = f.stream; shift = s })) (sym (eqb-true f.shift 0 is))
 frame_back_if false f is =
     let written : nat_le 1 f.shift ≡ true = grind (arith, nat_tests, is) in
-    ap (λ b. when b (Some f)) written
+    ap (λ b. option_and_then (λ (s : ℕ). Some (record { stream = f.stream; shift = s })) (when b (Some f.shift))) written
 
 pub frame_back : (f : Frame) → frame_in (frame_value f) ≡ Some f
 frame_back f = frame_back_if (f.shift == 0) f refl
@@ -82,7 +82,7 @@ orders_back orders some most back =
 
 pub order_back : (o : Order) → FitsSigned w64 o.lag → order_parts (order_items o) ≡ Some o
 order_back o fits =
-    ap (λ z. option_and_then (λ (lag : ℤ). Some (record { first = o.first; second = o.second; link = o.link; lag = lag })) z) (lag_back o.lag fits)
+    ap (λ z. option_map (λ (lag : ℤ). record { first = o.first; second = o.second; link = o.link; lag = lag }) z) (lag_back o.lag fits)
 
 listed_order : (o : Order) → listed (items_of_list (order_items o)) ≡ order_items o
 listed_order o = listed-items_of_list (order_items o)
@@ -120,17 +120,17 @@ first_back p back = ap (option_map form.First) back
 
 pub pack_back : (link : ℕ) (frames : List Frame) → frames_of (frames_value frames) ≡ Some frames
     → move_in (move_value (form.Pack link frames)) ≡ Some (form.Pack link frames)
-pack_back link frames back = ap (λ o. option_map (λ (p : ℕ × List Frame). form.Pack p.0 p.1) (option_and_then (λ fs. Some (link, fs)) o)) back
+pack_back link frames back = ap (λ o. option_map (λ (p : ℕ × List Frame). form.Pack p.0 p.1) (option_and_then (λ (fs : List Frame). Some (link, fs)) o)) back
 
 pub round_back : (orders : List Order) → orders_of (orders_value orders) ≡ Some orders → move_in (move_value (form.Round orders)) ≡ Some (form.Round orders)
-round_back orders back = ap (option_map form.Round) back
+round_back orders back = ap (λ o. option_map form.Round (option_and_then (λ (os : List Order). Some os) o)) back
 
 pub follow_back : (known weaker : Order) → order_in (order_value known) ≡ Some known → order_in (order_value weaker) ≡ Some weaker
     → move_in (move_value (form.Follow known weaker)) ≡ Some (form.Follow known weaker)
 follow_back known weaker first second =
     let made : Option (Order × Order) → Option Move = option_map (λ (p : Order × Order). form.Follow p.0 p.1) in
-    ap (λ o. made (option_and_then (λ k. option_and_then (λ w. Some (k, w)) (order_in (order_value weaker))) o)) first
-    ∙ ap (λ o. made (option_and_then (λ w. Some (known, w)) o)) second
+    ap (λ o. made (option_and_then (λ (k : Order). option_and_then (λ (w : Order). Some (k, w)) (order_in (order_value weaker))) o)) first
+    ∙ ap (λ o. made (option_and_then (λ (w : Order). Some (known, w)) o)) second
 
 -- ---- steps
 

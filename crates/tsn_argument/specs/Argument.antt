@@ -9,7 +9,8 @@ use Rattle.tsn_cert.specs.Json.{◌>>=◌, when, value_of, file_text, whole_numb
 use Rattle.tsn_model.specs.declared.Frame.{Frame}
 use Rattle.tsn_cert.specs.Fault.{answer}
 use Rattle.tsn_cert.specs.Plan.{max_time}
-use Rattle.tsn_cert.specs.Cert.{lag_parts, frame_parts, first_frame, max_number, lag_fits, frame_fits, lag_items}
+use Rattle.tsn_cert.specs.Form.{Form, Row, number, text, made, becomes, either, array, next, over, one_of, list, few}
+use Rattle.tsn_cert.specs.Cert.{lag_row, shift, first_frame, max_number, lag_fits, frame_fits, lag_items}
 use Rattle.tsn_cert.specs.declared.fault.FileFault.{FileFault}
 use Rattle.tsn_argument.specs.declared.order.Order.{Order}
 use Rattle.tsn_argument.specs.declared.fact.Fact.{Fact}
@@ -25,177 +26,141 @@ use Rattle.tsn_argument.specs.declared.argument.Argument.{Argument}
 -- ---- the grammar
 
 -- two streams, a link and a lag
+abbrev pub order_row : Row Order
+order_row = next number (λ i. next number (λ j. next number (λ l. becomes (λ z. record { first = i; second = j; link = l; lag = z }) lag_row)))
+
 abbrev pub order_parts : List Data → Option Order
-order_parts (first ∷ second ∷ link ∷ lag) = do
-  i ← whole_number first
-  j ← whole_number second
-  l ← whole_number link
-  z ← lag_parts lag
-  Some (record { first = i; second = j; link = l; lag = z })
-order_parts _ = None
+order_parts = order_row.parts
+
+abbrev pub order_form : Form Order
+order_form = array order_row
+
+abbrev pub order_in : Data → Option Order
+order_in = order_form.said
 
 -- a stream and a time
-abbrev pub bound_parts : List Data → Option (ℕ × ℕ)
-bound_parts (stream ∷ time ∷ []) = do
-  i ← whole_number stream
-  v ← whole_number time
-  Some (i, v)
-bound_parts _ = None
+abbrev pub bound_row : Row (ℕ × ℕ)
+bound_row = next number (λ i. next number (λ v. over (i, v)))
 
 -- a number alone
-abbrev pub number_part : List Data → Option ℕ
-number_part (d ∷ []) = whole_number d
-number_part _ = None
+abbrev pub number_row : Row ℕ
+number_row = next number over
 
--- what stands behind the word of a fact
-abbrev pub fact_parts : List ℕ → List Data → Option Fact
-fact_parts word ds =
-    if bytes_eq word (codes "from") then option_map (λ b. fact.From b.0 b.1) (bound_parts ds)
-    else (if bytes_eq word (codes "until") then option_map (λ b. fact.Until b.0 b.1) (bound_parts ds)
-    else (if bytes_eq word (codes "order") then option_map fact.Order (order_parts ds)
-    else (if bytes_eq word (codes "done_from") then option_map fact.DoneFrom (number_part ds)
-    else (if bytes_eq word (codes "done_until") then option_map fact.DoneUntil (number_part ds)
-    else None))))
+-- the facts: a word, and what stands behind it
+abbrev pub facts : List (List ℕ × Row Fact)
+facts =
+    (codes "from", becomes (λ b. fact.From b.0 b.1) bound_row)
+    ∷ (codes "until", becomes (λ b. fact.Until b.0 b.1) bound_row)
+    ∷ (codes "order", becomes fact.Order order_row)
+    ∷ (codes "done_from", becomes fact.DoneFrom number_row)
+    ∷ (codes "done_until", becomes fact.DoneUntil number_row)
+    ∷ []
 
--- a word, and what stands behind it
-abbrev pub worded : {A : Type 0} → (List ℕ → List Data → Option A) → List Data → Option A
-worded parts [] = None
-worded parts (word ∷ ds) = do
-  w ← as_str word
-  parts w ds
+abbrev pub fact_form : Form Fact
+fact_form = one_of facts
 
 abbrev pub fact_in : Data → Option Fact
-fact_in d = do
-  ds ← elements d
-  worded fact_parts ds
+fact_in = fact_form.said
+
+abbrev pub clause_form : Form (List Fact)
+clause_form = list fact_form
 
 abbrev pub clause_in : Data → Option (List Fact)
-clause_in d = do
-  ds ← elements d
-  each fact_in ds
+clause_in = clause_form.said
 
-abbrev pub frame_pair : List Data → Option Frame
-frame_pair (stream ∷ shift ∷ []) = frame_parts stream shift
-frame_pair _ = None
+-- a stream and a shift
+abbrev pub later_row : Row Frame
+later_row = next number (λ i. next shift (λ s. over (record { stream = i; shift = s })))
 
 -- a stream, whose shift is 0, or a stream and a shift
-abbrev pub frame_in : Data → Option Frame
-frame_in d = option_or (option_map first_frame (whole_number d)) (do
-  ds ← elements d
-  frame_pair ds)
+abbrev pub frame_form : Form Frame
+frame_form = either (made (λ i. Some (first_frame i)) number) (array later_row)
 
-abbrev pub frame_list : Data → Option (List Frame)
-frame_list d = do
-  ds ← elements d
-  each frame_in ds
+abbrev pub frame_in : Data → Option Frame
+frame_in = frame_form.said
 
 -- the most frames of a move
 abbrev pub max_frames : ℕ
 max_frames = 1024
 
 -- an array of 1 to 1,024 frames
-abbrev pub frames_of : Data → Option (List Frame)
-frames_of d = do
-  frames ← frame_list d
-  when (nat_le 1 (length frames) && nat_le (length frames) max_frames) (Some frames)
+abbrev pub frames_form : Form (List Frame)
+frames_form = few 1 max_frames frame_form
 
-abbrev pub order_in : Data → Option Order
-order_in d = do
-  ds ← elements d
-  order_parts ds
+abbrev pub frames_of : Data → Option (List Frame)
+frames_of = frames_form.said
 
 abbrev pub order_list : Data → Option (List Order)
-order_list d = do
-  ds ← elements d
-  each order_in ds
+order_list = (list order_form).said
 
 -- the most orders of a move
 abbrev pub max_orders : ℕ
 max_orders = 128
 
 -- an array of 1 to 128 orders
+abbrev pub orders_form : Form (List Order)
+orders_form = few 1 max_orders order_form
+
 abbrev pub orders_of : Data → Option (List Order)
-orders_of d = do
-  orders ← order_list d
-  when (nat_le 1 (length orders) && nat_le (length orders) max_orders) (Some orders)
+orders_of = orders_form.said
 
 -- a link, a frame, others and some of these
+abbrev pub placing_row : Row Placing
+placing_row = next number (λ l. next frame_form (λ f. next frames_form (λ os. next frames_form (λ ss. over (record { link = l; frame = f; others = os; some = ss })))))
+
 abbrev pub placing_parts : List Data → Option Placing
-placing_parts (link ∷ frame ∷ others ∷ some ∷ []) = do
-  l ← whole_number link
-  f ← frame_in frame
-  os ← frames_of others
-  ss ← frames_of some
-  Some (record { link = l; frame = f; others = os; some = ss })
-placing_parts _ = None
+placing_parts = placing_row.parts
 
 -- a link and frames
-abbrev pub pack_parts : List Data → Option (ℕ × List Frame)
-pack_parts (link ∷ frames ∷ []) = do
-  l ← whole_number link
-  fs ← frames_of frames
-  Some (l, fs)
-pack_parts _ = None
+abbrev pub pack_row : Row (ℕ × List Frame)
+pack_row = next number (λ l. next frames_form (λ fs. over (l, fs)))
 
 -- orders alone
-abbrev pub round_parts : List Data → Option (List Order)
-round_parts (orders ∷ []) = orders_of orders
-round_parts _ = None
+abbrev pub round_row : Row (List Order)
+round_row = next orders_form over
 
 -- two orders
-abbrev pub follow_parts : List Data → Option (Order × Order)
-follow_parts (known ∷ weaker ∷ []) = do
-  k ← order_in known
-  w ← order_in weaker
-  Some (k, w)
-follow_parts _ = None
+abbrev pub follow_row : Row (Order × Order)
+follow_row = next order_form (λ k. next order_form (λ w. over (k, w)))
 
--- what stands behind the word of a move of several frames or orders
-abbrev pub wide_move_parts : List ℕ → List Data → Option Move
-wide_move_parts word ds =
-    if bytes_eq word (codes "last") then option_map form.Last (placing_parts ds)
-    else (if bytes_eq word (codes "first") then option_map form.First (placing_parts ds)
-    else (if bytes_eq word (codes "pack") then option_map (λ p. form.Pack p.0 p.1) (pack_parts ds)
-    else (if bytes_eq word (codes "round") then option_map form.Round (round_parts ds)
-    else (if bytes_eq word (codes "follow") then option_map (λ p. form.Follow p.0 p.1) (follow_parts ds)
-    else None))))
+-- the moves: a word, and what stands behind it
+abbrev pub motions : List (List ℕ × Row Move)
+motions =
+    (codes "go", becomes form.Go order_row)
+    ∷ (codes "turn", becomes form.Turn order_row)
+    ∷ (codes "use", becomes form.Use number_row)
+    ∷ (codes "arrive", becomes form.Arrive number_row)
+    ∷ (codes "last", becomes form.Last placing_row)
+    ∷ (codes "first", becomes form.First placing_row)
+    ∷ (codes "pack", becomes (λ p. form.Pack p.0 p.1) pack_row)
+    ∷ (codes "round", becomes form.Round round_row)
+    ∷ (codes "follow", becomes (λ p. form.Follow p.0 p.1) follow_row)
+    ∷ []
 
--- what stands behind the word of a move
-abbrev pub move_parts : List ℕ → List Data → Option Move
-move_parts word ds =
-    if bytes_eq word (codes "go") then option_map form.Go (order_parts ds)
-    else (if bytes_eq word (codes "turn") then option_map form.Turn (order_parts ds)
-    else (if bytes_eq word (codes "use") then option_map form.Use (number_part ds)
-    else (if bytes_eq word (codes "arrive") then option_map form.Arrive (number_part ds)
-    else wide_move_parts word ds)))
+abbrev pub move_form : Form Move
+move_form = one_of motions
 
 abbrev pub move_in : Data → Option Move
-move_in d = do
-  ds ← elements d
-  worded move_parts ds
+move_in = move_form.said
+
+abbrev pub moves_form : Form (List Move)
+moves_form = list move_form
 
 abbrev pub moves_in : Data → Option (List Move)
-moves_in d = do
-  ds ← elements d
-  each move_in ds
+moves_in = moves_form.said
 
 -- a clause and moves
-abbrev pub step_parts : List Data → Option Step
-step_parts (clause ∷ moves ∷ []) = do
-  fs ← clause_in clause
-  ms ← moves_in moves
-  Some (record { clause = fs; moves = ms })
-step_parts _ = None
+abbrev pub step_form : Form Step
+step_form = array (next clause_form (λ fs. next moves_form (λ ms. over (record { clause = fs; moves = ms }))))
 
 abbrev pub step_in : Data → Option Step
-step_in d = do
-  ds ← elements d
-  step_parts ds
+step_in = step_form.said
+
+abbrev pub steps_form : Form (List Step)
+steps_form = list step_form
 
 abbrev pub steps_in : Data → Option (List Step)
-steps_in d = do
-  ds ← elements d
-  each step_in ds
+steps_in = steps_form.said
 
 -- a goal, by its word
 abbrev pub goal_named : List ℕ → Option Goal
@@ -205,10 +170,11 @@ goal_named word =
     else (if bytes_eq word (codes "none") then Some aim.None
     else None))
 
+abbrev pub goal_form : Form Goal
+goal_form = made goal_named text
+
 abbrev pub goal_of : Data → Option Goal
-goal_of d = do
-  word ← as_str d
-  goal_named word
+goal_of = goal_form.said
 
 -- the number by which a file tells that it holds an argument
 abbrev pub argument_format : ℕ

@@ -1,4 +1,4 @@
--- The law of certificate files, the contract of a function in `tsn_argument_json/src/laws.rt`.
+-- The law of certificate files, the contract of a function in `tsn_codec/src/laws.rt`.
 --     IsInGrammar                a certificate that has a form in a file
 --     ArgumentIsReadAgain        an argument that its file says
 --     CertificateTextIsRead      what is printed is read again

@@ -3,4 +3,3 @@ pub mod Argument
 pub mod Certificate
 pub mod Text
 pub mod Laws
-pub mod Spelled

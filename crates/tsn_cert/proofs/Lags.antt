@@ -1,6 +1,6 @@
 -- A lag is read again where it is printed, and is neither deep nor a float.
 use Rattle.std.proofs.Common.{◌≡◌, ◌≤◌, pos, negsuc, [], ◌∷◌, Bool, true, false, Some, refl, sym, ap, ◌∙◌, arith, w64, FitsSigned}
-use Rattle.std.specs.Prelude.{ℤ, not, option_and_then, if◌then◌else◌, min}
+use Rattle.std.specs.Prelude.{ℤ, not, option_and_then, option_map, if◌then◌else◌, min}
 use Rattle.std.specs.Ordering.{int_eq}
 use Rattle.std.proofs.lemmas.Bool.Decides.{Decides-int_eq}
 use Rattle.std.proofs.lemmas.Int.{ints}
@@ -19,7 +19,8 @@ signed_back (negsuc n) fits = refl
 lag_back_if : (b : Bool) (lag : ℤ) → int_eq lag (pos 0) ≡ b → FitsSigned w64 lag → lag_parts (if b then [] else signed_value lag ∷ []) ≡ Some lag
 lag_back_if true lag is fits = ap Some (sym ((Decides-int_eq lag (pos 0)).0 is))
 lag_back_if false lag is fits =
-    ap (λ o. option_and_then (λ (z : ℤ). when (not (int_eq z (pos 0))) (Some z)) o) (signed_back lag fits) ∙ ap (λ b. when (not b) (Some lag)) is
+    ap (λ o. option_and_then (λ (z : ℤ). Some z) (option_and_then (λ (z : ℤ). when (not (int_eq z (pos 0))) (Some z)) o)) (signed_back lag fits)
+    ∙ ap (λ b. option_and_then (λ (z : ℤ). Some z) (when (not b) (Some lag))) is
 
 pub lag_back : (lag : ℤ) → FitsSigned w64 lag → lag_parts (lag_items lag) ≡ Some lag
 lag_back lag fits = lag_back_if (int_eq lag (pos 0)) lag refl fits
@@ -27,7 +28,7 @@ lag_back lag fits = lag_back_if (int_eq lag (pos 0)) lag refl fits
 pub triple_back : (t : Triple) → FitsSigned w64 t.lag
     → triple_parts (number_value t.left ∷ number_value t.right ∷ number_value t.link ∷ lag_items t.lag) ≡ Some t
 triple_back t fits =
-    ap (λ o. option_and_then (λ (z : ℤ). Some (record { left = t.left; right = t.right; link = t.link; lag = z })) o) (lag_back t.lag fits)
+    ap (option_map (λ (z : ℤ). record { left = t.left; right = t.right; link = t.link; lag = z })) (lag_back t.lag fits)
 
 lag_depth_if : (b : Bool) (lag : ℤ) → items_depth (items_of_list (if b then [] else signed_value lag ∷ [])) ≤ 0
 lag_depth_if true lag = omega arith

@@ -1,14 +1,14 @@
 -- The certificate file: `{"format":F,"nodes":[..],"target":T}`, the nodes in preorder. A lag or a shift of 0 is left out, and has no other spelling.
-use Rattle.std.specs.Prelude.{ℕ, ℤ, pos, unsigned_abs, List, [], ◌∷◌, ◌++◌, length, map, Bool, true, false, not, if◌then◌else◌, ◌&&◌, ◌==◌, nat_le, codes, Option, Some, None, option_map, Result}
+use Rattle.std.specs.Prelude.{ℕ, ℤ, pos, unsigned_abs, List, [], ◌∷◌, ◌++◌, length, map, Bool, true, false, not, if◌then◌else◌, ◌&&◌, ◌==◌, nat_le, codes, Option, Some, None, Result}
 use Rattle.std.specs.List.{list_all}
 use Rattle.std.specs.Ordering.{int_eq}
-use Rattle.std.specs.Str.{bytes_eq}
 use Rattle.serde_json.specs.Data.{Data, string, object, no_members, member}
-use Rattle.serde_json.specs.Find.{get, as_str}
+use Rattle.serde_json.specs.Find.{get}
 use Rattle.tsn_model.specs.declared.Triple.{Triple}
 use Rattle.tsn_model.specs.declared.Frame.{Frame}
 use Rattle.tsn_model.specs.Certificate.{Node, split_node, leaf_node, tie_node, Leaf, late, overrun, positive_cycle, load, overload, Entry}
-use Rattle.tsn_cert.specs.Json.{◌>>=◌, when, value_of, file_text, whole_number, signed_number, numbers, elements, each, is_object_of, all_within, number_value, signed_value, array_value}
+use Rattle.tsn_cert.specs.Json.{◌>>=◌, when, value_of, file_text, whole_number, is_object_of, all_within, number_value, signed_value, array_value}
+use Rattle.tsn_cert.specs.Form.{Form, Row, number, signed, made, array, next, becomes, over, over_or, checked, either_row, elements_row, one_of, list, few}
 use Rattle.tsn_cert.specs.Fault.{answer}
 use Rattle.tsn_cert.specs.Plan.{max_time}
 use Rattle.tsn_cert.specs.declared.fault.FileFault.{FileFault}
@@ -21,166 +21,137 @@ use Rattle.tsn_cert.specs.declared.cert.Format.TheVariants.{One, Two}
 abbrev pub max_chain : ℕ
 max_chain = 128
 
--- an array of at most 128 depths
+-- the depths of a chain: at most 128
+abbrev pub chain_row : Row (List ℕ)
+chain_row = checked (λ depths. when (nat_le (length depths) max_chain) (Some depths)) (elements_row number)
+
+abbrev pub chain_form : Form (List ℕ)
+chain_form = array chain_row
+
 abbrev pub chain_of : Data → Option (List ℕ)
-chain_of d = do
-  depths ← numbers d
-  when (nat_le (length depths) max_chain) (Some depths)
+chain_of = chain_form.said
 
 -- a stream and a chain
-abbrev pub reason_parts : List Data → Option (ℕ × List ℕ)
-reason_parts (stream ∷ chain ∷ []) = do
-  i ← whole_number stream
-  depths ← chain_of chain
-  Some (i, depths)
-reason_parts _ = None
+abbrev pub reason_row : Row (ℕ × List ℕ)
+reason_row = next number (λ i. next chain_form (λ depths. over (i, depths)))
 
 -- what stands behind the link of a decision: its lag, where that isn't 0
+abbrev pub lag : Form ℤ
+lag = made (λ z. when (not (int_eq z (pos 0))) (Some z)) signed
+
+abbrev pub lag_row : Row ℤ
+lag_row = over_or (pos 0) (next lag over)
+
 abbrev pub lag_parts : List Data → Option ℤ
-lag_parts [] = Some (pos 0)
-lag_parts (lag ∷ []) = do
-  z ← signed_number lag
-  when (not (int_eq z (pos 0))) (Some z)
-lag_parts _ = None
+lag_parts = lag_row.parts
+
+-- what stands behind the stream of a frame whose shift isn't 0
+abbrev pub shift : Form ℕ
+shift = made (λ s. when (nat_le 1 s) (Some s)) number
 
 -- two streams, a link and a lag
+abbrev pub triple_row : Row Triple
+triple_row = next number (λ i. next number (λ j. next number (λ l. becomes (λ z. record { left = i; right = j; link = l; lag = z }) lag_row)))
+
 abbrev pub triple_parts : List Data → Option Triple
-triple_parts (left ∷ right ∷ link ∷ lag) = do
-  i ← whole_number left
-  j ← whole_number right
-  l ← whole_number link
-  z ← lag_parts lag
-  Some (record { left = i; right = j; link = l; lag = z })
-triple_parts _ = None
+triple_parts = triple_row.parts
 
 -- a chain alone
-abbrev pub cycle_parts : List Data → Option (List ℕ)
-cycle_parts (chain ∷ []) = chain_of chain
-cycle_parts _ = None
-
--- a stream and a shift, which isn't 0
-abbrev pub frame_parts : Data → Data → Option Frame
-frame_parts stream shift = do
-  i ← whole_number stream
-  s ← whole_number shift
-  when (nat_le 1 s) (Some (record { stream = i; shift = s }))
+abbrev pub cycle_row : Row (List ℕ)
+cycle_row = next chain_form over
 
 -- the frame of a stream whose shift is 0
 abbrev pub first_frame : ℕ → Frame
 first_frame stream = record { stream = stream; shift = 0 }
 
+-- a chain, behind a stream whose shift is 0
+abbrev pub first_entry_row : ℕ → Row Entry
+first_entry_row i = next chain_form (λ depths. over (record { frame = first_frame i; chain = depths }))
+
+-- a shift and a chain, behind a stream
+abbrev pub later_entry_row : ℕ → Row Entry
+later_entry_row i = next shift (λ s. next chain_form (λ depths. over (record { frame = record { stream = i; shift = s }; chain = depths })))
+
 -- a frame and a chain
-abbrev pub entry_parts : List Data → Option Entry
-entry_parts (stream ∷ chain ∷ []) = do
-  i ← whole_number stream
-  depths ← chain_of chain
-  Some (record { frame = first_frame i; chain = depths })
-entry_parts (stream ∷ shift ∷ chain ∷ []) = do
-  frame ← frame_parts stream shift
-  depths ← chain_of chain
-  Some (record { frame = frame; chain = depths })
-entry_parts _ = None
+abbrev pub entry_form : Form Entry
+entry_form = array (next number (λ i. either_row (first_entry_row i) (later_entry_row i)))
 
 abbrev pub entry_of : Data → Option Entry
-entry_of d = do
-  ds ← elements d
-  entry_parts ds
+entry_of = entry_form.said
 
 abbrev pub entry_list : Data → Option (List Entry)
-entry_list d = do
-  ds ← elements d
-  each entry_of ds
+entry_list = (list entry_form).said
 
 abbrev pub max_entries : ℕ
 max_entries = 128
 
 -- an array of 1 to 128 entries
+abbrev pub entries_form : Form (List Entry)
+entries_form = few 1 max_entries entry_form
+
 abbrev pub entries_of : Data → Option (List Entry)
-entries_of d = do
-  entries ← entry_list d
-  when (nat_le 1 (length entries) && nat_le (length entries) max_entries) (Some entries)
+entries_of = entries_form.said
 
 -- a link and entries
-abbrev pub load_parts : List Data → Option (ℕ × List Entry)
-load_parts (link ∷ entries ∷ []) = do
-  l ← whole_number link
-  es ← entries_of entries
-  Some (l, es)
-load_parts _ = None
+abbrev pub load_row : Row (ℕ × List Entry)
+load_row = next number (λ l. next entries_form (λ es. over (l, es)))
+
+abbrev pub chain_list : Data → Option (List (List ℕ))
+chain_list = (list chain_form).said
 
 -- an array of 1 to 128 chains
-abbrev pub chain_list : Data → Option (List (List ℕ))
-chain_list d = do
-  ds ← elements d
-  each chain_of ds
+abbrev pub chains_form : Form (List (List ℕ))
+chains_form = few 1 max_chain chain_form
 
 abbrev pub chains_of : Data → Option (List (List ℕ))
-chains_of d = do
-  chains ← chain_list d
-  when (nat_le 1 (length chains) && nat_le (length chains) max_chain) (Some chains)
+chains_of = chains_form.said
 
 -- a stream, a chain and chains
-abbrev pub tie_parts : List Data → Option (ℕ × List ℕ × List (List ℕ))
-tie_parts (stream ∷ chain ∷ chains ∷ []) = do
-  i ← whole_number stream
-  depths ← chain_of chain
-  cs ← chains_of chains
-  Some (i, depths, cs)
-tie_parts _ = None
+abbrev pub tie_row : Row (ℕ × List ℕ × List (List ℕ))
+tie_row = next number (λ i. next chain_form (λ depths. next chains_form (λ cs. over (i, depths, cs))))
 
 -- a link, entries and chains
-abbrev pub tie_load_parts : List Data → Option (ℕ × List Entry × List (List ℕ))
-tie_load_parts (link ∷ entries ∷ chains ∷ []) = do
-  l ← whole_number link
-  es ← entries_of entries
-  cs ← chains_of chains
-  Some (l, es, cs)
-tie_load_parts _ = None
+abbrev pub tie_load_row : Row (ℕ × List Entry × List (List ℕ))
+tie_load_row = next number (λ l. next entries_form (λ es. next chains_form (λ cs. over (l, es, cs))))
 
--- what stands behind the word of a node on a link's load, or of a tie
-abbrev pub other_node_parts : List ℕ → List Data → Option Node
-other_node_parts word ds =
-    if bytes_eq word (codes "load") then option_map (λ l. leaf_node (load l.0 l.1)) (load_parts ds)
-    else (if bytes_eq word (codes "overload") then option_map (λ l. leaf_node (overload l.0 l.1)) (load_parts ds)
-    else (if bytes_eq word (codes "tie") then option_map (λ t. tie_node (late t.0 t.1) t.2) (tie_parts ds)
-    else (if bytes_eq word (codes "tieload") then option_map (λ t. tie_node (load t.0 t.1) t.2) (tie_load_parts ds)
-    else None)))
+-- the nodes: a word, and what stands behind it
+abbrev pub node_rows : List (List ℕ × Row Node)
+node_rows =
+    (codes "branch", becomes split_node triple_row)
+    ∷ (codes "late", becomes (λ r. leaf_node (late r.0 r.1)) reason_row)
+    ∷ (codes "overrun", becomes (λ r. leaf_node (overrun r.0 r.1)) reason_row)
+    ∷ (codes "cycle", becomes (λ depths. leaf_node (positive_cycle depths)) cycle_row)
+    ∷ (codes "load", becomes (λ l. leaf_node (load l.0 l.1)) load_row)
+    ∷ (codes "overload", becomes (λ l. leaf_node (overload l.0 l.1)) load_row)
+    ∷ (codes "tie", becomes (λ t. tie_node (late t.0 t.1) t.2) tie_row)
+    ∷ (codes "tieload", becomes (λ t. tie_node (load t.0 t.1) t.2) tie_load_row)
+    ∷ []
 
--- what stands behind the word of a node
-abbrev pub node_parts : List ℕ → List Data → Option Node
-node_parts word ds =
-    if bytes_eq word (codes "branch") then option_map split_node (triple_parts ds)
-    else (if bytes_eq word (codes "late") then option_map (λ r. leaf_node (late r.0 r.1)) (reason_parts ds)
-    else (if bytes_eq word (codes "overrun") then option_map (λ r. leaf_node (overrun r.0 r.1)) (reason_parts ds)
-    else (if bytes_eq word (codes "cycle") then option_map (λ chain. leaf_node (positive_cycle chain)) (cycle_parts ds)
-    else other_node_parts word ds)))
-
--- a word, and what stands behind it
-abbrev pub node_list : List Data → Option Node
-node_list [] = None
-node_list (word ∷ ds) = do
-  w ← as_str word
-  node_parts w ds
+abbrev pub node_form : Form Node
+node_form = one_of node_rows
 
 abbrev pub node_of : Data → Option Node
-node_of d = do
-  ds ← elements d
-  node_list ds
+node_of = node_form.said
+
+abbrev pub nodes_form : Form (List Node)
+nodes_form = list node_form
 
 abbrev pub nodes_of : Data → Option (List Node)
-nodes_of d = do
-  ds ← elements d
-  each node_of ds
+nodes_of = nodes_form.said
 
 -- a format, by its number
 abbrev pub format_number : Format → ℕ
 format_number One = 1
 format_number Two = 2
 
+abbrev pub format_numbered : ℕ → Option Format
+format_numbered f = if f == 1 then Some One else (if f == 2 then Some Two else None)
+
+abbrev pub format_form : Form Format
+format_form = made format_numbered number
+
 abbrev pub format_of : Data → Option Format
-format_of d = do
-  f ← whole_number d
-  (if f == 1 then Some One else (if f == 2 then Some Two else None))
+format_of = format_form.said
 
 -- the first format has no ties
 abbrev pub is_tie : Node → Bool

@@ -1,4 +1,4 @@
--- The laws of files, each the contract of a function in `tsn_cert_json/src/laws.rt`.
+-- The laws of files, each the contract of a function in `tsn_codec/src/laws.rt`.
 --     IsInGrammar, AreInGrammar           nodes that have a form in a file
 --     PlanTextIsRead, CertTextIsRead      what is printed is read again
 use Rattle.std.specs.Prelude.{◌≡◌, List, Some, Ok, IsTrue, All}

@@ -1,4 +1,5 @@
 pub mod Json
+pub mod Form
 pub mod Fault
 pub mod Plan
 pub mod Depths
@@ -9,3 +10,4 @@ pub mod Cert
 pub mod Text
 pub mod Laws
 pub mod Spelled
+pub mod Says

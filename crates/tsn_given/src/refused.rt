@@ -3,8 +3,7 @@
 use std::alloc::Global;
 use tsn_argue::check_certificate;
 use tsn_argument::Certificate;
-use tsn_cert_json::plan_from_json;
-use tsn_certificate_json::certificate_from_json;
+use tsn_codec::{certificate_from_json, plan_from_json};
 use tsn_net::{Problem, read_or_refuse};
 use tsn_reason::{
     Claim, File, Reason, Schedule, cert_file_line, line_of_fault, network_line, offsets_line,

@@ -9,7 +9,7 @@ use Rattle.tsn_cert.specs.declared.cert.Cert.{Cert}
 use Rattle.tsn_cert.specs.Cert.{cert_text}
 use Rattle.tsn_cert.specs.Laws.{IsInGrammar, AreInGrammar}
 use Rattle.tsn_cert.specs.Text.{head_text, node_text, nodes_text, tail_text}
-use Rattle.tsn_cert_json.proofs.Parts.{cert_text_parts}
+use Rattle.tsn_codec.proofs.CertParts.{cert_text_parts}
 use Rattle.tsn_plan_output.specs.Pieces.{IsParted}
 use Rattle.tsn_run.proofs.RunLemmas.{Appends-nothing}
 

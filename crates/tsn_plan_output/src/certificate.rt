@@ -14,10 +14,10 @@ ghost use Rattle.tsn_plan_output.specs.Pieces.{IsParted};
 use crate::plan_output::Written;
 use std::alloc::{AllocError, Global};
 use tsn_argument::Argument;
-use tsn_argument_json::argument_to_json;
 use tsn_book::Spelling;
 use tsn_cert::Node;
-use tsn_cert_json::{head_to_json, node_to_json, tail_to_json};
+use tsn_codec::argument_to_json;
+use tsn_codec::cert::text::{head_to_json, node_to_json, tail_to_json};
 use tsn_device::device::{Broken, Sink, write_all, write_whole};
 use tsn_model::NoMemory;
 

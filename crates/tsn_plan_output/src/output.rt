@@ -17,7 +17,7 @@ use tsn_answer::{Found, Known, plan_of};
 use tsn_argument::Argument;
 use tsn_book::Book;
 use tsn_cert::{Offsets, Plan};
-use tsn_cert_json::plan_to_json;
+use tsn_codec::plan_to_json;
 use tsn_model::NoMemory;
 use tsn_run::{Answer, Outcome, Stop};
 use tsn_timing::Solved;

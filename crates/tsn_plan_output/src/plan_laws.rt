@@ -3,9 +3,8 @@
 ghost use Rattle.tsn_plan_output.specs.PlanLaws.{PlannedIsAccepted};
 
 use tsn_argue::laws::first_faults_refute;
-use tsn_cert_json::plan_text_is_read;
-use tsn_certificate_json::certificate_text_is_read;
 use tsn_check::laws::{certified_trees_fit, right_plans_fit};
+use tsn_codec::{certificate_text_is_read, plan_text_is_read};
 
 /// What `plan` writes of a plan that it found, or that there is none, is accepted by `check`, where it answers to these files.
 pub fn planned_is_accepted()

@@ -5,9 +5,9 @@ use crate::json::{elements_at, elements_of, number_at, push_wrong_keys};
 use crate::lags::has_lag;
 use serde_json::Value;
 use std::alloc::Global;
-use tsn_argument_json::argument_from_json;
 use tsn_cert::FileFault;
 use tsn_cert::plan::MAX_TIME;
+use tsn_codec::argument_from_json;
 use tsn_model::NoMemory;
 use tsn_text::TextBuilder;
 

@@ -10,7 +10,7 @@ use tsn_argument::argument::ARGUMENT_FORMAT;
 use tsn_cert::FileFault;
 use tsn_cert::limits::MAX_LAG;
 use tsn_cert::plan::MAX_TIME;
-use tsn_cert_json::cert_from_json;
+use tsn_codec::cert_from_json;
 use tsn_model::NoMemory;
 use tsn_text::{TextBuilder, line_of};
 

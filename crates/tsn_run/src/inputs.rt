@@ -9,7 +9,7 @@ use crate::refusals::{file_refusal, refusal};
 use crate::run::MAX_FILE;
 use std::alloc::Global;
 use tsn_cert::Plan;
-use tsn_cert_json::plan_from_json;
+use tsn_codec::plan_from_json;
 use tsn_device::device::{ReadFault, Source, read_all};
 use tsn_net::{Problem, read_problem};
 

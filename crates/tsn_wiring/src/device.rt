@@ -2,8 +2,8 @@
 ghost use Rattle.tsn_model.specs.Schedule.{IsValid};
 
 use std::alloc::Global;
-use tsn_cert_json::plan_from_json;
 use tsn_check::check_plan;
+use tsn_codec::plan_from_json;
 use tsn_gate::{GateList, lists_by};
 use tsn_gate_output::{DeviceLimits, closed_lines, device_lines};
 use tsn_model::NoMemory;

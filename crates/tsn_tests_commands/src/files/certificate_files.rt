@@ -7,7 +7,7 @@ use std::test::Fail;
 use tsn_cert::{
     Cert, Chain, Chains, Entries, Format, Leaf, LowerBound, Node, Nodes, Offsets, Plan,
 };
-use tsn_cert_json::{cert_from_json, cert_to_json, plan_from_json, plan_to_json};
+use tsn_codec::{cert_from_json, cert_to_json, plan_from_json, plan_to_json};
 use tsn_model::{Frame, Triple};
 
 const TWO_STREAMS: &str =

@@ -10,7 +10,7 @@ use std::process::Abort;
 use std::test::*;
 use tsn_book::{Book, BookFault, Event, EventRefusal};
 use tsn_cert::Cert;
-use tsn_cert_json::cert_to_json;
+use tsn_codec::cert_to_json;
 use tsn_model::Tally;
 use tsn_node::Node;
 use tsn_timing::Timing;

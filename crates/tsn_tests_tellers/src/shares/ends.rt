@@ -2,7 +2,7 @@
 use std::process::Abort;
 use tsn_book::Book;
 use tsn_cert::Cert;
-use tsn_cert_json::cert_to_json;
+use tsn_codec::cert_to_json;
 use tsn_share::EndedWord;
 
 fn certificate<R: Abort + AllocGlobal>(rt: &R, book: Book) -> Cert {

@@ -1,4 +1,0 @@
-pub mod Printed
-pub mod Spelled
-pub mod Shape
-pub mod TextParts

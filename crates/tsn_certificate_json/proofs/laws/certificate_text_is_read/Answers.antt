@@ -1,5 +1,0 @@
-use Rattle.tsn_certificate_json.proofs.Plain.{certificate_text_read}
-use Rattle.tsn_certificate_json.proofs.laws.certificate_text_is_read.Goals as goal
-
-pub returns : goal.returns
-returns c = certificate_text_read

@@ -1,0 +1,12 @@
+pub mod JsonLemmas
+pub mod Elements
+pub mod Numbers
+pub mod Objects
+pub mod PlanLemmas
+pub mod CertLemmas
+pub mod CertParts
+pub mod CertPlain
+pub mod Printed
+pub mod ArgumentShape
+pub mod ArgumentParts
+pub mod CertificatePlain

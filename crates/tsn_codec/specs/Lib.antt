@@ -1,0 +1,4 @@
+pub mod Takes
+pub mod PlanSays
+pub mod CertSays
+pub mod ArgumentSays

@@ -1,0 +1,97 @@
+//! Whether the numbers of a certificate are within the limits of its file.
+ghost use Rattle.std.specs.Prelude.{◌≡◌};
+ghost use Rattle.std.specs.List.{list_all};
+ghost use Rattle.tsn_model.specs.Certificate.{load};
+ghost use Rattle.tsn_cert.specs.Json.{all_within};
+ghost use Rattle.tsn_cert.specs.Entry.{tree_entry};
+ghost use Rattle.tsn_cert.specs.Leaf.{bound_leaf, leaf_of};
+ghost use Rattle.tsn_cert.specs.Node.{tree_node};
+ghost use Rattle.tsn_cert.specs.Cert.{triple_fits, entry_fits, leaf_fits, node_fits, max_number, cert_fits};
+
+use tsn_cert::chain::{Chain, MAX_NUMBER};
+use tsn_cert::entries::Entries;
+use tsn_cert::plan::MAX_TIME;
+use tsn_cert::{Cert, Leaf, LowerBound, Node, limits};
+use tsn_model::{Frame, Triple};
+
+fn chain_fits(chain: &Chain) -> bool
+    ensures { result ≡ all_within max_number chain.now }
+{
+    chain.fits()
+}
+
+fn entry_fits(entry: &(Frame, Chain)) -> bool
+    ensures { result ≡ entry_fits (tree_entry entry.now) }
+{
+    limits::frame_fits(entry.0) && chain_fits(&entry.1)
+}
+
+fn entries_fit(entries: &[(Frame, Chain)]) -> bool
+    ensures { result ≡ list_all (λ entry. entry_fits (tree_entry entry)) entries.now }
+{
+    entries.iter().all(|entry| entry_fits(entry))
+}
+
+fn chains_fit(chains: &[Chain]) -> bool
+    ensures { result ≡ list_all (all_within max_number) chains.now }
+{
+    chains.iter().all(|chain| chain_fits(chain))
+}
+
+fn load_fits(link: usize, entries: &Entries) -> bool
+    ensures { result ≡ leaf_fits (load link entries.now) }
+{
+    link <= MAX_NUMBER && entries_fit(entries.list())
+}
+
+fn bound_fits(bound: &LowerBound) -> bool
+    ensures { result ≡ leaf_fits (bound_leaf bound.now) }
+{
+    match bound {
+        LowerBound::Late(stream, chain) => *stream <= MAX_NUMBER && chain_fits(chain),
+        LowerBound::Load(link, entries) => load_fits(*link, entries),
+    }
+}
+
+fn leaf_fits(leaf: &Leaf) -> bool
+    ensures { result ≡ leaf_fits (leaf_of leaf.now) }
+{
+    match leaf {
+        Leaf::Bound(bound) => bound_fits(bound),
+        Leaf::Overrun(stream, chain) => *stream <= MAX_NUMBER && chain_fits(chain),
+        Leaf::Cycle(chain) => chain_fits(chain),
+        Leaf::Overload(link, entries) => load_fits(*link, entries),
+    }
+}
+
+fn triple_fits(triple: &Triple) -> bool
+    ensures { result ≡ triple_fits triple.now }
+{
+    triple.left <= MAX_NUMBER
+        && triple.right <= MAX_NUMBER
+        && triple.link <= MAX_NUMBER
+        && limits::lag_fits(triple.lag)
+}
+
+fn node_fits(node: &Node) -> bool
+    ensures { result ≡ node_fits (tree_node node.now) }
+{
+    match node {
+        Node::Branch(triple) => triple_fits(triple),
+        Node::Leaf(leaf) => leaf_fits(leaf),
+        Node::Tie(bound, chains) => bound_fits(bound) && chains_fit(chains.list()),
+    }
+}
+
+fn nodes_fit(nodes: &[Node]) -> bool
+    ensures { result ≡ list_all (λ node. node_fits (tree_node node)) nodes.now }
+{
+    nodes.iter().all(|node| node_fits(node))
+}
+
+/// Whether each number is within its limit.
+pub(super) fn fits(cert: &Cert) -> bool
+    ensures { result ≡ cert_fits cert.now }
+{
+    cert.target <= MAX_TIME && nodes_fit(cert.nodes.list())
+}

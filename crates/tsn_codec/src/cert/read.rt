@@ -1,0 +1,236 @@
+//! The parts of a certificate, read from tokens.
+ghost use Rattle.std.specs.Prelude.{◌≡◌};
+ghost use Rattle.tsn_cert.specs.Form.{either_row, row_of};
+ghost use Rattle.tsn_cert.specs.Entry.{tree_entry};
+ghost use Rattle.tsn_cert.specs.Node.{tree_node};
+ghost use Rattle.tsn_cert.specs.Cert.{chain_form, chains_form, reason_row, triple_row, cycle_row, first_entry_row, later_entry_row, entry_form, entries_form, load_row, tie_row, tie_load_row, node_rows, node_form, nodes_form, format_form, format_numbered};
+ghost use Rattle.tsn_codec.specs.Takes.{Takes};
+ghost use Rattle.tsn_codec.specs.CertSays.{chain_element, entry_element, node_element};
+
+use crate::list::{Element, few, list};
+use crate::tokens::{Tokens, Unread};
+use tsn_cert::chain::Chain;
+use tsn_cert::chains::{Chains, MAX_CHAINS};
+use tsn_cert::entries::{Entries, MAX_ENTRIES};
+use tsn_cert::{Format, Leaf, LowerBound, Node, Nodes};
+use tsn_model::{Frame, Triple};
+
+// ---- chains and entries
+
+impl Element for Chain {
+    ghost use Rattle.std.specs.Prelude.{ℕ, List};
+
+    ghost Said = { List ℕ };
+
+    ghost seen = { λ chain. chain };
+
+    ghost form = { chain_form };
+
+    fn take(tokens: &mut Tokens<'_>) -> Result<Chain, Unread> {
+        tokens.chain()
+    }
+
+    ghost says = { chain_element };
+}
+
+/// Chains of a tie.
+#[tactic(auto, using(crate::proofs::Elements::map_same))]
+fn chains(tokens: &mut Tokens<'_>) -> Result<Chains, Unread>
+    ensures { Takes (λ chains. chains) result (chains_form.taken tokens.old) tokens.new }
+{
+    let found = few::<Chain>(tokens, MAX_CHAINS)?;
+    Ok(Chains::of(found))
+}
+
+/// A chain, and a shift before it where that isn't 0, behind the stream of a frame, with the end of their array.
+fn entry(tokens: &mut Tokens<'_>, stream: usize) -> Result<(Frame, Chain), Unread>
+    ensures { Takes tree_entry result
+        ((either_row (first_entry_row stream) (later_entry_row stream)).rest tokens.old) tokens.new }
+{
+    let Some(shift) = tokens.number_or_open()? else {
+        let chain = tokens.chain_behind()?;
+        tokens.close_array()?;
+        return Ok((Frame { stream, shift: 0 }, chain));
+    };
+    if shift == 0 {
+        return Err(Unread::OtherForm);
+    }
+    let chain = tokens.chain()?;
+    tokens.close_array()?;
+    Ok((Frame { stream, shift }, chain))
+}
+
+impl Element for (Frame, Chain) {
+    ghost use Rattle.tsn_model.specs.Certificate.{Entry};
+
+    ghost Said = { Entry };
+
+    ghost seen = { tree_entry };
+
+    ghost form = { entry_form };
+
+    fn take(tokens: &mut Tokens<'_>) -> Result<(Frame, Chain), Unread> {
+        tokens.open_array()?;
+        let stream = tokens.index()?;
+        entry(tokens, stream)
+    }
+
+    ghost says = { entry_element };
+}
+
+/// Entries of a leaf.
+fn entries(tokens: &mut Tokens<'_>) -> Result<Entries, Unread>
+    ensures { Takes (λ entries. entries) result (entries_form.taken tokens.old) tokens.new }
+{
+    let found = few::<(Frame, Chain)>(tokens, MAX_ENTRIES)?;
+    Ok(Entries::of(found))
+}
+
+// ---- what stands behind the word of a node
+
+/// Two streams, a link and a lag, with the end of their array.
+fn triple(tokens: &mut Tokens<'_>) -> Result<Triple, Unread>
+    ensures { Takes (λ triple. triple) result (triple_row.rest tokens.old) tokens.new }
+{
+    let left = tokens.index()?;
+    let right = tokens.index()?;
+    let link = tokens.index()?;
+    let lag = tokens.lag_and_end()?;
+    Ok(Triple {
+        left,
+        right,
+        link,
+        lag,
+    })
+}
+
+/// A stream and a chain, with the end of their array.
+fn reason(tokens: &mut Tokens<'_>) -> Result<(usize, Chain), Unread>
+    ensures { Takes (λ reason. reason) result (reason_row.rest tokens.old) tokens.new }
+{
+    let stream = tokens.index()?;
+    let chain = tokens.chain()?;
+    tokens.close_array()?;
+    Ok((stream, chain))
+}
+
+/// A chain alone, with the end of its array.
+fn cycle(tokens: &mut Tokens<'_>) -> Result<Chain, Unread>
+    ensures { Takes (λ chain. chain) result (cycle_row.rest tokens.old) tokens.new }
+{
+    let chain = tokens.chain()?;
+    tokens.close_array()?;
+    Ok(chain)
+}
+
+/// A link and entries, with the end of their array.
+fn load(tokens: &mut Tokens<'_>) -> Result<(usize, Entries), Unread>
+    ensures { Takes (λ load. load) result (load_row.rest tokens.old) tokens.new }
+{
+    let link = tokens.index()?;
+    let entries = entries(tokens)?;
+    tokens.close_array()?;
+    Ok((link, entries))
+}
+
+/// A stream, a chain and chains, with the end of their array.
+fn tie(tokens: &mut Tokens<'_>) -> Result<(usize, Chain, Chains), Unread>
+    ensures { Takes (λ tie. tie) result (tie_row.rest tokens.old) tokens.new }
+{
+    let stream = tokens.index()?;
+    let chain = tokens.chain()?;
+    let chains = chains(tokens)?;
+    tokens.close_array()?;
+    Ok((stream, chain, chains))
+}
+
+/// A link, entries and chains, with the end of their array.
+fn tie_load(tokens: &mut Tokens<'_>) -> Result<(usize, Entries, Chains), Unread>
+    ensures { Takes (λ tie. tie) result (tie_load_row.rest tokens.old) tokens.new }
+{
+    let link = tokens.index()?;
+    let entries = entries(tokens)?;
+    let chains = chains(tokens)?;
+    tokens.close_array()?;
+    Ok((link, entries, chains))
+}
+
+// ---- nodes
+
+/// What stands behind the word of a node.
+fn node(tokens: &mut Tokens<'_>, word: &str) -> Result<Node, Unread>
+    ensures { Takes tree_node result ((row_of node_rows word.now).rest tokens.old) tokens.new }
+{
+    if word == "branch" {
+        Ok(Node::Branch(triple(tokens)?))
+    } else if word == "late" {
+        let (stream, chain) = reason(tokens)?;
+        Ok(Node::Leaf(Leaf::Bound(LowerBound::Late(stream, chain))))
+    } else if word == "overrun" {
+        let (stream, chain) = reason(tokens)?;
+        Ok(Node::Leaf(Leaf::Overrun(stream, chain)))
+    } else if word == "cycle" {
+        Ok(Node::Leaf(Leaf::Cycle(cycle(tokens)?)))
+    } else if word == "load" {
+        let (link, entries) = load(tokens)?;
+        Ok(Node::Leaf(Leaf::Bound(LowerBound::Load(link, entries))))
+    } else if word == "overload" {
+        let (link, entries) = load(tokens)?;
+        Ok(Node::Leaf(Leaf::Overload(link, entries)))
+    } else if word == "tie" {
+        let (stream, chain, chains) = tie(tokens)?;
+        Ok(Node::Tie(LowerBound::Late(stream, chain), chains))
+    } else if word == "tieload" {
+        let (link, entries, chains) = tie_load(tokens)?;
+        Ok(Node::Tie(LowerBound::Load(link, entries), chains))
+    } else {
+        Err(Unread::OtherForm)
+    }
+}
+
+impl Element for Node {
+    ghost use Rattle.tsn_model.specs.Certificate as tree;
+
+    ghost Said = { tree.Node };
+
+    ghost seen = { tree_node };
+
+    ghost form = { node_form };
+
+    fn take(tokens: &mut Tokens<'_>) -> Result<Node, Unread> {
+        tokens.open_array()?;
+        let word = tokens.word()?;
+        node(tokens, word)
+    }
+
+    ghost says = { node_element };
+}
+
+/// The nodes of a certificate.
+pub(super) fn nodes(tokens: &mut Tokens<'_>) -> Result<Nodes, Unread>
+    ensures { Takes (λ nodes. nodes) result (nodes_form.taken tokens.old) tokens.new }
+{
+    Ok(Nodes::of(list::<Node>(tokens)?))
+}
+
+// ---- the format
+
+/// The format of that number.
+pub(super) fn format_numbered(number: u64) -> Option<Format>
+    ensures { result ≡ format_numbered number }
+{
+    if number == 1 {
+        Some(Format::One)
+    } else if number == 2 {
+        Some(Format::Two)
+    } else {
+        None
+    }
+}
+
+pub(super) fn format(tokens: &mut Tokens<'_>) -> Result<Format, Unread>
+    ensures { Takes (λ format. format) result (format_form.taken tokens.old) tokens.new }
+{
+    let number = tokens.number()?;
+    format_numbered(number).ok_or(Unread::OtherForm)
+}

@@ -1,0 +1,120 @@
+//! The parts that the values of files are read from and made of.
+ghost use Rattle.std.specs.Prelude.{◌≡◌, ◌≤◌, map, false, Some, IfOk, IsOkAnd, string_bytes, [], ◌∷◌, ◌++◌};
+ghost use Rattle.serde_json.specs.Data.{depth, string};
+ghost use Rattle.serde_json.specs.Read.{max_depth};
+ghost use Rattle.serde_json.specs.View.{view};
+ghost use Rattle.serde_json.specs.Written.{has_float};
+ghost use Rattle.tsn_cert.specs.Json.{value_of, whole_number, is_object_of, all_within, number_value, array_value, file_text};
+ghost use Rattle.tsn_cert.specs.Fault.{Gives, Reads, named};
+
+use serde_json::{ToValue, Value};
+use std::alloc::{AllocError, Global};
+use tsn_cert::FileFault;
+
+/// The value of a file.
+pub fn value_from(alloc: Global, bytes: &[u8]) -> Result<Value, FileFault>
+    ensures value { Gives view result (named FileFault.NotJson (value_of bytes.now)) }
+    ensures nests { IfOk result (λ v. depth (view v) ≤ max_depth) }
+{
+    match Value::from_slice(alloc, bytes) {
+        Ok(value) => Ok(value),
+        Err(error) => Err(if error.is_memory() {
+            FileFault::Memory
+        } else {
+            FileFault::NotJson
+        }),
+    }
+}
+
+/// The number that the value is.
+pub fn whole_number_from(value: &Value) -> Result<u64, FileFault>
+    ensures { Reads (λ n. n) result (whole_number (view value.now)) }
+{
+    value.as_u64().ok_or(FileFault::WrongShape)
+}
+
+/// Whether the value is an object of so many members.
+pub fn is_object_of(value: &Value, count: usize) -> bool
+    ensures { result ≡ is_object_of count (view value.now) }
+{
+    match value.as_object() {
+        Some(members) => members.len() == count,
+        None => false,
+    }
+}
+
+/// Whether no number is above the limit.
+pub fn all_within(limit: u64, numbers: &[u64]) -> bool
+    ensures { result ≡ all_within limit numbers.now }
+{
+    numbers.iter().all(|number| *number <= limit)
+}
+
+/// An array of numbers.
+pub fn array_of_numbers(alloc: Global, numbers: &[u64]) -> Result<Value, AllocError>
+    ensures { IfOk result (λ v. view v ≡ array_value (map number_value numbers.now)) }
+{
+    let mut items = Vec::with_capacity(alloc, numbers.len())?;
+    for number in numbers {
+        items.push(Value::from(*number))?;
+    }
+    Ok(Value::Array(items))
+}
+
+/// An array of indices.
+pub fn array_of_indices(alloc: Global, numbers: &[usize]) -> Result<Value, AllocError>
+    ensures { IfOk result (λ v. view v ≡ array_value (map number_value numbers.now)) }
+{
+    let mut items = Vec::with_capacity(alloc, numbers.len())?;
+    for number in numbers {
+        items.push(Value::from(*number))?;
+    }
+    Ok(Value::Array(items))
+}
+
+/// A list with one more element, where both could be made.
+pub fn with_item(
+    items: Result<Vec<Value>, AllocError>,
+    item: Result<Value, AllocError>,
+) -> Result<Vec<Value>, AllocError>
+    ensures { IfOk result (λ v. IsOkAnd items (λ xs. IsOkAnd item (λ x. map view v.items
+        ≡ map view xs.items ++ view x ∷ []))) }
+{
+    let mut items = items?;
+    items.push(item?)?;
+    Ok(items)
+}
+
+/// An array of two elements.
+pub fn pair_value(
+    alloc: Global,
+    first: Result<Value, AllocError>,
+    second: Result<Value, AllocError>,
+) -> Result<Value, AllocError>
+    ensures { IfOk result (λ v. IsOkAnd first (λ a. IsOkAnd second (λ b. view v
+        ≡ array_value (view a ∷ view b ∷ [])))) }
+{
+    let items = with_item(Ok(Vec::new(alloc)), first);
+    Ok(Value::Array(with_item(items, second)?))
+}
+
+/// A list of a word and a number.
+pub fn first_items(alloc: Global, word: &str, number: usize) -> Result<Vec<Value>, AllocError>
+    ensures { IfOk result (λ v. map view v.items
+        ≡ string word.now ∷ number_value number ∷ []) }
+{
+    let items = with_item(Ok(Vec::new(alloc)), word.to_value(alloc));
+    with_item(items, Ok(Value::from(number)))
+}
+
+/// The text of a file that holds the value.
+pub fn file_text(alloc: Global, value: &Value) -> Result<String, AllocError>
+    ensures text { IfOk result (λ s. has_float (view value.now) ≡ false
+        → string_bytes s ≡ file_text (view value.now)) }
+    ensures reads_back { IfOk result (λ s. depth (view value.now) ≤ max_depth
+        → value_of (string_bytes s) ≡ Some (view value.now)) }
+{
+    let mut text = value.to_string(alloc)?;
+    text.push_str("\n")?;
+    Ok(text)
+}

@@ -1,0 +1,92 @@
+//! Whole files: read from tokens where their keys stand in the order in which they are written, and else by their value.
+ghost use Rattle.std.specs.Prelude.{◌≡◌, ◌≤◌, Bool, Option, Some, IfOk, option_and_then};
+ghost use Rattle.serde_json.specs.Data.{Data, depth};
+ghost use Rattle.serde_json.specs.Read.{read, max_depth};
+ghost use Rattle.serde_json.specs.View.{view};
+ghost use Rattle.tsn_cert.specs.Json.{value_of};
+ghost use Rattle.tsn_cert.specs.Spelled.{Spells};
+ghost use Rattle.tsn_cert.specs.Fault.{Gives, Reads, shaped, answer};
+
+use crate::document;
+use crate::tokens::{Tokens, Unread};
+use json::Scratch;
+use serde_json::Value;
+use std::alloc::Global;
+use tsn_cert::FileFault;
+
+/// What a file holds.
+pub trait File: Sized + Drop {
+    ghost Said: { Type 0 };
+
+    ghost seen: { Self → Said };
+
+    ghost grammar: { Data → Option Said };
+
+    ghost fits: { Said → Bool };
+
+    /// Takes one whose keys stand in the order in which they are written.
+    fn take(tokens: &mut Tokens<'_>) -> Result<Self, Unread>
+        ensures { IfOk result (λ file. (d : Data) × Spells 127 tokens.old d tokens.new × (grammar d ≡ Some (seen file))) };
+
+    /// The one that a value is.
+    fn in_value(alloc: Global, value: &Value) -> Result<Self, FileFault>
+        requires { depth (view value.now) ≤ max_depth }
+        ensures { Reads seen result (grammar (view value.now)) };
+
+    /// Whether each number is within its limit.
+    fn keeps_limits(&self) -> bool
+        ensures { result ≡ fits (seen self.now) };
+}
+
+fn whole<F: File>(alloc: Global, text: &str) -> Result<F, Unread>
+    ensures { IfOk result (λ file. option_and_then F.grammar (read text.now) ≡ Some (F.seen file)) }
+{
+    let mut scratch = Scratch::new(alloc);
+    let mut tokens = Tokens::of(alloc, text, &mut scratch)?;
+    let file = F::take(&mut tokens)?;
+    if !tokens.are_over() {
+        return Err(Unread::OtherForm);
+    }
+    Ok(file)
+}
+
+/// What a file holds whose keys stand in the order in which they are written.
+pub fn from_written<F: File>(alloc: Global, bytes: &[u8]) -> Result<F, Unread>
+    ensures { IfOk result (λ file. option_and_then F.grammar (value_of bytes.now) ≡ Some (F.seen file)) }
+{
+    let Ok(text) = std::str::from_utf8(bytes) else {
+        return Err(Unread::OtherForm);
+    };
+    whole::<F>(alloc, text)
+}
+
+/// What a file holds whose keys stand in any order.
+pub fn from_any<F: File>(alloc: Global, bytes: &[u8]) -> Result<F, FileFault>
+    ensures { Gives F.seen result (answer F.grammar F.fits (value_of bytes.now)) }
+{
+    let value = document::value_from(alloc, bytes)?;
+    let file = F::in_value(alloc, &value)?;
+    limited(file)
+}
+
+/// What a file holds.
+pub fn from_bytes<F: File>(alloc: Global, bytes: &[u8]) -> Result<F, FileFault>
+    ensures { Gives F.seen result (answer F.grammar F.fits (value_of bytes.now)) }
+{
+    match from_written::<F>(alloc, bytes) {
+        Ok(file) => limited(file),
+        Err(Unread::OtherForm) => from_any::<F>(alloc, bytes),
+        Err(Unread::Memory) => Err(FileFault::Memory),
+    }
+}
+
+/// What was read, where each of its numbers is within its limit.
+pub fn limited<F: File>(file: F) -> Result<F, FileFault>
+    ensures { Gives F.seen result (shaped F.fits (Some (F.seen file))) }
+{
+    if file.keeps_limits() {
+        Ok(file)
+    } else {
+        Err(FileFault::NumberTooLarge)
+    }
+}

@@ -1,2 +1,0 @@
-pub mod JsonLemmas
-pub mod SpelledLemmas
