@@ -21,11 +21,12 @@ use Rattle.tsn_argument.specs.declared.argument.Argument.{Argument}
 use Rattle.tsn_argument.specs.declared.argument.Goal.{Goal}
 use Rattle.tsn_argument.specs.declared.argument.Goal.TheVariants as aim
 use Rattle.tsn_argument.specs.declared.certificate.Certificate.{Certificate}
-use Rattle.tsn_argument.specs.declared.certificate.Certificate.TheVariants.{Tree, Argument as Argued}
+use Rattle.tsn_argument.specs.declared.certificate.Certificate.TheVariants.{Tree}
 use Rattle.tsn_argument.specs.Laws.{ArgumentIsReadAgain}
 use Rattle.tsn_argue.specs.Certified as argue
 use Rattle.tsn_argue.specs.Certified.{argument_verdict, goal_for}
-use Rattle.tsn_answer.specs.Answer.{Shows, IsStopped, IsFinished, IsFoundPlan, IsArgued, IsCertOf, IsAnswer, IsFound, HasNoneOpen, plan_kept, answer_for, whole_verdict}
+use Rattle.tsn_answer.specs.Optimum.{FindsOptimum, IsFoundPlan}
+use Rattle.tsn_answer.specs.Answer.{Shows, IsStopped, IsFinished, IsArgued, IsCertOf, IsAnswerReadAgain, IsAnswerShown, IsReadAgain, IsFound, HasNoneOpen, plan_kept, answer_for, whole_verdict}
 use Rattle.tsn_answer.specs.declared.found.Found.{Found}
 use Rattle.tsn_answer.specs.declared.found.Found.TheVariants as found
 use Rattle.tsn_book.specs.Book.{Progress, IsLawful}
@@ -33,7 +34,7 @@ use Rattle.tsn_book.specs.Book.{Progress, IsLawful}
 found_plan : (network : Network) (kept : Option (List ℕ)) → MatchOption kept (HasNoSchedule network) (IsFirst network)
     → IsFoundPlan network (plan_kept network kept)
 found_plan network None nothing = nothing
-found_plan network (Some offsets) first = ((first.optimal, refl), (first, refl))
+found_plan network (Some offsets) first = (first, refl)
 
 right_plan : (network : Network) (kept : Option (List ℕ)) → MatchOption kept (HasNoSchedule network) (IsFirst network)
     → IsPlanRight network (plan_kept network kept)
@@ -64,7 +65,6 @@ shown limit book lawful within plan is right cert of =
       whole = of.of_format_two;
       counted = sym of.counted;
       within = within;
-      read_again = tt;
     }
 
 -- a lawful search that has left nothing open
@@ -101,25 +101,28 @@ finished_within network limit greater book more done = record {
   found = done.found;
   shown = λ cert of.
       let shows = done.shown cert of in
-      record { certifies = shows.certifies; whole = shows.whole; counted = shows.counted; within = omega (arith, shows.within); read_again = shows.read_again };
+      record { certifies = shows.certifies; whole = shows.whole; counted = shows.counted; within = omega (arith, shows.within) };
 }
 
--- a plan that is found and shown is an answer
-pub answers : (network : Network) (limit : ℕ) (plan : Plan) (certificate : Certificate) (count : ℕ) → IsFoundPlan network plan
-    → Shows network limit plan certificate count
-    → IsAnswer network limit (answer_for plan certificate count)
-answers network limit (plan.Schedule span offsets) certificate count found shows = (found.0, found.1, shows)
-answers network limit plan.None certificate count found shows = (found, shows)
+-- the answer that has a plan: that plan is the optimum, its certificate shows it, and the certificate's file says it
+pub answer_optimum : (network : Network) (plan : Plan) (certificate : Certificate) (count : ℕ) → IsFoundPlan network plan
+    → FindsOptimum network (answer_for plan certificate count)
+answer_optimum network (plan.Schedule span offsets) certificate count found = found
+answer_optimum network plan.None certificate count found = found
 
--- so is a plan with an argument
-pub argued : (network : Network) (limit : ℕ) (plan : Plan) (argument : Argument) (count : ℕ) → count ≡ length argument.steps
-    → IsArgued network limit plan argument
-    → IsAnswer network limit (answer_for plan (Argued argument) count)
-argued network limit plan argument count is shown = rw is (answers network limit plan (Argued argument) (length argument.steps) shown.0 shown.1)
+pub answer_shown : (network : Network) (limit : ℕ) (plan : Plan) (certificate : Certificate) (count : ℕ) → Shows network limit plan certificate count
+    → IsAnswerShown network limit (answer_for plan certificate count)
+answer_shown network limit (plan.Schedule span offsets) certificate count shows = shows
+answer_shown network limit plan.None certificate count shows = shows
 
--- a first plan is optimal, and is a schedule
+pub answer_read_again : (plan : Plan) (certificate : Certificate) (count : ℕ) → IsReadAgain certificate
+    → IsAnswerReadAgain (answer_for plan certificate count)
+answer_read_again (plan.Schedule span offsets) certificate count again = again
+answer_read_again plan.None certificate count again = again
+
+-- a first plan is a schedule
 first_found : (network : Network) (plan : Plan) → IsFirstPlan network plan → IsFoundPlan network plan × (First ≡ whole_verdict plan)
-first_found network (plan.Schedule span offsets) first = (((first.0.optimal, first.1), first), refl)
+first_found network (plan.Schedule span offsets) first = (first, refl)
 first_found network plan.None first = absurd first
 
 -- a goal that fits a schedule isn't that there is none
@@ -130,35 +133,54 @@ none_fits network aim.Least plan is found fits none = cc
 none_fits network aim.None (plan.Schedule span offsets) is found fits none = cc
 none_fits network aim.None plan.None is found fits none = (none, refl)
 
+argued_for : (network : Network) (limit : ℕ) (plan : Plan) (argument : Argument) → IsFoundPlan network plan → argue.ArgumentCertifies network plan argument
+    → argument_verdict argument.goal ≡ whole_verdict plan → length argument.steps ≤ limit → ArgumentIsReadAgain argument
+    → IsArgued network limit plan argument
+argued_for network limit plan argument found shows whole within again = record {
+  found = found;
+  shown = record { certifies = shows; whole = whole; counted = refl; within = within };
+  read_again = again;
+}
+
 -- an argument that was accepted as all that the plan says
 pub accepted_first : (network : Network) (limit : ℕ) (plan : Plan) (argument : Argument) → argue.ArgumentCertifies network plan argument
     → First ≡ argument_verdict argument.goal → IsFirstPlan network plan
     → length argument.steps ≤ limit → ArgumentIsReadAgain argument → IsArgued network limit plan argument
 accepted_first network limit plan argument shows is first within again =
     let found = first_found network plan first in
-    (found.0, record { certifies = shows; whole = sym is ∙ found.1; counted = refl; within = within; read_again = again })
+    argued_for network limit plan argument found.0 shows (sym is ∙ found.1) within again
 
 pub accepted_none : (network : Network) (limit : ℕ) (plan : Plan) (argument : Argument) → argue.ArgumentCertifies network plan argument
     → NoSchedule ≡ argument_verdict argument.goal → HasNoSchedule network
     → length argument.steps ≤ limit → ArgumentIsReadAgain argument → IsArgued network limit plan argument
 accepted_none network limit plan argument shows is none within again =
     let found = none_fits network argument.goal plan is shows.goal shows.fitting.1 none in
-    (found.0, record { certifies = shows; whole = sym is ∙ found.1; counted = refl; within = within; read_again = again })
+    argued_for network limit plan argument found.0 shows (sym is ∙ found.1) within again
 
 -- an argument with a greater limit
 pub argued_within : (network : Network) (limit greater : ℕ) (plan : Plan) (argument : Argument) → limit ≤ greater
     → IsArgued network limit plan argument → IsArgued network greater plan argument
-argued_within network limit greater plan argument more shown =
-    let shows = shown.1 in
-    (shown.0, record { certifies = shows.certifies; whole = shows.whole; counted = shows.counted; within = omega (arith, shows.within); read_again = shows.read_again })
+argued_within network limit greater plan argument more argued =
+    let shows = argued.shown in
+    argued_for network greater plan argument argued.found shows.certifies shows.whole (omega (arith, shows.within)) argued.read_again
 
 -- the answer of a book, with its certificate
-pub certified : (network : Network) (limit : ℕ) (book : Progress) (plan : Plan) (cert : Cert) (count : ℕ)
+kept_here : (network : Network) (limit : ℕ) (book : Progress) (plan : Plan) → plan ≡ plan_kept book.network (kept_of book.network book.history)
+    → IsFinished network limit book → plan ≡ plan_kept network (kept_of network book.history)
+kept_here network limit book plan is done = is ∙ ap (λ n. plan_kept n (kept_of n book.history)) done.same_network
+
+pub certified_optimum : (network : Network) (limit : ℕ) (book : Progress) (plan : Plan) (certificate : Certificate) (count : ℕ)
+    → plan ≡ plan_kept book.network (kept_of book.network book.history) → IsFinished network limit book
+    → FindsOptimum network (answer_for plan certificate count)
+certified_optimum network limit book plan certificate count is done =
+    answer_optimum network plan certificate count (subst (IsFoundPlan network) (sym (kept_here network limit book plan is done)) done.found)
+
+pub certified_shown : (network : Network) (limit : ℕ) (book : Progress) (plan : Plan) (cert : Cert) (count : ℕ)
     → plan ≡ plan_kept book.network (kept_of book.network book.history) → count ≡ length book.history
-    → IsCertOf book cert → IsFinished network limit book → IsAnswer network limit (answer_for plan (Tree cert) count)
-certified network limit book plan cert count is counted of done =
-    let here : plan ≡ plan_kept network (kept_of network book.history) = is ∙ ap (λ n. plan_kept n (kept_of n book.history)) done.same_network in
-    rw (here, counted) (answers network limit (plan_kept network (kept_of network book.history)) (Tree cert) (length book.history) done.found (done.shown cert of))
+    → IsCertOf book cert → IsFinished network limit book → IsAnswerShown network limit (answer_for plan (Tree cert) count)
+certified_shown network limit book plan cert count is counted of done =
+    rw (kept_here network limit book plan is done, counted)
+    (answer_shown network limit (plan_kept network (kept_of network book.history)) (Tree cert) (length book.history) (done.shown cert of))
 
 first_of : {X : Type 0} (xs : List X) → 0 < length xs → (x : X) × Contains xs x
 first_of [] some = absurd (omega arith)

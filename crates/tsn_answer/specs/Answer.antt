@@ -7,13 +7,14 @@
 --     IsArgued      a plan with an argument for it
 --     IsStoppedWith what is known where a search is stopped
 --     IsFound       what a search leaves
---     IsAnswer      the answer to a network
+--     IsAnswerShown what shows an answer to a network
+--     IsAnswerReadAgain     the file of its certificate says it
 --     MayArgue, IsCertificateBy, IsFoundBy, IsAnswerBy, HasTree     of what kind a certificate may be, by what was asked for
 --     count_in, IsCounted     how much was done for an answer
 --     HasNoArgument, HasAnswer, IsLeft, KeepsKnown, KeepsKept, KeepsFound     what the phases of a search leave to one another
 use Rattle.std.specs.Prelude.{◌≡◌, ◌≤◌, ◌<◌, ◌+◌, ◌-◌, ◌^◌, ℕ, List, [], length, Option, Some, None, MatchOption}
 use Rattle.tsn_model.specs.Network.{Network}
-use Rattle.tsn_model.specs.Schedule.{IsValid, HasNoSchedule, flowspan}
+use Rattle.tsn_model.specs.Schedule.{IsValid, flowspan}
 use Rattle.tsn_model.specs.Arcs.{conflicts_of}
 use Rattle.tsn_model.specs.Search.{open_paths, kept_of, best_bound}
 use Rattle.tsn_cert.specs.declared.plan.Plan.{Plan}
@@ -22,7 +23,6 @@ use Rattle.tsn_cert.specs.declared.cert.Cert.{Cert}
 use Rattle.tsn_cert.specs.declared.cert.Format.TheVariants.{Two}
 use Rattle.tsn_check.specs.declared.verdict.Verdict.{Verdict}
 use Rattle.tsn_check.specs.declared.verdict.Verdict.TheVariants as verdict
-use Rattle.tsn_check.specs.Plans.{IsOptimalPlan, IsFirstPlan}
 use Rattle.tsn_argument.specs.declared.argument.Argument.{Argument}
 use Rattle.tsn_argument.specs.declared.certificate.Certificate.{Certificate}
 use Rattle.tsn_argument.specs.declared.certificate.Certificate.TheVariants.{Tree, Argument as Argued}
@@ -35,6 +35,7 @@ use Rattle.tsn_options.specs.declared.Method.{Method}
 use Rattle.tsn_options.specs.declared.Method.TheVariants as method
 use Rattle.tsn_answer.specs.declared.effort.TheConstants.{FILE_ORDER_LIMIT}
 use Rattle.tsn_answer.specs.Known.{IsKnown, HoldsKept, LosesNothing}
+use Rattle.tsn_answer.specs.Optimum.{IsFoundPlan}
 use Rattle.tsn_answer.specs.declared.answer.Answer.{Answer}
 use Rattle.tsn_answer.specs.declared.answer.Answer.TheVariants.{Optimal, NoSchedule, Stopped}
 use Rattle.tsn_answer.specs.declared.found.Found.{Found}
@@ -60,13 +61,12 @@ abbrev pub IsReadAgain : Certificate → Type 0
 IsReadAgain (Tree cert) = Unit {0}
 IsReadAgain (Argued argument) = ArgumentIsReadAgain argument
 
--- the certificate, of format 2 or 3, shows what the plan says, by so many nodes or steps, at most the limit; an argument is read again from its file
+-- the certificate, of format 2 or 3, shows what the plan says, by so many nodes or steps, at most the limit
 pub record Shows (network : Network) (limit : ℕ) (plan : Plan) (certificate : Certificate) (count : ℕ) : Type 0 where
   pub certifies : Certifies network plan certificate
   pub whole : IsWhole plan certificate
   pub counted : count ≡ size_of certificate
   pub within : count ≤ limit
-  pub read_again : IsReadAgain certificate
 
 -- a lawful search for the network that has settled as many nodes as it may, while a node is open; what it has kept, if anything, is a valid schedule;
 -- and its limit is less than the nodes of a tree over all conflicts
@@ -78,11 +78,17 @@ pub record IsStopped (network : Network) (limit : ℕ) (book : Progress) : Type 
   pub kept : MatchOption (kept_of network book.history) (Unit {0}) (IsValid network)
   pub short : limit < 2 ^ (length (conflicts_of network) + 1) - 1
 
--- what an answer says of the network: of an optimal plan besides that it is the first one
-abbrev pub IsAnswer : Network → ℕ → Answer → Type 0
-IsAnswer network limit (Optimal plan certificate count) = IsOptimalPlan network plan × IsFirstPlan network plan × Shows network limit plan certificate count
-IsAnswer network limit (NoSchedule certificate count) = HasNoSchedule network × Shows network limit plan.None certificate count
-IsAnswer network limit (Stopped book) = IsStopped network limit book
+-- what shows an answer: a certificate of at most so many nodes or steps; or a search that was stopped after so many nodes
+abbrev pub IsAnswerShown : Network → ℕ → Answer → Type 0
+IsAnswerShown network limit (Optimal plan certificate count) = Shows network limit plan certificate count
+IsAnswerShown network limit (NoSchedule certificate count) = Shows network limit plan.None certificate count
+IsAnswerShown network limit (Stopped book) = IsStopped network limit book
+
+-- the file of its certificate says that certificate
+abbrev pub IsAnswerReadAgain : Answer → Type 0
+IsAnswerReadAgain (Optimal plan certificate count) = IsReadAgain certificate
+IsAnswerReadAgain (NoSchedule certificate count) = IsReadAgain certificate
+IsAnswerReadAgain (Stopped book) = Unit {0}
 
 -- the answer that has a plan with its certificate
 abbrev pub answer_for : Plan → Certificate → ℕ → Answer
@@ -95,11 +101,6 @@ answer_for plan.None certificate count = NoSchedule certificate count
 abbrev pub plan_kept : Network → Option (List ℕ) → Plan
 plan_kept network None = plan.None
 plan_kept network (Some offsets) = plan.Schedule (flowspan network offsets) offsets
-
--- the first schedule of least flowspan, or that there is none
-abbrev pub IsFoundPlan : Network → Plan → Type 0
-IsFoundPlan network (plan.Schedule span offsets) = IsOptimalPlan network (plan.Schedule span offsets) × IsFirstPlan network (plan.Schedule span offsets)
-IsFoundPlan network plan.None = HasNoSchedule network
 
 -- a certificate of format 2 for what a search has kept: its nodes, one for each settlement, spell a tree that is accepted for that
 pub record IsCertOf (book : Progress) (cert : Cert) : Type 0 where
@@ -118,9 +119,11 @@ pub record IsFinished (network : Network) (limit : ℕ) (book : Progress) : Type
   pub found : IsFoundPlan network (plan_kept network (kept_of network book.history))
   pub shown : (cert : Cert) → IsCertOf book cert → Shows network limit (plan_kept network (kept_of network book.history)) (Tree cert) (length book.history)
 
--- the plan is what was to be found, and the argument shows it by at most so many steps
-abbrev pub IsArgued : Network → ℕ → Plan → Argument → Type 0
-IsArgued network limit plan argument = IsFoundPlan network plan × Shows network limit plan (Argued argument) (length argument.steps)
+-- the plan is what was to be found, and the argument shows it by at most so many steps, and is read again from its file
+pub record IsArgued (network : Network) (limit : ℕ) (plan : Plan) (argument : Argument) : Type 0 where
+  pub found : IsFoundPlan network plan
+  pub shown : Shows network limit plan (Argued argument) (length argument.steps)
+  pub read_again : ArgumentIsReadAgain argument
 
 -- a search that was stopped at its limit, and what is known then: a valid schedule, if any, and no longer than the one that the book has kept; and a bound
 pub record IsStoppedWith (network : Network) (limit : ℕ) (book : Progress) (known : Known) : Type 0 where

@@ -1,3 +1,4 @@
 pub mod Known
+pub mod Optimum
 pub mod Answer
 pub mod Laws

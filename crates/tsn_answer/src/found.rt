@@ -5,7 +5,8 @@ ghost use Rattle.tsn_model.specs.Search.{open_paths, kept_of};
 ghost use Rattle.tsn_cert.specs.declared.plan.Plan.TheVariants.{Schedule};
 ghost use Rattle.tsn_answer.specs.declared.effort.Effort.{Effort};
 ghost use Rattle.tsn_answer.specs.Known.{IsKnown};
-ghost use Rattle.tsn_answer.specs.Answer.{IsAnswer, IsAnswerBy, IsArgued, IsCertificateBy, IsFinished, IsFound, IsFoundBy, MayArgue, HasNoArgument, HasNoneOpen, HasTree, IsCounted, IsLeft, IsTree, KeepsKnown, count_in, plan_kept, answer_for};
+ghost use Rattle.tsn_answer.specs.Optimum.{FindsOptimum};
+ghost use Rattle.tsn_answer.specs.Answer.{IsAnswerBy, IsAnswerReadAgain, IsAnswerShown, IsArgued, IsCertificateBy, IsFinished, IsFound, IsFoundBy, MayArgue, HasNoArgument, HasNoneOpen, HasTree, IsCounted, IsLeft, IsTree, KeepsKnown, count_in, plan_kept, answer_for};
 
 use crate::answer::Answer;
 use crate::known::Known;
@@ -57,7 +58,9 @@ impl Found {
     /// The answer, with its certificate. The error says that there was no memory.
     pub fn into_answer(self, alloc: Global) -> Result<Answer, NoMemory>
         requires { HasNoneOpen self }
-        ensures answer { IfOk result (λ answer. (network : Network) (limit : ℕ) → IsFound network limit self → IsAnswer network limit answer) }
+        ensures optimum { IfOk result (λ answer. (network : Network) (limit : ℕ) → IsFound network limit self → FindsOptimum network answer) }
+        ensures shown { IfOk result (λ answer. (network : Network) (limit : ℕ) → IsFound network limit self → IsAnswerShown network limit answer) }
+        ensures read_again { IfOk result (λ answer. (network : Network) (limit : ℕ) → IsFound network limit self → IsAnswerReadAgain answer) }
         ensures method { IfOk result (λ answer. (effort : Effort) → IsFoundBy effort self → IsAnswerBy effort answer) }
         ensures counted { IfOk result (IsCounted self) }
     {
@@ -85,7 +88,9 @@ pub fn plan_of(alloc: Global, book: &Book) -> Result<Plan, NoMemory>
 // The answer of a search that left nothing open.
 fn certify(alloc: Global, book: Book) -> Result<Answer, NoMemory>
     requires { open_paths book.history ≡ [] }
-    ensures answer { IfOk result (λ answer. (network : Network) (limit : ℕ) → IsFinished network limit book → IsAnswer network limit answer) }
+    ensures optimum { IfOk result (λ answer. (network : Network) (limit : ℕ) → IsFinished network limit book → FindsOptimum network answer) }
+    ensures shown { IfOk result (λ answer. (network : Network) (limit : ℕ) → IsFinished network limit book → IsAnswerShown network limit answer) }
+    ensures read_again { IfOk result IsAnswerReadAgain }
     ensures method { IfOk result (λ answer. (effort : Effort) → IsAnswerBy effort answer) }
     ensures counted { IfOk result (λ answer. count_in answer ≡ length book.history) }
 {
@@ -108,7 +113,9 @@ fn certify(alloc: Global, book: Book) -> Result<Answer, NoMemory>
 
 // The answer that has a plan with an argument for it.
 fn argued(plan: Plan, argument: Argument) -> Answer
-    ensures answer { (network : Network) (limit : ℕ) → IsArgued network limit plan argument → IsAnswer network limit result }
+    ensures optimum { (network : Network) (limit : ℕ) → IsArgued network limit plan argument → FindsOptimum network result }
+    ensures shown { (network : Network) (limit : ℕ) → IsArgued network limit plan argument → IsAnswerShown network limit result }
+    ensures read_again { (network : Network) (limit : ℕ) → IsArgued network limit plan argument → IsAnswerReadAgain result }
     ensures method { (effort : Effort) → MayArgue effort.method effort.limit → IsAnswerBy effort result }
     ensures no_tree { HasTree result → ⊥ }
 {

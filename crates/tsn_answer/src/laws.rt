@@ -2,7 +2,7 @@
 
 ghost use Rattle.tsn_answer.specs.Laws.{OptimalPlansAreOne};
 
-/// Two optimal answers to one network have the same plan, whatever their limits, certificates and counts.
+/// Two optimal answers to one network have the same plan, whatever their certificates and counts.
 pub fn optimal_plans_are_one()
     ensures { OptimalPlansAreOne }
 {}

@@ -19,7 +19,7 @@ Tells network output = (told : Plan) × IsFirstPlan network told × (slice_get o
 
 told_plan : (network : Network) (effort : Effort) (wanted : Bool) (output : Output) → TellsPlan network effort wanted output → output.status ≡ 0 → Tells network output
 told_plan network effort wanted output (plan.Schedule span offsets, (cert, (count, same, found, shows, inl (is, form)))) done =
-    (plan.Schedule span offsets, found.1, ap (λ (o : Output). slice_get o.texts 0) is)
+    (plan.Schedule span offsets, found, ap (λ (o : Output). slice_get o.texts 0) is)
 told_plan network effort wanted output (plan.None, (cert, (count, same, found, shows, inl (is, form)))) done =
     let status : 4 ≡ 0 = ap (λ (o : Output). o.status) (sym is) ∙ done in
     absurd (omega (arith, status))

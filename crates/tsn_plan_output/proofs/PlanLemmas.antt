@@ -18,7 +18,8 @@ use Rattle.tsn_answer.specs.declared.known.Known.{Known}
 use Rattle.tsn_answer.specs.declared.effort.Effort.{Effort}
 use Rattle.tsn_answer.specs.declared.found.Found.{Found}
 use Rattle.tsn_answer.specs.declared.found.Found.TheVariants as found
-use Rattle.tsn_answer.specs.Answer.{IsArgued, IsFinished, IsFound, IsFoundBy, IsFoundPlan, MayArgue, plan_kept}
+use Rattle.tsn_answer.specs.Optimum.{IsFoundPlan}
+use Rattle.tsn_answer.specs.Answer.{IsArgued, IsFinished, IsFound, IsFoundBy, MayArgue, plan_kept}
 use Rattle.tsn_run.specs.declared.answer.Answer.{Answer}
 use Rattle.tsn_run.specs.declared.stop.Stop.{Stop}
 use Rattle.tsn_run.specs.Outcome.{outcome_of}
@@ -66,8 +67,8 @@ tree_if_any : (network : Network) (effort : Effort) (book : Progress) (cert : Op
     → ShowsIfAny network effort (plan_kept network (kept_of network book.history)) cert (length book.history)
 tree_if_any network effort book None finished is =
     let there = cert_is_there book finished.lawful finished.none_open in
-    (certificate.Tree there.0, (finished.shown there.0 there.1, tt))
-tree_if_any network effort book (Some (certificate.Tree cert)) finished is = (finished.shown cert is, tt)
+    (certificate.Tree there.0, (finished.shown there.0 there.1, tt, tt))
+tree_if_any network effort book (Some (certificate.Tree cert)) finished is = (finished.shown cert is, tt, tt)
 tree_if_any network effort book (Some (certificate.Argument argument)) finished is = absurd is
 
 -- what is printed of a plan that was found tells of it
@@ -102,8 +103,8 @@ tells_finished network effort book wanted answered plan cert finished is_outcome
 -- the argument shows it, whether or not it is written
 argument_if_any : (network : Network) (effort : Effort) (plan : Plan) (argument : Argument) (wanted : Bool) → IsArgued network effort.limit plan argument
     → MayArgue effort.method effort.limit → ShowsIfAny network effort plan (written_in (if wanted then Some (Argued argument) else None)) (length argument.steps)
-argument_if_any network effort plan argument true shown may = (shown.1, may)
-argument_if_any network effort plan argument false shown may = (certificate.Argument argument, (shown.1, may))
+argument_if_any network effort plan argument true argued may = (argued.shown, argued.read_again, may)
+argument_if_any network effort plan argument false argued may = (certificate.Argument argument, (argued.shown, argued.read_again, may))
 
 is_wanted : (argument : Argument) (wanted : Bool) → is_some (written_in (if wanted then Some (Argued argument) else None)) ≡ wanted
 is_wanted argument true = refl
@@ -124,7 +125,7 @@ tells_argued network effort plan argument wanted answered text cert count argued
     (subst (λ n. ShowsIfAny network effort plan (written_in (if wanted then Some (Argued argument) else None)) n) (sym is_count)
     (argument_if_any network effort plan argument wanted argued may)) in
     let asked : is_some kept ≡ wanted = ap (λ (c : Option Written). is_some (written_in c)) is_cert ∙ is_wanted argument wanted in
-    tells_plan network effort wanted plan count answered text kept argued.0 shows asked is_outcome is_text shown is
+    tells_plan network effort wanted plan count answered text kept argued.found shows asked is_outcome is_text shown is
 
 -- an argument is written only where it is wanted
 pub argument_wanted : (argument : Argument) (wanted : Bool) (cert : Option Written) → cert ≡ (if wanted then Some (Argued argument) else None)

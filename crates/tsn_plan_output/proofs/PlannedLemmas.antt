@@ -23,7 +23,7 @@ use Rattle.tsn_argument.specs.Laws.{CertificateTextIsRead}
 use Rattle.tsn_argue.specs.Certified.{Certifies, certificate_verdict}
 use Rattle.tsn_argue.specs.Laws.{FirstFaultsRefute}
 use Rattle.tsn_answer.specs.declared.effort.Effort.{Effort}
-use Rattle.tsn_answer.specs.Answer.{Shows, whole_verdict, IsWhole}
+use Rattle.tsn_answer.specs.Answer.{Shows, whole_verdict, IsReadAgain, IsWhole}
 use Rattle.tsn_run.specs.Run.{Output}
 use Rattle.tsn_run.specs.Refusal.{IsOutcome}
 use Rattle.tsn_run.specs.Check.{CheckAnswers, accepted}
@@ -60,27 +60,27 @@ verdict_by stated (Argument argument) is = is
 
 -- the certificate's file says that certificate
 read_by : CertifiedTreesFit → CertificateTextIsRead → (network : Network) (limit : ℕ) (stated : Plan) (whole : Certificate) (count : ℕ) → IsWellFormed network
-    → limit ≤ max_number → Shows network limit stated whole count → HasForm whole → certificate_in (certificate_text whole) ≡ Ok whole
-read_by trees_fit is_read network limit stated (Tree cert) count formed few shows form =
+    → limit ≤ max_number → Shows network limit stated whole count → IsReadAgain whole → HasForm whole → certificate_in (certificate_text whole) ≡ Ok whole
+read_by trees_fit is_read network limit stated (Tree cert) count formed few shows again form =
     let counted = shows.counted in
     let fits = trees_fit network stated cert formed shows.certifies form (omega (arith, counted, shows.within, few)) in
     is_read (Tree cert) form (ap (λ f. are_of f cert.nodes) shows.whole) fits
-read_by trees_fit is_read network limit stated (Argument argument) count formed few shows form = shows.read_again
+read_by trees_fit is_read network limit stated (Argument argument) count formed few shows again form = again
 
 module _ (refutes : FirstFaultsRefute) (plans_fit : RightPlansFit) (trees_fit : CertifiedTreesFit) (plan_read : PlanTextIsRead)
     (cert_read : CertificateTextIsRead) where
   -- a plan with a certificate that shows it
   shown : (limit : ℕ) (network_file plan_file cert_file : List ℕ) (checked : Output) (problem : NamedNetwork) (stated : Plan) (whole : Certificate) (count : ℕ)
-      → limit ≤ max_number → States network_file problem → Shows problem.network limit stated whole count → HasForm whole
+      → limit ≤ max_number → States network_file problem → Shows problem.network limit stated whole count → IsReadAgain whole → HasForm whole
       → plan_file ≡ plan_text stated → cert_file ≡ certificate_text whole
       → CheckAnswers (network_file ∷ plan_file ∷ cert_file ∷ []) checked
       → (plan : Plan) × (plan_in plan_file ≡ Ok plan) × IsOutcome (accepted (whole_verdict plan) plan) checked
-  shown limit network_file plan_file cert_file checked problem stated whole count few states shows form is_plan is_cert answers =
+  shown limit network_file plan_file cert_file checked problem stated whole count few states shows again form is_plan is_cert answers =
       let formed = formed_by network_file problem states in
       let right = right_by problem.network stated whole shows.certifies in
       let reads : plan_in plan_file ≡ Ok stated = ap plan_in is_plan ∙ plan_read stated (plans_fit problem.network stated formed right) in
       let cert : certificate_in cert_file ≡ Ok whole =
-      ap certificate_in is_cert ∙ read_by trees_fit cert_read problem.network limit stated whole count formed few shows form in
+      ap certificate_in is_cert ∙ read_by trees_fit cert_read problem.network limit stated whole count formed few shows again form in
       let line = certificate_accepted refutes network_file plan_file cert_file problem stated whole checked states reads shows.certifies cert answers in
       (stated, reads, subst (λ v. IsOutcome (accepted v stated) checked) (verdict_by stated whole shows.whole) line)
 
@@ -97,7 +97,7 @@ module _ (refutes : FirstFaultsRefute) (plans_fit : RightPlansFit) (trees_fit : 
       absurd (not_done output.status 7 (ap (λ (o : Output). o.status) cut.1) (λ e. omega (arith, e)) (λ e. omega (arith, e)) done)
   told effort network_file plan_file cert_file output checked problem few states (stated, (Some whole, (count, some, found, shows, inl (is, form)))) done is_plan
       is_cert answers =
-      shown effort.limit network_file plan_file cert_file checked problem stated whole count few states shows.0 form
+      shown effort.limit network_file plan_file cert_file checked problem stated whole count few states shows.0 shows.1 form
       (same_Some _ _ (sym is_plan ∙ ap (λ (o : Output). slice_get o.texts 0) is))
       (same_Some _ _ (sym is_cert ∙ ap (λ (o : Output). slice_get o.texts 1) is)) answers
 

@@ -17,7 +17,8 @@ use Rattle.tsn_argument.specs.declared.certificate.Certificate.TheVariants.{Tree
 use Rattle.tsn_book.specs.Book.{Progress}
 use Rattle.tsn_answer.specs.declared.known.Known.{Known}
 use Rattle.tsn_answer.specs.declared.effort.Effort.{Effort}
-use Rattle.tsn_answer.specs.Answer.{IsCertificateBy, IsCertOf, IsFoundPlan, IsStoppedWith, Shows}
+use Rattle.tsn_answer.specs.Optimum.{IsFoundPlan}
+use Rattle.tsn_answer.specs.Answer.{IsCertificateBy, IsCertOf, IsReadAgain, IsStoppedWith, Shows}
 use Rattle.tsn_run.specs.declared.stop.Stop.{Stop}
 use Rattle.tsn_run.specs.declared.outcome.Outcome.{Outcome}
 use Rattle.tsn_run.specs.declared.outcome.Outcome.TheVariants.{Optimal, NoSchedule, Stopped}
@@ -54,9 +55,9 @@ stopped_output known count = record {
   texts = best_plan_text known.best ∷ [] ∷ line_of (Stopped (stop_for known) count) ∷ [];
 }
 
--- the certificate is of the kind that was asked for, and shows what the plan says, by so many nodes or steps, at most the limit
+-- the certificate is of the kind that was asked for, is read again from its file, and shows what the plan says, by so many nodes or steps, at most the limit
 abbrev pub ShowsBy : Network → Effort → Plan → Certificate → ℕ → Type 0
-ShowsBy network effort plan certificate count = Shows network effort.limit plan certificate count × IsCertificateBy effort certificate
+ShowsBy network effort plan certificate count = Shows network effort.limit plan certificate count × IsReadAgain certificate × IsCertificateBy effort certificate
 
 -- it does; or, where none is written, there is one that does
 abbrev pub ShowsIfAny : Network → Effort → Plan → Option Certificate → ℕ → Type 0

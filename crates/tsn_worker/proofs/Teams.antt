@@ -14,7 +14,7 @@ use Rattle.tsn_answer.specs.declared.answer.Answer.{Answer}
 use Rattle.tsn_answer.specs.declared.answer.Answer.TheVariants.{Optimal, NoSchedule, Stopped}
 use Rattle.tsn_answer.specs.declared.found.Found.{Found}
 use Rattle.tsn_answer.specs.declared.found.Found.TheVariants as found
-use Rattle.tsn_answer.specs.Answer.{IsAnswer, IsAnswerBy, IsFoundBy, HasNoArgument, HasTree, IsCounted, MayArgue, count_in}
+use Rattle.tsn_answer.specs.Answer.{IsAnswerBy, IsAnswerShown, IsFoundBy, HasNoArgument, HasTree, IsCounted, MayArgue, count_in}
 use Rattle.tsn_worker.specs.GoingOn.{GoesOn}
 use Rattle.tsn_worker.specs.Team.{IsGatheredFor, IsGatheredIn, IsTeamAnswer, IsTeamwork}
 
@@ -62,10 +62,10 @@ answered workers word (found.Stopped book known) answer team counted = λ two tr
 
 -- in the order of the file a certificate is a tree, which is whole
 pub has_tree : (network : Network) (limit : ℕ) (effort : Effort) (answer : Answer)
-    → effort.method ≡ FileOrder → IsAnswer network limit answer → IsAnswerBy effort answer → HasTree answer
-has_tree network limit effort (Optimal plan (Tree cert) count) order is by = is.2.whole
+    → effort.method ≡ FileOrder → IsAnswerShown network limit answer → IsAnswerBy effort answer → HasTree answer
+has_tree network limit effort (Optimal plan (Tree cert) count) order is by = is.whole
 has_tree network limit effort (Optimal plan (Argued argument) count) order is by = subst (λ m. MayArgue m effort.limit) order by
-has_tree network limit effort (NoSchedule (Tree cert) count) order is by = is.1.whole
+has_tree network limit effort (NoSchedule (Tree cert) count) order is by = is.whole
 has_tree network limit effort (NoSchedule (Argued argument) count) order is by = subst (λ m. MayArgue m effort.limit) order by
 has_tree network limit effort (Stopped book) order is by = tt
 
@@ -77,6 +77,6 @@ by_book effort (found.Stopped book known) none = tt
 
 -- the two together, of a planner's result
 pub tree_of : {E : Type 0} (result : Result Answer E) (network : Network) (limit : ℕ) (effort : Effort) → effort.method ≡ FileOrder
-    → IfOk result (IsAnswer network limit) → IfOk result (IsAnswerBy effort) → IfOk result HasTree
+    → IfOk result (IsAnswerShown network limit) → IfOk result (IsAnswerBy effort) → IfOk result HasTree
 tree_of (Ok answer) network limit effort order is by = has_tree network limit effort answer order is by
 tree_of (Err fault) network limit effort order is by = tt

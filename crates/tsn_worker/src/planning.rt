@@ -1,6 +1,7 @@
 //! Plans a network.
 ghost use Rattle.std.specs.Prelude.{◌≡◌, ◌≤◌, ◌<◌, length, IfOk};
-ghost use Rattle.tsn_answer.specs.Answer.{HasTree, IsAnswer, IsAnswerBy, IsFound, IsFoundBy, HasNoArgument, KeepsFound, KeepsKept, KeepsKnown};
+ghost use Rattle.tsn_answer.specs.Optimum.{FindsOptimum};
+ghost use Rattle.tsn_answer.specs.Answer.{HasTree, IsAnswerBy, IsAnswerReadAgain, IsAnswerShown, IsFound, IsFoundBy, HasNoArgument, KeepsFound, KeepsKept, KeepsKnown};
 ghost use Rattle.tsn_answer.specs.Known.{IsKnown};
 ghost use Rattle.tsn_search.specs.Search.{IsSearchBy};
 ghost use Rattle.tsn_worker.specs.GoingOn.{GoesOn};
@@ -48,7 +49,8 @@ pub fn plan<R: Threads + Wait + Sync, S: Supervisor + Sync>(
     requires workers { (1 ≤ workers) × (workers ≤ MAX_WORKERS) }
     requires some { 1 ≤ limit }
     requires few { limit ≤ MAX_LIMIT }
-    ensures answer { IfOk result (IsAnswer problem.now.network limit) }
+    ensures optimum { IfOk result (FindsOptimum problem.now.network) }
+    ensures shown { IfOk result (IsAnswerShown problem.now.network limit) }
     ensures method { IfOk result HasTree }
 {
     let effort = Effort {
@@ -73,7 +75,9 @@ pub fn plan_by<R: Threads + Wait + Sync, S: Supervisor + Sync>(
     requires workers { (1 ≤ effort.workers) × (effort.workers ≤ MAX_WORKERS) }
     requires some { 1 ≤ effort.limit }
     requires few { effort.limit ≤ MAX_LIMIT }
-    ensures answer { IfOk result (λ planned. IsAnswer problem.now.network effort.limit planned.answer) }
+    ensures optimum { IfOk result (λ planned. FindsOptimum problem.now.network planned.answer) }
+    ensures shown { IfOk result (λ planned. IsAnswerShown problem.now.network effort.limit planned.answer) }
+    ensures read_again { IfOk result (λ planned. IsAnswerReadAgain planned.answer) }
     ensures method { IfOk result (λ planned. IsAnswerBy effort planned.answer) }
     ensures gathered { IfOk result (λ planned. IsTeamAnswer effort.workers planned.word planned.answer) }
 {
@@ -124,7 +128,8 @@ pub fn plan_over<R: Threads + Wait + Sync, S: Supervisor + Sync, B: Bag + Send>(
     requires workers { (2 ≤ length bags.items) × (length bags.items ≤ MAX_WORKERS) }
     requires some { 1 ≤ limit }
     requires few { limit ≤ MAX_LIMIT }
-    ensures answer { IfOk result (IsAnswer problem.now.network limit) }
+    ensures optimum { IfOk result (FindsOptimum problem.now.network) }
+    ensures shown { IfOk result (IsAnswerShown problem.now.network limit) }
     ensures method { IfOk result HasTree }
 {
     let prepared = Prepared::of(alloc, problem)?;

@@ -4,8 +4,14 @@ use Rattle.tsn_worker.proofs.planning.plan_by.Goals as goal
 pub into_answer-requires : goal.into_answer-requires
 into_answer-requires g c = none_open c.args.problem.now.network c.args.effort.limit c.in_ok-found.field-0.found c.in_ok-found.ensures.found
 
-pub returns-in-Ok-clause-answer : goal.returns-in-Ok-clause-answer
-returns-in-Ok-clause-answer g c = c.in-Ok.ensures.answer c.args.problem.now.network c.args.effort.limit c.in_ok-found.ensures.found
+pub returns-in-Ok-clause-optimum : goal.returns-in-Ok-clause-optimum
+returns-in-Ok-clause-optimum g c = c.in-Ok.ensures.optimum c.args.problem.now.network c.args.effort.limit c.in_ok-found.ensures.found
+
+pub returns-in-Ok-clause-shown : goal.returns-in-Ok-clause-shown
+returns-in-Ok-clause-shown g c = c.in-Ok.ensures.shown c.args.problem.now.network c.args.effort.limit c.in_ok-found.ensures.found
+
+pub returns-in-Ok-clause-read_again : goal.returns-in-Ok-clause-read_again
+returns-in-Ok-clause-read_again g c = c.in-Ok.ensures.read_again c.args.problem.now.network c.args.effort.limit c.in_ok-found.ensures.found
 
 pub returns-in-Ok-clause-method : goal.returns-in-Ok-clause-method
 returns-in-Ok-clause-method g c = c.in-Ok.ensures.method c.args.effort c.in_ok-found.ensures.method

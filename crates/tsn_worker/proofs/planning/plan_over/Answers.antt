@@ -2,7 +2,8 @@ use Rattle.std.proofs.Common.{◌∙◌, refl, subst}
 use Rattle.std.proofs.lemmas.Result.{IfOk-weaker}
 use Rattle.tsn_options.specs.declared.Method.TheVariants.{FileOrder}
 use Rattle.tsn_answer.specs.declared.effort.Effort.{Effort}
-use Rattle.tsn_answer.specs.Answer.{IsAnswer}
+use Rattle.tsn_answer.specs.Optimum.{FindsOptimum}
+use Rattle.tsn_answer.specs.Answer.{IsAnswerShown}
 use Rattle.tsn_answer.proofs.Deciding.{none_open}
 use Rattle.tsn_worker.proofs.Teams.{by_book, tree_of}
 use Rattle.tsn_worker.proofs.planning.plan_over.Goals as goal
@@ -10,18 +11,25 @@ use Rattle.tsn_worker.proofs.planning.plan_over.Goals as goal
 pub into_answer-requires : goal.into_answer-requires
 into_answer-requires g c = none_open c.setting-setting.result.tables.timing.now c.args.limit c.in_ok-found.field-0.found c.in_ok-found.ensures.found
 
-pub returns-clause-answer : goal.returns-clause-answer
-returns-clause-answer g c =
+pub returns-clause-optimum : goal.returns-clause-optimum
+returns-clause-optimum g c =
     let network = c.setting-setting.result.tables.timing.now in
     let same = c.setting-setting.ensures.timing ∙ c.in_ok-prepared.ensures.timing in
     let found = c.in_ok-found.ensures.found in
-    IfOk-weaker c.into_answer.result _ _ (λ answer answers. subst (λ n. IsAnswer n c.args.limit answer) same (answers network c.args.limit found)) c.into_answer.ensures.answer
+    IfOk-weaker c.into_answer.result _ _ (λ answer finds. subst (λ n. FindsOptimum n answer) same (finds network c.args.limit found)) c.into_answer.ensures.optimum
+
+pub returns-clause-shown : goal.returns-clause-shown
+returns-clause-shown g c =
+    let network = c.setting-setting.result.tables.timing.now in
+    let same = c.setting-setting.ensures.timing ∙ c.in_ok-prepared.ensures.timing in
+    let found = c.in_ok-found.ensures.found in
+    IfOk-weaker c.into_answer.result _ _ (λ answer shown. subst (λ n. IsAnswerShown n c.args.limit answer) same (shown network c.args.limit found)) c.into_answer.ensures.shown
 
 pub returns-clause-method : goal.returns-clause-method
 returns-clause-method g c =
     let network = c.setting-setting.result.tables.timing.now in
     let effort : Effort = record { method = FileOrder; workers = 2; limit = c.args.limit } in
     tree_of c.into_answer.result network c.args.limit effort refl
-    (IfOk-weaker c.into_answer.result _ _ (λ answer answers. answers network c.args.limit c.in_ok-found.ensures.found) c.into_answer.ensures.answer)
+    (IfOk-weaker c.into_answer.result _ _ (λ answer answers. answers network c.args.limit c.in_ok-found.ensures.found) c.into_answer.ensures.shown)
     (IfOk-weaker c.into_answer.result _ _ (λ answer answers. answers effort (by_book effort c.in_ok-found.field-0.found c.in_ok-found.ensures.book))
     c.into_answer.ensures.method)
