@@ -7,6 +7,9 @@ use crate::search::Search;
 use crate::side::{bound_of, lead};
 use std::alloc::AllocError;
 
+/// How much work it counts as to look at a frame of a link from one side. A link that rests counts as one looked at from both.
+const LOOK: usize = 16;
+
 impl Search {
     /// Works out what follows, until nothing changes or the work that there may be is used up. False at a contradiction, which is noted
     /// as the clash.
@@ -146,14 +149,19 @@ impl Search {
         let Some(count) = self.rooms.count_on(link) else {
             return Ok(true);
         };
+        if self.may_rest() && self.rooms.rests(link) {
+            self.pace.spend(count.wrapping_mul(LOOK * 2));
+            return Ok(true);
+        }
         self.pace.spend(count);
         if !self.rooms.take(link, &self.known.trail.values)? {
             return Ok(true);
         }
         for side in 0..2 {
             let goes_on = self.look_from(link, side)?;
-            self.pace.spend(self.rooms.looked.wrapping_mul(16));
+            self.pace.spend(self.rooms.looked.wrapping_mul(LOOK));
             if !goes_on {
+                self.rooms.wake(link);
                 return Ok(false);
             }
             if self.known.trail.looked < self.known.trail.events.len() {
@@ -164,7 +172,13 @@ impl Search {
         Ok(true)
     }
 
+    // What a question comes to by its premises alone is worked out whole.
+    fn may_rest(&self) -> bool {
+        self.known.trail.level() > self.premises.len()
+    }
+
     fn call_again(&mut self, link: usize) -> Result<bool, AllocError> {
+        self.rooms.wake(link);
         self.rooms.call(link)?;
         Ok(true)
     }

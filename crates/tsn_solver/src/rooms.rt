@@ -3,7 +3,9 @@
 //! greatest at which its occupancy may end. Seen from the end of the cycle, on side 1, each number's sign is turned and heads are ends.
 //! Times are in nanoseconds.
 use crate::line::{Limit, Line, Standing, standing_at};
-use crate::number::{FAR, NONE, at, index, is_marked, less, mark, next, push, put, sum};
+use crate::number::{
+    FAR, NONE, at, index, is_marked, item_at, less, mark, next, push, put, put_item, sum,
+};
 use crate::ranks::Ranks;
 use crate::reason::{Part, Placing};
 use crate::record::{places_of, short};
@@ -28,6 +30,18 @@ pub struct Overload {
     pub slack: i64,
 }
 
+/// How often a link is called in vain at most after a look that found nothing.
+const LONGEST_REST: u32 = 15;
+
+// How many calls a link is left alone for since its last look found nothing, and how many of these are to come.
+#[derive(Clone, Copy)]
+struct Rest {
+    length: u32,
+    left: u32,
+}
+
+const NO_REST: Rest = Rest { length: 0, left: 0 };
+
 /// The links, and what is found of the one that is looked at.
 #[derive(Drop)]
 pub struct Rooms {
@@ -35,6 +49,8 @@ pub struct Rooms {
     /// How many frames were looked at.
     pub looked: usize,
     rooms: Vec<Room>,
+    // Of each link; empty where links don't rest.
+    rests: Vec<Rest>,
     // The links that are to be looked at.
     waiting: Vec<u32>,
     // How many of them were looked at.
@@ -77,6 +93,7 @@ impl Rooms {
             found: Vec::new(alloc),
             looked: 0,
             rooms: Vec::new(alloc),
+            rests: Vec::new(alloc),
             waiting: Vec::new(alloc),
             passed: 0,
             is_waiting: Vec::new(alloc),
@@ -88,6 +105,9 @@ impl Rooms {
     pub fn fill(&mut self, alloc: Global, table: &Table) -> Result<(), AllocError> {
         for shared in &table.links {
             self.add_room(alloc, shared)?;
+        }
+        if has_single_frames(&table.links) {
+            self.rests.resize(table.links.len(), NO_REST)?;
         }
         self.is_waiting.resize(table.links.len(), false)?;
         let most = self.most_frames();
@@ -161,8 +181,38 @@ impl Rooms {
         }
     }
 
-    /// Nothing was found from either side of the link in hand.
+    /// Whether a link that was called rests: it's called in vain after looks that found nothing, the more such looks the more often.
+    pub fn rests(&mut self, link: usize) -> bool {
+        let rest = item_at(&self.rests, link, NO_REST);
+        if rest.left == 0 {
+            return false;
+        }
+        let left = rest.left.wrapping_sub(1);
+        put_item(&mut self.rests, link, Rest { left, ..rest });
+        true
+    }
+
+    /// Something was found on the link in hand: it doesn't rest.
+    pub fn wake(&mut self, link: usize) {
+        put_item(&mut self.rests, link, NO_REST);
+    }
+
+    /// Nothing was found from either side of the link in hand: it rests.
     pub fn leave(&mut self, link: usize) {
+        let rest = item_at(&self.rests, link, NO_REST);
+        let length = rest
+            .length
+            .wrapping_mul(2)
+            .wrapping_add(1)
+            .min(LONGEST_REST);
+        put_item(
+            &mut self.rests,
+            link,
+            Rest {
+                length,
+                left: length,
+            },
+        );
         if let Some(room) = self.rooms.get_mut(link) {
             room.leave();
         }
@@ -227,6 +277,18 @@ impl Rooms {
             }
         }
     }
+}
+
+// Whether each stream sends one frame, in the time after which all of a link come again.
+fn has_single_frames(links: &[Shared]) -> bool {
+    for shared in links {
+        for visit in &shared.visits {
+            if visit.shift != 0 {
+                return false;
+            }
+        }
+    }
+    true
 }
 
 // So many frames of a row, from a place on.
