@@ -4,7 +4,7 @@ use Rattle.std.specs.Prelude.{slice_get}
 use Rattle.std.proofs.lemmas.Bool.{cases_lt}
 use Rattle.std.proofs.lemmas.List.{take-take, get_or-take, length-take-le}
 use Rattle.std.proofs.lemmas.Option.{get_or_from_slice_get, slice_get_within}
-use Rattle.tsn_argue.specs.First.{IsFirstWrong}
+use Rattle.tsn_argue.specs.First.{IsFirstWrong, IsFirstTold}
 
 there_taken : {X : Type 0} (xs : List X) (k m : ℕ) (x : X) → k < m → slice_get xs k ≡ Some x → slice_get (take m xs) k ≡ Some x
 there_taken [] zero m x below at = cc
@@ -39,6 +39,16 @@ module _ {X F : Type 0} (Right : List X → Type 0) (Wrong : List X → X → F 
       let there : Some one.there ≡ Some two.there = sym one.at ∙ ap (slice_get xs) place ∙ two.at in
       let same : one.there ≡ two.there = cc there in
       only (take two.k xs) two.there a b (subst (λ x. Wrong (take two.k xs) x a) same (subst (λ n. Wrong (take n xs) one.there a) place one.wrong)) two.wrong
+
+  pub told_refutes : {T : Type 0} (told : ℕ → F → T) (xs : List X) (fault : T) → IsFirstTold told Right Wrong xs fault → Right xs → ⊥
+  told_refutes told xs fault is right = first_wrong_refutes xs is.0 is.1 right
+
+  pub one_first_told : {T : Type 0} (told : ℕ → F → T) → ((before : List X) (x : X) (a b : F) → Wrong before x a → Wrong before x b → a ≡ b)
+      → (xs : List X) (a b : T) → IsFirstTold told Right Wrong xs a → IsFirstTold told Right Wrong xs b → a ≡ b
+  one_first_told told only xs a b one two =
+      let place = same_place xs one.0 two.0 one.1 two.1 in
+      let wrong = one_first_wrong only xs one.0 two.0 one.1 two.1 in
+      one.2 ∙ (λ i. told (place i) (wrong i)) ∙ sym two.2
 
 -- ---- what holds of an element of a list
 

@@ -12,7 +12,7 @@ use Rattle.tsn_model.proofs.Lists.{Contains-cons_cases}
 use Rattle.tsn_argue.specs.Faults.{IsWrongFrame, AreWrongOn, IsWrongChoice, AreAmong, AreWrongAmong}
 use Rattle.tsn_argue.specs.Seen.{Tells}
 use Rattle.tsn_argue.specs.declared.seen.Seen.{Seen}
-use Rattle.tsn_argue.specs.declared.fault.StepFault.{StepFault}
+use Rattle.tsn_argue.specs.declared.wrong.Wrong.{Wrong}
 
 no_pairs : AllPairs {X = Frame} ◌≢◌ []
 no_pairs = λ i j d order below. absurd (omega arith)
@@ -45,11 +45,11 @@ module _ (network : Network) (link : ℕ) where
   on_more first others k d below on uses new =
       subst (λ xs. AreOn network link (first ∷ xs)) (sym (take_more others k d below)) (on_push (first ∷ take k others) (get_or others k d) on uses new)
 
-  pub wrong_first : (first : Frame) (others : List Frame) (fault : StepFault) → IsWrongFrame network link [] first fault
+  pub wrong_first : (first : Frame) (others : List Frame) (fault : Wrong) → IsWrongFrame network link [] first fault
       → AreWrongOn network link (first ∷ others) fault
   wrong_first first others fault wrong = record { k = zero; there = first; right_before = on_none; at = refl; wrong = wrong }
 
-  pub wrong_next : (first : Frame) (others : List Frame) (k : ℕ) (d : Frame) (fault : StepFault) → k < length others
+  pub wrong_next : (first : Frame) (others : List Frame) (k : ℕ) (d : Frame) (fault : Wrong) → k < length others
       → AreOn network link (first ∷ take k others) → IsWrongFrame network link (first ∷ take k others) (get_or others k d) fault
       → AreWrongOn network link (first ∷ others) fault
   wrong_next first others k d fault below on wrong = record {
@@ -87,7 +87,7 @@ module _ (frames : List Frame) where
       → (Contains (take k some) (get_or some k d) → ⊥) → AreAmong frames (take (k + 1) some)
   among_more some k d below are has new = subst (AreAmong frames) (sym (take_more some k d below)) (among_push (take k some) (get_or some k d) are has new)
 
-  pub wrong_among : (some : List Frame) (k : ℕ) (d : Frame) (fault : StepFault) → k < length some → AreAmong frames (take k some)
+  pub wrong_among : (some : List Frame) (k : ℕ) (d : Frame) (fault : Wrong) → k < length some → AreAmong frames (take k some)
       → IsWrongChoice frames (take k some) (get_or some k d) fault → AreWrongAmong frames some fault
   wrong_among some k d fault below are wrong = inr (record {
     k = k;

@@ -1,5 +1,5 @@
 -- Moves: arcs of the view, rounds, and what is left of a clause.
-use Rattle.std.proofs.Common.{◌≡◌, ℕ, zero, suc, ◌+◌, ◌≤◌, ◌<◌, List, [], ◌∷◌, ◌++◌, length, take, get_or, map, Option, Some, None, ℤ, pos, ◌+ℤ◌, ◌-ℤ◌, ◌≤ℤ◌, ◌*◌, All, Contains, true, false, refl, sym, ap, ◌∙◌, subst, arith}
+use Rattle.std.proofs.Common.{◌≡◌, ℕ, zero, suc, ◌+◌, ◌≤◌, ◌<◌, List, [], ◌∷◌, ◌++◌, length, take, get_or, map, Option, Some, None, ℤ, pos, ◌+ℤ◌, ◌-ℤ◌, ◌≤ℤ◌, ◌*◌, All, Contains, true, false, refl, sym, ap, ◌∙◌, subst, inl, inr, arith}
 use Rattle.std.specs.Prelude.{Ok, not, drop, is_some}
 use Rattle.std.proofs.lemmas.Int.{ints}
 use Rattle.std.proofs.lemmas.Bool.{true≢false}
@@ -22,6 +22,10 @@ use Rattle.tsn_argument.specs.declared.order.Order.{Order}
 use Rattle.tsn_argument.specs.declared.fact.Fact.{Fact}
 use Rattle.std.specs.Borrow.{Bor}
 use Rattle.tsn_argument.specs.declared.fact.Clause.{Clause}
+use Rattle.std.proofs.lemmas.Option.{slice_get-get_or}
+use Rattle.tsn_argue.specs.declared.wrong.Wrong.{Wrong}
+use Rattle.tsn_argue.specs.declared.wrong.Wrong.TheVariants.{NotClosed}
+use Rattle.tsn_argue.specs.Faults.{IsWrongOrder, IsUnclosed}
 use Rattle.tsn_argue.specs.Motion.{FindsUnit, IsArcIn, clauses_of}
 
 -- ---- arcs
@@ -61,6 +65,18 @@ module _ (network : Network) where
   leads_at i j m [] k d below leads before = absurd (omega (arith, below))
   leads_at i j m (e ∷ ds) zero d below leads before = leads.0 ∙ before
   leads_at i j m (e ∷ ds) (suc k) d below leads before = leads_at (arc_of network e).to j m ds k d (omega (arith, below)) leads.1 before.1
+
+  leads_meet : (s at j : ℕ) (es : List Decision) (d : Decision) → LeadsBy network s es at → LeadsBy network s (es ++ d ∷ []) j → (arc_of network d).from ≡ at
+  leads_meet s at j [] d here there = there.0 ∙ here
+  leads_meet s at j (e ∷ es) d here there = leads_meet (arc_of network e).to at j es d here.1 there.1
+
+  -- where the decisions lead on with one more, that leaves where those before it arrive
+  pub meets : (start at i j : ℕ) (ds : List Decision) (k : ℕ) (d x : Decision) → k < length ds → get_or ds k x ≡ d
+      → start ≡ (arc_of network (get_or ds 0 x)).from → LeadsBy network start (take k ds) at → LeadsBy network i (take k ds ++ d ∷ []) j
+      → (arc_of network d).from ≡ at
+  meets start at i j [] k d x below is first here there = absurd (omega (arith, below))
+  meets start at i j (e ∷ es) zero d x below is first here there = ap (λ y. (arc_of network y).from) (sym is) ∙ sym first ∙ here
+  meets start at i j (e ∷ es) (suc k) d x below is first here there = leads_meet (arc_of network e).to at j (take k es) d here.1 there.1
 
   pub weight_more : (ds : List Decision) (d : Decision) → weight_by network (ds ++ d ∷ []) ≡ weight_by network ds +ℤ (arc_of network d).weight
   unfolding weight_by
@@ -103,26 +119,26 @@ module _ (view : View) (clause : List Fact) (k : ℕ) (d : Fact) (below : k < le
   has_step fact has = subst (λ facts. Contains facts fact) (sym (map_more fact_of clause k d below))
       (Contains-append_left (clause_of (take k clause)) (fact_of (get_or clause k d) ∷ []) fact has)
 
-  pub unit_skip : (left : Option Fact) → contradicts view (fact_of (get_or clause k d)) ≡ true → FindsUnit view (clause_of (take k clause)) (Ok left)
-      → FindsUnit view (clause_of (take (k + 1) clause)) (Ok left)
-  unit_skip None told found = open_step ∙ (λ i. found i ++ open_none view (fact_of (get_or clause k d)) told i)
-  unit_skip (Some fact) told found =
+  pub unit_skip : (n : ℕ) (left : Option Fact) → contradicts view (fact_of (get_or clause k d)) ≡ true
+      → FindsUnit view n (clause_of (take k clause)) (Ok left) → FindsUnit view n (clause_of (take (k + 1) clause)) (Ok left)
+  unit_skip n None told found = open_step ∙ (λ i. found i ++ open_none view (fact_of (get_or clause k d)) told i)
+  unit_skip n (Some fact) told found =
       (open_step ∙ (λ i. found.0 i ++ open_none view (fact_of (get_or clause k d)) told i), has_step (fact_of fact) found.1)
 
-  pub unit_first : (left : Option Fact) → is_some left ≡ false → contradicts view (fact_of (get_or clause k d)) ≡ false
-      → FindsUnit view (clause_of (take k clause)) (Ok left) → FindsUnit view (clause_of (take (k + 1) clause)) (Ok (Some (get_or clause k d)))
-  unit_first None none told found = (
+  pub unit_first : (n : ℕ) (left : Option Fact) → is_some left ≡ false → contradicts view (fact_of (get_or clause k d)) ≡ false
+      → FindsUnit view n (clause_of (take k clause)) (Ok left) → FindsUnit view n (clause_of (take (k + 1) clause)) (Ok (Some (get_or clause k d)))
+  unit_first n None none told found = (
     open_step ∙ (λ i. found i ++ open_one view (fact_of (get_or clause k d)) told i),
     subst (λ facts. Contains facts (fact_of (get_or clause k d))) (sym (map_more fact_of clause k d below))
         (Contains-push (clause_of (take k clause)) (fact_of (get_or clause k d))),
   )
-  unit_first (Some fact) some told found = absurd (true≢false some)
+  unit_first n (Some fact) some told found = absurd (true≢false some)
 
-  pub unit_two : (left : Option Fact) → is_some left ≡ true → contradicts view (fact_of (get_or clause k d)) ≡ false
-      → FindsUnit view (clause_of (take k clause)) (Ok left) → 1 < length (left_open view (clause_of clause))
+  pub unit_two : (n : ℕ) (left : Option Fact) → is_some left ≡ true → contradicts view (fact_of (get_or clause k d)) ≡ false
+      → FindsUnit view n (clause_of (take k clause)) (Ok left) → 1 < length (left_open view (clause_of clause))
   unfolding left_open
-  unit_two None some told found = absurd (true≢false (sym some))
-  unit_two (Some fact) some told found =
+  unit_two n None some told found = absurd (true≢false (sym some))
+  unit_two n (Some fact) some told found =
       let front : left_open view (clause_of (take (k + 1) clause)) ≡ fact_of fact ∷ fact_of (get_or clause k d) ∷ [] =
       open_step ∙ (λ i. found.0 i ++ open_one view (fact_of (get_or clause k d)) told i) in
       let whole : clause_of (take (k + 1) clause) ++ clause_of (drop (k + 1) clause) ≡ clause_of clause =
@@ -133,13 +149,22 @@ module _ (view : View) (clause : List Fact) (k : ℕ) (d : Fact) (below : k < le
       let two = ap length front in
       omega (arith, long, two)
 
+  pub count_skip : contradicts view (fact_of (get_or clause k d)) ≡ true
+      → length (left_open view (clause_of (take (k + 1) clause))) ≡ length (left_open view (clause_of (take k clause)))
+  count_skip told =
+      let parts = ap length open_step ∙ length-append (left_open view (clause_of (take k clause))) (left_open view (fact_of (get_or clause k d) ∷ [])) in
+      let none = ap length (open_none view (fact_of (get_or clause k d)) told) in
+      omega (arith, parts, none)
+
+  pub count_more : contradicts view (fact_of (get_or clause k d)) ≡ false
+      → length (left_open view (clause_of (take (k + 1) clause))) ≡ length (left_open view (clause_of (take k clause))) + 1
+  count_more told =
+      let parts = ap length open_step ∙ length-append (left_open view (clause_of (take k clause))) (left_open view (fact_of (get_or clause k d) ∷ [])) in
+      let one = ap length (open_one view (fact_of (get_or clause k d)) told) in
+      omega (arith, parts, one)
+
 -- the orders of a round
 module _ (network : Network) (view : View) (orders : List Order) (blank : Order) where
-  pub order_had : (k : ℕ) (decision : Decision) → k < length orders → decision ≡ decision_of (get_or orders k blank)
-      → All (Contains view.orders) (map decision_of orders) → Contains view.orders decision
-  order_had k decision below is all =
-      subst (Contains view.orders) (sym is) (All-unmap (Contains view.orders) decision_of orders all k blank below)
-
   at_place : (k : ℕ) (decision : Decision) → k < length orders → decision ≡ decision_of (get_or orders k blank)
       → get_or (map decision_of orders) k (decision_of blank) ≡ decision
   at_place k decision below is = get_or-map decision_of orders k blank (decision_of blank) below ∙ sym is
@@ -192,6 +217,34 @@ module _ (network : Network) (view : View) (orders : List Order) (blank : Order)
         subst (λ list. LeadsBy network start list at) whole walked.leads,
         walked.weighs ∙ ap (weight_by network) whole,
       )
+
+  -- the first decision that is wrong
+  pub order_wrong : (start k at : ℕ) (weight : ℤ) (decision : Decision) (wrong : Wrong) → k < length orders → decision ≡ decision_of (get_or orders k blank)
+      → IsWrongOrder network view (take k (map decision_of orders)) decision wrong
+      → IsWalked network view start (map decision_of orders) k at weight → IsUnclosed network view (map decision_of orders) wrong
+  order_wrong start k at weight decision wrong below is wrong_there walked = inl (record {
+    k = k;
+    there = decision;
+    right_before = (walked.all, (start, at, walked.leads));
+    at = slice_get-get_or (map decision_of orders) k (decision_of blank) (in_map k below) ∙ ap Some (at_place k decision below is);
+    wrong = wrong_there;
+  })
+
+  pub order_apart : (k at : ℕ) (weight : ℤ) (first decision : Decision) (begin arc : Arc) → k < length orders
+      → first ≡ decision_of (get_or orders 0 blank) → decision ≡ decision_of (get_or orders k blank) → begin ≡ arc_of network first
+      → IsArcIn network view decision arc → (arc.from ≡ at → ⊥)
+      → IsWalked network view begin.from (map decision_of orders) k at weight → IsUnclosed network view (map decision_of orders) NotClosed
+  order_apart k at weight first decision begin arc below first_is is begin_is in_view apart walked =
+      let ds = map decision_of orders in
+      let begins : begin.from ≡ (arc_of network (get_or ds 0 (decision_of blank))).from =
+      ap (λ (a : Arc). a.from) (begin_is ∙ ap (arc_of network) (sym (at_place 0 first (omega (arith, below)) first_is))) in
+      order_wrong begin.from k at weight decision NotClosed below is (inr (
+        refl,
+        in_view.has,
+        λ lead. apart (ap (λ (a : Arc). a.from) in_view.is
+            ∙ meets network begin.from at lead.1.0 lead.1.1 ds k decision (decision_of blank) (in_map k below) (at_place k decision below is) begins
+            walked.leads lead.1.2),
+      )) walked
 
 -- ---- what a move shows
 

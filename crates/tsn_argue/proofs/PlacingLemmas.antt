@@ -11,7 +11,7 @@ use Rattle.tsn_argument.specs.declared.motion.Placing.{Placing}
 use Rattle.tsn_argue.specs.Faults.{AreWrongAmong}
 use Rattle.tsn_argue.specs.Motion.{FindsPlacing}
 use Rattle.tsn_argue.specs.Frames.{FindsChoice}
-use Rattle.tsn_argue.specs.declared.fault.StepFault.{StepFault}
+use Rattle.tsn_argue.specs.declared.wrong.Wrong.{Wrong}
 use Rattle.tsn_argue.proofs.MotionLemmas.{one_fact}
 
 module _ (network : Network) (link : ℕ) (frame : Frame) (frames : List Frame) (on : AreOn network link (frame ∷ frames)) where
@@ -49,7 +49,7 @@ module _ (network : Network) (clauses : List (List ModelFact)) (view : View) (li
   first_shown is same = is ∙ ap (λ x. until frame.stream x ∷ []) same
 
 -- the frames of a placing are right where the choice is
-pub placed : (network : Network) (placing : Placing) (others some : List Frame) (result : Result Unit StepFault) → others ≡ placing.others
+pub placed : (network : Network) (placing : Placing) (others some : List Frame) (result : Result Unit Wrong) → others ≡ placing.others
     → some ≡ placing.some → AreOn network placing.link (placing.frame ∷ others) → FindsChoice others some result → FindsPlacing network placing result
 placed network placing others some (Ok _) same_others same_some on choice = (
   subst (λ list. AreOn network placing.link (placing.frame ∷ list)) same_others on,

@@ -1,6 +1,6 @@
 -- When the goal is settled, and what the goal adds to the ground.
-use Rattle.std.proofs.Common.{◌≡◌, ℕ, List, length, ℤ, pos, ◌≤ℤ◌, ◌<ℤ◌, Bool, true, false, refl, sym, subst, inl, inr, arith}
-use Rattle.std.specs.Prelude.{MatchBool, Result, Ok, Err, OnOk, int_le}
+use Rattle.std.proofs.Common.{◌≡◌, ℕ, List, length, ℤ, pos, ◌≤ℤ◌, ◌<ℤ◌, true, false, refl, sym, subst, inl, inr, arith}
+use Rattle.std.specs.Prelude.{Result, Ok, Err, OnOk, Option, Some, None, int_le}
 use Rattle.std.specs.Borrow.{Bor}
 use Rattle.std.proofs.lemmas.Int.{ints}
 use Rattle.tsn_model.specs.Network.{Network, stream_count}
@@ -8,9 +8,10 @@ use Rattle.tsn_model.specs.Schedule.{flowspan}
 use Rattle.tsn_model.specs.Argument as model
 use Rattle.tsn_model.specs.Argument.{goal_first, goal_least, goal_none, IsImpossible, IsPlanAlone, IsSettled, settled, capped}
 use Rattle.tsn_argue.specs.State.{view_of, IsSound, Becomes}
-use Rattle.tsn_argue.specs.Steps.{goal_of, capped_view, Reaches}
+use Rattle.tsn_argue.specs.Steps.{goal_of, capped_view, FindsBelow, FindsOpen}
 use Rattle.tsn_argue.specs.declared.aim.Aim.{Aim}
 use Rattle.tsn_argue.specs.declared.aim.Aim.TheVariants as aim
+use Rattle.tsn_argue.specs.declared.fault.Open.{Open}
 use Rattle.tsn_argue.specs.declared.view.View.{View}
 
 int_le-yes : (a b : ℤ) → a ≤ℤ b → int_le a b ≡ true
@@ -49,11 +50,19 @@ on_same old new after other (Ok u) same become = subst (Becomes old new) same be
 
 -- ---- the end
 
-pub alone_told : (network : Network) (plan : List ℕ) (view : model.View) (told : Bool) → length plan ≡ stream_count network → (IsImpossible network view → ⊥)
-    → pos (flowspan network plan) ≤ℤ view.done_low → MatchBool told (Reaches view plan) (Reaches view plan → ⊥)
-    → MatchBool told (IsSettled network (goal_first plan) view) (IsSettled network (goal_first plan) view → ⊥)
-alone_told network plan view true count possible done reaches = inr (done, λ i below. reaches i (omega arith))
-alone_told network plan view false count possible done reaches = λ settles. elim settles [
-  | inl past ↦ possible past
-  | inr alone ↦ reaches (λ i below. alone.1 i (omega arith))
-]
+-- where the flowspan can't be below that of the plan, the streams tell what is left
+pub open_first : (network : Network) (plan : List ℕ) (view : model.View) (found : Option Open) → length plan ≡ stream_count network
+    → (IsImpossible network view → ⊥) → pos (flowspan network plan) ≤ℤ view.done_low → FindsBelow plan view found
+    → FindsOpen network (goal_first plan) view found
+open_first network plan view None count possible done reaches = inr (done, λ i below. reaches i (omega arith))
+open_first network plan view (Some left) count possible done is =
+    let there = is.1.there in (
+      λ settles. elim settles [
+        | inl past ↦ possible past
+        | inr alone ↦
+            let reached = alone.1 is.0 (omega (arith, there, count)) in
+            let below = is.1.below in
+            omega (arith, ints, reached, below)
+      ],
+      inr (done, is),
+    )

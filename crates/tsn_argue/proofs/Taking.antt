@@ -3,13 +3,12 @@ use Rattle.std.proofs.Common.{◌≡◌, ◌≢◌, ◌⊎◌, List, [], map, Bo
 use Rattle.std.specs.Prelude.{MatchBool}
 use Rattle.tsn_model.specs.Argument as model
 use Rattle.tsn_model.specs.Argument.{IsFact, IsImpossible, IsRight, opposite, learned, learned_all, narrowed, AreAllowed, begun, ended}
-use Rattle.tsn_argue.specs.First.{IsFirstWrong}
-use Rattle.tsn_argue.specs.Faults.{IsWrongFact, IsWrongNext, IsWrongStep}
+use Rattle.tsn_argue.specs.Faults.{IsFactFault, IsMoveFault, IsWrongStep}
 use Rattle.tsn_argue.specs.State.{view_of, base_of, IsSound, Becomes}
 use Rattle.tsn_argue.specs.Steps.{known_on}
 use Rattle.tsn_argue.specs.declared.view.View.{View}
 use Rattle.tsn_argue.specs.declared.fault.StepFault.{StepFault}
-use Rattle.tsn_argue.specs.declared.fault.StepFault.TheVariants as kind
+use Rattle.tsn_argue.specs.declared.fault.StepFault.TheVariants as of_step
 
 -- one change after another
 pub then_becomes : (old mid new : View) (between after : model.View) → Becomes old mid between → Becomes mid new after → Becomes old new after
@@ -44,23 +43,22 @@ module _ (old : View) (sound : IsSound old) (ready : view_of old ≡ base_of old
   unfolding begun
   begins mid supposed = supposed.view ∙ ap (λ v. learned_all v (map opposite step.clause)) ready
 
-  pub settled_step : old.crossed ≡ true → IsWrongStep old.timing.now (known_on old clauses) step kind.Settled
+  pub settled_step : old.crossed ≡ true → IsWrongStep old.timing.now (known_on old clauses) step of_step.Settled
   settled_step is = inl (subst (IsImpossible old.timing.now) ready (impossible old sound is), refl)
 
-  pub wrong_fact_step : (fault : StepFault) → old.crossed ≡ false
-      → IsFirstWrong (All (IsFact old.timing.now)) (λ before. IsWrongFact old.timing.now) step.clause fault
+  pub wrong_fact_step : (fault : StepFault) → old.crossed ≡ false → IsFactFault old.timing.now step.clause fault
       → IsWrongStep old.timing.now (known_on old clauses) step fault
   wrong_fact_step fault is wrong = inr (inl (ground_open is, wrong))
 
   pub wrong_move_step : (mid : View) (fault : StepFault) → old.crossed ≡ false → All (IsFact old.timing.now) step.clause
       → Becomes old mid (learned_all (view_of old) (map opposite step.clause))
-      → IsFirstWrong (AreAllowed mid.timing.now clauses (view_of mid)) (IsWrongNext mid.timing.now clauses (view_of mid)) step.moves fault
+      → IsMoveFault mid.timing.now clauses (view_of mid) step.moves fault
       → IsWrongStep old.timing.now (known_on old clauses) step fault
   wrong_move_step mid fault is facts supposed wrong = inr (inr (inl (
     ground_open is,
     facts,
-    subst (λ v. IsFirstWrong (AreAllowed old.timing.now clauses v) (IsWrongNext old.timing.now clauses v) step.moves fault) (begins mid supposed)
-        (subst (λ n. IsFirstWrong (AreAllowed n clauses (view_of mid)) (IsWrongNext n clauses (view_of mid)) step.moves fault) supposed.network wrong),
+    subst (λ v. IsMoveFault old.timing.now clauses v step.moves fault) (begins mid supposed)
+        (subst (λ n. IsMoveFault n clauses (view_of mid) step.moves fault) supposed.network wrong),
   )))
 
   -- the moves of a step
@@ -111,6 +109,6 @@ module _ (old : View) (sound : IsSound old) (ready : view_of old ≡ base_of old
   pub failed_step : (mid new : View) → old.crossed ≡ false → All (IsFact old.timing.now) step.clause
       → Becomes old mid (learned_all (view_of old) (map opposite step.clause)) → AreAllowed mid.timing.now clauses (view_of mid) step.moves
       → Becomes mid new (narrowed mid.timing.now clauses (view_of mid) step.moves) → new.crossed ≡ false → step.clause ≢ []
-      → IsWrongStep old.timing.now (known_on old clauses) step kind.Fails
+      → IsWrongStep old.timing.now (known_on old clauses) step of_step.Unshown
   failed_step mid new is facts supposed allowed made left some =
       inr (inr (inr (ground_open is, facts, allowed_on mid supposed allowed, some, last_possible new (ends mid new supposed made) left, refl)))

@@ -1,6 +1,6 @@
 -- Moves and steps that are taken one after another.
 use Rattle.std.proofs.Common.{◌≡◌, ◌≢◌, ◌⊎◌, ℕ, ◌+◌, ◌<◌, ◌≤◌, List, [], ◌∷◌, ◌++◌, length, take, get_or, map, true, false, All, refl, sym, ap, ◌∙◌, subst, inl, inr, arith, eqb-true}
-use Rattle.std.specs.Prelude.{Result, Ok, Err, ◌==◌}
+use Rattle.std.specs.Prelude.{Result, Ok, Err, Some, ◌==◌}
 use Rattle.std.proofs.lemmas.Bool.{false≢true}
 use Rattle.std.proofs.lemmas.List.{take_all, length-map}
 use Rattle.std.proofs.lemmas.List.Elements.{All-push}
@@ -13,18 +13,20 @@ use Rattle.tsn_argument.specs.declared.fact.Clause.{Clause}
 use Rattle.tsn_argument.specs.declared.fact.Fact.{Fact}
 use Rattle.tsn_argument.specs.declared.motion.Move.{Move}
 use Rattle.tsn_argument.specs.declared.step.Step.{Step}
-use Rattle.tsn_check.specs.declared.fault.CheckFault.TheVariants.{Memory, TreeUnfinished}
-use Rattle.tsn_argue.specs.Faults.{IsWrongMove, IsWrongNext, IsWrongStep, IsWrongAfter, IsArgumentFault, AreRight, known_by, known_from, first_known}
+use Rattle.tsn_argue.specs.Faults.{IsWrongMove, IsWrongNext, IsWrongStep, IsWrongAfter, IsOpen, IsArgumentFault, AreRight, known_by, known_from, first_known}
 use Rattle.tsn_argue.specs.State.{view_of, base_of, IsSound, Becomes}
 use Rattle.tsn_argue.specs.Motion.{clauses_of, AreFacts}
-use Rattle.tsn_argue.specs.Steps.{TakesMove, TakesMoves, ShowsStep, TakesStep, KeepsClause, IsReady, IsFirst, known_of, view_with, clauses_with, fault_of}
+use Rattle.tsn_argue.specs.Steps.{TakesMove, TakesMoves, ShowsStep, TakesStep, KeepsClause, IsReady, IsFirst, known_of, view_with, clauses_with, fault_of, FindsOpen}
 use Rattle.tsn_argue.specs.declared.aim.Stop.{Stop}
 use Rattle.tsn_argue.specs.declared.aim.Stop.TheVariants as stop
-use Rattle.tsn_argue.specs.declared.fault.StepFault.{StepFault}
-use Rattle.tsn_argue.specs.declared.fault.StepFault.TheVariants as kind
+use Rattle.tsn_argue.specs.declared.wrong.Wrong.{Wrong}
+use Rattle.tsn_argue.specs.declared.wrong.Wrong.TheVariants as kind
+use Rattle.tsn_argue.specs.declared.fault.StepFault.TheVariants as of_step
+use Rattle.tsn_argue.specs.declared.fault.Open.{Open}
+use Rattle.tsn_argue.specs.declared.fault.ArgumentFault.TheVariants.{Step as StepWrong, Unfinished, Memory}
 use Rattle.tsn_argue.specs.declared.step.Known.{Known}
 use Rattle.tsn_argue.specs.declared.view.View.{View}
-use Rattle.tsn_argue.proofs.Ordered.{wrong_at}
+use Rattle.tsn_argue.proofs.Ordered.{told_at}
 use Rattle.tsn_argue.proofs.StepParts.{mapped_take}
 use Rattle.tsn_argue.proofs.StepLemmas.{narrowed-push, AreAllowed-push, known_by-push, AreRight-push, concludes}
 use Rattle.tsn_argue.proofs.Taking.{possible, impossible, wrong_move_step}
@@ -32,11 +34,11 @@ use Rattle.tsn_argue.proofs.Taking.{possible, impossible, wrong_move_step}
 -- ---- one move
 
 pub late_move : (old : View) (clauses : List (List model.Fact)) (move : model.Move) → IsSound old → old.crossed ≡ true
-    → IsWrongNext old.timing.now clauses (view_of old) [] move kind.Settled
+    → IsWrongNext old.timing.now clauses (view_of old) [] move kind.Crossed
 unfolding narrowed
 late_move old clauses move sound is = inl (impossible old sound is, refl)
 
-pub wrong_one : (old : View) (clauses : List (List model.Fact)) (move : model.Move) (fault : StepFault) → IsSound old → old.crossed ≡ false
+pub wrong_one : (old : View) (clauses : List (List model.Fact)) (move : model.Move) (fault : Wrong) → IsSound old → old.crossed ≡ false
     → IsWrongMove old.timing.now clauses (view_of old) move fault
     → IsWrongNext old.timing.now clauses (view_of old) [] move fault
 unfolding narrowed
@@ -48,26 +50,27 @@ pub none_made : (old : View) (clauses : List (List model.Fact)) → IsSound old 
 unfolding narrowed
 none_made old clauses sound = record { sound = sound; network = refl; base = refl; view = refl }
 
-behind : (network : Network) (clauses : List (List model.Fact)) (v w : model.View) (before : List model.Move) (move : model.Move) (fault : StepFault)
+behind : (network : Network) (clauses : List (List model.Fact)) (v w : model.View) (before : List model.Move) (move : model.Move) (fault : Wrong)
     → w ≡ narrowed network clauses v before → IsWrongNext network clauses w [] move fault → IsWrongNext network clauses v before move fault
 unfolding narrowed
 behind network clauses v w before move fault same wrong =
-    subst (λ u. (IsImpossible network u × (fault ≡ kind.Settled)) ⊎ ((IsImpossible network u → ⊥) × IsWrongMove network clauses u move fault)) same wrong
+    subst (λ u. (IsImpossible network u × (fault ≡ kind.Crossed)) ⊎ ((IsImpossible network u → ⊥) × IsWrongMove network clauses u move fault)) same wrong
 
 module _ (old now : View) (clauses : List (List model.Fact)) (xs : List Move) (k : ℕ) (m : Move) where
   pub moves_wrong : (other new : View) (e : Stop) → k < length xs → m ≡ get_or xs k m
       → AreAllowed old.timing.now clauses (view_of old) (map move_of (take k xs))
-      → Becomes old now (narrowed old.timing.now clauses (view_of old) (map move_of (take k xs))) → TakesMove now other clauses (move_of m) (Err e)
+      → Becomes old now (narrowed old.timing.now clauses (view_of old) (map move_of (take k xs))) → TakesMove now other clauses k (move_of m) (Err e)
       → TakesMoves old new clauses (map move_of xs) (Err e)
   moves_wrong other new (stop.Wrong fault) below is allowed become wrong =
-      wrong_at move_of (AreAllowed old.timing.now clauses (view_of old)) (IsWrongNext old.timing.now clauses (view_of old)) xs k m fault below allowed
-      (subst (λ x. IsWrongNext old.timing.now clauses (view_of old) (map move_of (take k xs)) (move_of x) fault) is
-      (behind old.timing.now clauses (view_of old) (view_of now) (map move_of (take k xs)) (move_of m) fault become.view
-      (subst (λ n. IsWrongNext n clauses (view_of now) [] (move_of m) fault) become.network wrong)))
+      told_at move_of of_step.Move (AreAllowed old.timing.now clauses (view_of old)) (IsWrongNext old.timing.now clauses (view_of old)) xs k m wrong.0 fault
+      below allowed
+      (subst (λ x. IsWrongNext old.timing.now clauses (view_of old) (map move_of (take k xs)) (move_of x) wrong.0) is
+      (behind old.timing.now clauses (view_of old) (view_of now) (map move_of (take k xs)) (move_of m) wrong.0 become.view
+      (subst (λ n. IsWrongNext n clauses (view_of now) [] (move_of m) wrong.0) become.network wrong.1))) wrong.2
   moves_wrong other new stop.Memory below is allowed become wrong = tt
 
   pub moves_more : (new : View) → k < length xs → m ≡ get_or xs k m → AreAllowed old.timing.now clauses (view_of old) (map move_of (take k xs))
-      → Becomes old now (narrowed old.timing.now clauses (view_of old) (map move_of (take k xs))) → TakesMove now new clauses (move_of m) (Ok tt)
+      → Becomes old now (narrowed old.timing.now clauses (view_of old) (map move_of (take k xs))) → TakesMove now new clauses k (move_of m) (Ok tt)
       → AreAllowed old.timing.now clauses (view_of old) (map move_of (take (k + 1) xs))
       × Becomes old new (narrowed old.timing.now clauses (view_of old) (map move_of (take (k + 1) xs)))
   moves_more new below is allowed become taken =
@@ -226,16 +229,12 @@ module _ (network : Network) (goal : model.Goal) (old new : Known) (steps : List
   pub reached_wrong : (e : Stop) → k < length steps → step ≡ get_or steps k step → Reached network goal old steps k
       → TakesStep goal old new (step_of step) (Err e)
       → (fault_of k e ≡ Memory) ⊎ IsArgumentFault network goal (steps_of steps) (fault_of k e)
-  unfolding wrong_at
   reached_wrong (stop.Wrong fault) below is reached wrong =
-      inr (inl (
-        fault,
-        wrong_at step_of (AreRight network goal (first_known network goal)) (IsWrongAfter network goal) steps k step fault below reached.right
-            (subst (λ x. IsWrongStep network (known_by network goal (first_known network goal) (map step_of (take k steps))) (step_of x) fault) is
-            (subst (λ known. IsWrongStep network known (step_of step) fault) reached.is
-            (subst (λ n. IsWrongStep n (known_of old) (step_of step) fault) reached.same_network wrong))),
-        refl,
-      ))
+      inr (inl (told_at step_of StepWrong (AreRight network goal (first_known network goal)) (IsWrongAfter network goal) steps k step fault (StepWrong k fault)
+      below reached.right
+      (subst (λ x. IsWrongStep network (known_by network goal (first_known network goal) (map step_of (take k steps))) (step_of x) fault) is
+      (subst (λ known. IsWrongStep network known (step_of step) fault) reached.is
+      (subst (λ n. IsWrongStep n (known_of old) (step_of step) fault) reached.same_network wrong))) refl))
   reached_wrong stop.Memory below is reached wrong = inl refl
 
 all_taken : (network : Network) (goal : model.Goal) (known : Known) (steps : List Step) (k : ℕ) → length steps ≤ k → Reached network goal known steps k
@@ -254,15 +253,21 @@ argued network goal known steps k done reached settles =
     concludes network goal (first_known network goal) (steps_of steps) all.0
     (subst (IsSettled network goal) (reached.ready.even ∙ all.1) (subst (λ n. IsSettled n goal (view_of known.view)) reached.same_network settles))
 
-pub unfinished : (network : Network) (goal : model.Goal) (known : Known) (steps : List Step) (k : ℕ) → length steps ≤ k → Reached network goal known steps k
-    → (IsSettled known.view.timing.now goal (view_of known.view) → ⊥) → IsArgumentFault network goal (steps_of steps) (TreeUnfinished (length steps))
-unfinished network goal known steps k done reached unsettled =
+pub unfinished : (network : Network) (goal : model.Goal) (known : Known) (steps : List Step) (k : ℕ) (left : Open) → length steps ≤ k
+    → Reached network goal known steps k → FindsOpen known.view.timing.now goal (view_of known.view) (Some left)
+    → IsArgumentFault network goal (steps_of steps) (Unfinished (length steps) left)
+unfinished network goal known steps k left done reached unsettled =
     let all = all_taken network goal known steps k done reached in
     inr (
       all.0,
-      (λ settles. unsettled (subst (λ n. IsSettled n goal (view_of known.view)) (sym reached.same_network)
+      (λ settles. unsettled.0 (subst (λ n. IsSettled n goal (view_of known.view)) (sym reached.same_network)
           (subst (IsSettled network goal) (sym (reached.ready.even ∙ all.1)) settles))),
-      ap TreeUnfinished (sym (length-map steps step_of)),
+      (
+        left,
+        subst (λ v. IsOpen network goal v left) (reached.ready.even ∙ all.1)
+            (subst (λ n. IsOpen n goal (view_of known.view) left) reached.same_network unsettled.1),
+        ap (λ n. Unfinished n left) (sym (length-map steps step_of)),
+      ),
     )
 
 pub taken_wrong : (goal : model.Goal) (old new : Known) (shown : View) (step : model.Step) (e : Stop)

@@ -13,10 +13,10 @@ use Rattle.tsn_argument.specs.declared.argument.Goal.{Goal}
 use Rattle.tsn_argument.specs.declared.argument.Goal.TheVariants as aim
 use Rattle.tsn_argument.specs.declared.step.Step.{Step}
 use Rattle.tsn_check.specs.Plans.{IsPlanRight, IsOptimalPlan, IsFirstPlan}
-use Rattle.tsn_check.specs.declared.fault.CheckFault.{CheckFault}
 use Rattle.tsn_check.specs.declared.verdict.Verdict.TheVariants.{Optimal, First, NoSchedule}
 use Rattle.tsn_argue.specs.Certified.{goal_for, IsFitting, ArgumentCertifies, argument_verdict}
-use Rattle.tsn_argue.specs.Faults.{IsArgumentFault, IsShowFault}
+use Rattle.tsn_argue.specs.Faults.{IsArgumentFault, IsWhy}
+use Rattle.tsn_argue.specs.declared.fault.ArgumentFault.{ArgumentFault}
 use Rattle.tsn_argue.specs.Told.{Event, with_told, told_of}
 
 -- ---- what a goal shows of a plan
@@ -85,7 +85,7 @@ module _ (network timing : Network) (p : Plan) (argument : Argument) (goal : mod
   }
 
   -- a fault of the steps is the first one
-  pub step_fault_first : (fault : CheckFault) → IsArgumentFault timing goal (steps_of steps) fault → IsShowFault network p argument fault
+  pub step_fault_first : (fault : ArgumentFault) → IsArgumentFault timing goal (steps_of steps) fault → IsWhy network p argument fault
   step_fault_first fault is =
       let here : IsArgumentFault timing goal (steps_of argument.steps) fault = subst (λ s. IsArgumentFault timing goal (steps_of s) fault) listed is in
       let whole = subst (λ n. IsArgumentFault n goal (steps_of argument.steps) fault) same here in

@@ -9,6 +9,10 @@ pub record IsFirstWrong {X F : Type 0} (Right : List X → Type 0) (Wrong : List
   pub at : slice_get xs k ≡ Some there
   pub wrong : Wrong (take k xs) there fault
 
+-- the first wrong element is told by its number, and by what is wrong with it
+abbrev pub IsFirstTold : {X F T : Type 0} (told : ℕ → F → T) → (List X → Type 0) → (List X → X → F → Type 0) → List X → T → Type 0
+IsFirstTold {X} {F} told Right Wrong xs fault = (wrong : F) × (first : IsFirstWrong Right Wrong xs wrong) × (fault ≡ told first.k wrong)
+
 -- the elements are right, or the first wrong one is told
 abbrev pub Judges : {X F : Type 0} → (List X → Type 0) → (List X → X → F → Type 0) → List X → Result Unit F → Type 0
 Judges Right Wrong xs (Ok _) = Right xs

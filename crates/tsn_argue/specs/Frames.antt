@@ -4,27 +4,32 @@ use Rattle.tsn_model.specs.declared.Frame.{Frame}
 use Rattle.tsn_model.specs.Network.{Network}
 use Rattle.tsn_model.specs.Certificate.{IsFrameOn}
 use Rattle.tsn_model.specs.Argument.{AreOn, AreSome}
-use Rattle.tsn_argue.specs.Faults.{IsWrongFrame, AreWrongOn, IsWrongChoice, AreWrongAmong}
+use Rattle.tsn_argue.specs.Faults.{IsOffLink, IsWrongFrame, AreWrongOn, IsWrongChoice, AreWrongAmong}
 use Rattle.tsn_argue.specs.Seen.{Tells}
 use Rattle.tsn_argue.specs.declared.seen.Seen.{Seen}
-use Rattle.tsn_argue.specs.declared.fault.StepFault.{StepFault}
+use Rattle.tsn_argue.specs.declared.wrong.Wrong.{Wrong}
+
+-- the frame is on the link, or it is told why it isn't
+abbrev pub FindsOn : Network → ℕ → Frame → Result Unit Wrong → Type 0
+FindsOn network link frame (Ok _) = IsFrameOn network link frame
+FindsOn network link frame (Err wrong) = IsOffLink network link frame wrong
 
 -- behind others the frame is on the link and another one, or it is told what is wrong with it
-abbrev pub FindsFrame : Network → ℕ → List Frame → Frame → Result Unit StepFault → Type 0
+abbrev pub FindsFrame : Network → ℕ → List Frame → Frame → Result Unit Wrong → Type 0
 FindsFrame network link before frame (Ok _) = IsFrameOn network link frame × (Contains before frame → ⊥)
-FindsFrame network link before frame (Err fault) = IsWrongFrame network link before frame fault
+FindsFrame network link before frame (Err wrong) = IsWrongFrame network link before frame wrong
 
 -- the frames are different ones on the link, and those behind the first are marked
-abbrev pub FindsFrames : Network → ℕ → Frame → List Frame → Result Seen StepFault → Type 0
+abbrev pub FindsFrames : Network → ℕ → Frame → List Frame → Result Seen Wrong → Type 0
 FindsFrames network link first others (Ok seen) = AreOn network link (first ∷ others) × Tells seen others
-FindsFrames network link first others (Err fault) = AreWrongOn network link (first ∷ others) fault
+FindsFrames network link first others (Err wrong) = AreWrongOn network link (first ∷ others) wrong
 
 -- the same for a frame that is to be one of these
-abbrev pub FindsOne : List Frame → List Frame → Frame → Result Unit StepFault → Type 0
+abbrev pub FindsOne : List Frame → List Frame → Frame → Result Unit Wrong → Type 0
 FindsOne frames before frame (Ok _) = Contains frames frame × (Contains before frame → ⊥)
-FindsOne frames before frame (Err fault) = IsWrongChoice frames before frame fault
+FindsOne frames before frame (Err wrong) = IsWrongChoice frames before frame wrong
 
 -- and for all of them
-abbrev pub FindsChoice : List Frame → List Frame → Result Unit StepFault → Type 0
+abbrev pub FindsChoice : List Frame → List Frame → Result Unit Wrong → Type 0
 FindsChoice frames some (Ok _) = AreSome frames some
-FindsChoice frames some (Err fault) = AreWrongAmong frames some fault
+FindsChoice frames some (Err wrong) = AreWrongAmong frames some wrong

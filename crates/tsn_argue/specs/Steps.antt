@@ -1,23 +1,26 @@
 -- What is found of the steps of an argument.
 --     goal_of, IsAim                                       what is to be shown
 --     known_of, IsReady, IsFirst                           what is known between two steps
+--     FindsOpen                                            whether a view settles the goal, or what it leaves in question
 --     JudgesFacts, TakesMoves, ShowsStep, TakesStep        what becomes of a step, or what is wrong with it
-use Rattle.std.specs.Prelude.{◌≡◌, ℕ, ◌<◌, List, [], ◌∷◌, ◌++◌, length, slice_index_or, ℤ, pos, ◌≤ℤ◌, ◌<ℤ◌, All, Result, Ok, Err}
+use Rattle.std.specs.Prelude.{◌≡◌, ℕ, ◌<◌, List, [], ◌∷◌, ◌++◌, length, slice_index_or, ℤ, pos, ◌≤ℤ◌, ◌<ℤ◌, All, Result, Ok, Err, Option, Some, None}
 use Rattle.tsn_model.specs.Network.{Network}
 use Rattle.tsn_model.specs.Schedule.{IsValid, flowspan, offset_of}
 use Rattle.tsn_model.specs.Argument as model
-use Rattle.tsn_model.specs.Argument.{goal_first, goal_least, goal_none, IsFact, IsImpossible, low_at, learned, learned_all, narrowed, IsAllowed, AreAllowed, shown, capped, first_ground, ended, IsRight, known_after}
-use Rattle.tsn_check.specs.declared.fault.CheckFault.{CheckFault}
-use Rattle.tsn_check.specs.declared.fault.CheckFault.TheVariants.{Memory}
-use Rattle.tsn_argue.specs.First.{IsFirstWrong}
-use Rattle.tsn_argue.specs.Faults.{IsWrongFact, IsWrongNext, IsWrongStep, fault_at, known_from, first_known}
+use Rattle.tsn_model.specs.Argument.{goal_first, goal_least, goal_none, IsFact, IsImpossible, low_at, learned, learned_all, narrowed, IsAllowed, AreAllowed, shown, capped, first_ground, ended, IsRight, IsSettled, known_after}
+use Rattle.tsn_argue.specs.Faults.{IsWrongFact, IsWrongNext, IsFactFault, IsMoveFault, IsWrongStep, IsBelow, IsOpen, known_from, first_known}
 use Rattle.tsn_argue.specs.State.{view_of, base_of, IsSound, Becomes}
 use Rattle.tsn_argue.specs.Motion.{clauses_of, AreFacts}
 use Rattle.tsn_argue.specs.declared.aim.Aim.{Aim}
 use Rattle.tsn_argue.specs.declared.aim.Aim.TheVariants as aim
 use Rattle.tsn_argue.specs.declared.aim.Stop.{Stop}
 use Rattle.tsn_argue.specs.declared.aim.Stop.TheVariants as stop
+use Rattle.tsn_argue.specs.declared.wrong.Wrong.{Wrong}
 use Rattle.tsn_argue.specs.declared.fault.StepFault.{StepFault}
+use Rattle.tsn_argue.specs.declared.fault.StepFault.TheVariants as of_step
+use Rattle.tsn_argue.specs.declared.fault.Open.{Open}
+use Rattle.tsn_argue.specs.declared.fault.ArgumentFault.{ArgumentFault}
+use Rattle.tsn_argue.specs.declared.fault.ArgumentFault.TheVariants as why
 use Rattle.tsn_argue.specs.declared.step.Known.{Known}
 use Rattle.tsn_argue.specs.declared.view.View.{View}
 
@@ -35,9 +38,9 @@ IsAim network (aim.Least plan span) = IsValid network plan.now × (span ≡ flow
 IsAim network aim.None = Unit {0}
 
 -- the fault, where the steps end at step k
-abbrev pub fault_of : ℕ → Stop → CheckFault
-fault_of k (stop.Wrong fault) = fault_at k fault
-fault_of k stop.Memory = Memory
+abbrev pub fault_of : ℕ → Stop → ArgumentFault
+fault_of k (stop.Wrong fault) = why.Step k fault
+fault_of k stop.Memory = why.Memory
 
 -- ---- views
 
@@ -56,9 +59,18 @@ pub record IsFirstView (network : Network) (goal : model.Goal) (state : View) : 
 abbrev pub capped_view : List ℕ → model.View → model.View
 capped_view plan view = record view { high = capped plan view.low view.high }
 
--- no offset can be below that of the plan
+-- no offset can be below that of the plan, or the first stream is told whose offset can
 abbrev pub Reaches : model.View → List ℕ → Type 0
 Reaches view plan = (i : ℕ) → i < length plan → pos (offset_of plan i) ≤ℤ low_at view i
+
+abbrev pub FindsBelow : List ℕ → model.View → Option Open → Type 0
+FindsBelow plan view None = Reaches view plan
+FindsBelow plan view (Some left) = IsBelow plan view left
+
+-- the view settles the goal, or it is told what is left in question
+abbrev pub FindsOpen : Network → model.Goal → model.View → Option Open → Type 0
+FindsOpen network goal view None = IsSettled network goal view
+FindsOpen network goal view (Some left) = (IsSettled network goal view → ⊥) × IsOpen network goal view left
 
 -- ---- between two steps
 
@@ -77,26 +89,26 @@ pub record IsFirst (network : Network) (goal : model.Goal) (known : Known) : Typ
 
 -- ---- a step
 
-abbrev pub JudgesFact : Network → model.Fact → Result Unit StepFault → Type 0
+abbrev pub JudgesFact : Network → model.Fact → Result Unit Wrong → Type 0
 JudgesFact network fact (Ok _) = IsFact network fact
-JudgesFact network fact (Err fault) = IsWrongFact network fact fault
+JudgesFact network fact (Err wrong) = IsWrongFact network fact wrong
 
 abbrev pub JudgesFacts : Network → List model.Fact → Result Unit StepFault → Type 0
 JudgesFacts network clause (Ok _) = All (IsFact network) clause
-JudgesFacts network clause (Err fault) = IsFirstWrong (All (IsFact network)) (λ before. IsWrongFact network) clause fault
+JudgesFacts network clause (Err fault) = IsFactFault network clause fault
 
--- the move may be made, and the view becomes what it shows; or it comes too late, or is wrong
-abbrev pub TakesMove : View → View → List (List model.Fact) → model.Move → Result Unit Stop → Type 0
-TakesMove old new clauses move (Ok _) =
+-- the move of number k may be made, and the view becomes what it shows; or it comes too late, or is wrong
+abbrev pub TakesMove : View → View → List (List model.Fact) → ℕ → model.Move → Result Unit Stop → Type 0
+TakesMove old new clauses k move (Ok _) =
     (IsImpossible old.timing.now (view_of old) → ⊥) × IsAllowed old.timing.now clauses (view_of old) move
     × Becomes old new (learned_all (view_of old) (shown old.timing.now clauses (view_of old) move))
-TakesMove old new clauses move (Err (stop.Wrong fault)) = IsWrongNext old.timing.now clauses (view_of old) [] move fault
-TakesMove old new clauses move (Err stop.Memory) = Unit {0}
+TakesMove old new clauses k move (Err (stop.Wrong fault)) =
+    (wrong : Wrong) × IsWrongNext old.timing.now clauses (view_of old) [] move wrong × (fault ≡ of_step.Move k wrong)
+TakesMove old new clauses k move (Err stop.Memory) = Unit {0}
 
 abbrev pub TakesMoves : View → View → List (List model.Fact) → List model.Move → Result Unit Stop → Type 0
 TakesMoves old new clauses moves (Ok _) = AreAllowed old.timing.now clauses (view_of old) moves × Becomes old new (narrowed old.timing.now clauses (view_of old) moves)
-TakesMoves old new clauses moves (Err (stop.Wrong fault)) =
-    IsFirstWrong (AreAllowed old.timing.now clauses (view_of old)) (IsWrongNext old.timing.now clauses (view_of old)) moves fault
+TakesMoves old new clauses moves (Err (stop.Wrong fault)) = IsMoveFault old.timing.now clauses (view_of old) moves fault
 TakesMoves old new clauses moves (Err stop.Memory) = Unit {0}
 
 -- what is known, where the view is the ground

@@ -2,8 +2,7 @@
 ghost use Rattle.std.specs.Prelude.{◌≡◌};
 ghost use Rattle.tsn_argue.specs.Steps.{fault_of};
 
-use crate::fault::StepFault;
-use tsn_check::CheckFault;
+use crate::fault::{ArgumentFault, StepFault};
 use tsn_model::NoMemory;
 
 /// What is to be shown: that a plan of this flowspan, in nanoseconds, is the first of the optimal schedules; that none has a
@@ -24,12 +23,12 @@ pub enum Stop {
 
 impl Stop {
     /// The fault, where the steps end at the one of this number.
-    pub fn at(self, step: usize) -> CheckFault
+    pub fn at(self, step: usize) -> ArgumentFault
         ensures { result ≡ fault_of step self }
     {
         match self {
-            Stop::Wrong(fault) => fault.at(step),
-            Stop::Memory => CheckFault::Memory,
+            Stop::Wrong(fault) => ArgumentFault::Step(step, fault),
+            Stop::Memory => ArgumentFault::Memory,
         }
     }
 }

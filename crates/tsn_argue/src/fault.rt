@@ -1,37 +1,95 @@
+//! Why an argument shows nothing of a plan: the first fault, with the numbers that show it.
 ghost use Rattle.std.specs.Prelude.{◌≡◌};
-ghost use Rattle.tsn_argue.specs.Faults.{fault_at};
+ghost use Rattle.tsn_argue.specs.Faults.{step_code, code_of};
 
+use crate::wrong::Wrong;
+use tsn_argument::Goal;
 use tsn_check::CheckFault;
+use tsn_model::NoMemory;
 
 /// What is wrong with a step.
 #[derive(Clone, Copy)]
 pub enum StepFault {
-    /// Nothing is in question any more, or the view is impossible already.
+    /// Nothing is in question before it.
     Settled,
-    /// A decision is on no conflict.
-    NotConflict,
-    /// What a move names isn't there.
-    NotThere,
-    /// The move's inequality fails, or the moves don't show the clause.
-    Fails,
-    /// A frame stands twice.
-    StreamRepeated,
-    /// A stream isn't there, doesn't send the frame or doesn't use the link.
-    NotOnLink,
+    /// Something with the fact of this number.
+    Fact(usize, Wrong),
+    /// Something with the move of this number.
+    Move(usize, Wrong),
+    /// Its moves don't show its clause.
+    Unshown,
 }
 
 impl StepFault {
-    /// The fault of the step of this number.
-    pub fn at(self, step: usize) -> CheckFault
-        ensures { result ≡ fault_at step self }
+    /// The fault of a certificate that it is, where the step has this number.
+    pub fn code(self, step: usize) -> CheckFault
+        ensures { result ≡ step_code step self }
     {
         match self {
             StepFault::Settled => CheckFault::TreeTooLong(step),
-            StepFault::NotConflict => CheckFault::NotConflict(step),
-            StepFault::NotThere => CheckFault::ChainBroken(step),
-            StepFault::Fails => CheckFault::BoundTooLow(step),
-            StepFault::StreamRepeated => CheckFault::StreamRepeated(step),
-            StepFault::NotOnLink => CheckFault::NotOnLink(step),
+            StepFault::Fact(_, wrong) | StepFault::Move(_, wrong) => wrong.code(step),
+            StepFault::Unshown => CheckFault::BoundTooLow(step),
         }
+    }
+}
+
+/// What the steps leave in question. Times are in nanoseconds.
+#[derive(Clone, Copy)]
+pub enum Open {
+    /// There is to be no schedule, and the flowspan of one may be this.
+    Any(i128),
+    /// The flowspan may still be this, and the plan's is another one.
+    Flowspan {
+        least: i128,
+        planned: u64,
+    },
+    /// The offset of the stream may still be this, and the plan's is greater.
+    Offset {
+        stream: usize,
+        least: i128,
+        planned: u64,
+    },
+}
+
+/// Why an argument shows nothing of a plan.
+#[derive(Clone, Copy)]
+pub enum ArgumentFault {
+    /// The plan is wrong.
+    Plan(CheckFault),
+    /// The target isn't the one that the plan asks for.
+    Target { stated: u64, wanted: u64 },
+    /// The goal is this one, and doesn't fit the plan.
+    Goal(Goal),
+    /// The step of this number is the first that is wrong.
+    Step(usize, StepFault),
+    /// All steps are right, so many, and leave something in question.
+    Unfinished(usize, Open),
+    /// A growth was refused. It may come in place of any other answer.
+    Memory,
+}
+
+impl ArgumentFault {
+    /// The fault of a certificate that it is.
+    pub fn code(self) -> CheckFault
+        ensures { result ≡ code_of self }
+    {
+        match self {
+            ArgumentFault::Plan(fault) => fault,
+            ArgumentFault::Target { .. } | ArgumentFault::Goal(_) => CheckFault::FlowspanWrong,
+            ArgumentFault::Step(number, fault) => fault.code(number),
+            ArgumentFault::Unfinished(count, _) => CheckFault::TreeUnfinished(count),
+            ArgumentFault::Memory => CheckFault::Memory,
+        }
+    }
+}
+
+impl From<NoMemory> for ArgumentFault {
+    ghost use Rattle.std.specs.Prelude.{◌≡◌};
+    ghost use Rattle.tsn_argue.specs.declared.fault.ArgumentFault.TheVariants.{Memory};
+
+    ghost from_gives = { λ _ fault. fault ≡ Memory };
+
+    fn from(_refused: NoMemory) -> ArgumentFault {
+        ArgumentFault::Memory
     }
 }

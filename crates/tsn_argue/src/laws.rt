@@ -1,6 +1,6 @@
-//! The law of the words in which a first fault is told. The function does nothing: its contract is the law.
+//! The laws of the words in which a first fault is told. The functions do nothing: their contracts are the laws.
 
-ghost use Rattle.tsn_argue.specs.Laws.{FirstFaultsRefute};
+ghost use Rattle.tsn_argue.specs.Laws.{FirstFaultsRefute, FirstReasonsRefute};
 
 /// A plan and a certificate with a first fault show nothing, and have no other first fault.
 pub fn first_faults_refute()
@@ -8,3 +8,8 @@ pub fn first_faults_refute()
 {
     tsn_check::laws::first_faults_refute();
 }
+
+/// The same of an argument, where the fault is told with the numbers that show it.
+pub fn first_reasons_refute()
+    ensures { FirstReasonsRefute }
+{}

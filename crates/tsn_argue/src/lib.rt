@@ -15,10 +15,13 @@ mod step;
 mod uses;
 mod verdict;
 mod view;
+mod wrong;
 
+pub use fault::{ArgumentFault, Open, StepFault};
 pub use listener::{Listener, Silent};
 pub use motion::Shown;
 pub use news::News;
 pub use uses::{Reader, Use, read_first, read_second};
-pub use verdict::{check_argument, check_certificate, hear_argument};
+pub use verdict::{check_argument, check_certificate, hear_argument, judge_argument};
 pub use view::View;
+pub use wrong::Wrong;

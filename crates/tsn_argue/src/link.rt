@@ -6,25 +6,30 @@ ghost use Rattle.tsn_model.specs.Certificate.{IsFrameOn, begin_on, end_on};
 ghost use Rattle.tsn_model.specs.Argument.{head_at, end_at, first_head, last_end, work_on};
 ghost use Rattle.tsn_argue.specs.State.{view_of, IsSound};
 ghost use Rattle.tsn_argue.specs.Seen.{Tells};
-ghost use Rattle.tsn_argue.specs.Frames.{FindsFrame, FindsFrames, FindsChoice, FindsOne};
+ghost use Rattle.tsn_argue.specs.Frames.{FindsOn, FindsFrame, FindsFrames, FindsChoice, FindsOne};
 
-use crate::fault::StepFault;
 use crate::seen::Seen;
 use crate::view::View;
+use crate::wrong::Wrong;
 use tsn_model::Frame;
 use tsn_timing::Timing;
 
-/// Whether the stream sends the frame, and uses the link.
-fn is_on(timing: &Timing, link: usize, frame: Frame) -> bool
-    ensures { MatchBool result (IsFrameOn timing.now link frame) (IsFrameOn timing.now link frame → ⊥) }
+/// Whether the stream is there, sends the frame and uses the link.
+fn judge_on(timing: &Timing, link: usize, frame: Frame) -> Result<(), Wrong>
+    ensures { FindsOn timing.now link frame result }
 {
-    if frame.stream >= timing.streams() {
-        return false;
+    let Frame { stream, shift } = frame;
+    if stream >= timing.streams() {
+        return Err(Wrong::NoStream(stream));
     }
-    if !timing.is_shift(frame.stream, frame.shift) {
-        return false;
+    if !timing.is_shift(stream, shift) {
+        return Err(Wrong::NoFrame(frame));
     }
-    timing.hop_on(frame.stream, link).is_some()
+    if timing.hop_on(stream, link).is_some() {
+        Ok(())
+    } else {
+        Err(Wrong::NotOnLink { stream, link })
+    }
 }
 
 /// Whether a frame, behind others, is on the link and isn't one of the others. Of these the first isn't marked.
@@ -35,19 +40,17 @@ fn judge_frame(
     others: &[Frame],
     seen: &Seen,
     frame: Frame,
-) -> Result<(), StepFault>
+) -> Result<(), Wrong>
     requires { Tells seen.now others.now }
     ensures { FindsFrame timing.now link (first ∷ others.now) frame result }
 {
     let _count = timing.streams();
-    if !is_on(timing, link, frame) {
-        return Err(StepFault::NotOnLink);
-    }
+    judge_on(timing, link, frame)?;
     if is_same(frame, first) {
-        return Err(StepFault::StreamRepeated);
+        return Err(Wrong::Repeated(frame));
     }
     if seen.has(others, frame) {
-        return Err(StepFault::StreamRepeated);
+        return Err(Wrong::Repeated(frame));
     }
     Ok(())
 }
@@ -59,13 +62,11 @@ pub fn judge_frames(
     link: usize,
     first: Frame,
     others: &[Frame],
-) -> Result<Seen, StepFault>
+) -> Result<Seen, Wrong>
     ensures { FindsFrames timing.now link first others.now result }
 {
     let _count = timing.streams();
-    if !is_on(timing, link, first) {
-        return Err(StepFault::NotOnLink);
-    }
+    judge_on(timing, link, first)?;
     let mut seen = Seen::none();
     for number in 0..others.len() {
         let frame = others[number];
@@ -82,26 +83,26 @@ fn judge_one(
     before: &[Frame],
     seen: &Seen,
     frame: Frame,
-) -> Result<(), StepFault>
+) -> Result<(), Wrong>
     requires all { Tells all.now frames.now }
     requires seen { Tells seen.now before.now }
     ensures finds { FindsOne frames.now before.now frame result }
     ensures small { OnOk result (frame.stream < 128) }
 {
     if frame.stream >= 128 {
-        return Err(StepFault::NotThere);
+        return Err(Wrong::NotAmong(frame));
     }
     if !all.has(frames, frame) {
-        return Err(StepFault::NotThere);
+        return Err(Wrong::NotAmong(frame));
     }
     if seen.has(before, frame) {
-        return Err(StepFault::StreamRepeated);
+        return Err(Wrong::Repeated(frame));
     }
     Ok(())
 }
 
 /// Whether some of the frames, which are marked, are each among these once; else what is wrong with the first that isn't.
-pub fn judge_choice(frames: &[Frame], all: &Seen, some: &[Frame]) -> Result<(), StepFault>
+pub fn judge_choice(frames: &[Frame], all: &Seen, some: &[Frame]) -> Result<(), Wrong>
     requires some { 1 ≤ length some.now }
     requires all { Tells all.now frames.now }
     ensures { FindsChoice frames.now some.now result }

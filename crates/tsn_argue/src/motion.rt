@@ -1,18 +1,19 @@
 //! Whether a move may be made on a view, and what it shows.
 ghost use Rattle.std.specs.Prelude.{◌≡◌, ◌≤◌, [], ◌∷◌, List, length, map, false, All, MatchBool};
-ghost use Rattle.tsn_model.specs.Argument.{Fact as ModelFact, IsFact, go, turn, apply, arrive, put_last, put_first, pack, round, follow, refuting, AsksNoMore};
+ghost use Rattle.tsn_model.specs.Argument.{Fact as ModelFact, IsFact, go, turn, apply, arrive, put_last, put_first, pack, round, follow, refuting, left_open};
 ghost use Rattle.tsn_argument.specs.Meaning.{decision_of, clause_of, move_of};
 ghost use Rattle.tsn_argue.specs.State.{view_of, IsSound};
 ghost use Rattle.tsn_argue.specs.News.{news_of};
+ghost use Rattle.tsn_argue.specs.Faults.{AreAlike};
 ghost use Rattle.tsn_argue.specs.Motion.{facts_of, clauses_of, AreFacts, JudgesMove, FindsUnit, FindsPlacing, FindsRound, FindsArc};
 
-use crate::fault::StepFault;
 use crate::link::{
     begin_of, end_of, first_head, first_head_with, judge_choice, judge_frames, last_end,
     last_end_with, work, work_with,
 };
 use crate::news::{News, turned};
 use crate::view::View;
+use crate::wrong::Wrong;
 use tsn_argument::{Clause, Fact, Move, Order, Placing};
 use tsn_model::{Arc, Decision, Frame};
 use tsn_timing::{arc_of, is_conflict};
@@ -36,7 +37,7 @@ impl Shown {
 }
 
 /// What the move shows of each schedule that fits the view, or what is wrong with it.
-pub fn judge(view: &View<'_>, clauses: &[&Clause], motion: &Move) -> Result<Shown, StepFault>
+pub fn judge(view: &View<'_>, clauses: &[&Clause], motion: &Move) -> Result<Shown, Wrong>
     requires sound { IsSound view.now }
     requires possible { view.now.crossed ≡ false }
     requires facts { AreFacts view.now.timing.now (clauses_of clauses.now) }
@@ -56,15 +57,13 @@ pub fn judge(view: &View<'_>, clauses: &[&Clause], motion: &Move) -> Result<Show
 }
 
 /// By the arc of a decision of the view.
-fn judge_go(view: &View<'_>, decision: Decision) -> Result<Shown, StepFault>
+fn judge_go(view: &View<'_>, decision: Decision) -> Result<Shown, Wrong>
     requires sound { IsSound view.now }
     requires possible { view.now.crossed ≡ false }
     ensures { (clauses : List (List ModelFact)) → JudgesMove view.now.timing.now clauses (view_of view.now) (go decision) result }
 {
     let _cycle = view.timing.cycle();
-    let Some(arc) = arc_in(view, decision) else {
-        return Err(StepFault::NotThere);
-    };
+    let arc = arc_in(view, decision)?;
     Ok(Shown {
         first: News::From(arc.to, view.low.at(arc.from) + arc.weight as i128),
         second: Some(News::Until(arc.from, view.high.at(arc.to) - arc.weight as i128)),
@@ -72,20 +71,27 @@ fn judge_go(view: &View<'_>, decision: Decision) -> Result<Shown, StepFault>
 }
 
 /// By the arc of the other side, which is out of reach.
-fn judge_turn(view: &View<'_>, decision: Decision) -> Result<Shown, StepFault>
+fn judge_turn(view: &View<'_>, decision: Decision) -> Result<Shown, Wrong>
     requires sound { IsSound view.now }
     requires possible { view.now.crossed ≡ false }
     ensures { (clauses : List (List ModelFact)) → JudgesMove view.now.timing.now clauses (view_of view.now) (turn decision) result }
 {
     if !is_conflict(view.timing, decision.triple) {
-        return Err(StepFault::NotConflict);
+        return Err(Wrong::NoConflict(decision));
     }
     let _cycle = view.timing.cycle();
     let arc = arc_of(view.timing, turned(decision));
-    if view.low.at(arc.from) + arc.weight as i128 > view.high.at(arc.to) {
+    let least = view.low.at(arc.from) + arc.weight as i128;
+    let most = view.high.at(arc.to);
+    if least > most {
         Ok(Shown::one(News::Order(decision)))
     } else {
-        Err(StepFault::Fails)
+        let stream = arc.to;
+        Err(Wrong::InReach {
+            stream,
+            least,
+            most,
+        })
     }
 }
 
@@ -100,33 +106,35 @@ fn refuting(view: &View<'_>) -> News
 }
 
 /// The fact that is left of a clause.
-fn judge_use(view: &View<'_>, clauses: &[&Clause], number: usize) -> Result<Shown, StepFault>
+fn judge_use(view: &View<'_>, clauses: &[&Clause], number: usize) -> Result<Shown, Wrong>
     requires sound { IsSound view.now }
     requires possible { view.now.crossed ≡ false }
     requires facts { AreFacts view.now.timing.now (clauses_of clauses.now) }
     ensures { JudgesMove view.now.timing.now (clauses_of clauses.now) (view_of view.now) (apply number) result }
 {
     if number >= clauses.len() {
-        return Err(StepFault::NotThere);
+        let shown = clauses.len();
+        return Err(Wrong::NoClause { number, shown });
     }
-    match unit_of(view, clauses[number].list()) {
+    match unit_of(view, number, clauses[number].list()) {
         Ok(Some(fact)) => Ok(Shown::one(News::of(fact))),
         Ok(None) => Ok(Shown::one(refuting(view))),
-        Err(fault) => Err(fault),
+        Err(wrong) => Err(wrong),
     }
 }
 
-/// The fact that the view doesn't contradict, if there is one; a fault where there are two.
-fn unit_of(view: &View<'_>, clause: &[Fact]) -> Result<Option<Fact>, StepFault>
+/// The fact of a clause of this number that the view doesn't contradict, if there is one; where there are more, how many.
+fn unit_of(view: &View<'_>, number: usize, clause: &[Fact]) -> Result<Option<Fact>, Wrong>
     requires sound { IsSound view.now }
     requires facts { All (IsFact view.now.timing.now) (clause_of clause.now) }
-    ensures { FindsUnit (view_of view.now) (clause_of clause.now) result }
+    ensures { FindsUnit (view_of view.now) number (clause_of clause.now) result }
 {
     let mut left = None;
     for fact in clause {
         if !view.contradicts(News::of(*fact)) {
             if left.is_some() {
-                return Err(StepFault::Fails);
+                let left = count_left(view, clause);
+                return Err(Wrong::Left { number, left });
             }
             left = Some(*fact);
         }
@@ -134,13 +142,26 @@ fn unit_of(view: &View<'_>, clause: &[Fact]) -> Result<Option<Fact>, StepFault>
     Ok(left)
 }
 
-fn judge_arrive(view: &View<'_>, stream: usize) -> Result<Shown, StepFault>
+/// How many facts the view doesn't contradict.
+fn count_left(view: &View<'_>, clause: &[Fact]) -> usize
+    ensures { result ≡ length (left_open (view_of view.now) (clause_of clause.now)) }
+{
+    let mut left = 0;
+    for fact in clause {
+        if !view.contradicts(News::of(*fact)) {
+            left += 1;
+        }
+    }
+    left
+}
+
+fn judge_arrive(view: &View<'_>, stream: usize) -> Result<Shown, Wrong>
     requires sound { IsSound view.now }
     requires possible { view.now.crossed ≡ false }
     ensures { (clauses : List (List ModelFact)) → JudgesMove view.now.timing.now clauses (view_of view.now) (arrive stream) result }
 {
     if stream >= view.timing.streams() {
-        return Err(StepFault::NotOnLink);
+        return Err(Wrong::NoStream(stream));
     }
     let _cycle = view.timing.cycle();
     let arrival = view.timing.arrival(stream) as i128;
@@ -151,7 +172,7 @@ fn judge_arrive(view: &View<'_>, stream: usize) -> Result<Shown, StepFault>
 }
 
 /// Whether the frames of a placing are right, whatever it comes to.
-fn judge_placed(view: &View<'_>, placing: &Placing) -> Result<(), StepFault>
+fn judge_placed(view: &View<'_>, placing: &Placing) -> Result<(), Wrong>
     ensures { FindsPlacing view.now.timing.now placing.now result }
 {
     let others = placing.others.list();
@@ -160,7 +181,7 @@ fn judge_placed(view: &View<'_>, placing: &Placing) -> Result<(), StepFault>
 }
 
 /// The frame goes last, since the others can't all be done before what they need together.
-fn judge_last(view: &View<'_>, placing: &Placing) -> Result<Shown, StepFault>
+fn judge_last(view: &View<'_>, placing: &Placing) -> Result<Shown, Wrong>
     requires sound { IsSound view.now }
     requires possible { view.now.crossed ≡ false }
     ensures { (clauses : List (List ModelFact)) → JudgesMove view.now.timing.now clauses (view_of view.now)
@@ -171,8 +192,14 @@ fn judge_last(view: &View<'_>, placing: &Placing) -> Result<Shown, StepFault>
     let others = placing.others.list();
     let end = last_end(view, link, others);
     let start = first_head_with(view, link, frame, others);
-    if end >= start + work_with(view.timing, link, frame, others) {
-        return Err(StepFault::Fails);
+    let bound = start + work_with(view.timing, link, frame, others);
+    if end >= bound {
+        return Err(Wrong::Room {
+            link,
+            bound,
+            end,
+            of_others: true,
+        });
     }
     let some = placing.some.list();
     let free = first_head(view, link, some) + work(view.timing, link, some);
@@ -181,7 +208,7 @@ fn judge_last(view: &View<'_>, placing: &Placing) -> Result<Shown, StepFault>
 }
 
 /// The frame goes first, since the others can't all begin so late that it fits behind one of them.
-fn judge_first(view: &View<'_>, placing: &Placing) -> Result<Shown, StepFault>
+fn judge_first(view: &View<'_>, placing: &Placing) -> Result<Shown, Wrong>
     requires sound { IsSound view.now }
     requires possible { view.now.crossed ≡ false }
     ensures { (clauses : List (List ModelFact)) → JudgesMove view.now.timing.now clauses (view_of view.now)
@@ -192,8 +219,14 @@ fn judge_first(view: &View<'_>, placing: &Placing) -> Result<Shown, StepFault>
     let others = placing.others.list();
     let end = last_end_with(view, link, frame, others);
     let start = first_head(view, link, others);
-    if end >= start + work_with(view.timing, link, frame, others) {
-        return Err(StepFault::Fails);
+    let bound = start + work_with(view.timing, link, frame, others);
+    if end >= bound {
+        return Err(Wrong::Room {
+            link,
+            bound,
+            end,
+            of_others: false,
+        });
     }
     let some = placing.some.list();
     let needed = last_end(view, link, some) - work(view.timing, link, some);
@@ -202,7 +235,7 @@ fn judge_first(view: &View<'_>, placing: &Placing) -> Result<Shown, StepFault>
 }
 
 /// Whether the frames have no room on the link.
-fn judge_pack(view: &View<'_>, link: usize, frames: &[Frame]) -> Result<Shown, StepFault>
+fn judge_pack(view: &View<'_>, link: usize, frames: &[Frame]) -> Result<Shown, Wrong>
     requires sound { IsSound view.now }
     requires possible { view.now.crossed ≡ false }
     requires some { 1 ≤ length frames.now }
@@ -214,33 +247,37 @@ fn judge_pack(view: &View<'_>, link: usize, frames: &[Frame]) -> Result<Shown, S
     };
     judge_frames(view.timing, link, *first, others)?;
     let end = last_end(view, link, frames);
-    if end < first_head(view, link, frames) + work(view.timing, link, frames) {
+    let bound = first_head(view, link, frames) + work(view.timing, link, frames);
+    if end < bound {
         Ok(Shown::one(refuting(view)))
     } else {
-        Err(StepFault::Fails)
+        Err(Wrong::Room {
+            link,
+            bound,
+            end,
+            of_others: false,
+        })
     }
 }
 
 /// Whether the orders lead back to where they begin, and later than they began.
-fn judge_round(view: &View<'_>, orders: &[Order]) -> Result<Shown, StepFault>
+fn judge_round(view: &View<'_>, orders: &[Order]) -> Result<Shown, Wrong>
     requires sound { IsSound view.now }
     requires possible { view.now.crossed ≡ false }
     requires some { 1 ≤ length orders.now }
     requires few { length orders.now ≤ 128 }
     ensures { (clauses : List (List ModelFact)) → JudgesMove view.now.timing.now clauses (view_of view.now) (round (map decision_of orders.now)) result }
 {
-    let Some(weight) = weight_round(view, orders) else {
-        return Err(StepFault::NotThere);
-    };
+    let weight = weight_round(view, orders)?;
     if weight > 0 {
         Ok(Shown::one(refuting(view)))
     } else {
-        Err(StepFault::Fails)
+        Err(Wrong::Weight(weight))
     }
 }
 
 /// What the weights of the orders add up to, in nanoseconds, where they are the view's and lead back to where they begin.
-fn weight_round(view: &View<'_>, orders: &[Order]) -> Option<i64>
+fn weight_round(view: &View<'_>, orders: &[Order]) -> Result<i64, Wrong>
     requires sound { IsSound view.now }
     requires some { 1 ≤ length orders.now }
     requires few { length orders.now ≤ 128 }
@@ -252,47 +289,57 @@ fn weight_round(view: &View<'_>, orders: &[Order]) -> Option<i64>
     for order in orders {
         let arc = arc_in(view, order.decision())?;
         if arc.from != at {
-            return None;
+            return Err(Wrong::NotClosed);
         }
         at = arc.to;
         weight += arc.weight;
     }
-    if at == start { Some(weight) } else { None }
+    if at == start {
+        Ok(weight)
+    } else {
+        Err(Wrong::NotClosed)
+    }
 }
 
 /// By the arc of a decision of the view, which asks for no less than that of the other one does between the same streams.
-fn judge_follow(view: &View<'_>, known: Decision, weaker: Decision) -> Result<Shown, StepFault>
+fn judge_follow(view: &View<'_>, known: Decision, weaker: Decision) -> Result<Shown, Wrong>
     requires sound { IsSound view.now }
     ensures { (clauses : List (List ModelFact)) → JudgesMove view.now.timing.now clauses (view_of view.now) (follow known weaker) result }
 {
-    let Some(arc) = arc_in(view, known) else {
-        return Err(StepFault::NotThere);
-    };
+    let arc = arc_in(view, known)?;
     if !is_conflict(view.timing, weaker.triple) {
-        return Err(StepFault::NotConflict);
+        return Err(Wrong::NoConflict(weaker));
     }
-    if asks_no_more(arc_of(view.timing, weaker), arc) {
+    let other = arc_of(view.timing, weaker);
+    if !are_alike(other, arc) {
+        return Err(Wrong::OfOthers);
+    }
+    if other.weight <= arc.weight {
         Ok(Shown::one(News::Order(weaker)))
     } else {
-        Err(StepFault::Fails)
+        Err(Wrong::Stronger {
+            decision: weaker,
+            asked: other.weight,
+            known: arc.weight,
+        })
     }
 }
 
-/// Whether an arc asks for no more than another one between the same streams.
-fn asks_no_more(arc: Arc, other: Arc) -> bool
-    ensures { MatchBool result (AsksNoMore arc other) (AsksNoMore arc other → ⊥) }
+/// Whether the arcs lead from the same stream to the same other one.
+fn are_alike(arc: Arc, other: Arc) -> bool
+    ensures { MatchBool result (AreAlike arc other) (AreAlike arc other → ⊥) }
 {
-    arc.from == other.from && arc.to == other.to && arc.weight <= other.weight
+    arc.from == other.from && arc.to == other.to
 }
 
 /// The arc of a decision that the view has.
-fn arc_in(view: &View<'_>, decision: Decision) -> Option<Arc>
+fn arc_in(view: &View<'_>, decision: Decision) -> Result<Arc, Wrong>
     requires sound { IsSound view.now }
     ensures { FindsArc view.now.timing.now (view_of view.now) decision result }
 {
     if view.orders.has(decision) {
-        Some(arc_of(view.timing, decision))
+        Ok(arc_of(view.timing, decision))
     } else {
-        None
+        Err(Wrong::NoOrder(decision))
     }
 }

@@ -1,23 +1,23 @@
 //! The steps of an argument, one after another.
-ghost use Rattle.std.specs.Prelude.{◌≡◌, ◌⊎◌, OnOk, IfOk, IfErr, [], ◌∷◌, MatchBool, map, length, All};
+ghost use Rattle.std.specs.Prelude.{◌≡◌, ◌⊎◌, OnOk, IfOk, IfErr, [], ◌∷◌, map, length, All};
 ghost use Rattle.tsn_model.specs.Network.{stream_count};
-ghost use Rattle.tsn_model.specs.Argument.{IsFact, IsSettled, Argues, opposite, learned_all, settled, shown};
+ghost use Rattle.tsn_model.specs.Argument.{IsFact, Argues, opposite, learned_all, settled, shown};
 ghost use Rattle.tsn_argument.specs.Meaning.{fact_of, clause_of, move_of, step_of, steps_of};
 ghost use Rattle.tsn_argue.specs.Faults.{IsArgumentFault};
 ghost use Rattle.tsn_argue.specs.State.{view_of, base_of, IsSound, Becomes};
 ghost use Rattle.tsn_argue.specs.Motion.{clauses_of, facts_of, AreFacts};
-ghost use Rattle.tsn_argue.specs.Steps.{goal_of, IsAim, IsReady, IsFirst, capped_view, JudgesFact, JudgesFacts, TakesMove, TakesMoves, ShowsStep, TakesStep, KeepsClause, Reaches, known_of, known_on};
+ghost use Rattle.tsn_argue.specs.Steps.{goal_of, IsAim, IsReady, IsFirst, capped_view, JudgesFact, JudgesFacts, TakesMove, TakesMoves, ShowsStep, TakesStep, KeepsClause, FindsBelow, FindsOpen, known_of, known_on};
 ghost use Rattle.tsn_argue.specs.Told.{makes, told_moves, told_shown, told_step, told_of, with_told};
 
 use crate::aim::{Aim, Stop};
-use crate::fault::StepFault;
+use crate::fault::{ArgumentFault, Open, StepFault};
 use crate::listener::Listener;
 use crate::motion::{Shown, judge};
 use crate::news::News;
 use crate::view::View;
+use crate::wrong::Wrong;
 use std::alloc::{AllocError, Global};
 use tsn_argument::{Clause, Fact, Move, Step};
-use tsn_check::CheckFault;
 use tsn_model::NoMemory;
 use tsn_timing::{Timing, is_conflict};
 
@@ -32,13 +32,15 @@ pub struct Known<'a> {
 fn judge_facts(timing: &Timing, clause: &[Fact]) -> Result<(), StepFault>
     ensures { JudgesFacts timing.now (clause_of clause.now) result }
 {
-    for fact in clause {
-        judge_fact(timing, *fact)?;
+    for (number, fact) in clause.iter().enumerate() {
+        if let Err(wrong) = judge_fact(timing, *fact) {
+            return Err(StepFault::Fact(number, wrong));
+        }
     }
     Ok(())
 }
 
-fn judge_fact(timing: &Timing, fact: Fact) -> Result<(), StepFault>
+fn judge_fact(timing: &Timing, fact: Fact) -> Result<(), Wrong>
     ensures { JudgesFact timing.now (fact_of fact) result }
 {
     match fact {
@@ -46,14 +48,15 @@ fn judge_fact(timing: &Timing, fact: Fact) -> Result<(), StepFault>
             if stream < timing.streams() {
                 Ok(())
             } else {
-                Err(StepFault::NotOnLink)
+                Err(Wrong::NoStream(stream))
             }
         }
         Fact::Order(order) => {
-            if is_conflict(timing, order.decision().triple) {
+            let decision = order.decision();
+            if is_conflict(timing, decision.triple) {
                 Ok(())
             } else {
-                Err(StepFault::NotConflict)
+                Err(Wrong::NoConflict(decision))
             }
         }
         Fact::DoneFrom(_) | Fact::DoneUntil(_) => Ok(()),
@@ -72,23 +75,27 @@ fn suppose(view: &mut View<'_>, clause: &[Fact]) -> Result<(), NoMemory>
     Ok(())
 }
 
-/// Makes the move on the view, if that is possible.
+/// Makes the move of this number on the view, if that is possible.
 fn make<L: Listener>(
     view: &mut View<'_>,
     clauses: &[&Clause],
+    number: usize,
     motion: &Move,
     listener: &mut L,
 ) -> Result<(), Stop>
     requires sound { IsSound view.old }
     requires facts { AreFacts view.old.timing.now (clauses_of clauses.now) }
-    ensures taken { TakesMove view.old view.new (clauses_of clauses.now) (move_of motion.now) result }
+    ensures taken { TakesMove view.old view.new (clauses_of clauses.now) number (move_of motion.now) result }
     ensures told { OnOk result (L.heard listener.new ≡ with_told (L.heard listener.old)
         (makes (view_of view.old) (move_of motion.now) (shown view.old.timing.now (clauses_of clauses.now) (view_of view.old) (move_of motion.now)) ∷ [])) }
 {
     if view.crossed {
-        return Err(Stop::Wrong(StepFault::Settled));
+        return Err(Stop::Wrong(StepFault::Move(number, Wrong::Crossed)));
     }
-    let shown = judge(view, clauses, motion)?;
+    let shown = match judge(view, clauses, motion) {
+        Ok(shown) => shown,
+        Err(wrong) => return Err(Stop::Wrong(StepFault::Move(number, wrong))),
+    };
     listener.make(view, clauses, motion, shown);
     learn_all(view, shown)?;
     Ok(())
@@ -120,8 +127,8 @@ fn make_all<L: Listener>(
     ensures told { OnOk result (L.heard listener.new ≡ with_told (L.heard listener.old)
         (told_moves view.old.timing.now (clauses_of clauses.now) (view_of view.old) (map move_of moves.now))) }
 {
-    for motion in moves {
-        make(view, clauses, motion, listener)?;
+    for (number, motion) in moves.iter().enumerate() {
+        make(view, clauses, number, motion, listener)?;
     }
     Ok(())
 }
@@ -154,7 +161,7 @@ fn show<L: Listener>(
     if view.crossed {
         Ok(())
     } else {
-        Err(Stop::Wrong(StepFault::Fails))
+        Err(Stop::Wrong(StepFault::Unshown))
     }
 }
 
@@ -247,35 +254,51 @@ impl<'a> Known<'a> {
     }
 }
 
-/// Whether nothing is in question any more, or only the plan itself.
-fn is_settled(view: &View<'_>, aim: &Aim<'_>) -> bool
+/// What is left in question, if anything is but the plan itself.
+fn judge_end(view: &View<'_>, aim: &Aim<'_>) -> Option<Open>
     requires sound { IsSound view.now }
     requires aim { IsAim view.now.timing.now aim.now }
-    ensures { MatchBool result (IsSettled view.now.timing.now (goal_of aim.now) (view_of view.now)) (IsSettled view.now.timing.now (goal_of aim.now) (view_of view.now) → ⊥) }
+    ensures { FindsOpen view.now.timing.now (goal_of aim.now) (view_of view.now) result }
 {
     if view.crossed {
-        return true;
+        return None;
     }
+    let least = view.done.low;
     match *aim {
         Aim::First { plan, flowspan } => {
-            flowspan as i128 <= view.done.low && reaches(view, plan)
+            if least < flowspan as i128 {
+                let planned = flowspan;
+                Some(Open::Flowspan { least, planned })
+            } else {
+                first_below(view, plan)
+            }
         }
-        Aim::Least { .. } | Aim::None => false,
+        Aim::Least { flowspan, .. } => {
+            let planned = flowspan;
+            Some(Open::Flowspan { least, planned })
+        }
+        Aim::None => Some(Open::Any(least)),
     }
 }
 
-/// Whether no offset can be below that of the plan.
-fn reaches(view: &View<'_>, plan: &[u64]) -> bool
+/// The first stream whose least offset is below that of the plan.
+fn first_below(view: &View<'_>, plan: &[u64]) -> Option<Open>
     requires sound { IsSound view.now }
     requires count { length plan.now ≡ stream_count view.now.timing.now }
-    ensures { MatchBool result (Reaches (view_of view.now) plan.now) (Reaches (view_of view.now) plan.now → ⊥) }
+    ensures { FindsBelow plan.now (view_of view.now) result }
 {
     for stream in 0..plan.len() {
-        if view.low.at(stream) < plan[stream] as i128 {
-            return false;
+        let least = view.low.at(stream);
+        let planned = plan[stream];
+        if least < planned as i128 {
+            return Some(Open::Offset {
+                stream,
+                least,
+                planned,
+            });
         }
     }
-    true
+    None
 }
 
 /// Whether the steps are right and settle what is to be shown; else their first fault.
@@ -285,10 +308,10 @@ pub fn check_steps<L: Listener>(
     aim: &Aim<'_>,
     steps: &[Step],
     listener: &mut L,
-) -> Result<(), CheckFault>
+) -> Result<(), ArgumentFault>
     requires { IsAim timing.now aim.now }
     ensures ok { OnOk result (Argues timing.now (goal_of aim.now) (steps_of steps.now)) }
-    ensures err { IfErr result (λ fault. (fault ≡ CheckFault.Memory)
+    ensures err { IfErr result (λ fault. (fault ≡ ArgumentFault.Memory)
         ⊎ IsArgumentFault timing.now (goal_of aim.now) (steps_of steps.now) fault) }
     ensures told { OnOk result (L.heard listener.new ≡ with_told (L.heard listener.old)
         (told_of timing.now (goal_of aim.now) (steps_of steps.now))) }
@@ -299,9 +322,8 @@ pub fn check_steps<L: Listener>(
             return Err(stop.at(number));
         }
     }
-    if is_settled(&known.view, aim) {
-        Ok(())
-    } else {
-        Err(CheckFault::TreeUnfinished(steps.len()))
+    match judge_end(&known.view, aim) {
+        None => Ok(()),
+        Some(left) => Err(ArgumentFault::Unfinished(steps.len(), left)),
     }
 }

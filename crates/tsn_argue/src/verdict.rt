@@ -4,13 +4,13 @@ ghost use Rattle.tsn_model.specs.Schedule.{HasNoSchedule};
 ghost use Rattle.tsn_model.specs.Argument.{Goal as ModelGoal};
 ghost use Rattle.tsn_argument.specs.Meaning.{steps_of};
 ghost use Rattle.tsn_check.specs.Plans.{IsOptimalPlan, IsFirstPlan, IsPlanRight};
-ghost use Rattle.tsn_check.specs.Faults.{IsClaimFault};
 ghost use Rattle.tsn_argue.specs.Certified.{ArgumentCertifies, Certifies, IsFitting, argument_verdict, certificate_verdict};
-ghost use Rattle.tsn_argue.specs.Faults.{IsShowFault, IsFirstFault};
+ghost use Rattle.tsn_argue.specs.Faults.{IsWrongPlan, IsWhy, IsShowFault, IsFirstFault};
 ghost use Rattle.tsn_argue.specs.Aims.{FindsAim};
 ghost use Rattle.tsn_argue.specs.Told.{told_of, with_told};
 
 use crate::aim::Aim;
+use crate::fault::ArgumentFault;
 use crate::listener::{Listener, Silent};
 use crate::step::check_steps;
 use std::alloc::Global;
@@ -88,6 +88,31 @@ pub fn hear_argument<L: Listener>(
     ensures told { OnOk result ((goal : ModelGoal) → IsFitting problem.now.network plan.now argument.now goal
         → L.heard listener.new ≡ with_told (L.heard listener.old) (told_of problem.now.network goal (steps_of argument.now.steps))) }
 {
+    match judge_argument(alloc, problem, plan, argument, listener) {
+        Ok(verdict) => Ok(verdict),
+        Err(fault) => Err(fault.code()),
+    }
+}
+
+/// The same, and the fault is told with the numbers that show it.
+pub fn judge_argument<L: Listener>(
+    alloc: Global,
+    problem: &Problem,
+    plan: &Plan,
+    argument: &Argument,
+    listener: &mut L,
+) -> Result<Verdict, ArgumentFault>
+    ensures accepted { IfOk result (λ verdict. ArgumentCertifies problem.now.network plan.now argument.now) }
+    ensures verdict { IfOk result (λ verdict. verdict ≡ argument_verdict argument.now.goal) }
+    ensures optimal { result ≡ Ok Verdict.Optimal → IsOptimalPlan problem.now.network plan.now }
+    ensures first { result ≡ Ok Verdict.First → IsFirstPlan problem.now.network plan.now }
+    ensures no_schedule { result ≡ Ok Verdict.NoSchedule → HasNoSchedule problem.now.network }
+    ensures complete { ArgumentCertifies problem.now.network plan.now argument.now → IsOkUnless result ArgumentFault.Memory }
+    ensures fault { IfErr result (λ fault. (fault ≡ ArgumentFault.Memory)
+        ⊎ IsWhy problem.now.network plan.now argument.now fault) }
+    ensures told { OnOk result ((goal : ModelGoal) → IsFitting problem.now.network plan.now argument.now goal
+        → L.heard listener.new ≡ with_told (L.heard listener.old) (told_of problem.now.network goal (steps_of argument.now.steps))) }
+{
     let timing = problem.timing(alloc)?;
     let _cycle = timing.cycle();
     judge_plan(alloc, &timing, plan)?;
@@ -97,46 +122,56 @@ pub fn hear_argument<L: Listener>(
 }
 
 /// Whether a schedule is valid and has its own flowspan; else its first fault.
-fn judge_plan(alloc: Global, timing: &Timing, plan: &Plan) -> Result<(), CheckFault>
+fn judge_plan(alloc: Global, timing: &Timing, plan: &Plan) -> Result<(), ArgumentFault>
     ensures right { OnOk result (IsPlanRight timing.now plan.now) }
-    ensures fault { IfErr result (λ fault. (fault ≡ CheckFault.Memory) ⊎ IsClaimFault timing.now plan.now fault) }
+    ensures fault { IfErr result (λ fault. (fault ≡ ArgumentFault.Memory) ⊎ IsWrongPlan timing.now plan.now fault) }
 {
     match plan {
-        Plan::Schedule { .. } => {
-            let valid = check_plan(alloc, timing, plan)?;
-            drop(valid);
-            Ok(())
-        }
+        Plan::Schedule { .. } => match check_plan(alloc, timing, plan) {
+            Ok(valid) => {
+                drop(valid);
+                Ok(())
+            }
+            Err(CheckFault::Memory) => Err(ArgumentFault::Memory),
+            Err(fault) => Err(ArgumentFault::Plan(fault)),
+        },
         Plan::None => Ok(()),
     }
 }
 
 /// What the argument is to show of the plan, where its target is the plan's and its goal fits it.
 #[tactic(auto, unfolding(tsn_model::specs::Schedule::target_of))]
-fn aim_of<'a>(timing: &Timing, plan: &'a Plan, argument: &Argument) -> Result<Aim<'a>, CheckFault>
+fn aim_of<'a>(
+    timing: &Timing,
+    plan: &'a Plan,
+    argument: &Argument,
+) -> Result<Aim<'a>, ArgumentFault>
     requires { IsPlanRight timing.now plan.now }
     ensures { FindsAim timing.now plan.now argument.now result }
 {
+    let stated = argument.target;
     match plan {
         Plan::Schedule { flowspan, offsets } => {
-            if argument.target != *flowspan {
-                return Err(CheckFault::FlowspanWrong);
-            }
             let flowspan = *flowspan;
+            if stated != flowspan {
+                let wanted = flowspan;
+                return Err(ArgumentFault::Target { stated, wanted });
+            }
             let plan = offsets.list();
             match argument.goal {
                 Goal::First => Ok(Aim::First { plan, flowspan }),
                 Goal::Least => Ok(Aim::Least { plan, flowspan }),
-                Goal::None => Err(CheckFault::FlowspanWrong),
+                Goal::None => Err(ArgumentFault::Goal(Goal::None)),
             }
         }
         Plan::None => {
-            if argument.target != timing.cycle() + 1 {
-                return Err(CheckFault::FlowspanWrong);
+            let wanted = timing.cycle() + 1;
+            if stated != wanted {
+                return Err(ArgumentFault::Target { stated, wanted });
             }
             match argument.goal {
                 Goal::None => Ok(Aim::None),
-                Goal::First | Goal::Least => Err(CheckFault::FlowspanWrong),
+                Goal::First | Goal::Least => Err(ArgumentFault::Goal(argument.goal)),
             }
         }
     }

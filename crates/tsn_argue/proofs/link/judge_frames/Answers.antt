@@ -1,4 +1,4 @@
-use Rattle.std.proofs.Common.{◌∷◌, get_or, refl, subst, inl, arith}
+use Rattle.std.proofs.Common.{◌∷◌, get_or, subst, inl, arith}
 use Rattle.std.proofs.lemmas.Result.{err_from_is_err_and}
 use Rattle.std.proofs.lemmas.List.{take_all}
 use Rattle.tsn_model.specs.Argument.{AreOn}
@@ -7,15 +7,17 @@ use Rattle.tsn_argue.specs.Seen.{Tells}
 use Rattle.tsn_argue.proofs.JudgeFrames.{on_one, on_more, wrong_first, wrong_next, tells_more}
 use Rattle.tsn_argue.proofs.link.judge_frames.Goals as goal
 
-pub returns-then-not-is_on : goal.returns-then-not-is_on
-returns-then-not-is_on c = wrong_first c.args.timing.now c.args.link c.args.first c.args.others.now _ (inl (refl, c.if-not-is_on.ensures))
+pub returns-in_err-judge_on : goal.returns-in_err-judge_on
+returns-in_err-judge_on c =
+    let p = err_from_is_err_and c.from_residual.result c.from_residual.ensures.1 in
+    rw (p.1, p.2) (wrong_first c.args.timing.now c.args.link c.args.first c.args.others.now _ (inl c.in_err-judge_on.ensures))
 
 pub loop-number-init : goal.loop-number-init
-loop-number-init c = (on_one c.args.timing.now c.args.link c.args.first c.if-not-is_on.ensures, c.none-seen.ensures)
+loop-number-init c = (on_one c.args.timing.now c.args.link c.args.first c.in_ok-judge_on.ensures, c.none-seen.ensures)
 
 pub returns-in_err-judge_frame : goal.returns-in_err-judge_frame
 returns-in_err-judge_frame c =
-    let p = err_from_is_err_and c.from_residual.result c.from_residual.ensures.1 in
+    let p = err_from_is_err_and c.from_residual-in_err-judge_frame.result c.from_residual-in_err-judge_frame.ensures.1 in
     rw (p.1, p.2) (wrong_next c.args.timing.now c.args.link c.args.first c.args.others.now c.loop-number.number (record { stream = 0; shift = 0 }) _
     c.loop-number-test.true c.loop-number.invariant.0 c.in_err-judge_frame.ensures)
 

@@ -4,11 +4,11 @@ use Rattle.tsn_model.specs.Network.{Network}
 use Rattle.tsn_model.specs.Argument.{Fact as ModelFact, Move as ModelMove, View, go, turn, pack, round, follow}
 use Rattle.tsn_argument.specs.Meaning.{decision_of, move_of}
 use Rattle.tsn_argue.specs.Motion.{clauses_of, JudgesMove}
-use Rattle.tsn_argue.specs.declared.fault.StepFault.{StepFault}
+use Rattle.tsn_argue.specs.declared.wrong.Wrong.{Wrong}
 use Rattle.tsn_argue.specs.declared.motion.Shown.{Shown}
 use Rattle.tsn_argue.proofs.motion.judge.Goals as goal
 
-same_move : (network : Network) (clauses : List (List ModelFact)) (view : View) (result : Result Shown StepFault) (one other : ModelMove) → one ≡ other
+same_move : (network : Network) (clauses : List (List ModelFact)) (view : View) (result : Result Shown Wrong) (one other : ModelMove) → one ≡ other
     → JudgesMove network clauses view one result → JudgesMove network clauses view other result
 same_move network clauses view result one other is judged = subst (λ move. JudgesMove network clauses view move result) is judged
 

@@ -1,6 +1,8 @@
-use Rattle.std.proofs.Common.{◌≡◌, ◌∷◌, pos, ap, ◌∙◌, arith}
+use Rattle.std.proofs.Common.{◌≡◌, ◌∷◌, pos, ◌+ℤ◌, to_z, of_z, false, inr, ap, ◌∙◌, arith}
+use mir.Syntax.{w128}
 use Rattle.std.proofs.lemmas.Int.{ints}
 use Rattle.tsn_model.specs.Argument.{first_head, last_end, work_on}
+use Rattle.tsn_argue.specs.declared.wrong.Wrong.TheVariants.{Room}
 use Rattle.tsn_argue.specs.Motion.{facts_of}
 use Rattle.tsn_argue.specs.State.{view_of}
 use Rattle.tsn_argue.proofs.PlacingLemmas.{frame_on, stream_there_until, others_on, all_on, some_on, first_shown}
@@ -23,6 +25,41 @@ work-requires-clause-on c = some_on _ _ _ _ c.in_ok-judge_placed.ensures.0 _ _ c
 
 pub end_of-until-requires : goal.end_of-until-requires
 end_of-until-requires c = frame_on _ _ _ _ c.in_ok-judge_placed.ensures.0
+
+pub returns-then-end-bound : goal.returns-then-end-bound
+returns-then-end-bound c clauses =
+    let network = c.args.view.now.timing.now in
+    let view = view_of c.args.view.now in
+    let link = c.args.placing.now.link in
+    let frame = c.args.placing.now.frame in
+    let others = c.args.placing.now.others in
+    let same_others = c.list-others.ensures.frames in
+    let end : c.last_end_with-end.result ≡ last_end network view link (frame ∷ others) =
+    c.last_end_with-end.ensures.value ∙ ap (λ list. last_end network view link (frame ∷ list)) same_others in
+    let end_low = c.last_end_with-end.ensures.low in
+    let end_high = c.last_end_with-end.ensures.high in
+    let begin : c.first_head-start.result ≡ first_head network view link others =
+    c.first_head-start.ensures.value ∙ ap (first_head network view link) same_others in
+    let begin_low = c.first_head-start.ensures.low in
+    let begin_high = c.first_head-start.ensures.high in
+    let long : c.work_with.result ≡ pos (work_on network link (frame ∷ others)) =
+    c.work_with.ensures.value ∙ ap (λ list. pos (work_on network link (frame ∷ list))) same_others in
+    let long_low = c.work_with.ensures.low in
+    let long_high = c.work_with.ensures.high in
+    let more = c.if-end-bound.true in
+    let a = to_z w128 (of_z w128 (to_z w128 (of_z w128 c.first_head-start.result) +ℤ to_z w128 (of_z w128 c.work_with.result))) in
+    let b = to_z w128 (of_z w128 c.last_end_with-end.result) in
+    let a_is : a ≡ first_head network view link others +ℤ pos (work_on network link (frame ∷ others)) =
+    omega (arith, ints, begin, begin_low, begin_high, long, long_low, long_high) in
+    let b_is : b ≡ last_end network view link (frame ∷ others) = omega (arith, ints, end, end_low, end_high) in
+    inr (inr (
+      c.in_ok-judge_placed.ensures.0,
+      c.in_ok-judge_placed.ensures.1,
+      (
+        λ i. Room link (a_is i) (b_is i) false,
+        omega (arith, ints, more, end, end_low, end_high, begin, begin_low, begin_high, long, long_low, long_high),
+      ),
+    ))
 
 pub returns : goal.returns
 returns c clauses =
@@ -47,7 +84,7 @@ returns c clauses =
     c.work_with.ensures.value ∙ ap (λ list. pos (work_on network link (frame ∷ list))) same_others in
     let long_low = c.work_with.ensures.low in
     let long_high = c.work_with.ensures.high in
-    let less = c.if-end-start.false in
+    let less = c.if-end-bound.false in
     let last : c.last_end.result ≡ last_end network view link some = c.last_end.ensures.value ∙ ap (last_end network view link) same_some in
     let last_low = c.last_end.ensures.low in
     let last_high = c.last_end.ensures.high in

@@ -13,8 +13,8 @@ returns-then-weight-gt0 c clauses =
     let view = view_of c.args.view.now in
     let is = c.one.ensures ∙ ap (λ (fact : ModelFact). fact ∷ []) c.refuting.ensures in
     let past = c.if-weight-gt0.true in
-    let adds = c.in-Some.ensures.1 in (
-      (c.in-Some.ensures.0.0, c.in-Some.ensures.0.1, omega (arith, ints, past, adds)),
+    let adds = c.in_ok-weight.ensures.1 in (
+      (c.in_ok-weight.ensures.0.0, c.in_ok-weight.ensures.0.1, omega (arith, ints, past, adds)),
       round_shown network clauses view (map decision_of c.args.orders.now) (facts_of c.one.result) is,
       refutes network view (facts_of c.one.result) is,
     )

@@ -1,8 +1,11 @@
-use Rattle.std.proofs.Common.{◌≡◌, inr, refl, sym, ap, subst, ◌∙◌, arith}
+use Rattle.std.proofs.Common.{◌≡◌, ◌+ℤ◌, to_z, of_z, w64, inr, sym, ap, subst, ◌∙◌, arith}
+use mir.Syntax.{w128}
 use Rattle.std.proofs.lemmas.Int.{ints}
 use Rattle.tsn_model.specs.Schedule.{IsConflict}
 use Rattle.tsn_model.specs.Arcs.{arc_of}
-use Rattle.tsn_model.specs.Argument.{order, turned, IsOutOfReach}
+use Rattle.tsn_model.specs.Argument.{order, turned, IsOutOfReach, low_at, high_at}
+use Rattle.tsn_argue.specs.declared.wrong.Wrong.TheVariants.{InReach}
+use Rattle.tsn_argue.specs.Faults.{IsInReach}
 use Rattle.tsn_argue.specs.Motion.{facts_of}
 use Rattle.tsn_argue.specs.State.{view_of}
 use Rattle.tsn_argue.proofs.OpenViews.{open_low, open_high}
@@ -21,16 +24,16 @@ at-requires c =
     let there = (arc_there c.args.view.now.timing.now c.turned.result c.arc_of-arc.result c.arc_of-arc.ensures.arc conflict).0 in
     omega (arith, lows, there)
 
-pub at-requires-2 : goal.at-requires-2
-at-requires-2 c =
+pub at-most-requires : goal.at-most-requires
+at-most-requires c =
     let highs = c.requires.sound.view.highs in
     let conflict =
     subst (IsConflict c.args.view.now.timing.now) (sym (turned_triple c.args.decision c.turned.result c.turned.ensures)) c.if-not-is_conflict.ensures in
     let there = (arc_there c.args.view.now.timing.now c.turned.result c.arc_of-arc.result c.arc_of-arc.ensures.arc conflict).1 in
     omega (arith, highs, there)
 
-pub overflow_add-at : goal.overflow_add-at
-overflow_add-at c =
+pub overflow_add-least : goal.overflow_add-least
+overflow_add-least c =
     let short = c.cycle-cycle.ensures.bound in
     let same = c.cycle-cycle.ensures.value in
     let conflict =
@@ -44,8 +47,8 @@ overflow_add-at c =
     let arc_high = c.arc_of-arc.ensures.small.high in
     omega (arith, ints, least, most, is, arc_low, arc_high)
 
-pub returns-then-at-arc : goal.returns-then-at-arc
-returns-then-at-arc c clauses =
+pub returns-then-least-most : goal.returns-then-least-most
+returns-then-least-most c clauses =
     let network = c.args.view.now.timing.now in
     let view = view_of c.args.view.now in
     let arc = c.arc_of-arc.result in
@@ -60,10 +63,10 @@ returns-then-at-arc c clauses =
     let high_least = high.0 in
     let high_most = high.1 in
     let is = c.at.ensures in
-    let high_is = c.at-2.ensures in
+    let high_is = c.at-most.ensures in
     let arc_low = c.arc_of-arc.ensures.small.low in
     let arc_high = c.arc_of-arc.ensures.small.high in
-    let past = c.if-at-arc.true in
+    let past = c.if-least-most.true in
     let beyond : IsOutOfReach view arc = omega (arith, ints, least, most, high_least, high_most, is, high_is, arc_low, arc_high, past) in
     let same_arc : arc ≡ arc_of network (turned c.args.decision) = c.arc_of-arc.ensures.arc ∙ ap (arc_of network) c.turned.ensures in (
       (c.if-not-is_conflict.ensures, subst (IsOutOfReach view) same_arc beyond),
@@ -71,8 +74,8 @@ returns-then-at-arc c clauses =
       one_fact network (facts_of c.one.result) (order c.args.decision) c.one.ensures c.if-not-is_conflict.ensures,
     )
 
-pub returns-else-at-arc : goal.returns-else-at-arc
-returns-else-at-arc c clauses =
+pub returns-else-least-most : goal.returns-else-least-most
+returns-else-least-most c clauses =
     let network = c.args.view.now.timing.now in
     let view = view_of c.args.view.now in
     let arc = c.arc_of-arc.result in
@@ -87,15 +90,17 @@ returns-else-at-arc c clauses =
     let high_least = high.0 in
     let high_most = high.1 in
     let is = c.at.ensures in
-    let high_is = c.at-2.ensures in
+    let high_is = c.at-most.ensures in
     let arc_low = c.arc_of-arc.ensures.small.low in
     let arc_high = c.arc_of-arc.ensures.small.high in
-    let near = c.if-at-arc.false in
-    let same_arc : arc_of network (turned c.args.decision) ≡ arc = sym (c.arc_of-arc.ensures.arc ∙ ap (arc_of network) c.turned.ensures) in
-    inr (
-      c.if-not-is_conflict.ensures,
-      refl,
-      λ past.
-          let beyond : IsOutOfReach view arc = subst (IsOutOfReach view) same_arc past in
-          omega (arith, ints, least, most, high_least, high_most, is, high_is, arc_low, arc_high, near, beyond),
-    )
+    let near = c.if-least-most.false in
+    let same_arc : arc ≡ arc_of network (turned c.args.decision) = c.arc_of-arc.ensures.arc ∙ ap (arc_of network) c.turned.ensures in
+    let a = to_z w128 (of_z w128 (to_z w128 (of_z w128 c.at.result) +ℤ to_z w128 (of_z w128 (to_z w64 (of_z w64 arc.weight))))) in
+    let low_is : a ≡ low_at view arc.from +ℤ arc.weight = omega (arith, ints, least, most, is, arc_low, arc_high) in
+    let b = to_z w128 (of_z w128 c.at-most.result) in
+    let most_is : b ≡ high_at view arc.to = omega (arith, ints, high_least, high_most, high_is) in
+    let reach : IsInReach view arc (InReach arc.to a b) = (
+      λ i. InReach arc.to (low_is i) (most_is i),
+      omega (arith, ints, least, most, high_least, high_most, is, high_is, arc_low, arc_high, near),
+    ) in
+    inr (c.if-not-is_conflict.ensures, subst (λ x. IsInReach view x (InReach arc.to a b)) same_arc reach)

@@ -22,8 +22,8 @@ returns-in-Ok-Some c =
     let is = c.one.ensures ∙ ap (λ (fact : ModelFact). fact ∷ []) c.of.ensures in
     let at : clause_at (clauses_of clauses) number ≡ clause_of c.list.result.now =
     clause_there clauses number c.index-clauses-number.result c.if-number-clauses.false c.index-clauses-number.is ∙ ap clause_of (sym c.list.ensures) in
-    let unit : FindsUnit view (clause_of c.list.result.now) (Ok (Some c.in-Ok-Some.fact)) =
-    subst (λ left. FindsUnit view (clause_of c.list.result.now) (Ok left)) c.in-Ok-Some.field-0-is c.in-Ok-Some.ensures in
+    let unit : FindsUnit view c.args.number (clause_of c.list.result.now) (Ok (Some c.in-Ok-Some.fact)) =
+    subst (λ left. FindsUnit view c.args.number (clause_of c.list.result.now) (Ok left)) c.in-Ok-Some.field-0-is c.in-Ok-Some.ensures in
     let found : left_open view (clause_at (clauses_of clauses) number) ≡ fact_of c.in-Ok-Some.fact ∷ [] = ap (left_open view) at ∙ unit.0 in
     let facts : All (IsFact network) (clause_of c.list.result.now) = rw c.list.ensures (clause_facts network clauses number c.index-clauses-number.result
     c.if-number-clauses.false c.index-clauses-number.is c.requires.facts) in (
@@ -42,8 +42,8 @@ returns-in-Ok-None c =
     let is = c.one-in-Ok-None.ensures ∙ ap (λ (fact : ModelFact). fact ∷ []) c.refuting.ensures in
     let at : clause_at (clauses_of clauses) number ≡ clause_of c.list.result.now =
     clause_there clauses number c.index-clauses-number.result c.if-number-clauses.false c.index-clauses-number.is ∙ ap clause_of (sym c.list.ensures) in
-    let unit : FindsUnit view (clause_of c.list.result.now) (Ok None) =
-    subst (λ left. FindsUnit view (clause_of c.list.result.now) (Ok left)) c.in-Ok-None.field-0-is c.in-Ok-None.ensures in
+    let unit : FindsUnit view c.args.number (clause_of c.list.result.now) (Ok None) =
+    subst (λ left. FindsUnit view c.args.number (clause_of c.list.result.now) (Ok left)) c.in-Ok-None.field-0-is c.in-Ok-None.ensures in
     let found : left_open view (clause_at (clauses_of clauses) number) ≡ [] = ap (left_open view) at ∙ unit in
     let none = ap length found in (
       (subst (λ n. number < n) (sym (length-map clauses (λ clause. clause_of clause.now))) c.if-number-clauses.false, omega (arith, none)),

@@ -4,6 +4,7 @@ use Rattle.tsn_argument.specs.Meaning.{fact_of, clause_of}
 use Rattle.tsn_argument.specs.declared.fact.Fact.{Fact}
 use Rattle.tsn_argument.specs.declared.fact.Fact.TheVariants.{From}
 use Rattle.tsn_argue.specs.Motion.{FindsUnit}
+use Rattle.tsn_argue.specs.declared.wrong.Wrong.TheVariants.{Left}
 use Rattle.tsn_argue.specs.State.{view_of}
 use Rattle.tsn_argue.proofs.MotionLemmas.{unit_skip, unit_first, unit_two}
 use Rattle.tsn_argue.proofs.motion.unit_of.Goals as goal
@@ -21,8 +22,8 @@ returns-then-is_some c =
     let view = view_of c.args.view.now in
     let told : contradicts view (fact_of (get_or c.args.clause.now c.loop-fact.fact-index blank)) ≡ false =
     ap (contradicts view) (sym c.of.ensures) ∙ sym c.if-not-contradicts.ensures in (
-      refl,
-      unit_two view c.args.clause.now c.loop-fact.fact-index blank c.loop-fact-test.true c.loop-fact.left (sym c.if-is_some.ensures) told
+      ap (λ n. Left c.args.number n) c.count_left-left.ensures,
+      unit_two view c.args.clause.now c.loop-fact.fact-index blank c.loop-fact-test.true c.args.number c.loop-fact.left (sym c.if-is_some.ensures) told
           c.loop-fact.invariant,
     )
 
@@ -35,11 +36,12 @@ loop-fact-preserved c =
       | then-not-contradicts+else-is_some w ↦
           let told : contradicts view (fact_of (get_or c.args.clause.now index blank)) ≡ false =
           ap (contradicts view) (sym c.of.ensures) ∙ sym w.if-not-contradicts.ensures in
-          subst (λ left. FindsUnit view facts (Ok left)) (sym w.left-is)
-          (unit_first view c.args.clause.now index blank c.loop-fact-test.true c.loop-fact.left (sym w.if-is_some.ensures) told c.loop-fact.invariant)
+          subst (λ left. FindsUnit view c.args.number facts (Ok left)) (sym w.left-is)
+          (unit_first view c.args.clause.now index blank c.loop-fact-test.true c.args.number c.loop-fact.left (sym w.if-is_some.ensures) told
+          c.loop-fact.invariant)
       | else-not-contradicts w ↦
           let told : contradicts view (fact_of (get_or c.args.clause.now index blank)) ≡ true =
           ap (contradicts view) (sym c.of.ensures) ∙ sym w.if-not-contradicts.ensures in
-          subst (λ left. FindsUnit view facts (Ok left)) (sym w.left-is)
-          (unit_skip view c.args.clause.now index blank c.loop-fact-test.true c.loop-fact.left told c.loop-fact.invariant)
+          subst (λ left. FindsUnit view c.args.number facts (Ok left)) (sym w.left-is)
+          (unit_skip view c.args.clause.now index blank c.loop-fact-test.true c.args.number c.loop-fact.left told c.loop-fact.invariant)
     ]

@@ -5,4 +5,4 @@ use Rattle.tsn_argue.specs.Motion.{FindsUnit}
 use Rattle.tsn_argue.proofs.motion.unit_of.Given as goal
 
 abbrev pub invariant-loop-fact : goal.invariant-loop-fact
-invariant-loop-fact l = FindsUnit (view_of l.view) (clause_of (take l.fact-index l.clause)) (Ok l.left)
+invariant-loop-fact l = FindsUnit (view_of l.view) l.number (clause_of (take l.fact-index l.clause)) (Ok l.left)

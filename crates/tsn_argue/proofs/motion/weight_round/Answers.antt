@@ -1,10 +1,11 @@
-use Rattle.std.proofs.Common.{◌≡◌, ◌+ℤ◌, ◌≤◌, length, map, take, pos, to_z, of_z, w64, refl, sym, ◌∙◌, subst, arith}
+use Rattle.std.proofs.Common.{◌≡◌, ◌+ℤ◌, ◌≤◌, length, map, pos, to_z, of_z, w64, refl, sym, ◌∙◌, subst, inl, inr, arith}
+use Rattle.std.proofs.lemmas.Result.{err_from_is_err_and}
 use Rattle.std.proofs.lemmas.Int.{ints}
 use Rattle.tsn_model.specs.Argument.{LeadsBy}
 use Rattle.tsn_argument.specs.Meaning.{decision_of}
 use Rattle.tsn_argument.specs.declared.order.Order.{Order}
 use Rattle.tsn_argue.specs.State.{view_of}
-use Rattle.tsn_argue.proofs.MotionLemmas.{order_had, arc_leads, walk_none, walk_more, walk_done, leads_same}
+use Rattle.tsn_argue.proofs.MotionLemmas.{arc_leads, walk_none, order_wrong, order_apart, walk_more, walk_done, leads_same}
 use Rattle.tsn_argue.proofs.motion.weight_round.Goals as goal
 
 abbrev blank : Order
@@ -12,36 +13,28 @@ blank = record { first = 0; second = 0; link = 0; lag = pos 0 }
 
 pub returns-in_err-start : goal.returns-in_err-start
 returns-in_err-start c =
+    let p = err_from_is_err_and c.from_residual.result c.from_residual.ensures.1 in
+    let network = c.args.view.now.timing.now in
+    let view = view_of c.args.view.now in
     let some = c.requires.some in
-    rw c.from_residual.ensures (λ round. c.in_err-start.ensures
-    (order_had c.args.view.now.timing.now (view_of c.args.view.now) c.args.orders.now blank 0 c.decision.result (omega (arith, some))
-    c.decision.ensures round.0))
+    rw (p.1, p.2) (order_wrong network view c.args.orders.now blank 0 0 0 (pos 0) c.decision.result _ (omega (arith, some)) c.decision.ensures
+    (inl c.in_err-start.ensures) (walk_none network view c.args.orders.now blank 0))
 
 pub loop-order-init : goal.loop-order-init
 loop-order-init c = walk_none c.args.view.now.timing.now (view_of c.args.view.now) c.args.orders.now blank c.in_ok-start.field-0.from
 
 pub returns-in_err-arc : goal.returns-in_err-arc
 returns-in_err-arc c =
-    rw c.from_residual-in_err-arc.ensures (λ round. c.in_err-arc.ensures
-    (order_had c.args.view.now.timing.now (view_of c.args.view.now) c.args.orders.now blank c.loop-order.order-index c.decision-in-loop-order.result
-    c.loop-order-test.true c.decision-in-loop-order.ensures round.0))
+    let p = err_from_is_err_and c.from_residual-in_err-arc.result c.from_residual-in_err-arc.ensures.1 in
+    rw (p.1, p.2) (order_wrong c.args.view.now.timing.now (view_of c.args.view.now) c.args.orders.now blank c.in_ok-start.field-0.from
+    c.loop-order.order-index c.loop-order.at _ c.decision-in-loop-order.result _ c.loop-order-test.true c.decision-in-loop-order.ensures
+    (inl c.in_err-arc.ensures) c.loop-order.invariant)
 
 pub returns-then-arc-at : goal.returns-then-arc-at
-returns-then-arc-at c round =
-    let network = c.args.view.now.timing.now in
-    let view = view_of c.args.view.now in
-    let orders = c.args.orders.now in
-    let k = c.loop-order.order-index in
-    let i = round.1.0 in
-    let leads = round.1.1 in
-    let some = c.requires.some in
-    let begins : c.in_ok-start.field-0.from ≡ i =
-    arc_leads network view orders blank i i i 0 c.decision.result c.in_ok-start.field-0 (omega (arith, some)) c.decision.ensures
-    c.in_ok-start.ensures.is leads refl in
-    let before : LeadsBy network i (take k (map decision_of orders)) c.loop-order.at =
-    subst (λ s. LeadsBy network s (take k (map decision_of orders)) c.loop-order.at) begins c.loop-order.invariant.leads in
-    c.if-arc-at.true (arc_leads network view orders blank i i c.loop-order.at k c.decision-in-loop-order.result c.in_ok-arc.arc
-    c.loop-order-test.true c.decision-in-loop-order.ensures c.in_ok-arc.ensures.is leads before)
+returns-then-arc-at c =
+    order_apart c.args.view.now.timing.now (view_of c.args.view.now) c.args.orders.now blank c.loop-order.order-index c.loop-order.at _
+    c.decision.result c.decision-in-loop-order.result c.in_ok-start.field-0 c.in_ok-arc.arc c.loop-order-test.true c.decision.ensures
+    c.decision-in-loop-order.ensures c.in_ok-start.ensures.is c.in_ok-arc.ensures c.if-arc-at.true c.loop-order.invariant
 
 pub loop-order-preserved : goal.loop-order-preserved
 loop-order-preserved c =
@@ -76,18 +69,24 @@ returns-then-at-start c =
     )
 
 pub returns-else-at-start : goal.returns-else-at-start
-returns-else-at-start c round =
+returns-else-at-start c =
     let network = c.args.view.now.timing.now in
     let view = view_of c.args.view.now in
     let orders = c.args.orders.now in
-    let i = round.1.0 in
-    let leads = round.1.1 in
     let some = c.requires.some in
+    let start = c.in_ok-start.field-0.from in
     let past : length orders ≤ c.loop-order.order-index = omega arith in
-    let begins : c.in_ok-start.field-0.from ≡ i =
-    arc_leads network view orders blank i i i 0 c.decision.result c.in_ok-start.field-0 (omega (arith, some)) c.decision.ensures
-    c.in_ok-start.ensures.is leads refl in
-    let whole = walk_done network view orders blank c.in_ok-start.field-0.from c.loop-order.order-index c.loop-order.at _ past c.loop-order.invariant in
-    let ends : LeadsBy network i (map decision_of orders) c.loop-order.at =
-    subst (λ s. LeadsBy network s (map decision_of orders) c.loop-order.at) begins whole.1 in
-    c.if-at-start.false (leads_same network i c.loop-order.at i (map decision_of orders) ends leads ∙ sym begins)
+    let whole = walk_done network view orders blank start c.loop-order.order-index c.loop-order.at _ past c.loop-order.invariant in
+    inr (
+      (whole.0, (start, c.loop-order.at, whole.1)),
+      refl,
+      λ round.
+          let i = round.1.0 in
+          let leads = round.1.1 in
+          let begins : start ≡ i =
+          arc_leads network view orders blank i i i 0 c.decision.result c.in_ok-start.field-0 (omega (arith, some)) c.decision.ensures
+          c.in_ok-start.ensures.is leads refl in
+          let ends : LeadsBy network i (map decision_of orders) c.loop-order.at =
+          subst (λ s. LeadsBy network s (map decision_of orders) c.loop-order.at) begins whole.1 in
+          c.if-at-start.false (leads_same network i c.loop-order.at i (map decision_of orders) ends leads ∙ sym begins),
+    )

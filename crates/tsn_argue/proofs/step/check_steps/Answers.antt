@@ -1,7 +1,7 @@
 use Rattle.std.proofs.Common.{◌≡◌, ◌⊎◌, inr, sym, subst}
 use Rattle.tsn_argument.specs.Meaning.{steps_of}
-use Rattle.tsn_check.specs.declared.fault.CheckFault.{CheckFault}
-use Rattle.tsn_check.specs.declared.fault.CheckFault.TheVariants.{Memory}
+use Rattle.tsn_argue.specs.declared.fault.ArgumentFault.{ArgumentFault}
+use Rattle.tsn_argue.specs.declared.fault.ArgumentFault.TheVariants.{Memory}
 use Rattle.tsn_argue.specs.Faults.{IsArgumentFault}
 use Rattle.tsn_argue.specs.Steps.{goal_of, IsAim}
 use Rattle.tsn_argue.proofs.Telling.{no_steps, more_steps}
@@ -32,17 +32,17 @@ loop-number-preserved g c = record {
 
 pub returns-in-Err-clause-err : goal.returns-in-Err-clause-err
 returns-in-Err-clause-err g c =
-    subst (λ (f : CheckFault). (f ≡ Memory) ⊎ IsArgumentFault c.args.timing.now (goal_of c.args.aim.now) (steps_of c.args.steps.now) f) (sym c.at.ensures)
+    subst (λ (f : ArgumentFault). (f ≡ Memory) ⊎ IsArgumentFault c.args.timing.now (goal_of c.args.aim.now) (steps_of c.args.steps.now) f) (sym c.at.ensures)
     (reached_wrong c.args.timing.now (goal_of c.args.aim.now) c.loop-number.known c.take.new.self c.args.steps.now
     c.loop-number.number c.index-steps-number.result c.in-Err.stop
     c.loop-number-test.true c.index-steps-number.is c.loop-number.invariant.reached c.in-Err.ensures.taken)
 
-pub returns-then-is_settled-clause-ok : goal.returns-then-is_settled-clause-ok
-returns-then-is_settled-clause-ok g c =
+pub returns-in-None-clause-ok : goal.returns-in-None-clause-ok
+returns-in-None-clause-ok g c =
     argued c.args.timing.now (goal_of c.args.aim.now) c.loop-number.known c.args.steps.now c.loop-number.number
-    c.loop-number-test.false c.loop-number.invariant.reached c.if-is_settled.ensures
+    c.loop-number-test.false c.loop-number.invariant.reached c.in-None.ensures
 
 pub returns-clause-err : goal.returns-clause-err
 returns-clause-err g c =
     inr (unfinished c.args.timing.now (goal_of c.args.aim.now) c.loop-number.known c.args.steps.now
-    c.loop-number.number c.loop-number-test.false c.loop-number.invariant.reached c.if-is_settled.ensures)
+    c.loop-number.number c.in-Some.left c.loop-number-test.false c.loop-number.invariant.reached c.in-Some.ensures)

@@ -1,16 +1,15 @@
-use Rattle.std.proofs.Common.{All}
-use Rattle.std.proofs.lemmas.Result.{err_from_is_err_and}
+use Rattle.std.proofs.Common.{All, refl}
 use Rattle.tsn_model.specs.Argument.{IsFact}
 use Rattle.tsn_argument.specs.Meaning.{fact_of}
 use Rattle.tsn_argue.specs.Faults.{IsWrongFact}
-use Rattle.tsn_argue.proofs.Ordered.{wrong_at, all_right}
+use Rattle.tsn_argue.specs.declared.fault.StepFault.TheVariants as of_step
+use Rattle.tsn_argue.proofs.Ordered.{told_at, all_right}
 use Rattle.tsn_argue.proofs.step.judge_facts.Goals as goal
 
 pub returns : goal.returns
-returns c = all_right fact_of (All (IsFact c.args.timing.now)) c.args.clause.now c.loop-fact.fact-index c.loop-fact-test.false c.loop-fact.invariant
+returns c = all_right fact_of (All (IsFact c.args.timing.now)) c.args.clause.now c.loop-number.number c.loop-number-test.false c.loop-number.invariant
 
-pub returns-in_err-judge_fact : goal.returns-in_err-judge_fact
-returns-in_err-judge_fact c =
-    let p = err_from_is_err_and c.from_residual.result c.from_residual.ensures.1 in
-    rw (p.1, p.2) (wrong_at fact_of (All (IsFact c.args.timing.now)) (λ before. IsWrongFact c.args.timing.now) c.args.clause.now c.loop-fact.fact-index _ _
-    c.loop-fact-test.true c.loop-fact.invariant c.in_err-judge_fact.ensures)
+pub returns-in-Err : goal.returns-in-Err
+returns-in-Err c =
+    told_at fact_of of_step.Fact (All (IsFact c.args.timing.now)) (λ before. IsWrongFact c.args.timing.now) c.args.clause.now c.loop-number.number
+    _ c.in-Err.wrong _ c.loop-number-test.true c.loop-number.invariant c.in-Err.ensures refl

@@ -3,5 +3,5 @@ use Rattle.tsn_model.specs.Argument.{IsFact}
 use Rattle.tsn_argument.specs.Meaning.{clause_of}
 use Rattle.tsn_argue.proofs.step.judge_facts.Given as goal
 
-abbrev pub invariant-loop-fact : goal.invariant-loop-fact
-invariant-loop-fact l = All (IsFact l.timing) (clause_of (take l.fact-index l.clause))
+abbrev pub invariant-loop-number : goal.invariant-loop-number
+invariant-loop-number l = All (IsFact l.timing) (clause_of (take l.number l.clause))

@@ -5,8 +5,8 @@ use Rattle.tsn_argue.proofs.Telling.{no_moves, more_moves}
 use Rattle.tsn_argue.proofs.TakingAll.{none_made, moves_wrong, moves_more}
 use Rattle.tsn_argue.proofs.step.make_all.Goals as goal
 
-pub loop-motion-init : goal.loop-motion-init
-loop-motion-init g c = record {
+pub loop-number-init : goal.loop-number-init
+loop-number-init g c = record {
   allowed = tt;
   becomes = none_made c.args.view.now (clauses_of c.args.clauses.now) c.requires.sound;
   told = no_moves c.args.view.now.timing.now (clauses_of c.args.clauses.now) (view_of c.args.view.now) (g.L.Listener.heard c.args.listener.now);
@@ -15,20 +15,20 @@ loop-motion-init g c = record {
 pub returns-in_err-make-clause-taken : goal.returns-in_err-make-clause-taken
 returns-in_err-make-clause-taken g c =
     let p = err_from_is_err_and c.from_residual.result c.from_residual.ensures.1 in
-    rw (p.1, p.2) (moves_wrong c.args.view.now c.loop-motion.view
-    (clauses_of c.args.clauses.now) c.args.moves.now c.loop-motion.motion-index c.motion-item.result
-    c.make.new.view c.make.new.view _ c.loop-motion-test.true c.motion-item.is c.loop-motion.invariant.allowed
-    c.loop-motion.invariant.becomes c.in_err-make.ensures.taken)
+    rw (p.1, p.2) (moves_wrong c.args.view.now c.loop-number.view
+    (clauses_of c.args.clauses.now) c.args.moves.now c.loop-number.number c.index-moves-number.result
+    c.make.new.view c.make.new.view _ c.loop-number-test.true c.index-moves-number.is c.loop-number.invariant.allowed
+    c.loop-number.invariant.becomes c.in_err-make.ensures.taken)
 
-pub loop-motion-preserved : goal.loop-motion-preserved
-loop-motion-preserved g c =
-    let more = moves_more c.args.view.now c.loop-motion.view
-    (clauses_of c.args.clauses.now) c.args.moves.now c.loop-motion.motion-index c.motion-item.result c.make.new.view
-    c.loop-motion-test.true c.motion-item.is c.loop-motion.invariant.allowed c.loop-motion.invariant.becomes c.in_ok-make.ensures.taken in
+pub loop-number-preserved : goal.loop-number-preserved
+loop-number-preserved g c =
+    let more = moves_more c.args.view.now c.loop-number.view
+    (clauses_of c.args.clauses.now) c.args.moves.now c.loop-number.number c.index-moves-number.result c.make.new.view
+    c.loop-number-test.true c.index-moves-number.is c.loop-number.invariant.allowed c.loop-number.invariant.becomes c.in_ok-make.ensures.taken in
     record {
       allowed = more.0;
       becomes = more.1;
-      told = more_moves c.args.view.now c.loop-motion.view (clauses_of c.args.clauses.now) c.args.moves.now c.loop-motion.motion-index c.motion-item.result
-          (g.L.Listener.heard c.args.listener.now) (g.L.Listener.heard c.loop-motion.listener) (g.L.Listener.heard c.make.new.listener)
-          c.loop-motion-test.true c.motion-item.is c.loop-motion.invariant.becomes c.loop-motion.invariant.told c.in_ok-make.ensures.told;
+      told = more_moves c.args.view.now c.loop-number.view (clauses_of c.args.clauses.now) c.args.moves.now c.loop-number.number c.index-moves-number.result
+          (g.L.Listener.heard c.args.listener.now) (g.L.Listener.heard c.loop-number.listener) (g.L.Listener.heard c.make.new.listener)
+          c.loop-number-test.true c.index-moves-number.is c.loop-number.invariant.becomes c.loop-number.invariant.told c.in_ok-make.ensures.told;
     }

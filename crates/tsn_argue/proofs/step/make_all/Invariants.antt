@@ -6,11 +6,11 @@ use Rattle.tsn_argue.specs.Motion.{clauses_of}
 use Rattle.tsn_argue.specs.Told.{with_told, told_moves}
 use Rattle.tsn_argue.proofs.step.make_all.Given as goal
 
-abbrev pub invariant-loop-motion : goal.invariant-loop-motion
-invariant-loop-motion g l = record {
-  allowed : AreAllowed l.initial.view.timing.now (clauses_of l.clauses) (view_of l.initial.view) (map move_of (take l.motion-index l.moves));
+abbrev pub invariant-loop-number : goal.invariant-loop-number
+invariant-loop-number g l = record {
+  allowed : AreAllowed l.initial.view.timing.now (clauses_of l.clauses) (view_of l.initial.view) (map move_of (take l.number l.moves));
   becomes : Becomes l.initial.view l.view (narrowed l.initial.view.timing.now (clauses_of l.clauses) (view_of l.initial.view)
-      (map move_of (take l.motion-index l.moves)));
+      (map move_of (take l.number l.moves)));
   told : g.L.Listener.heard l.listener ≡ with_told (g.L.Listener.heard l.initial.listener)
-      (told_moves l.initial.view.timing.now (clauses_of l.clauses) (view_of l.initial.view) (map move_of (take l.motion-index l.moves)));
+      (told_moves l.initial.view.timing.now (clauses_of l.clauses) (view_of l.initial.view) (map move_of (take l.number l.moves)));
 }

@@ -1,16 +1,16 @@
 use Rattle.std.proofs.Common.{inl, inr, ◌∙◌, sym}
 use Rattle.std.proofs.lemmas.Result.{err_from_is_err_and}
 use Rattle.tsn_argue.specs.Steps.{goal_of}
-use Rattle.tsn_argue.proofs.Refuted.{shows_refuted}
+use Rattle.tsn_argue.proofs.Refuted.{why_refuted}
 use Rattle.tsn_argue.proofs.Verdicts.{told_fitting, argued, step_fault_first, shown_optimal, shown_first, shown_none}
-use Rattle.tsn_argue.proofs.verdict.hear_argument.Goals as goal
+use Rattle.tsn_argue.proofs.verdict.judge_argument.Goals as goal
 
 pub returns-in_err-check_steps-clause-complete : goal.returns-in_err-check_steps-clause-complete
 returns-in_err-check_steps-clause-complete g c shows =
     let p = err_from_is_err_and c.from_residual-in_err-check_steps.result c.from_residual-in_err-check_steps.ensures.1 in
     rw (p.1, p.2) (elim c.in_err-check_steps.ensures.err [
       | inl memory ↦ memory
-      | inr fault ↦ absurd (shows_refuted c.args.problem.now.network c.args.plan.now c.args.argument.now c.in_err-check_steps.field-0.0
+      | inr fault ↦ absurd (why_refuted c.args.problem.now.network c.args.plan.now c.args.argument.now c.in_err-check_steps.field-0.0
           (step_fault_first c.args.problem.now.network c.in_ok-timing.timing c.args.plan.now c.args.argument.now (goal_of c.in_ok-aim.aim) _
           c.in_ok-timing.ensures c.in_ok-judge_plan.ensures.right c.in_ok-aim.ensures.1 c.list.ensures c.in_err-check_steps.field-0.0 fault) shows)
     ])
