@@ -1,13 +1,11 @@
 //! Why files that a command read are refused, one after another, as the command reads them. The reason is found again from the bytes
 //! that were read, so no command has to hand it on.
 use std::alloc::Global;
-use tsn_argue::check_certificate;
-use tsn_argument::Certificate;
 use tsn_codec::{certificate_from_json, plan_from_json};
 use tsn_net::{Problem, read_or_refuse};
 use tsn_reason::{
-    Claim, File, Reason, Schedule, cert_file_line, line_of_fault, network_line, offsets_line,
-    plan_file_line, refused_plan,
+    Claim, File, Reason, Schedule, cert_file_line, network_line, offsets_line, plan_file_line,
+    refused_certificate, refused_plan,
 };
 use tsn_text::line_of;
 use tsn_timing::Validity;
@@ -133,18 +131,10 @@ fn refused_files(alloc: Global, problem: &Problem, file: File<'_>, cert: File<'_
 fn refused_cert_file(alloc: Global, claim: Claim<'_>, file: File<'_>) -> Reason {
     match certificate_from_json(alloc, file.bytes) {
         Ok(cert) => {
-            let reason = refused_cert(alloc, claim, file, &cert);
+            let reason = refused_certificate(alloc, claim, file, &cert);
             drop(cert);
             reason
         }
         Err(fault) => cert_file_line(alloc, file, fault),
-    }
-}
-
-/// Why a plan or its certificate is refused.
-fn refused_cert(alloc: Global, claim: Claim<'_>, file: File<'_>, cert: &Certificate) -> Reason {
-    match check_certificate(alloc, claim.problem, claim.plan, cert) {
-        Ok(_) => Ok(None),
-        Err(fault) => line_of_fault(alloc, claim, file, cert, fault),
     }
 }

@@ -1,15 +1,15 @@
 //! What a plan claims of a problem, and why it or its certificate is refused.
-use crate::argument::{Argued, argument_line};
+use crate::argument::argument_line;
 use crate::bound::Shown;
 use crate::plan::{Stated, is_at_fault, plan_line};
 use crate::tree::tree_line;
 use crate::{File, Reason};
 use std::alloc::Global;
+use tsn_argue::{Silent, judge_argument};
 use tsn_argument::Certificate;
-use tsn_cert::Plan;
-use tsn_check::{CheckFault, check_plan};
+use tsn_cert::{Cert, Plan};
+use tsn_check::{CheckFault, check, check_plan};
 use tsn_net::Problem;
-use tsn_timing::Timing;
 
 /// A plan of a problem, and the file that states it.
 #[derive(Clone, Copy)]
@@ -41,12 +41,52 @@ pub fn refused_plan(alloc: Global, problem: &Problem, file: File<'_>, plan: &Pla
     reason
 }
 
-/// The line on a plan or its certificate with this fault.
-pub fn line_of_fault(
+/// Why a plan or its certificate is refused.
+pub fn refused_certificate(
     alloc: Global,
     claim: Claim<'_>,
     file: File<'_>,
-    cert: &Certificate,
+    certificate: &Certificate,
+) -> Reason {
+    let Claim { problem, plan, .. } = claim;
+    match certificate {
+        Certificate::Tree(cert) => match check(alloc, problem, plan, cert) {
+            Ok(_) => Ok(None),
+            Err(fault) => line_on_tree(alloc, claim, file, cert, fault),
+        },
+        Certificate::Argument(argument) => {
+            match judge_argument(alloc, problem, plan, argument, &mut Silent) {
+                Ok(_) => Ok(None),
+                Err(fault) => argument_line(alloc, file, claim, fault),
+            }
+        }
+    }
+}
+
+/// The line on a plan with this fault.
+pub fn line_on_plan(alloc: Global, claim: Claim<'_>, fault: CheckFault) -> Reason {
+    let Claim {
+        problem,
+        file,
+        plan,
+    } = claim;
+    let timing = problem.timing(alloc)?;
+    let stated = Stated {
+        problem,
+        timing: &timing,
+        plan,
+    };
+    let reason = plan_line(alloc, file, stated, fault);
+    drop(timing);
+    reason
+}
+
+/// The line on a plan or its tree with this fault.
+fn line_on_tree(
+    alloc: Global,
+    claim: Claim<'_>,
+    file: File<'_>,
+    cert: &Cert,
     fault: CheckFault,
 ) -> Reason {
     let Claim {
@@ -63,35 +103,13 @@ pub fn line_of_fault(
         };
         plan_line(alloc, plan_file, stated, fault)
     } else {
-        certificate_line(alloc, claim, &timing, file, cert, fault)
+        let shown = Shown {
+            timing: &timing,
+            plan,
+            cert,
+        };
+        tree_line(alloc, file, shown, fault)
     };
     drop(timing);
     reason
-}
-
-/// The line on a certificate with this fault, where its plan is right.
-fn certificate_line(
-    alloc: Global,
-    claim: Claim<'_>,
-    timing: &Timing,
-    file: File<'_>,
-    cert: &Certificate,
-    fault: CheckFault,
-) -> Reason {
-    let Claim { problem, plan, .. } = claim;
-    match cert {
-        Certificate::Tree(cert) => {
-            let shown = Shown { timing, plan, cert };
-            tree_line(alloc, file, shown, fault)
-        }
-        Certificate::Argument(argument) => {
-            let argued = Argued {
-                problem,
-                timing,
-                plan,
-                argument,
-            };
-            argument_line(alloc, file, argued, fault)
-        }
-    }
 }

@@ -2,22 +2,17 @@
 
 use tsn_cert::Plan;
 use tsn_text::TextBuilder;
-use tsn_timing::Timing;
 
 /// Writes what the target is, and has to be.
-pub fn push_wrong_target(text: &mut TextBuilder, timing: &Timing, plan: &Plan, target: u64) {
+pub fn push_wrong_target(text: &mut TextBuilder, plan: &Plan, stated: u64, wanted: u64) {
     text.push_str("target is ");
-    text.push_number(target);
+    text.push_number(stated);
     text.push_str(", and has to be ");
+    text.push_number(wanted);
     match plan {
-        Plan::Schedule { flowspan, .. } => {
-            text.push_number(*flowspan);
-            text.push_str(", the flowspan of the plan");
-        }
-        Plan::None => {
-            let past_cycle = timing.cycle().saturating_add(1);
-            text.push_number(past_cycle);
-            text.push_str(", one more than the cycle, since the plan is that there is no schedule");
-        }
+        Plan::Schedule { .. } => text.push_str(", the flowspan of the plan"),
+        Plan::None => text.push_str(
+            ", one more than the cycle, since the plan is that there is no schedule",
+        ),
     }
 }

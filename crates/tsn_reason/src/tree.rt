@@ -4,7 +4,7 @@ use crate::bound::{Shown, push_low_bound};
 use crate::target::push_wrong_target;
 use crate::{File, Reason};
 use std::alloc::Global;
-use tsn_cert::{Chain, Entries, Leaf, LowerBound, Node};
+use tsn_cert::{Chain, Entries, Leaf, LowerBound, Node, Plan};
 use tsn_check::CheckFault;
 use tsn_model::{Frame, NoMemory};
 use tsn_text::line_of;
@@ -16,7 +16,8 @@ pub fn tree_line(alloc: Global, file: File<'_>, shown: Shown<'_>, fault: CheckFa
     match fault {
         CheckFault::Memory => return Err(NoMemory),
         CheckFault::FlowspanWrong => {
-            push_wrong_target(&mut text, shown.timing, shown.plan, shown.cert.target)
+            let wanted = target_of(shown);
+            push_wrong_target(&mut text, shown.plan, shown.cert.target, wanted)
         }
         CheckFault::BoundTooLow(node) => push_low_bound(alloc, &mut text, shown, node)?,
         CheckFault::NotOnLink(node) if has_strange_frame(shown, node) => {
@@ -27,6 +28,14 @@ pub fn tree_line(alloc: Global, file: File<'_>, shown: Shown<'_>, fault: CheckFa
         _ => text.push_str(format!(in alloc; "{fault}")?.as_str()),
     }
     Ok(Some(text.finish()?))
+}
+
+/// The target that the plan asks for.
+fn target_of(shown: Shown<'_>) -> u64 {
+    match shown.plan {
+        Plan::Schedule { flowspan, .. } => *flowspan,
+        Plan::None => shown.timing.cycle().saturating_add(1),
+    }
 }
 
 /// Whether the first frame of a node that isn't on its link is none of its stream's.
