@@ -17,8 +17,10 @@ CRATES = os.path.join(ROOT, "crates")
 STATEMENTS = [
     ("the first optimal schedule, and that there is none", "tsn_model", ["IsFirst", "HasNoSchedule"]),
     ("... with what a network is", "tsn_model", ["IsFirst", "HasNoSchedule", "IsWellFormed"]),
+    ("that the planner's answer is the optimum", "tsn_answer", ["FindsOptimum"]),
     ("a certificate shows it", "tsn_argue", ["Certifies"]),
-    ("what the planner promises", "tsn_answer", ["IsAnswer"]),
+    ("what shows the planner's answer", "tsn_answer", ["IsAnswerShown"]),
+    ("what its file says", "tsn_answer", ["IsAnswerReadAgain"]),
     ("what `plan` prints and writes", "tsn_plan_output", ["PlanAnswers"]),
     ("frames start on time", "tsn_model", ["FramesStartOnTime"]),
 ]

@@ -1,5 +1,5 @@
 #!/usr/bin/env python3
-"""Finds sentences of more than 30 words in README.md and docs/*.md.
+"""Finds sentences of more than 45 words in README.md and docs/*.md, which may be easier to read in two.
 
 Usage: bench/sentences.py [FILE..] [--count]. Each is told with its file, line and number of words; with --count only the words of
 each file, and how many such sentences it has. Code blocks are left out, a cell of a table is a text of its own, a list's item too,
@@ -12,7 +12,7 @@ import os
 import re
 
 ROOT = os.path.dirname(os.path.dirname(os.path.abspath(__file__)))
-MOST = 30
+MOST = 45
 
 
 def texts(path):

@@ -10,7 +10,7 @@ use Rattle.tsn_run.specs.Outcome.{output_of}
 
 -- a text that was asked for, or an answer in a line
 abbrev pub shown_output : Result Shown ReadFault → Output
-shown_output (Ok (Text text)) = record { status = 0; texts = string_bytes text ∷ [] }
+shown_output (Ok (Text text remarks)) = record { status = 0; texts = string_bytes text ∷ [] }
 shown_output (Ok (Said answer)) = output_of (Ok answer)
 shown_output (Err fault) = output_of (Err fault)
 
@@ -18,5 +18,5 @@ abbrev pub IsShownBy : Result Shown ReadFault → Output → Type 0
 IsShownBy shown output = output ≡ shown_output shown
 
 abbrev pub IsSaid : Shown → Type 0
-IsSaid (Text text) = ⊥
+IsSaid (Text text remarks) = ⊥
 IsSaid (Said answer) = Unit {0}

@@ -1,6 +1,7 @@
 //! A plan and its certificate: read, judged, and shown where the certificate is accepted.
-ghost use Rattle.std.specs.Prelude.{◌≡◌, ◌<◌, ◌-◌, ◌^◌, ◌⊎◌, [], ◌∷◌, IfOk};
+ghost use Rattle.std.specs.Prelude.{◌≡◌, ◌<◌, ◌-◌, ◌^◌, ◌⊎◌, [], ◌∷◌, IfOk, IfErr};
 ghost use Rattle.tsn_argue.specs.Certified.{Certifies, certificate_verdict};
+ghost use Rattle.tsn_argue.specs.Faults.{IsFirstFault};
 ghost use Rattle.tsn_cli.specs.declared.table.Table.TheVariants.{Chart};
 ghost use Rattle.tsn_run.specs.Run.{source_over};
 ghost use Rattle.tsn_run.specs.Outcome.{ComesOver};
@@ -11,24 +12,26 @@ ghost use Rattle.tsn_cli.specs.Tables.{RejectsPlan, ShowsPlan};
 
 use crate::check::acceptance;
 use crate::showing::{Showing, Shown};
-use crate::tables::picture_of;
+use crate::table::Table;
+use crate::tables;
 use std::alloc::Global;
-use tsn_argue::check_certificate;
+use tsn_argue::{Silent, judge_argument};
 use tsn_argument::Certificate;
 use tsn_cert::Plan;
 use tsn_chart::View;
-use tsn_check::Verdict;
+use tsn_check::{CheckFault, Verdict, check};
 use tsn_codec::certificate_from_json;
 use tsn_device::device::{ReadFault, Source, read_all};
 use tsn_explain::explanation;
 use tsn_model::NoMemory;
 use tsn_needs::marked_frames;
 use tsn_net::Problem;
+use tsn_reason::{Claim, File, cert_file_line, line_on_argument, line_on_tree};
 use tsn_run::run::MAX_FILE;
 use tsn_run::{FileKind, InputsRead, cert_rejection, file_refusal, read_inputs};
 
-/// What a run answers over a network, a plan and a certificate.
-pub(crate) fn answer_of<N: Source, P: Source, C: Source>(
+/// What is shown of a plan and its certificate, before it is written.
+pub fn certified_shown<N: Source, P: Source, C: Source>(
     alloc: Global,
     network: &mut N,
     plan: &mut P,
@@ -45,17 +48,20 @@ pub(crate) fn answer_of<N: Source, P: Source, C: Source>(
     ensures told { IfOk result (λ a. showing ≡ Showing.Verdict → IsSaid a) }
 {
     match read_inputs(alloc, network, plan) {
-        Ok(InputsRead::Taken(problem, plan)) => answer_to(alloc, problem, plan, cert, showing),
+        Ok(InputsRead::Taken(problem, stated)) => {
+            answer_to(alloc, problem, stated, plan.name(), cert, showing)
+        }
         Ok(InputsRead::Refused(answer)) => Ok(Shown::Said(answer)),
         Err(fault) => Err(fault),
     }
 }
 
-/// What the run answers to a network and a plan, and to what it reads after that.
+/// What the run answers to a network and a plan of the file of this name, and to what it reads after that.
 fn answer_to<C: Source>(
     alloc: Global,
     problem: Problem,
     plan: Plan,
+    name: &str,
     cert: &mut C,
     showing: Showing,
 ) -> Result<Shown, ReadFault>
@@ -63,7 +69,12 @@ fn answer_to<C: Source>(
     ensures goes { GoesOnOver showing problem plan (source_over C.given C.failed C.is_at_end cert.old cert.new) result }
     ensures told { IfOk result (λ a. showing ≡ Showing.Verdict → IsSaid a) }
 {
-    let answer = answer_on(alloc, &problem, &plan, cert, showing);
+    let claim = Claim {
+        problem: &problem,
+        name,
+        plan: &plan,
+    };
+    let answer = answer_on(alloc, claim, cert, showing);
     drop(problem);
     drop(plan);
     answer
@@ -72,105 +83,143 @@ fn answer_to<C: Source>(
 /// What the run answers on a network and a plan.
 fn answer_on<C: Source>(
     alloc: Global,
-    problem: &Problem,
-    plan: &Plan,
+    claim: Claim<'_>,
     cert: &mut C,
     showing: Showing,
 ) -> Result<Shown, ReadFault>
     requires { C.failed cert.old < 2 ^ 64 - 1 }
-    ensures goes { GoesOnOver showing problem.now plan.now (source_over C.given C.failed C.is_at_end cert.old cert.new) result }
+    ensures goes { GoesOnOver showing claim.entry.problem.now claim.entry.plan.now (source_over C.given C.failed C.is_at_end cert.old cert.new) result }
     ensures told { IfOk result (λ a. showing ≡ Showing.Verdict → IsSaid a) }
 {
     let file = read_all(alloc, cert, MAX_FILE)?;
-    Ok(answer_to_cert(alloc, problem, plan, &file, showing)?)
+    let file = File {
+        name: cert.name(),
+        bytes: &file,
+    };
+    Ok(answer_to_cert(alloc, claim, file, showing)?)
 }
 
 /// What the run answers to a certificate file.
 fn answer_to_cert(
     alloc: Global,
-    problem: &Problem,
-    plan: &Plan,
-    file: &[u8],
+    claim: Claim<'_>,
+    file: File<'_>,
     showing: Showing,
 ) -> Result<Shown, NoMemory>
-    ensures judges { IfOk result (λ a. JudgesShown showing problem.now plan.now file.now (shown_output (Ok a))) }
+    ensures judges { IfOk result (λ a. JudgesShown showing claim.entry.problem.now claim.entry.plan.now file.entry.bytes.now (shown_output (Ok a))) }
     ensures told { IfOk result (λ a. showing ≡ Showing.Verdict → IsSaid a) }
 {
-    match certificate_from_json(alloc, file) {
+    match certificate_from_json(alloc, file.bytes) {
         Ok(certificate) => {
-            let answer = judgement(alloc, problem, plan, &certificate, showing);
+            let answer = judgement(alloc, claim, file.name, &certificate, showing);
             drop(certificate);
             answer
         }
-        Err(fault) => Ok(Shown::Said(file_refusal(alloc, FileKind::Cert, fault)?)),
+        Err(fault) => {
+            let reason = cert_file_line(alloc, file, fault).unwrap_or(None);
+            Ok(Shown::Said(file_refusal(alloc, FileKind::Cert, fault, reason)?))
+        }
     }
 }
 
-/// What is said of a plan and its certificate.
+/// What is said of a plan and its certificate, of the file of this name.
 fn judgement(
     alloc: Global,
-    problem: &Problem,
-    plan: &Plan,
+    claim: Claim<'_>,
+    name: &str,
     certificate: &Certificate,
     showing: Showing,
 ) -> Result<Shown, NoMemory>
-    ensures judges { IfOk result (λ a. (Certifies problem.now.network plan.now certificate.now
-        × ShowsAccepted showing problem.now plan.now certificate.now (shown_output (Ok a)))
-        ⊎ ShowsNothing problem.now.network plan.now certificate.now (shown_output (Ok a))) }
+    ensures judges { IfOk result (λ a. (Certifies claim.entry.problem.now.network claim.entry.plan.now certificate.now
+        × ShowsAccepted showing claim.entry.problem.now claim.entry.plan.now certificate.now (shown_output (Ok a)))
+        ⊎ ShowsNothing claim.entry.problem.now.network claim.entry.plan.now certificate.now (shown_output (Ok a))) }
     ensures told { IfOk result (λ a. showing ≡ Showing.Verdict → IsSaid a) }
 {
-    match check_certificate(alloc, problem, plan, certificate) {
-        Ok(verdict) => shown(alloc, problem, plan, certificate, verdict, showing),
-        Err(fault) => Ok(Shown::Said(cert_rejection(alloc, fault)?)),
+    match judged(alloc, claim, name, certificate) {
+        Ok(verdict) => shown(alloc, claim, certificate, verdict, showing),
+        Err(Unshown { fault, reason }) => { Ok(Shown::Said(cert_rejection(alloc, fault, reason)?)) }
+    }
+}
+
+/// The first fault of a plan or its certificate, and why, in words.
+#[derive(Drop)]
+struct Unshown {
+    fault: CheckFault,
+    reason: Option<String>,
+}
+
+/// What the certificate, of the file of this name, shows of the plan; else the first fault.
+fn judged(
+    alloc: Global,
+    claim: Claim<'_>,
+    name: &str,
+    certificate: &Certificate,
+) -> Result<Verdict, Unshown>
+    ensures accepted { IfOk result (λ verdict. Certifies claim.entry.problem.now.network claim.entry.plan.now certificate.now) }
+    ensures verdict { IfOk result (λ verdict. verdict ≡ certificate_verdict certificate.now claim.entry.plan.now) }
+    ensures fault { IfErr result (λ unshown. (unshown.fault ≡ CheckFault.Memory)
+        ⊎ IsFirstFault claim.entry.problem.now.network claim.entry.plan.now certificate.now unshown.fault) }
+{
+    match certificate {
+        Certificate::Tree(cert) => match check(alloc, claim.problem, claim.plan, cert) {
+            Ok(verdict) => Ok(verdict),
+            Err(fault) => Err(Unshown {
+                fault,
+                reason: line_on_tree(alloc, claim, name, cert, fault).unwrap_or(None),
+            }),
+        },
+        Certificate::Argument(argument) => {
+            let mut silent = Silent;
+            match judge_argument(alloc, claim.problem, claim.plan, argument, &mut silent) {
+                Ok(verdict) => Ok(verdict),
+                Err(fault) => Err(Unshown {
+                    fault: fault.code(),
+                    reason: line_on_argument(alloc, claim, name, fault).unwrap_or(None),
+                }),
+            }
+        }
     }
 }
 
 /// What is shown of a plan whose certificate is accepted with this verdict.
 fn shown(
     alloc: Global,
-    problem: &Problem,
-    plan: &Plan,
+    claim: Claim<'_>,
     certificate: &Certificate,
     verdict: Verdict,
     showing: Showing,
 ) -> Result<Shown, NoMemory>
-    requires { verdict ≡ certificate_verdict certificate.now plan.now }
-    ensures shows { IfOk result (λ a. ShowsAccepted showing problem.now plan.now certificate.now (shown_output (Ok a))) }
+    requires { verdict ≡ certificate_verdict certificate.now claim.plan.now }
+    ensures shows { IfOk result (λ a. ShowsAccepted showing claim.entry.problem.now claim.entry.plan.now certificate.now (shown_output (Ok a))) }
     ensures told { IfOk result (λ a. showing ≡ Showing.Verdict → IsSaid a) }
 {
     match showing {
-        Showing::Verdict => Ok(Shown::Said(acceptance(alloc, verdict, plan)?)),
-        Showing::Words => words(alloc, problem, plan, certificate),
-        Showing::Picture(view) => marked_picture(alloc, problem, plan, certificate, view),
+        Showing::Verdict => Ok(Shown::Said(acceptance(alloc, verdict, claim.plan)?)),
+        Showing::Words => words(alloc, claim, certificate),
+        Showing::Picture(view) => marked_picture(alloc, claim, certificate, view),
     }
 }
 
 /// What an accepted certificate shows, in words.
-fn words(
-    alloc: Global,
-    problem: &Problem,
-    plan: &Plan,
-    certificate: &Certificate,
-) -> Result<Shown, NoMemory>
+fn words(alloc: Global, claim: Claim<'_>, certificate: &Certificate) -> Result<Shown, NoMemory>
     ensures { IfOk result (λ a. ShowsText (shown_output (Ok a))) }
 {
-    let text = explanation(alloc, problem, plan, certificate)?;
-    Ok(Shown::Text(text))
+    let text = explanation(alloc, claim.problem, claim.plan, certificate)?;
+    Ok(Shown::Text(text, None))
 }
 
 /// The picture of a plan, in which the frames are marked that its certificate is about; a plan without a schedule has none.
 fn marked_picture(
     alloc: Global,
-    problem: &Problem,
-    plan: &Plan,
+    claim: Claim<'_>,
     certificate: &Certificate,
     view: View,
 ) -> Result<Shown, NoMemory>
-    ensures { IfOk result (λ a. ShowsPlan (Chart view) problem.now plan.now (shown_output (Ok a))
-        ⊎ RejectsPlan problem.now.network plan.now (shown_output (Ok a))) }
+    ensures { IfOk result (λ a. ShowsPlan (Chart view) claim.entry.problem.now claim.entry.plan.now (shown_output (Ok a))
+        ⊎ RejectsPlan claim.entry.problem.now.network claim.entry.plan.now (shown_output (Ok a))) }
 {
-    let marked = marked_frames(alloc, problem, plan, certificate)?;
-    let answer = picture_of(alloc, problem, plan, view, &marked);
+    let marked = marked_frames(alloc, claim.problem, claim.plan, certificate)?;
+    let answer = tables::judgement(alloc, claim, Table::Chart(view), &marked);
     drop(marked);
     answer
 }

@@ -5,7 +5,7 @@ ghost use Rattle.tsn_run.specs.Refusal.{IsOutcome};
 ghost use Rattle.tsn_run.specs.Outcome.{ComesOver, EndsAs, outcome_of, output_of};
 ghost use Rattle.tsn_run.specs.Check.{CheckAnswers, accepted};
 
-use crate::certified;
+use crate::certified::certified_shown;
 use crate::showing::{Showing, Shown};
 use std::alloc::Global;
 use tsn_cert::Plan;
@@ -35,7 +35,7 @@ pub fn check_run<N: Source, P: Source, C: Source, W: Sink>(
         ∷ source_over C.given C.failed C.is_at_end cert.old cert.new ∷ [])
         (sink_over W.taken W.failed sink.old sink.new ∷ []) result }
 {
-    respond(sink, answer_of(alloc, network, plan, cert))
+    respond(sink, &answer_of(alloc, network, plan, cert))
 }
 
 /// What `check_run` answers, before it is written.
@@ -72,9 +72,9 @@ fn answer_of<N: Source, P: Source, C: Source>(
         ∷ source_over P.given P.failed P.is_at_end plan.old plan.new
         ∷ source_over C.given C.failed C.is_at_end cert.old cert.new ∷ []) result }
 {
-    match certified::answer_of(alloc, network, plan, cert, Showing::Verdict) {
+    match certified_shown(alloc, network, plan, cert, Showing::Verdict) {
         Ok(Shown::Said(answer)) => Ok(answer),
-        Ok(Shown::Text(_)) => unreachable!(),
+        Ok(Shown::Text(_, _)) => unreachable!(),
         Err(fault) => Err(fault),
     }
 }

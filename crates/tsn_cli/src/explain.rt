@@ -3,7 +3,7 @@ ghost use Rattle.std.specs.Prelude.{◌<◌, ◌-◌, ◌^◌, [], ◌∷◌};
 ghost use Rattle.tsn_run.specs.Run.{RunsOver, sink_over, source_over};
 ghost use Rattle.tsn_cli.specs.Explain.{ExplainAnswers, MarkedChartAnswers};
 
-use crate::certified::answer_of;
+use crate::certified::certified_shown;
 use crate::showing::{Showing, show};
 use std::alloc::Global;
 use tsn_chart::View;
@@ -30,7 +30,10 @@ pub fn explain_run<N: Source, P: Source, C: Source, W: Sink>(
         ∷ source_over C.given C.failed C.is_at_end cert.old cert.new ∷ [])
         (sink_over W.taken W.failed sink.old sink.new ∷ []) result }
 {
-    show(sink, answer_of(alloc, network, plan, cert, Showing::Words))
+    show(
+        sink,
+        &certified_shown(alloc, network, plan, cert, Showing::Words),
+    )
 }
 
 /// Reads a network file, a plan file and a certificate file of format 1, 2 or 3, each judged before the next is read, and writes a
@@ -57,6 +60,6 @@ pub fn marked_chart_run<N: Source, P: Source, C: Source, W: Sink>(
 {
     show(
         sink,
-        answer_of(alloc, network, plan, cert, Showing::Picture(view)),
+        &certified_shown(alloc, network, plan, cert, Showing::Picture(view)),
     )
 }

@@ -18,7 +18,7 @@ pub fn judge_run<S: Source, W: Sink>(alloc: Global, source: &mut S, sink: &mut W
         (source_over S.given S.failed S.is_at_end source.old source.new ∷ [])
         (sink_over W.taken W.failed sink.old sink.new ∷ []) result }
 {
-    respond(sink, answer_of(alloc, source))
+    respond(sink, &answer_of(alloc, source))
 }
 
 /// What `judge_run` answers, before it is written.

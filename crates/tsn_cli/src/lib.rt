@@ -8,12 +8,15 @@ mod judge;
 mod showing;
 mod table;
 mod tables;
+mod untaken;
 mod valid;
 
+pub use certified::certified_shown;
 pub use check::{check_answer, check_run};
 pub use explain::{explain_run, marked_chart_run};
 pub use judge::{judge_answer, judge_run};
-pub use table::{GatesOptions, ReplayOptions};
-pub use tables::{chart_run, gates_run, replay_run, streams_run};
+pub use showing::{Showing, Shown, show};
+pub use table::{GatesOptions, ReplayOptions, Table};
+pub use tables::{chart_run, gates_run, replay_run, streams_run, table_shown};
 pub use tsn_options::{GatesFormat, ReplayFormat, StreamsFormat};
 pub use valid::{valid_answer, valid_run};

@@ -11,7 +11,7 @@ use tsn_run::run::{DONE, finish, respond};
 
 /// What is shown of a plan once its certificate is accepted.
 #[derive(Clone, Copy)]
-pub(crate) enum Showing {
+pub enum Showing {
     /// The verdict, in a line.
     Verdict,
     /// What the certificate shows, in words.
@@ -20,21 +20,22 @@ pub(crate) enum Showing {
     Picture(View),
 }
 
-/// What is shown: a text that was asked for, or an answer in a line, such as why a file is refused.
+/// What is shown: a text that was asked for, with remarks on it for standard error, a line each, of which nothing is claimed; or an
+/// answer in a line, such as why a file is refused.
 #[derive(Drop)]
-pub(crate) enum Shown {
-    Text(String),
+pub enum Shown {
+    Text(String, Option<String>),
     Said(Answer),
 }
 
 /// Writes what is shown, or the line of the fault for which nothing is, and says the status.
-pub(crate) fn show<W: Sink>(sink: &mut W, shown: Result<Shown, ReadFault>) -> u8
+pub fn show<W: Sink>(sink: &mut W, shown: &Result<Shown, ReadFault>) -> u8
     requires few_failures { W.failed sink.old < 2 ^ 64 - 1 }
-    ensures { IsWrittenAs IsShownBy shown (sink_over W.taken W.failed sink.old sink.new ∷ []) result }
+    ensures { IsWrittenAs IsShownBy shown.now (sink_over W.taken W.failed sink.old sink.new ∷ []) result }
 {
     match shown {
-        Ok(Shown::Text(text)) => finish(sink, DONE, text.as_bytes()),
-        Ok(Shown::Said(answer)) => respond(sink, Ok(answer)),
-        Err(fault) => respond(sink, Err(fault)),
+        Ok(Shown::Text(text, _)) => finish(sink, DONE, text.as_bytes()),
+        Ok(Shown::Said(answer)) => finish(sink, answer.outcome.status(), answer.line.as_bytes()),
+        Err(fault) => respond(sink, &Err(*fault)),
     }
 }

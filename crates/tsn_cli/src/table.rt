@@ -25,7 +25,7 @@ pub struct ReplayOptions {
 
 /// What a plan may be shown by.
 #[derive(Clone, Copy)]
-pub(crate) enum Table {
+pub enum Table {
     /// Its gate control lists.
     Gates(GatesOptions),
     /// A replay.

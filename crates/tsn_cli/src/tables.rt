@@ -1,9 +1,11 @@
 //! `gates`, `replay`, `chart` and `streams`: print the gate control lists of a plan, a replay by them, a picture, and what each
 //! stream and each link gets.
-ghost use Rattle.std.specs.Prelude.{◌≡◌, ◌≤◌, ◌<◌, ◌-◌, ◌^◌, ◌⊎◌, [], ◌∷◌, All, IfOk, length, string_bytes};
+ghost use Rattle.std.specs.Prelude.{◌≡◌, ◌≤◌, ◌<◌, ◌-◌, ◌^◌, ◌⊎◌, [], ◌∷◌, All, IfOk, IsErr, Ok, length, string_bytes};
 ghost use Rattle.tsn_model.specs.Schedule.{IsValid};
 ghost use Rattle.tsn_run.specs.Run.{RunsOver, sink_over, source_over};
 ghost use Rattle.tsn_run.specs.Outcome.{ComesOver};
+ghost use Rattle.tsn_run.specs.Refusal.{IsOutcome};
+ghost use Rattle.tsn_run.specs.declared.outcome.Outcome.TheVariants.{RefusedPlan};
 ghost use Rattle.tsn_cli.specs.Shown.{shown_output};
 ghost use Rattle.tsn_replay.specs.declared.trace.Row.{Row};
 ghost use Rattle.tsn_streams.specs.declared.link.LinkShare.{LinkShare};
@@ -12,20 +14,22 @@ ghost use Rattle.tsn_cli.specs.Tables.{CanShow, ChartAnswers, GatesAnswers, Reje
 
 use crate::showing::{Shown, show};
 use crate::table::{GatesOptions, ReplayOptions, Table};
+use crate::untaken::untaken;
 use std::alloc::Global;
 use tsn_cert::Plan;
 use tsn_chart::{View, marked_chart};
-use tsn_check::check_plan;
+use tsn_check::{CheckFault, check_plan};
 use tsn_device::device::{ReadFault, Sink, Source};
 use tsn_gate::{gate_lists, lists_by};
 use tsn_gate_output::text_in;
 use tsn_model::NoMemory;
 use tsn_net::Problem;
 use tsn_options::{ReplayFormat, StreamsFormat};
+use tsn_reason::{Claim, Stated, plan_line};
 use tsn_replay::{Background, ReplayFault, ReplayTable, replay_rows};
 use tsn_run::{InputsRead, read_inputs, rejection};
 use tsn_streams::{Shares, plan_shares, to_csv, to_json, to_text};
-use tsn_timing::Valid;
+use tsn_timing::{Timing, Valid};
 
 /// Reads a network file and a plan file, the first judged before the second is read, and writes the plan's gate control
 /// lists, merged where that is asked for, in a format, or a line on what is refused. The answer is the status.
@@ -45,7 +49,10 @@ pub fn gates_run<N: Source, P: Source, W: Sink>(
         ∷ source_over P.given P.failed P.is_at_end plan.old plan.new ∷ [])
         (sink_over W.taken W.failed sink.old sink.new ∷ []) result }
 {
-    show(sink, answer_of(alloc, network, plan, Table::Gates(options)))
+    show(
+        sink,
+        &table_shown(alloc, network, plan, Table::Gates(options)),
+    )
 }
 
 /// Reads a network file and a plan file, the first judged before the second is read, and writes, in a format, a
@@ -71,7 +78,7 @@ pub fn replay_run<N: Source, P: Source, W: Sink>(
 {
     show(
         sink,
-        answer_of(alloc, network, plan, Table::Replay(options)),
+        &table_shown(alloc, network, plan, Table::Replay(options)),
     )
 }
 
@@ -94,7 +101,7 @@ pub fn chart_run<N: Source, P: Source, W: Sink>(
         ∷ source_over P.given P.failed P.is_at_end plan.old plan.new ∷ [])
         (sink_over W.taken W.failed sink.old sink.new ∷ []) result }
 {
-    show(sink, answer_of(alloc, network, plan, Table::Chart(view)))
+    show(sink, &table_shown(alloc, network, plan, Table::Chart(view)))
 }
 
 /// Reads a network file and a plan file, the first judged before the second is read, and writes, in a format, what each stream
@@ -117,12 +124,12 @@ pub fn streams_run<N: Source, P: Source, W: Sink>(
 {
     show(
         sink,
-        answer_of(alloc, network, plan, Table::Streams(format)),
+        &table_shown(alloc, network, plan, Table::Streams(format)),
     )
 }
 
-/// What the run answers.
-fn answer_of<N: Source, P: Source>(
+/// What is shown of a plan, before it is written: by a table that is asked for, or on what is refused.
+pub fn table_shown<N: Source, P: Source>(
     alloc: Global,
     network: &mut N,
     plan: &mut P,
@@ -136,41 +143,81 @@ fn answer_of<N: Source, P: Source>(
         ∷ source_over P.given P.failed P.is_at_end plan.old plan.new ∷ []) result }
 {
     match read_inputs(alloc, network, plan) {
-        Ok(InputsRead::Taken(problem, plan)) => Ok(answer_to(alloc, problem, plan, table)?),
+        Ok(InputsRead::Taken(problem, stated)) => {
+            Ok(answer_to(alloc, problem, stated, plan.name(), table)?)
+        }
         Ok(InputsRead::Refused(answer)) => Ok(Shown::Said(answer)),
         Err(fault) => Err(fault),
     }
 }
 
-/// What the run answers to a network and a plan.
-fn answer_to(alloc: Global, problem: Problem, plan: Plan, table: Table) -> Result<Shown, NoMemory>
+/// What the run answers to a network and a plan of the file of this name.
+fn answer_to(
+    alloc: Global,
+    problem: Problem,
+    plan: Plan,
+    name: &str,
+    table: Table,
+) -> Result<Shown, NoMemory>
     requires { CanShow table }
     ensures { IfOk result (λ a. ShowsPlan table problem plan (shown_output (Ok a))
         ⊎ RejectsPlan problem.network plan (shown_output (Ok a))) }
 {
-    let answer = judgement(alloc, &problem, &plan, table);
+    let claim = Claim {
+        problem: &problem,
+        name,
+        plan: &plan,
+    };
+    let answer = judgement(alloc, claim, table, &[]);
     drop(problem);
     drop(plan);
     answer
 }
 
-/// What is said of a plan.
-fn judgement(alloc: Global, problem: &Problem, plan: &Plan, table: Table) -> Result<Shown, NoMemory>
+/// What is said of a plan; in a picture of it some frames may be marked, each by its stream and its link.
+pub(crate) fn judgement(
+    alloc: Global,
+    claim: Claim<'_>,
+    table: Table,
+    marked: &[(usize, usize)],
+) -> Result<Shown, NoMemory>
     requires { CanShow table }
-    ensures { IfOk result (λ a. ShowsPlan table problem.now plan.now (shown_output (Ok a))
-        ⊎ RejectsPlan problem.now.network plan.now (shown_output (Ok a))) }
+    ensures { IfOk result (λ a. ShowsPlan table claim.entry.problem.now claim.entry.plan.now (shown_output (Ok a))
+        ⊎ RejectsPlan claim.entry.problem.now.network claim.entry.plan.now (shown_output (Ok a))) }
 {
-    let timing = problem.timing(alloc)?;
-    let checked = check_plan(alloc, &timing, plan);
-    drop(timing);
-    match checked {
+    let timing = claim.problem.timing(alloc)?;
+    match check_plan(alloc, &timing, claim.plan) {
         Ok(valid) => {
-            let answer = table_of(alloc, problem, &valid, table);
+            drop(timing);
+            let answer = table_of(alloc, claim.problem, &valid, table, marked);
             drop(valid);
             answer
         }
-        Err(fault) => Ok(Shown::Said(rejection(alloc, fault)?)),
+        Err(fault) => {
+            let answer = rejected(alloc, claim, &timing, fault);
+            drop(timing);
+            answer
+        }
     }
+}
+
+/// What is said of a plan with this fault.
+fn rejected(
+    alloc: Global,
+    claim: Claim<'_>,
+    timing: &Timing,
+    fault: CheckFault,
+) -> Result<Shown, NoMemory>
+    ensures said { IfOk result (λ a. IsOutcome (RefusedPlan fault) (shown_output (Ok a))) }
+    ensures memory { fault ≡ CheckFault.Memory → IsErr result }
+{
+    let stated = Stated {
+        problem: claim.problem,
+        timing,
+        plan: claim.plan,
+    };
+    let reason = plan_line(alloc, claim.name, stated, fault).unwrap_or(None);
+    Ok(Shown::Said(rejection(alloc, fault, reason)?))
 }
 
 /// The table of a valid schedule.
@@ -179,6 +226,7 @@ fn table_of(
     problem: &Problem,
     valid: &Valid,
     table: Table,
+    marked: &[(usize, usize)],
 ) -> Result<Shown, NoMemory>
     requires table { CanShow table }
     requires valid { IsValid problem.now.network valid.now }
@@ -187,7 +235,7 @@ fn table_of(
     match table {
         Table::Gates(options) => lists(alloc, problem, valid, options),
         Table::Replay(options) => replay_table(alloc, problem, valid, options),
-        Table::Chart(view) => picture(alloc, problem, valid, view, &[]),
+        Table::Chart(view) => picture(alloc, problem, valid, view, marked),
         Table::Streams(format) => shares_table(alloc, problem, valid, format),
     }
 }
@@ -213,7 +261,7 @@ fn replay_table(
         Err(fault) => return Err(want_of_memory(fault)),
     };
     let text = rows_text(alloc, problem, &table, options.format)?;
-    Ok(Shown::Text(text))
+    Ok(Shown::Text(text, None))
 }
 
 /// The rows of a replay.
@@ -251,32 +299,8 @@ fn lists(
 {
     let lists = lists_by(alloc, problem, valid, options.merge)?;
     let text = text_in(alloc, problem, &lists, options.format, options.limits)?;
-    Ok(Shown::Text(text))
-}
-
-/// The picture of a plan in which some frames are marked, each by its stream and its link; a plan that isn't a valid schedule is
-/// rejected.
-pub(crate) fn picture_of(
-    alloc: Global,
-    problem: &Problem,
-    plan: &Plan,
-    view: View,
-    marked: &[(usize, usize)],
-) -> Result<Shown, NoMemory>
-    ensures { IfOk result (λ a. ShowsPlan (Table.Chart view) problem.now plan.now (shown_output (Ok a))
-        ⊎ RejectsPlan problem.now.network plan.now (shown_output (Ok a))) }
-{
-    let timing = problem.timing(alloc)?;
-    let checked = check_plan(alloc, &timing, plan);
-    drop(timing);
-    match checked {
-        Ok(valid) => {
-            let answer = picture(alloc, problem, &valid, view, marked);
-            drop(valid);
-            answer
-        }
-        Err(fault) => Ok(Shown::Said(rejection(alloc, fault)?)),
-    }
+    let remarks = untaken(alloc, problem, &lists, options);
+    Ok(Shown::Text(text, remarks))
 }
 
 /// The picture of a valid schedule, in which some frames may be marked.
@@ -292,7 +316,7 @@ fn picture(
 {
     let lists = gate_lists(alloc, problem, valid)?;
     let text = marked_chart(alloc, problem, valid, &lists, view, marked)?;
-    Ok(Shown::Text(text))
+    Ok(Shown::Text(text, None))
 }
 
 /// What each stream and each link gets by a valid schedule.
@@ -309,7 +333,7 @@ fn shares_table(
     let text = shares_text(alloc, problem, &shares, format);
     drop(shares);
     let text = text?;
-    Ok(Shown::Text(text))
+    Ok(Shown::Text(text, None))
 }
 
 /// The text of the shares.

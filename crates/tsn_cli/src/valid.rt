@@ -8,9 +8,10 @@ use std::alloc::Global;
 use tsn_device::device::{ReadFault, Sink, Source};
 use tsn_model::NoMemory;
 use tsn_net::Problem;
+use tsn_reason::{Schedule, offsets_line};
 use tsn_run::run::respond;
 use tsn_run::{Answer, NetworkRead, Outcome, read_network};
-use tsn_timing::{Timing, Validity};
+use tsn_timing::Validity;
 
 /// Reads a network file, judges the offsets (nanoseconds, of any size, in the order of the file's streams), and writes
 /// a line on them. The answer is the status.
@@ -27,7 +28,7 @@ pub fn valid_run<S: Source, W: Sink>(
         (source_over S.given S.failed S.is_at_end source.old source.new ∷ [])
         (sink_over W.taken W.failed sink.old sink.new ∷ []) result }
 {
-    respond(sink, answer_of(alloc, source, offsets))
+    respond(sink, &answer_of(alloc, source, offsets))
 }
 
 /// What `valid_run` answers, before it is written.
@@ -50,42 +51,66 @@ fn answer_of<S: Source>(alloc: Global, source: &mut S, offsets: &[u64]) -> Resul
         (source_over S.given S.failed S.is_at_end source.old source.new ∷ []) result }
 {
     match read_network(alloc, source) {
-        Ok(NetworkRead::Taken(problem)) => Ok(answer_to(alloc, problem, offsets)?),
+        Ok(NetworkRead::Taken(problem)) => Ok(answer_to(alloc, problem, source.name(), offsets)?),
         Ok(NetworkRead::Refused(answer)) => Ok(answer),
         Err(fault) => Err(fault),
     }
 }
 
-/// What the run answers on a network.
-fn answer_to(alloc: Global, problem: Problem, offsets: &[u64]) -> Result<Answer, NoMemory>
+/// What the run answers on a network of the file of this name.
+fn answer_to(
+    alloc: Global,
+    problem: Problem,
+    name: &str,
+    offsets: &[u64],
+) -> Result<Answer, NoMemory>
     ensures { IfOk result (λ a. Accepts problem.network offsets.now (output_of (Ok a))
         ⊎ Rejects problem.network offsets.now (output_of (Ok a))) }
 {
-    let timing = problem.timing(alloc);
+    let answer = answer_on(alloc, &problem, name, offsets);
     drop(problem);
-    answer_on(alloc, timing?, offsets)
+    answer
 }
 
-/// What the run answers on a network of these times.
-fn answer_on(alloc: Global, timing: Timing, offsets: &[u64]) -> Result<Answer, NoMemory>
-    ensures { IfOk result (λ a. Accepts timing offsets.now (output_of (Ok a))
-        ⊎ Rejects timing offsets.now (output_of (Ok a))) }
+/// What the run answers on a network.
+fn answer_on(
+    alloc: Global,
+    problem: &Problem,
+    name: &str,
+    offsets: &[u64],
+) -> Result<Answer, NoMemory>
+    ensures { IfOk result (λ a. Accepts problem.now.network offsets.now (output_of (Ok a))
+        ⊎ Rejects problem.now.network offsets.now (output_of (Ok a))) }
 {
-    let answer = judgement(alloc, &timing, offsets);
+    let timing = problem.timing(alloc)?;
+    let schedule = Schedule {
+        problem,
+        timing: &timing,
+        offsets,
+    };
+    let answer = judgement(alloc, schedule, name);
     drop(timing);
     answer
 }
 
 /// What is said of the offsets.
-fn judgement(alloc: Global, timing: &Timing, offsets: &[u64]) -> Result<Answer, NoMemory>
-    ensures { IfOk result (λ a. Accepts timing.now offsets.now (output_of (Ok a))
-        ⊎ Rejects timing.now offsets.now (output_of (Ok a))) }
+fn judgement(alloc: Global, schedule: Schedule<'_>, name: &str) -> Result<Answer, NoMemory>
+    ensures { IfOk result (λ a. Accepts schedule.entry.timing.now schedule.entry.offsets.now (output_of (Ok a))
+        ⊎ Rejects schedule.entry.timing.now schedule.entry.offsets.now (output_of (Ok a))) }
 {
+    let Schedule {
+        timing,
+        offsets,
+        ..
+    } = schedule;
     match timing.validity(offsets) {
         Validity::Valid => {
             let flowspan = timing.flowspan(offsets);
             Answer::of(alloc, Outcome::Valid { flowspan })
         }
-        Validity::Refused(violation) => Answer::of(alloc, Outcome::NotValid(violation)),
+        Validity::Refused(violation) => {
+            let reason = offsets_line(alloc, name, schedule, violation).unwrap_or(None);
+            Answer::because(alloc, Outcome::NotValid(violation), reason)
+        }
     }
 }

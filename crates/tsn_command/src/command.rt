@@ -11,12 +11,12 @@ use std::io::Eprint;
 use std::sync::Wait;
 use std::thread::Threads;
 use std::time::Clock;
+use tsn_cli::{Showing, Table};
 use tsn_given::{Given, Made, Ran};
 use tsn_prover::prove;
-use tsn_wiring::explained::{explain, picture};
-use tsn_wiring::judged::{check, valid};
-use tsn_wiring::tables::{gates, replay, streams};
-use tsn_words::Words;
+use tsn_wiring::options::{gates_options, replay_options};
+use tsn_wiring::shown::{CertNames, PlanNames, certified, check, picture, table, valid};
+use tsn_words::{ExplainWords, Words};
 
 /// Runs a command over what its words name, and says the status. Where a file is refused, or a device fails, a line is told on why.
 /// How far a search has got is told on a console, where the words ask for it.
@@ -59,10 +59,53 @@ pub fn run_to<'a, T: Threads + Wait + Sync, C: Clock + Eprint + Sync, G: Given<'
         Words::Plan(words) => plan(rt, console, alloc, given, output, words),
         Words::Check(words) => check(alloc, given, output, words),
         Words::Prove(words) => prove(console, alloc, given, output, words),
-        Words::Explain(words) => explain(alloc, given, output, words),
-        Words::Gates(words) => gates(alloc, given, output, words),
-        Words::Replay(words) => replay(alloc, given, output, words),
+        Words::Explain(
+            ExplainWords {
+                network,
+                plan,
+                cert,
+            },
+        ) => {
+            let names = CertNames {
+                network,
+                plan,
+                cert,
+            };
+            certified(alloc, given, output, names, Showing::Words)
+        }
+        Words::Gates(words) => {
+            let names = PlanNames {
+                network: words.network,
+                plan: words.plan,
+            };
+            table(
+                alloc,
+                given,
+                output,
+                names,
+                Table::Gates(gates_options(words)),
+            )
+        }
+        Words::Replay(words) => {
+            let names = PlanNames {
+                network: words.network,
+                plan: words.plan,
+            };
+            table(
+                alloc,
+                given,
+                output,
+                names,
+                Table::Replay(replay_options(words)),
+            )
+        }
         Words::Chart(words) => picture(alloc, given, output, words),
-        Words::Streams(words) => streams(alloc, given, output, words),
+        Words::Streams(words) => {
+            let names = PlanNames {
+                network: words.network,
+                plan: words.plan,
+            };
+            table(alloc, given, output, names, Table::Streams(words.format))
+        }
     }
 }

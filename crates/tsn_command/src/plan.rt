@@ -12,9 +12,10 @@ use std::thread::Threads;
 use tsn_answer::Effort;
 use tsn_device::device::{ReadFault, Sink, Source, read_all};
 use tsn_model::NoMemory;
-use tsn_net::read_problem;
+use tsn_net::read_or_refuse;
 use tsn_plan_output::print::write_files;
 use tsn_plan_output::{PlanEnd, PlanOutput, alone, output_for};
+use tsn_reason::{File, network_line};
 use tsn_run::run::{MAX_FILE, STOPPED, respond};
 use tsn_run::{Answer, outcome_of, refusal};
 use tsn_setting::Supervisor;
@@ -68,7 +69,8 @@ pub fn plan_run<
 {
     let answer = plan_answer(rt, alloc, network, effort, supervisor, plan, cert);
     let stop = outcome_of(&answer).stop();
-    let status = respond(sink, answer);
+    let status = respond(sink, &answer);
+    drop(answer);
     PlanEnd::of(status, stop)
 }
 
@@ -139,7 +141,11 @@ fn found<R: Threads + Wait + Sync, N: Source, S: Supervisor + Sync>(
     ensures failures { TellsFailures (reads_of (source_over N.given N.failed N.is_at_end network.old network.new ∷ [])) result }
 {
     let file = read_all(alloc, network, MAX_FILE)?;
-    match plan_file(rt, alloc, &file, task, supervisor) {
+    let file = File {
+        name: network.name(),
+        bytes: &file,
+    };
+    match plan_file(rt, alloc, file, task, supervisor) {
         Ok(output) => Ok(output),
         Err(NoMemory) => Err(ReadFault::Memory),
     }
@@ -149,7 +155,7 @@ fn found<R: Threads + Wait + Sync, N: Source, S: Supervisor + Sync>(
 fn plan_file<R: Threads + Wait + Sync, S: Supervisor + Sync>(
     rt: &R,
     alloc: Global,
-    file: &[u8],
+    file: File<'_>,
     task: Task,
     supervisor: &S,
 ) -> Result<PlanOutput, NoMemory>
@@ -157,11 +163,11 @@ fn plan_file<R: Threads + Wait + Sync, S: Supervisor + Sync>(
     requires some { 1 ≤ task.effort.limit }
     requires few { task.effort.limit ≤ 1_000_000_000 }
     ensures answers { IfOk result (λ output. (shown : Output) → IsPrinted (Ok output) shown
-        → PlanAnswers task.effort task.wanted (file.now ∷ []) shown) }
-    ensures stops { IfOk result (λ output. IfSome (stop_in (Ok output)) (λ stop. PlanStops task.effort.limit stop (file.now ∷ []) (printed (Ok output)))) }
+        → PlanAnswers task.effort task.wanted (file.entry.bytes.now ∷ []) shown) }
+    ensures stops { IfOk result (λ output. IfSome (stop_in (Ok output)) (λ stop. PlanStops task.effort.limit stop (file.entry.bytes.now ∷ []) (printed (Ok output)))) }
     ensures wanted { IfOk result (λ output. IsTrue (is_some output.cert) → IsTrue task.wanted) }
 {
-    match read_problem(alloc, file) {
+    match read_or_refuse(alloc, file.bytes) {
         Ok(problem) => {
             let searched = search_by(rt, alloc, &problem, task.effort, supervisor);
             drop(problem);
@@ -169,6 +175,10 @@ fn plan_file<R: Threads + Wait + Sync, S: Supervisor + Sync>(
             drop(word);
             output_for(alloc, found, task.wanted)
         }
-        Err(fault) => Ok(alone(alloc, refusal(alloc, fault)?)),
+        Err(refused) => {
+            let fault = refused.fault;
+            let reason = network_line(alloc, file.name, refused).unwrap_or(None);
+            Ok(alone(alloc, refusal(alloc, fault, reason)?))
+        }
     }
 }

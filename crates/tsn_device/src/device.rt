@@ -37,6 +37,9 @@ pub trait Source {
     /// How many reads failed.
     fn failures(&self) -> u64
         ensures { result ≡ failed self.now };
+
+    /// What it is called where a reason is told.
+    fn name(&self) -> &str;
 }
 
 /// What bytes are written to.

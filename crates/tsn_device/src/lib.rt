@@ -3,7 +3,6 @@
 
 pub mod device;
 pub mod failure;
-mod kept;
 pub mod memory;
 mod place;
 mod reader;

@@ -63,6 +63,10 @@ impl Source for MemorySource<'_> {
     fn failures(&self) -> u64 {
         self.failures
     }
+
+    fn name(&self) -> &str {
+        "memory"
+    }
 }
 
 /// Gives spaces without end, as many as the buffer has room for.
@@ -93,6 +97,10 @@ impl Source for EndlessSource {
 
     fn failures(&self) -> u64 {
         self.failures
+    }
+
+    fn name(&self) -> &str {
+        "endless"
     }
 }
 

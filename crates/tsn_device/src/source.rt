@@ -6,17 +6,15 @@ ghost use Rattle.tsn_device.specs.Known.{is_over, known_of};
 
 use crate::device::{Broken, Source};
 use crate::failure::{Action, Failure};
-use crate::kept::Kept;
 use crate::reader::LateReader;
-use std::alloc::Global;
 use std::io::Error;
 use std::rt::Files;
 
-/// A file or standard input. It is opened when it is first read, and keeps what it gave and why a read failed.
+/// A file or standard input. It is opened when it is first read, counts what it gave, and keeps why a read failed.
 #[derive(Drop)]
 pub struct FileSource<'a, R: Files + Input> {
     reader: LateReader<'a, R>,
-    kept: Kept,
+    count: usize,
     cause: Option<Error>,
     failures: u64,
     ghost told: { IsSome cause ↔ 0 < failures },
@@ -24,35 +22,35 @@ pub struct FileSource<'a, R: Files + Input> {
 
 impl<'a, R: Files + Input> FileSource<'a, R> {
     /// A network file; `-` is standard input.
-    pub fn network(rt: &'a R, alloc: Global, name: &'a str) -> FileSource<'a, R>
+    pub fn network(rt: &'a R, name: &'a str) -> FileSource<'a, R>
         ensures input { IsTrue result.reader.is_input ↔ (name.now ≡ codes "-") }
         ensures path { result.reader.path ≡ name.entry }
         ensures unopened { result.reader.reader ≡ None }
-        ensures unread { result.kept.count ≡ 0 }
+        ensures unread { result.count ≡ 0 }
         ensures failures { result.failures ≡ 0 }
     {
-        FileSource::new(LateReader::new(rt, name, name == "-"), alloc)
+        FileSource::new(LateReader::new(rt, name, name == "-"))
     }
 
     /// A file.
-    pub fn file(rt: &'a R, alloc: Global, name: &'a str) -> FileSource<'a, R>
+    pub fn file(rt: &'a R, name: &'a str) -> FileSource<'a, R>
         ensures input { result.reader.is_input ≡ false }
         ensures path { result.reader.path ≡ name.entry }
         ensures unopened { result.reader.reader ≡ None }
-        ensures unread { result.kept.count ≡ 0 }
+        ensures unread { result.count ≡ 0 }
         ensures failures { result.failures ≡ 0 }
     {
-        FileSource::new(LateReader::new(rt, name, false), alloc)
+        FileSource::new(LateReader::new(rt, name, false))
     }
 
-    fn new(reader: LateReader<'a, R>, alloc: Global) -> FileSource<'a, R>
+    fn new(reader: LateReader<'a, R>) -> FileSource<'a, R>
         ensures reader { result.reader ≡ reader.entry }
-        ensures unread { result.kept.count ≡ 0 }
+        ensures unread { result.count ≡ 0 }
         ensures failures { result.failures ≡ 0 }
     {
         FileSource {
             reader,
-            kept: Kept::new(alloc),
+            count: 0,
             cause: None,
             failures: 0,
         }
@@ -83,18 +81,11 @@ impl<'a, R: Files + Input> FileSource<'a, R> {
         }
     }
 
-    /// How many bytes it gave.
+    /// How many bytes it gave, or the greatest number where that is more.
     pub fn count(&self) -> usize
-        ensures { result ≡ self.now.kept.count }
+        ensures { result ≡ self.now.count }
     {
-        self.kept.count()
-    }
-
-    /// All that it gave, where that was kept.
-    pub fn bytes(&self) -> Option<&[u8]>
-        ensures { IfSome result (λ bytes. (bytes.now ≡ self.now.kept.bytes.items) × IsTrue self.now.kept.is_whole) }
-    {
-        self.kept.bytes()
+        self.count
     }
 }
 
@@ -119,14 +110,12 @@ impl<'a, R: Files + Input> Source for FileSource<'a, R> {
         ensures left { ReadConsumes (known_of (either R.File.remaining R.Reader.remaining) self.old.reader.reader)
             (known_of (either R.File.remaining R.Reader.remaining) self.new.reader.reader) result buffer.new }
 
-        // What is given is counted, and is what is kept, if anything is.
-        ensures counted { IfOk result (λ n. self.new.kept.count ≡ min (self.old.kept.count + n) usize.MAX) }
-        ensures keeps { IfOk result (λ n. IsTrue self.new.kept.is_whole → IsTrue self.old.kept.is_whole
-            × (self.new.kept.bytes.items ≡ self.old.kept.bytes.items ++ take n buffer.new)) }
+        // What is given is counted.
+        ensures counted { IfOk result (λ n. self.new.count ≡ min (self.old.count + n) usize.MAX) }
     {
         match self.reader.read(buffer) {
             Ok(count) => {
-                let _ = self.kept.keep(&buffer[..count]);
+                self.count = self.count.saturating_add(count);
                 Ok(count)
             }
             Err(error) => {
@@ -139,5 +128,9 @@ impl<'a, R: Files + Input> Source for FileSource<'a, R> {
 
     fn failures(&self) -> u64 {
         self.failures
+    }
+
+    fn name(&self) -> &str {
+        FileSource::name(self)
     }
 }

@@ -27,13 +27,13 @@ impl<'a, R: Files + Input, P: Print, E: Eprint> Given<'a> for System<'a, R, P, E
     type Output = WriterSink<'a, Printer<'a, P>>;
 
     ghost opens_network = { λ _ word s. (IsTrue s.reader.is_input ↔ (word ≡ codes "-")) × (s.reader.path.now ≡ word)
-        × (s.reader.reader ≡ None) × (s.kept.count ≡ 0) × (s.failures ≡ 0) };
+        × (s.reader.reader ≡ None) × (s.count ≡ 0) × (s.failures ≡ 0) };
 
     ghost opens_plan = { λ _ word s. (s.reader.is_input ≡ false) × (s.reader.path.now ≡ word)
-        × (s.reader.reader ≡ None) × (s.kept.count ≡ 0) × (s.failures ≡ 0) };
+        × (s.reader.reader ≡ None) × (s.count ≡ 0) × (s.failures ≡ 0) };
 
     ghost opens_cert = { λ _ word s. (s.reader.is_input ≡ false) × (s.reader.path.now ≡ word)
-        × (s.reader.reader ≡ None) × (s.kept.count ≡ 0) × (s.failures ≡ 0) };
+        × (s.reader.reader ≡ None) × (s.count ≡ 0) × (s.failures ≡ 0) };
 
     ghost makes_plan = { λ _ word s. (path_in s.wanted ≡ word) × IsUnwritten s.wanted × (s.failures ≡ 0) };
 
@@ -45,15 +45,15 @@ impl<'a, R: Files + Input, P: Print, E: Eprint> Given<'a> for System<'a, R, P, E
     ghost refuses_cert = { λ _ word. IsSome word };
 
     fn network(&self, word: &'a str) -> FileSource<'a, R> {
-        FileSource::network(self.rt, self.alloc, word)
+        FileSource::network(self.rt, word)
     }
 
     fn plan(&self, word: &'a str) -> FileSource<'a, R> {
-        FileSource::file(self.rt, self.alloc, word)
+        FileSource::file(self.rt, word)
     }
 
     fn cert(&self, word: &'a str) -> FileSource<'a, R> {
-        FileSource::file(self.rt, self.alloc, word)
+        FileSource::file(self.rt, word)
     }
 
     fn plan_file(&self, word: Option<&'a str>) -> Result<FileSink<'a, R>, Failure<'a>> {

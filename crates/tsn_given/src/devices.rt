@@ -4,19 +4,13 @@ ghost use Rattle.std.specs.Prelude.{◌≡◌, ℕ, List, Option, IfOk, OnErr, o
 use tsn_device::Failure;
 use tsn_device::device::{Sink, Source};
 
-/// A source that can say what it is called, what it gave, and why a read of it failed.
+/// A source that can say how much it gave, and why a read of it failed.
 pub trait Opened: Source + Drop {
-    /// What it is called.
-    fn name(&self) -> &str;
-
     /// Why the last read that failed did so, if one failed.
     fn failure(&self) -> Option<Failure<'_>>;
 
     /// How many bytes it gave.
     fn count(&self) -> usize;
-
-    /// All that it gave, where that was kept.
-    fn bytes(&self) -> Option<&[u8]>;
 }
 
 /// A sink that can say why a write to it failed.

@@ -6,20 +6,12 @@ use std::rt::Files;
 use tsn_device::{Failure, FileSink, FileSource, WriterSink};
 
 impl<R: Files + Input> Opened for FileSource<'_, R> {
-    fn name(&self) -> &str {
-        FileSource::name(self)
-    }
-
     fn failure(&self) -> Option<Failure<'_>> {
         FileSource::failure(self)
     }
 
     fn count(&self) -> usize {
         FileSource::count(self)
-    }
-
-    fn bytes(&self) -> Option<&[u8]> {
-        FileSource::bytes(self)
     }
 }
 

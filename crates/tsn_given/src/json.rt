@@ -10,9 +10,10 @@ use crate::object::format_told;
 use crate::reason::failure_line;
 use crate::told::{Ran, Told, say, tell};
 use std::alloc::Global;
+use tsn_device::device::ReadFault;
 use tsn_model::NoMemory;
 use tsn_run::run::{DEVICE, MEMORY, NO_MEMORY_LINE, respond};
-use tsn_run::{Outcome, outcome_of};
+use tsn_run::{Answer, Outcome, outcome_of};
 
 /// Writes what a run answers, in a line or, where `json`, as a line of JSON, and tells the reason on standard error.
 pub fn tell_answer<'a, G: Given<'a>, W: Made>(
@@ -28,10 +29,21 @@ pub fn tell_answer<'a, G: Given<'a>, W: Made>(
     if json {
         let Told { answer, reason } = told;
         let outcome = outcome_of(&answer);
-        drop(answer);
+        let reason = reason.or(reason_in(answer));
         tell_as_json(alloc, given, output, outcome, reason)
     } else {
         tell_in_line(alloc, given, output, told)
+    }
+}
+
+/// Why it is this answer, in the words that were made with it.
+pub fn reason_in(answer: Result<Answer, ReadFault>) -> Option<String> {
+    match answer {
+        Ok(Answer { line, reason, .. }) => {
+            drop(line);
+            reason
+        }
+        Err(_) => None,
     }
 }
 
@@ -46,9 +58,9 @@ fn tell_in_line<'a, G: Given<'a>, W: Made>(
     ensures { IsWrittenAs IsOutputOf told.answer (sink_over W.taken W.failed output result.output ∷ []) result.status }
 {
     let Told { answer, reason } = told;
-    let status = respond(&mut output, answer);
+    let status = respond(&mut output, &answer);
     let failed = failure_line(alloc, status, output.failure());
-    tell(given, failed.or(reason));
+    tell(given, failed.or(reason).or(reason_in(answer)));
     Ran { status, output }
 }
 

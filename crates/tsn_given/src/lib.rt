@@ -1,5 +1,5 @@
 //! What a command is given, and how any command ends: what is told, on which output, and with which status, an outcome as an object of
-//! JSON too, for whoever reads it by a program; and why what it read is refused.
+//! JSON too, for whoever reads it by a program.
 #![tactic(auto)]
 
 pub mod devices;
@@ -7,7 +7,6 @@ mod files;
 pub mod json;
 mod object;
 pub mod reason;
-mod refused;
 pub mod told;
 
 pub use devices::{Given, Made, Opened};

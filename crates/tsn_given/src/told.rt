@@ -4,8 +4,6 @@ ghost use Rattle.tsn_run.specs.Run.{sink_over};
 ghost use Rattle.tsn_given.specs.Runs.{Says};
 
 use crate::devices::{Given, Made};
-use crate::reason::failure_line;
-use std::alloc::Global;
 use tsn_device::device::{ReadFault, write_all};
 use tsn_run::Answer;
 use tsn_run::run::DEVICE;
@@ -17,41 +15,11 @@ pub struct Ran<W> {
     pub output: W,
 }
 
-/// How a run ended: its status, and the line on standard error that says why.
-#[derive(Drop)]
-pub struct Ended {
-    pub status: u8,
-    pub line: Option<String>,
-}
-
-/// What a run answers, and the line on standard error that says why.
+/// What a run answers, and a line on standard error that says why, in the place of the answer's own.
 #[derive(Drop)]
 pub struct Told {
     pub answer: Result<Answer, ReadFault>,
     pub reason: Option<String>,
-}
-
-/// What a run over a network answers, and its source.
-#[derive(Drop)]
-pub struct NetworkRun<S> {
-    pub answer: Result<Answer, ReadFault>,
-    pub network: S,
-}
-
-/// Tells why a run ended that wrote to standard output, which may have failed.
-pub fn end_at<'a, G: Given<'a>, W: Made>(
-    alloc: Global,
-    given: &mut G,
-    ended: Ended,
-    output: W,
-) -> Ran<W>
-    ensures status { result.status ≡ ended.status }
-    ensures output { result.output ≡ output }
-{
-    let Ended { status, line } = ended;
-    let failed = failure_line(alloc, status, output.failure());
-    tell(given, line.or(failed));
-    Ran { status, output }
 }
 
 /// Writes a text to standard output.

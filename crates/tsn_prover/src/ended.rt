@@ -3,9 +3,13 @@ ghost use Rattle.std.specs.Prelude.{◌≡◌, IfSome, string_bytes};
 ghost use Rattle.tsn_run.specs.Stop.{stop_text};
 
 use std::alloc::Global;
+use std::io::Eprint;
+use std::time::Clock;
 use tsn_given::Made;
-use tsn_given::reason::failure_line;
+use tsn_given::reason::write_line;
 use tsn_run::Stop;
+use tsn_run::device::ReadFault;
+use tsn_setting::Progress;
 
 /// The line on what is known where the limit was met, and else this one. The first names the command that writes a certificate, where
 /// the flowspan is shown to be the least.
@@ -26,10 +30,34 @@ pub fn stop_or(
     }
 }
 
-/// The line on a file of which a write failed, where there is the file and that ended a run of this status.
-pub fn file_line<F: Made>(alloc: Global, status: u8, file: &Option<F>) -> Option<String> {
+/// The line on a file of which a write failed, where there is the file and that ended a run with this fault.
+pub fn file_line<F: Made>(
+    alloc: Global,
+    fault: Option<ReadFault>,
+    file: &Option<F>,
+) -> Option<String> {
     match file {
-        Some(file) => failure_line(alloc, status, file.failure()),
+        Some(file) => write_line(alloc, fault, file.failure()),
         None => None,
+    }
+}
+
+/// Who tells on a console how far a search of so many workers has got, where that is asked for.
+pub fn progress_of<C: Clock + Eprint>(
+    console: &C,
+    workers: usize,
+    is_asked: bool,
+) -> Option<Progress<'_, C>> {
+    if is_asked {
+        Some(Progress::new(console, workers))
+    } else {
+        None
+    }
+}
+
+/// Tells how far it has got in the end.
+pub fn end_progress<C: Clock + Eprint>(progress: Option<Progress<'_, C>>) {
+    if let Some(progress) = progress {
+        progress.end();
     }
 }

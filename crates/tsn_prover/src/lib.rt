@@ -14,7 +14,7 @@ mod reason;
 mod run;
 pub mod unwritten;
 
-pub use ended::{file_line, stop_or};
+pub use ended::{end_progress, file_line, progress_of, stop_or};
 pub use files::{PlanFiles, plan_files};
 pub use finding::{Finding, Spans, finding_of};
 pub use proof::prove;

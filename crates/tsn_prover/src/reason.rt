@@ -2,18 +2,13 @@
 
 use crate::finding::{Finding, Spans, finding_of};
 use std::alloc::{AllocError, Global};
-use tsn_given::Opened;
 use tsn_run::Outcome;
 use tsn_text::line_of;
 
-/// The line on a plan that a valid schedule undercuts; None where none does, or where there is no memory for the line.
-pub(crate) fn undercut_line<S: Opened>(
-    alloc: Global,
-    plan: &S,
-    outcome: Outcome,
-) -> Option<String> {
+/// The line on a plan of the file of this name that a valid schedule undercuts; None where none does, or where there is no memory for the line.
+pub(crate) fn undercut_line(alloc: Global, name: &str, outcome: Outcome) -> Option<String> {
     match finding_of(outcome) {
-        Some(Finding::Undercut(spans)) => undercut_text(alloc, plan.name(), spans).ok(),
+        Some(Finding::Undercut(spans)) => undercut_text(alloc, name, spans).ok(),
         Some(Finding::Proved) => None,
         Some(Finding::Stopped(_)) => None,
         None => None,

@@ -1,5 +1,5 @@
 //! `prove`: shows that no valid schedule undercuts a plan, whoever made it, or finds one that does.
-ghost use Rattle.std.specs.Prelude.{◌≡◌, ◌≢◌, ◌<◌, ◌-◌, ◌^◌, ◌⊎◌, ◌↔◌, [], ◌∷◌, IfOk, IfErr, IfSome, IsTrue, None, Ok, OnOk, is_some};
+ghost use Rattle.std.specs.Prelude.{◌≡◌, ◌≢◌, ◌<◌, ◌-◌, ◌^◌, ◌⊎◌, ◌↔◌, [], ◌∷◌, IfOk, IfErr, IsErr, IfSome, IsTrue, None, Ok, OnOk, is_some};
 ghost use Rattle.tsn_check.specs.Plans.{IsPlanRight, span_in};
 ghost use Rattle.tsn_check.specs.Faults.{IsClaimFault};
 ghost use Rattle.tsn_proving.specs.declared.proof.Proof.TheVariants.{Proved, Stopped, Undercut};
@@ -22,6 +22,7 @@ use tsn_device::device::{ReadFault, Sink, Source};
 use tsn_model::NoMemory;
 use tsn_net::Problem;
 use tsn_proving::{Proof, prove};
+use tsn_reason::{Claim, Stated, plan_line};
 use tsn_run::run::{DEVICE, STOPPED, respond};
 use tsn_run::{Answer, InputsRead, Outcome, Stop, outcome_of, read_inputs, rejection};
 use tsn_setting::Supervisor;
@@ -98,7 +99,8 @@ pub fn prove_run<N: Source, P: Source, S: Supervisor, C: Sink, B: Sink, W: Sink>
 {
     let answer = prove_answer(alloc, network, plan, limit, supervisor, cert, better);
     let finding = finding_of(outcome_of(&answer));
-    let status = respond(sink, answer);
+    let status = respond(sink, &answer);
+    drop(answer);
     ProofEnd::of(status, finding)
 }
 
@@ -151,19 +153,20 @@ fn output_of<N: Source, P: Source, S: Supervisor>(
         ∷ source_over P.given P.failed P.is_at_end plan.old plan.new ∷ [])) result }
 {
     match read_inputs(alloc, network, plan) {
-        Ok(InputsRead::Taken(problem, plan)) => {
-            Ok(answer_to(alloc, problem, plan, limit, supervisor)?)
+        Ok(InputsRead::Taken(problem, stated)) => {
+            Ok(answer_to(alloc, problem, stated, plan.name(), limit, supervisor)?)
         }
         Ok(InputsRead::Refused(answer)) => Ok(alone(alloc, answer)),
         Err(fault) => Err(fault),
     }
 }
 
-/// What the run prints to a network and a plan.
+/// What the run prints to a network and a plan of the file of this name.
 fn answer_to<S: Supervisor>(
     alloc: Global,
     problem: Problem,
     plan: Plan,
+    name: &str,
     limit: usize,
     supervisor: &S,
 ) -> Result<ProofOutput, NoMemory>
@@ -172,7 +175,12 @@ fn answer_to<S: Supervisor>(
     ensures finds { IfOk result (λ output. IfSome (finding_in (Ok output)) (λ finding.
         FindsAs limit problem.network plan finding (shown (Ok output)))) }
 {
-    let output = judgement(alloc, &problem, &plan, limit, supervisor);
+    let claim = Claim {
+        problem: &problem,
+        name,
+        plan: &plan,
+    };
+    let output = judgement(alloc, claim, limit, supervisor);
     drop(problem);
     drop(plan);
     output
@@ -181,23 +189,48 @@ fn answer_to<S: Supervisor>(
 /// What is printed of a plan.
 fn judgement<S: Supervisor>(
     alloc: Global,
-    problem: &Problem,
-    plan: &Plan,
+    claim: Claim<'_>,
     limit: usize,
     supervisor: &S,
 ) -> Result<ProofOutput, NoMemory>
-    ensures judges { IfOk result (λ output. FindsOf limit problem.now.network plan.now (shown (Ok output))
-        ⊎ RejectsClaim problem.now.network plan.now (shown (Ok output))) }
+    ensures judges { IfOk result (λ output. FindsOf limit claim.entry.problem.now.network claim.entry.plan.now (shown (Ok output))
+        ⊎ RejectsClaim claim.entry.problem.now.network claim.entry.plan.now (shown (Ok output))) }
     ensures finds { IfOk result (λ output. IfSome (finding_in (Ok output)) (λ finding.
-        FindsAs limit problem.now.network plan.now finding (shown (Ok output)))) }
+        FindsAs limit claim.entry.problem.now.network claim.entry.plan.now finding (shown (Ok output)))) }
 {
-    let timing = problem.timing(alloc)?;
-    let judged = judge_claim(alloc, &timing, plan);
-    drop(timing);
-    match judged {
-        Ok(()) => output_for(alloc, plan, prove(alloc, problem, plan, limit, supervisor)?),
-        Err(fault) => Ok(alone(alloc, rejection(alloc, fault)?)),
+    let timing = claim.problem.timing(alloc)?;
+    match judge_claim(alloc, &timing, claim.plan) {
+        Ok(()) => {
+            drop(timing);
+            let proof = prove(alloc, claim.problem, claim.plan, limit, supervisor)?;
+            output_for(alloc, claim.plan, proof)
+        }
+        Err(fault) => {
+            let output = rejected(alloc, claim, &timing, fault);
+            drop(timing);
+            output
+        }
     }
+}
+
+/// What is printed of a plan with this fault.
+fn rejected(
+    alloc: Global,
+    claim: Claim<'_>,
+    timing: &Timing,
+    fault: CheckFault,
+) -> Result<ProofOutput, NoMemory>
+    ensures line { IfOk result (λ output. shown (Ok output) ≡ line_after (Outcome.RefusedPlan fault)) }
+    ensures none { IfOk result (λ output. finding_in (Ok output) ≡ None) }
+    ensures memory { fault ≡ CheckFault.Memory → IsErr result }
+{
+    let stated = Stated {
+        problem: claim.problem,
+        timing,
+        plan: claim.plan,
+    };
+    let reason = plan_line(alloc, claim.name, stated, fault).unwrap_or(None);
+    Ok(alone(alloc, rejection(alloc, fault, reason)?))
 }
 
 /// Whether the plan is a valid schedule with its own flowspan, or that there is none; else its first fault.

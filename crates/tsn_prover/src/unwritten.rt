@@ -1,9 +1,7 @@
 //! Runs that end before their search, since a file can't be written.
-ghost use Rattle.std.specs.Prelude.{◌≡◌, [], ◌∷◌};
+ghost use Rattle.std.specs.Prelude.{◌≡◌};
 ghost use Rattle.tsn_run.specs.Run.{sink_over};
-ghost use Rattle.tsn_run.specs.Outcome.{EndsAs, outcome_of};
-ghost use Rattle.tsn_cli.specs.Valid.{JudgeAnswers};
-ghost use Rattle.tsn_given.specs.Runs.{LeavesSource};
+ghost use Rattle.tsn_run.specs.Outcome.{outcome_of};
 ghost use Rattle.tsn_prover.specs.Unmade.{IsUnmade, IsUnmadeOutcome};
 
 use std::alloc::Global;
@@ -11,8 +9,8 @@ use std::io::ErrorKind;
 use tsn_cli::judge_answer;
 use tsn_device::Failure;
 use tsn_given::json::{say_no_memory, tell_answer};
-use tsn_given::reason::{failure_line, network_line, source_line};
-use tsn_given::told::{NetworkRun, Told};
+use tsn_given::reason::{failure_line, fault_of, source_line};
+use tsn_given::told::Told;
 use tsn_given::{Given, Made, Ran};
 use tsn_run::device::ReadFault;
 use tsn_run::run::{DEVICE, DONE};
@@ -41,15 +39,15 @@ pub fn unwritable<'a, G: Given<'a>, W: Made>(
     if unwritten.failure.cause.kind() == ErrorKind::OutOfMemory {
         return say_no_memory(output);
     }
-    let NetworkRun { answer, network } = judge_over(alloc, given, unwritten.network);
-    let status = outcome_of(&answer).status();
-    let reason = if status == DONE {
+    let mut network = given.network(unwritten.network);
+    let judged = judge_answer(alloc, &mut network);
+    let reason = if outcome_of(&judged).status() == DONE {
         failure_line(alloc, DEVICE, Some(unwritten.failure))
     } else {
-        source_line(alloc, status, &network).or(network_line(alloc, status, &network))
+        source_line(alloc, fault_of(&judged), &network)
     };
     drop(network);
-    let answer = unmade(answer);
+    let answer = unmade(judged);
     tell_answer(
         alloc,
         given,
@@ -68,18 +66,4 @@ fn unmade(judged: Result<Answer, ReadFault>) -> Result<Answer, ReadFault>
         return Err(ReadFault::Broken);
     }
     judged
-}
-
-/// Judges the network of a word alone.
-pub fn judge_over<'a, G: Given<'a>>(
-    alloc: Global,
-    given: &G,
-    word: &'a str,
-) -> NetworkRun<G::Source>
-    ensures { LeavesSource G.Source.given G.Source.failed G.Source.is_at_end (G.opens_network given.now word.entry.now) result.network
-        (λ network. EndsAs JudgeAnswers (network ∷ []) [] (outcome_of result.answer)) }
-{
-    let mut network = given.network(word);
-    let answer = judge_answer(alloc, &mut network);
-    NetworkRun { answer, network }
 }

@@ -1,10 +1,10 @@
 //! Why an argument is refused, in words: what its first fault is, with the names of the problem.
 
+use crate::Reason;
 use crate::claim::{Claim, line_on_plan};
 use crate::offsets::push_stream;
 use crate::target::push_wrong_target;
 use crate::wrong::{push_time, push_wrong};
-use crate::{File, Reason};
 use std::alloc::Global;
 use tsn_argue::{ArgumentFault, Open, StepFault};
 use tsn_argument::Goal;
@@ -12,14 +12,14 @@ use tsn_model::NoMemory;
 use tsn_net::Problem;
 use tsn_text::{TextBuilder, line_of};
 
-/// Why an argument with this fault is refused, or else its plan.
-pub fn argument_line(
+/// The line on a plan or its argument, of the file of this name, with this fault.
+pub fn line_on_argument(
     alloc: Global,
-    file: File<'_>,
     claim: Claim<'_>,
+    name: &str,
     fault: ArgumentFault,
 ) -> Reason {
-    let mut text = line_of(alloc, file.name);
+    let mut text = line_of(alloc, name);
     match fault {
         ArgumentFault::Plan(fault) => return line_on_plan(alloc, claim, fault),
         ArgumentFault::Memory => return Err(NoMemory),

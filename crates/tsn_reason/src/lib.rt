@@ -16,11 +16,12 @@ mod target;
 mod tree;
 mod wrong;
 
+pub use argument::line_on_argument;
 pub use certificate::cert_file_line;
-pub use claim::{Claim, refused_certificate, refused_plan};
+pub use claim::{Claim, line_on_plan, line_on_tree};
 pub use network::network_line;
 pub use offsets::{Schedule, offsets_line};
-pub use plan::plan_file_line;
+pub use plan::{Stated, plan_file_line, plan_line};
 use tsn_model::NoMemory;
 
 /// A file that was read.

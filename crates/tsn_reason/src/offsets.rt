@@ -1,7 +1,7 @@
 //! Why offsets are no valid schedule.
 
+use crate::Reason;
 use crate::wrong::push_later;
-use crate::{File, Reason};
 use std::alloc::Global;
 use tsn_model::{Link, Triple, Violation};
 use tsn_net::Problem;
@@ -29,14 +29,14 @@ impl Schedule<'_> {
     }
 }
 
-/// Why offsets with this violation are refused.
+/// Why offsets with this violation are refused, for the network of a file of this name.
 pub fn offsets_line(
     alloc: Global,
-    network: File<'_>,
+    name: &str,
     schedule: Schedule<'_>,
     violation: Violation,
 ) -> Reason {
-    let mut text = line_of(alloc, network.name);
+    let mut text = line_of(alloc, name);
     push_violation(&mut text, schedule, violation);
     Ok(Some(text.finish()?))
 }

@@ -102,12 +102,12 @@ pub fn is_at_fault(timing: &Timing, plan: &Plan) -> bool {
     }
 }
 
-/// Why a plan with this fault is refused.
-pub fn plan_line(alloc: Global, file: File<'_>, stated: Stated<'_>, fault: CheckFault) -> Reason {
+/// Why a plan of the file of this name is refused, with this fault.
+pub fn plan_line(alloc: Global, name: &str, stated: Stated<'_>, fault: CheckFault) -> Reason {
     if fault == CheckFault::Memory {
         return Err(NoMemory);
     }
-    let mut text = line_of(alloc, file.name);
+    let mut text = line_of(alloc, name);
     match stated.plan {
         Plan::Schedule { flowspan, offsets } => {
             let schedule = Schedule {

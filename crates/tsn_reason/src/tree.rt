@@ -1,8 +1,8 @@
 //! Why a tree is refused, where its plan is right.
 
+use crate::Reason;
 use crate::bound::{Shown, push_low_bound};
 use crate::target::push_wrong_target;
-use crate::{File, Reason};
 use std::alloc::Global;
 use tsn_cert::{Chain, Entries, Leaf, LowerBound, Node, Plan};
 use tsn_check::CheckFault;
@@ -11,8 +11,8 @@ use tsn_text::line_of;
 use tsn_timing::Timing;
 
 /// Why a tree with this fault is refused, where its plan is right.
-pub fn tree_line(alloc: Global, file: File<'_>, shown: Shown<'_>, fault: CheckFault) -> Reason {
-    let mut text = line_of(alloc, file.name);
+pub fn tree_line(alloc: Global, name: &str, shown: Shown<'_>, fault: CheckFault) -> Reason {
+    let mut text = line_of(alloc, name);
     match fault {
         CheckFault::Memory => return Err(NoMemory),
         CheckFault::FlowspanWrong => {

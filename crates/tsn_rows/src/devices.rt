@@ -88,23 +88,19 @@ impl Source for FolderSource<'_> {
     fn failures(&self) -> u64 {
         self.source.failures
     }
-}
 
-impl Opened for FolderSource<'_> {
     fn name(&self) -> &str {
         self.name
     }
+}
 
+impl Opened for FolderSource<'_> {
     fn failure(&self) -> Option<Failure<'_>> {
         failure_of(self.name, Action::Read, self.source.failures)
     }
 
     fn count(&self) -> usize {
         self.source.position
-    }
-
-    fn bytes(&self) -> Option<&[u8]> {
-        Some(&self.source.bytes[..self.source.position])
     }
 }
 

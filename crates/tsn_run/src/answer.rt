@@ -9,6 +9,9 @@ use crate::outcome::Outcome;
 pub struct Answer {
     pub outcome: Outcome,
     pub line: String,
+    /// Why it is this one, in words for standard error, of which nothing is claimed; None where no more is told, or there was no
+    /// memory for them.
+    pub reason: Option<String>,
     pub ghost line_is: { string_bytes line ≡ line_of outcome },
     pub ghost not_device: { status_of outcome < 8 },
 }

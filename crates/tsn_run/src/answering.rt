@@ -17,8 +17,25 @@ impl Answer {
         ensures outcome { IfOk result (λ answer. answer.outcome ≡ outcome) }
         ensures line { IfOk result (λ answer. IsOutcome outcome (output_of (Ok answer))) }
     {
+        Answer::because(alloc, outcome, None)
+    }
+
+    /// An outcome with its line, and why it is this one.
+    pub fn because(
+        alloc: Global,
+        outcome: Outcome,
+        reason: Option<String>,
+    ) -> Result<Answer, NoMemory>
+        requires { status_of outcome < 8 }
+        ensures outcome { IfOk result (λ answer. answer.outcome ≡ outcome) }
+        ensures line { IfOk result (λ answer. IsOutcome outcome (output_of (Ok answer))) }
+    {
         let line = outcome.line(alloc)?;
-        Ok(Answer { outcome, line })
+        Ok(Answer {
+            outcome,
+            line,
+            reason,
+        })
     }
 }
 

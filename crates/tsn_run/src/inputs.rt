@@ -1,17 +1,21 @@
 //! What is read before a plan is dealt with: a network, and then the plan.
-ghost use Rattle.std.specs.Prelude.{◌≡◌, ◌<◌, ◌-◌, ◌^◌};
+ghost use Rattle.std.specs.Prelude.{◌≡◌, ◌<◌, ◌-◌, ◌^◌, IfOk, IsErr, Ok};
+ghost use Rattle.tsn_run.specs.Refusal.{IsOutcome};
+ghost use Rattle.tsn_run.specs.Outcome.{output_of};
 ghost use Rattle.tsn_run.specs.Run.{source_over};
 ghost use Rattle.tsn_run.specs.Inputs.{AreInputsOver, IsNetworkOver, IsPlanOver, inputs_with};
 
 use crate::answer::Answer;
-use crate::outcome::FileKind;
+use crate::outcome::{FileKind, Outcome};
 use crate::refusals::{file_refusal, refusal};
 use crate::run::MAX_FILE;
 use std::alloc::Global;
-use tsn_cert::Plan;
+use tsn_cert::{FileFault, Plan};
 use tsn_codec::plan_from_json;
 use tsn_device::device::{ReadFault, Source, read_all};
-use tsn_net::{Problem, read_problem};
+use tsn_model::NoMemory;
+use tsn_net::{Problem, read_or_refuse};
+use tsn_reason::{File, network_line, plan_file_line};
 
 /// A network, or the line on why its file is refused.
 #[derive(Drop)]
@@ -40,9 +44,13 @@ pub fn read_network<N: Source>(alloc: Global, network: &mut N) -> Result<Network
     ensures { IsNetworkOver (source_over N.given N.failed N.is_at_end network.old network.new) result }
 {
     let file = read_all(alloc, network, MAX_FILE)?;
-    match read_problem(alloc, &file) {
+    match read_or_refuse(alloc, &file) {
         Ok(problem) => Ok(NetworkRead::Taken(problem)),
-        Err(fault) => Ok(NetworkRead::Refused(refusal(alloc, fault)?)),
+        Err(refused) => {
+            let fault = refused.fault;
+            let reason = network_line(alloc, network.name(), refused).unwrap_or(None);
+            Ok(NetworkRead::Refused(refusal(alloc, fault, reason)?))
+        }
     }
 }
 
@@ -54,8 +62,22 @@ fn read_plan<P: Source>(alloc: Global, plan: &mut P) -> Result<PlanRead, ReadFau
     let file = read_all(alloc, plan, MAX_FILE)?;
     match plan_from_json(alloc, &file) {
         Ok(plan) => Ok(PlanRead::Taken(plan)),
-        Err(fault) => Ok(PlanRead::Refused(file_refusal(alloc, FileKind::Plan, fault)?)),
+        Err(fault) => Ok(PlanRead::Refused(plan_refusal(alloc, plan.name(), &file, fault)?)),
     }
+}
+
+/// What is said of a plan file of this name and these bytes with this fault.
+fn plan_refusal(
+    alloc: Global,
+    name: &str,
+    bytes: &[u8],
+    fault: FileFault,
+) -> Result<Answer, NoMemory>
+    ensures line { IfOk result (λ a. IsOutcome (Outcome.RefusedFile FileKind.Plan fault) (output_of (Ok a))) }
+    ensures memory { fault ≡ FileFault.Memory → IsErr result }
+{
+    let reason = plan_file_line(alloc, File { name, bytes }, fault).unwrap_or(None);
+    file_refusal(alloc, FileKind::Plan, fault, reason)
 }
 
 /// Reads a network, and a plan once that is taken.

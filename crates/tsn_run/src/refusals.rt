@@ -11,8 +11,8 @@ use tsn_check::CheckFault;
 use tsn_model::NoMemory;
 use tsn_net::{Code, NetFault};
 
-/// What is said of a network file with this fault.
-pub fn refusal(alloc: Global, fault: NetFault) -> Result<Answer, NoMemory>
+/// What is said of a network file with this fault, for this reason.
+pub fn refusal(alloc: Global, fault: NetFault, reason: Option<String>) -> Result<Answer, NoMemory>
     ensures outcome { IfOk result (λ a. a.outcome ≡ Outcome.RefusedNetwork fault) }
     ensures line { IfOk result (λ a. IsOutcome (Outcome.RefusedNetwork fault) (output_of (Ok a))) }
     ensures memory { fault.code ≡ Code.Memory → IsErr result }
@@ -20,22 +20,31 @@ pub fn refusal(alloc: Global, fault: NetFault) -> Result<Answer, NoMemory>
     if fault.code == Code::Memory {
         return Err(NoMemory);
     }
-    Answer::of(alloc, Outcome::RefusedNetwork(fault))
+    Answer::because(alloc, Outcome::RefusedNetwork(fault), reason)
 }
 
 /// What is said of a file of this kind with this fault.
-pub fn file_refusal(alloc: Global, kind: FileKind, fault: FileFault) -> Result<Answer, NoMemory>
+pub fn file_refusal(
+    alloc: Global,
+    kind: FileKind,
+    fault: FileFault,
+    reason: Option<String>,
+) -> Result<Answer, NoMemory>
     ensures line { IfOk result (λ a. IsOutcome (Outcome.RefusedFile kind fault) (output_of (Ok a))) }
     ensures memory { fault ≡ FileFault.Memory → IsErr result }
 {
     if fault == FileFault::Memory {
         return Err(NoMemory);
     }
-    Answer::of(alloc, Outcome::RefusedFile(kind, fault))
+    Answer::because(alloc, Outcome::RefusedFile(kind, fault), reason)
 }
 
 /// What is said of a plan with this fault.
-pub fn rejection(alloc: Global, fault: CheckFault) -> Result<Answer, NoMemory>
+pub fn rejection(
+    alloc: Global,
+    fault: CheckFault,
+    reason: Option<String>,
+) -> Result<Answer, NoMemory>
     ensures outcome { IfOk result (λ a. a.outcome ≡ Outcome.RefusedPlan fault) }
     ensures line { IfOk result (λ a. IsOutcome (Outcome.RefusedPlan fault) (output_of (Ok a))) }
     ensures memory { fault ≡ CheckFault.Memory → IsErr result }
@@ -43,16 +52,20 @@ pub fn rejection(alloc: Global, fault: CheckFault) -> Result<Answer, NoMemory>
     if fault == CheckFault::Memory {
         return Err(NoMemory);
     }
-    Answer::of(alloc, Outcome::RefusedPlan(fault))
+    Answer::because(alloc, Outcome::RefusedPlan(fault), reason)
 }
 
 /// What is said of a plan and a certificate with this fault.
-pub fn cert_rejection(alloc: Global, fault: CheckFault) -> Result<Answer, NoMemory>
+pub fn cert_rejection(
+    alloc: Global,
+    fault: CheckFault,
+    reason: Option<String>,
+) -> Result<Answer, NoMemory>
     ensures line { IfOk result (λ a. IsOutcome (Outcome.RefusedCert fault) (output_of (Ok a))) }
     ensures memory { fault ≡ CheckFault.Memory → IsErr result }
 {
     if fault == CheckFault::Memory {
         return Err(NoMemory);
     }
-    Answer::of(alloc, Outcome::RefusedCert(fault))
+    Answer::because(alloc, Outcome::RefusedCert(fault), reason)
 }

@@ -38,9 +38,9 @@ pub const TOO_LONG_LINE: &[u8] = b"too long\n";
 pub const MAX_FILE: usize = 1_099_511_627_776;
 
 /// Writes the line of the answer, or that of the fault for which there is none, and says the status.
-pub fn respond<W: Sink>(sink: &mut W, answer: Result<Answer, ReadFault>) -> u8
+pub fn respond<W: Sink>(sink: &mut W, answer: &Result<Answer, ReadFault>) -> u8
     requires few_failures { W.failed sink.old < 2 ^ 64 - 1 }
-    ensures { IsWrittenAs IsOutputOf answer (sink_over W.taken W.failed sink.old sink.new ∷ []) result }
+    ensures { IsWrittenAs IsOutputOf answer.now (sink_over W.taken W.failed sink.old sink.new ∷ []) result }
 {
     match answer {
         Ok(answer) => finish(sink, answer.outcome.status(), answer.line.as_bytes()),

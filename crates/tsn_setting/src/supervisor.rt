@@ -47,6 +47,53 @@ impl Supervisor for NoSupervisor {
     fn pass(&self, _teller: usize) {}
 }
 
+/// A supervisor, or none, which holds nobody.
+impl<S: Supervisor> Supervisor for Option<S> {
+    fn pass(&self, teller: usize) {
+        if let Some(supervisor) = self {
+            supervisor.pass(teller);
+        }
+    }
+
+    fn hear(&self, teller: usize, news: News) {
+        if let Some(supervisor) = self {
+            supervisor.hear(teller, news);
+        }
+    }
+
+    fn hear_bound(&self, bound: u64) {
+        if let Some(supervisor) = self {
+            supervisor.hear_bound(bound);
+        }
+    }
+
+    fn begin(&self, phase: Phase) {
+        if let Some(supervisor) = self {
+            supervisor.begin(phase);
+        }
+    }
+
+    fn hear_learned(&self, news: LearnedNews) {
+        if let Some(supervisor) = self {
+            supervisor.hear_learned(news);
+        }
+    }
+
+    fn may_start(&self, teller: usize) -> bool {
+        match self {
+            Some(supervisor) => supervisor.may_start(teller),
+            None => true,
+        }
+    }
+
+    fn may_go_on(&self, teller: usize) -> bool {
+        match self {
+            Some(supervisor) => supervisor.may_go_on(teller),
+            None => true,
+        }
+    }
+}
+
 /// What was settled: some nodes, so many of which were split; the others were closed. The flowspan, in nanoseconds, is the
 /// least that the teller knows to be solved, if any.
 #[derive(Clone, Copy)]

@@ -4,4 +4,4 @@ use Rattle.tsn_run.proofs.RunLemmas.{runs_with}
 use Rattle.tsn_cli.proofs.tables.replay_run.Goals as goal
 
 pub returns : goal.returns
-returns g c = runs_with shown_output (ReplayAnswers c.args.options) _ _ c.answer_of.result c.show.result c.answer_of.ensures c.show.ensures
+returns g c = runs_with shown_output (ReplayAnswers c.args.options) _ _ c.table_shown.result c.show.result c.table_shown.ensures c.show.ensures

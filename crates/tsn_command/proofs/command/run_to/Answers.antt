@@ -13,16 +13,16 @@ pub returns-in-Prove : goal.returns-in-Prove
 returns-in-Prove g c = rw c.in-Prove.is c.prove.ensures
 
 pub returns-in-Explain : goal.returns-in-Explain
-returns-in-Explain g c = rw c.in-Explain.is c.explain.ensures
+returns-in-Explain g c = rw c.in-Explain.is c.certified.ensures
 
 pub returns-in-Gates : goal.returns-in-Gates
-returns-in-Gates g c = rw c.in-Gates.is c.gates.ensures
+returns-in-Gates g c = rw c.in-Gates.is (rw c.gates_options.ensures at c.table.ensures)
 
 pub returns-in-Replay : goal.returns-in-Replay
-returns-in-Replay g c = rw c.in-Replay.is c.replay.ensures
+returns-in-Replay g c = rw c.in-Replay.is (rw c.replay_options.ensures at c.table-in-Replay.ensures)
 
 pub returns-in-Chart : goal.returns-in-Chart
 returns-in-Chart g c = rw c.in-Chart.is c.picture.ensures
 
 pub returns-in-Streams : goal.returns-in-Streams
-returns-in-Streams g c = rw c.in-Streams.is c.streams.ensures
+returns-in-Streams g c = rw c.in-Streams.is c.table-in-Streams.ensures

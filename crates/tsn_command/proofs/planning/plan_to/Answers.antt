@@ -1,11 +1,18 @@
-use Rattle.tsn_given.proofs.RunsLemmas.{over_along, told_over}
+use Rattle.tsn_given.proofs.RunsLemmas.{told_over}
 use Rattle.tsn_command.proofs.planning.plan_to.Goals as goal
 
 pub returns : goal.returns
-returns g c =
-    over_along c.plan_told-told.ensures
-    (λ network files. record {
-      plan_left = files.plan_left;
-      cert_left = files.cert_left;
-      ran = told_over _ _ _ _ c.plan_told-told.result.answer _ _ files.ran c.tell_answer.ensures;
-    })
+returns g c = (
+  _,
+  record {
+    source = c.network-network.result;
+    opened = c.network-network.ensures.opened;
+    unfailing = c.network-network.ensures.failures;
+    ran = record {
+      plan_left = c.plan_answer-answer.new.plan;
+      cert_left = c.plan_answer-answer.new.cert;
+      ran = let runs = rw (c.effort_of.ensures, c.requires.wanted) at c.plan_answer-answer.ensures.runs in
+          told_over _ _ _ _ c.plan_answer-answer.result _ _ runs c.tell_answer.ensures;
+    };
+  },
+)

@@ -1,12 +1,25 @@
-use Rattle.tsn_given.proofs.RunsLemmas.{over_along, told_over}
+use Rattle.tsn_given.proofs.RunsLemmas.{told_over}
 use Rattle.tsn_prover.proofs.proof.prove_to.Goals as goal
 
 pub returns : goal.returns
-returns g c =
-    over_along c.prove_told-told.ensures
-    (λ network over. over_along over
-    (λ plan files. record {
-      cert_left = files.cert_left;
-      better_left = files.better_left;
-      ran = told_over _ _ _ _ c.prove_told-told.result.answer _ _ files.ran c.tell_answer.ensures;
-    }))
+returns g c = (
+  _,
+  record {
+    source = c.network-network.result;
+    opened = c.network-network.ensures.opened;
+    unfailing = c.network-network.ensures.failures;
+    ran = (
+      _,
+      record {
+        source = c.plan-plan.result;
+        opened = c.plan-plan.ensures.opened;
+        unfailing = c.plan-plan.ensures.failures;
+        ran = record {
+          cert_left = c.prove_answer-answer.new.cert;
+          better_left = c.prove_answer-answer.new.better;
+          ran = told_over _ _ _ _ c.prove_answer-answer.result _ _ c.prove_answer-answer.ensures.runs c.tell_answer.ensures;
+        };
+      },
+    );
+  },
+)

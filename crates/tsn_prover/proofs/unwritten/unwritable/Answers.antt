@@ -1,5 +1,4 @@
 use Rattle.std.proofs.Common.{inl, inr}
-use Rattle.tsn_given.proofs.RunsLemmas.{leaves_over}
 use Rattle.tsn_prover.proofs.unwritten.unwritable.Goals as goal
 
 pub returns-then-eq : goal.returns-then-eq
@@ -7,12 +6,18 @@ returns-then-eq g c = inl c.say_no_memory.ensures
 
 pub returns : goal.returns
 returns g c =
-    inr
-    (leaves_over c.judge_over-answer.ensures
-    (λ network ends. record {
-      judged = _;
-      answer = c.unmade-answer.result;
-      ends = ends;
-      unmade = c.unmade-answer.ensures;
-      told = c.tell_answer.ensures;
-    }))
+    inr (
+      _,
+      record {
+        source = c.network-network.result;
+        opened = c.network-network.ensures.opened;
+        unfailing = c.network-network.ensures.failures;
+        ran = record {
+          judged = _;
+          answer = c.unmade-answer.result;
+          ends = c.judge_answer-judged.ensures;
+          unmade = c.unmade-answer.ensures;
+          told = c.tell_answer.ensures;
+        };
+      },
+    )

@@ -5,13 +5,13 @@ use Rattle.tsn_cli.specs.Tables.{TableAnswers}
 use Rattle.tsn_run.proofs.RunLemmas.{tells_ok}
 use Rattle.tsn_run.proofs.InputLemmas.{comes_failed, comes_refused, comes_taken}
 use Rattle.tsn_cli.proofs.CommandLemmas.{shown_faults, table_inputs}
-use Rattle.tsn_cli.proofs.tables.answer_of.Goals as goal
+use Rattle.tsn_cli.proofs.tables.table_shown.Goals as goal
 
 pub returns-in_ok-answer_to-in-Ok-Taken : goal.returns-in_ok-answer_to-in-Ok-Taken
 returns-in_ok-answer_to-in-Ok-Taken g c =
     let over = rw c.in-Ok-Taken.field-0-is at c.in-Ok-Taken.ensures in
-    comes_taken shown_output (TableAnswers c.args.table) _ _ c.in-Ok-Taken.problem c.in-Ok-Taken.plan _ over (tells_ok _ _ _ over.failures)
-    (λ file plan_file states is. inl (c.in-Ok-Taken.problem, states, inr (c.in-Ok-Taken.plan, is, c.in_ok-answer_to-in-Ok-Taken.ensures)))
+    comes_taken shown_output (TableAnswers c.args.table) _ _ c.in-Ok-Taken.problem c.in-Ok-Taken.stated _ over (tells_ok _ _ _ over.failures)
+    (λ file plan_file states is. inl (c.in-Ok-Taken.problem, states, inr (c.in-Ok-Taken.stated, is, c.in_ok-answer_to-in-Ok-Taken.ensures)))
 
 pub returns-in-Ok-Refused : goal.returns-in-Ok-Refused
 returns-in-Ok-Refused g c =

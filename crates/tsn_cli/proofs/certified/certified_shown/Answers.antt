@@ -5,11 +5,11 @@ use Rattle.tsn_cli.specs.Explain.{CertAnswers}
 use Rattle.tsn_run.proofs.RunLemmas.{Keeps-same}
 use Rattle.tsn_cli.proofs.CommandLemmas.{cert_inputs, shown_faults}
 use Rattle.tsn_run.proofs.InputLemmas.{comes_after, comes_unread, comes_without}
-use Rattle.tsn_cli.proofs.certified.answer_of.Goals as goal
+use Rattle.tsn_cli.proofs.certified.certified_shown.Goals as goal
 
 pub returns-in-Ok-Taken-clause-comes : goal.returns-in-Ok-Taken-clause-comes
 returns-in-Ok-Taken-clause-comes g c =
-    comes_after shown_output (CertAnswers c.args.showing) _ _ _ c.in-Ok-Taken.problem c.in-Ok-Taken.plan c.answer_to.result
+    comes_after shown_output (CertAnswers c.args.showing) _ _ _ c.in-Ok-Taken.problem c.in-Ok-Taken.stated c.answer_to.result
     (rw c.in-Ok-Taken.field-0-is at c.in-Ok-Taken.ensures) c.answer_to.ensures.goes.failures c.answer_to.ensures.goes.comes
 
 pub returns-in-Ok-Refused-clause-comes : goal.returns-in-Ok-Refused-clause-comes

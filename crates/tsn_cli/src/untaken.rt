@@ -1,0 +1,38 @@
+//! What a device doesn't take of gate control lists, and which leave others no time.
+
+use crate::table::GatesOptions;
+use std::alloc::Global;
+use tsn_gate::GateList;
+use tsn_gate_output::{closed_lines, device_lines};
+use tsn_model::NoMemory;
+use tsn_net::Problem;
+use tsn_options::GatesFormat;
+
+/// A line for each merged list that leaves others no time, and for each that has more entries than a device takes, or a shorter one
+/// than it takes, where they are printed as a script for a device; None where there is no memory for them.
+pub(crate) fn untaken(
+    alloc: Global,
+    problem: &Problem,
+    lists: &[GateList],
+    options: GatesOptions,
+) -> Option<String> {
+    match options.format {
+        GatesFormat::Taprio => lines_of(alloc, problem, lists, options).ok(),
+        GatesFormat::Table => None,
+        GatesFormat::Json => None,
+    }
+}
+
+fn lines_of(
+    alloc: Global,
+    problem: &Problem,
+    lists: &[GateList],
+    options: GatesOptions,
+) -> Result<String, NoMemory> {
+    let mut text = match options.merge {
+        Some(_) => closed_lines(alloc, lists)?,
+        None => String::new(alloc),
+    };
+    text.push_str(device_lines(alloc, problem, lists, options.limits)?.as_str())?;
+    Ok(text)
+}
