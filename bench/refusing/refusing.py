@@ -24,7 +24,7 @@ SEEN = {
         ("        Ok(Verdict::Optimal)\n", "        Err(CheckFault::Memory)\n"),
         ("use tsn_check::Verdict;", "use tsn_check::{CheckFault, Verdict};"),
     ],
-    ("tsn_proving", "proving.rt"): [
+    ("tsn_answer", "proving.rt"): [
         ("        Ok(Verdict::Optimal) => Ok(steps <= task.limit),", "        Ok(Verdict::Optimal) => Ok(steps > task.limit),"),
         ("        Ok(Verdict::NoSchedule) => Ok(steps <= task.limit),", "        Ok(Verdict::NoSchedule) => Ok(steps > task.limit),"),
     ],

@@ -6,8 +6,8 @@ use Rattle.tsn_model.specs.Arcs.{conflicts_of}
 use Rattle.tsn_model.specs.Certificate.{AcceptsBy, AcceptsFirst, IsNodeShown}
 use Rattle.tsn_model.specs.Search.{open_paths, best_bound, kept_of, solved_bounds, IsLegal}
 use Rattle.tsn_model.proofs.Lists.{Contains-head}
-use Rattle.tsn_search_laws.proofs.Kept.{kept_valid, kept_target}
-use Rattle.tsn_search_laws.proofs.Finished.{finished_plan}
+use Rattle.tsn_model.proofs.Kept.{kept_valid, kept_target}
+use Rattle.tsn_model.proofs.Finished.{finished_plan}
 use Rattle.tsn_cert.specs.declared.plan.Plan.{Plan}
 use Rattle.tsn_cert.specs.declared.plan.Plan.TheVariants as plan
 use Rattle.tsn_cert.specs.declared.cert.Cert.{Cert}
@@ -17,12 +17,12 @@ use Rattle.tsn_check.specs.Plans.{IsPlanRight, offsets_in}
 use Rattle.tsn_check.specs.Certified.{leaf_target, tie_plan}
 use Rattle.tsn_check.specs.Plans.{IsFirstPlan}
 use Rattle.tsn_check.specs.declared.verdict.Verdict.TheVariants.{First, NoSchedule}
-use Rattle.tsn_argument.specs.declared.argument.Argument.{Argument}
-use Rattle.tsn_argument.specs.declared.argument.Goal.{Goal}
-use Rattle.tsn_argument.specs.declared.argument.Goal.TheVariants as aim
-use Rattle.tsn_argument.specs.declared.certificate.Certificate.{Certificate}
-use Rattle.tsn_argument.specs.declared.certificate.Certificate.TheVariants.{Tree}
-use Rattle.tsn_argument.specs.Laws.{ArgumentIsReadAgain}
+use Rattle.tsn_cert.specs.declared.argument.Argument.{Argument}
+use Rattle.tsn_cert.specs.declared.argument.Goal.{Goal}
+use Rattle.tsn_cert.specs.declared.argument.Goal.TheVariants as aim
+use Rattle.tsn_cert.specs.declared.certificate.Certificate.{Certificate}
+use Rattle.tsn_cert.specs.declared.certificate.Certificate.TheVariants.{Tree}
+use Rattle.tsn_cert.specs.ArgumentLaws.{ArgumentIsReadAgain}
 use Rattle.tsn_argue.specs.Certified as argue
 use Rattle.tsn_argue.specs.Certified.{argument_verdict, goal_for}
 use Rattle.tsn_answer.specs.Optimum.{FindsOptimum, IsFoundPlan}

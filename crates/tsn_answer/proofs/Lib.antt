@@ -1,3 +1,4 @@
+pub mod ShownPlans
 pub mod Deciding
 pub mod KnownLemmas
 pub mod Agreeing

@@ -23,16 +23,16 @@ use Rattle.tsn_cert.specs.declared.cert.Cert.{Cert}
 use Rattle.tsn_cert.specs.declared.cert.Format.TheVariants.{Two}
 use Rattle.tsn_check.specs.declared.verdict.Verdict.{Verdict}
 use Rattle.tsn_check.specs.declared.verdict.Verdict.TheVariants as verdict
-use Rattle.tsn_argument.specs.declared.argument.Argument.{Argument}
-use Rattle.tsn_argument.specs.declared.certificate.Certificate.{Certificate}
-use Rattle.tsn_argument.specs.declared.certificate.Certificate.TheVariants.{Tree, Argument as Argued}
-use Rattle.tsn_argument.specs.Laws.{ArgumentIsReadAgain}
+use Rattle.tsn_cert.specs.declared.argument.Argument.{Argument}
+use Rattle.tsn_cert.specs.declared.certificate.Certificate.{Certificate}
+use Rattle.tsn_cert.specs.declared.certificate.Certificate.TheVariants.{Tree, Argument as Argued}
+use Rattle.tsn_cert.specs.ArgumentLaws.{ArgumentIsReadAgain}
 use Rattle.tsn_argue.specs.Certified.{Certifies, argument_verdict}
 use Rattle.tsn_book.specs.Book.{Progress, IsLawful, SpellsAccepted}
 use Rattle.tsn_answer.specs.declared.known.Known.{Known}
 use Rattle.tsn_answer.specs.declared.effort.Effort.{Effort}
-use Rattle.tsn_options.specs.declared.Method.{Method}
-use Rattle.tsn_options.specs.declared.Method.TheVariants as method
+use Rattle.tsn_words.specs.declared.options.Method.{Method}
+use Rattle.tsn_words.specs.declared.options.Method.TheVariants as method
 use Rattle.tsn_answer.specs.declared.effort.TheConstants.{FILE_ORDER_LIMIT}
 use Rattle.tsn_answer.specs.Known.{IsKnown, HoldsKept, LosesNothing}
 use Rattle.tsn_answer.specs.Optimum.{IsFoundPlan}

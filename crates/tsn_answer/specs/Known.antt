@@ -10,7 +10,7 @@ use Rattle.tsn_model.specs.Schedule.{flowspan}
 use Rattle.tsn_model.specs.Search.{kept_of}
 use Rattle.tsn_timing.specs.Solution.{Solution, IsSolved}
 use Rattle.tsn_book.specs.Book.{Progress}
-use Rattle.tsn_setting.specs.Bound.{IsLowerBound}
+use Rattle.tsn_branch.specs.Bound.{IsLowerBound}
 use Rattle.tsn_answer.specs.declared.known.Known.{Known}
 
 -- the schedule, if one is known, is valid and has its flowspan; and no valid schedule's flowspan is below the bound, which is at most the cycle

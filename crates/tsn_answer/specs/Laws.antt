@@ -2,7 +2,7 @@
 use Rattle.std.specs.Prelude.{◌≡◌, ℕ}
 use Rattle.tsn_model.specs.Network.{Network}
 use Rattle.tsn_cert.specs.declared.plan.Plan.{Plan}
-use Rattle.tsn_argument.specs.declared.certificate.Certificate.{Certificate}
+use Rattle.tsn_cert.specs.declared.certificate.Certificate.{Certificate}
 use Rattle.tsn_answer.specs.declared.answer.Answer.TheVariants.{Optimal}
 use Rattle.tsn_answer.specs.Optimum.{FindsOptimum}
 

@@ -1,3 +1,5 @@
+pub mod Proof
+pub mod ProofLaws
 pub mod Known
 pub mod Optimum
 pub mod Answer

@@ -1,8 +1,7 @@
 //! What a planner answers.
 
-use tsn_argument::Certificate;
 use tsn_book::Book;
-use tsn_cert::Plan;
+use tsn_cert::{Certificate, Plan};
 
 /// What a planner found.
 #[derive(Drop)]

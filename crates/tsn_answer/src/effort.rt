@@ -1,6 +1,6 @@
 //! How much is to be done for a plan.
 
-use tsn_options::Method;
+use tsn_words::Method;
 
 /// The most nodes that a run may settle.
 pub const MAX_LIMIT: usize = 1_000_000_000;

@@ -11,9 +11,8 @@ ghost use Rattle.tsn_answer.specs.Answer.{IsAnswerBy, IsAnswerReadAgain, IsAnswe
 use crate::answer::Answer;
 use crate::known::Known;
 use std::alloc::Global;
-use tsn_argument::{Argument, Certificate};
 use tsn_book::Book;
-use tsn_cert::{Offsets, Plan};
+use tsn_cert::{Argument, Certificate, Offsets, Plan};
 use tsn_model::NoMemory;
 use tsn_timing::{Solved, Timing};
 

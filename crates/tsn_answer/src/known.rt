@@ -2,7 +2,7 @@
 ghost use Rattle.std.specs.Prelude.{◌≡◌, ◌≤◌, IfOk, IfSome};
 ghost use Rattle.tsn_model.specs.Network.{Network};
 ghost use Rattle.tsn_timing.specs.Solution.{IsSolved};
-ghost use Rattle.tsn_setting.specs.Bound.{IsLowerBound};
+ghost use Rattle.tsn_branch.specs.Bound.{IsLowerBound};
 ghost use Rattle.tsn_answer.specs.Known.{HoldsKept, IsKeptIfBest, IsKnown, IsOneOf, KnowsWithin, LosesNothing};
 
 use tsn_book::Book;

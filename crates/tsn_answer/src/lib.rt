@@ -1,14 +1,22 @@
-//! What a planner is asked, what it knows while it searches, and what it answers.
+//! What a planner is asked, what it knows while it searches, and what it answers; and the proof of a plan, whoever made it, by the search
+//! that learns, with how that search is watched and how much it may do.
 #![tactic(auto)]
 
 pub mod answer;
 pub mod effort;
 pub mod found;
+pub mod hearer;
 pub mod known;
 pub mod laws;
+pub mod proof;
+pub mod proof_laws;
+pub mod proving;
 
 pub use answer::Answer;
 pub use effort::{Effort, FILE_ORDER_LIMIT, MAX_LIMIT, MAX_WORKERS};
 pub use found::{Found, plan_of};
+pub use hearer::{Hearer, budget_of};
 pub use known::Known;
-pub use tsn_options::Method;
+pub use proof::Proof;
+pub use proving::prove;
+pub use tsn_words::Method;

@@ -17,11 +17,11 @@ use Rattle.tsn_model.specs.Timing.{arrival}
 use Rattle.tsn_model.specs.Arcs.{arc_between, arc_on, arc_of}
 use Rattle.tsn_model.specs.Argument.{Fact as ModelFact, from, until, done_from, IsFact, low_at, high_at, go, turn, order, apply, arrive, pack, round, follow, shown, shown_by, refuting, unit_of, clause_at, View, LeadsBy, weight_by, contradicts, left_open, turned}
 use Rattle.tsn_model.proofs.Lists.{All-unmap}
-use Rattle.tsn_argument.specs.Meaning.{fact_of, clause_of, decision_of}
-use Rattle.tsn_argument.specs.declared.order.Order.{Order}
-use Rattle.tsn_argument.specs.declared.fact.Fact.{Fact}
+use Rattle.tsn_cert.specs.Meaning.{fact_of, clause_of, decision_of}
+use Rattle.tsn_cert.specs.declared.order.Order.{Order}
+use Rattle.tsn_cert.specs.declared.fact.Fact.{Fact}
 use Rattle.std.specs.Borrow.{Bor}
-use Rattle.tsn_argument.specs.declared.fact.Clause.{Clause}
+use Rattle.tsn_cert.specs.declared.fact.Clause.{Clause}
 use Rattle.std.proofs.lemmas.Option.{slice_get-get_or}
 use Rattle.tsn_argue.specs.declared.wrong.Wrong.{Wrong}
 use Rattle.tsn_argue.specs.declared.wrong.Wrong.TheVariants.{NotClosed}

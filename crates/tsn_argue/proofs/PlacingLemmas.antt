@@ -7,7 +7,7 @@ use Rattle.tsn_model.specs.declared.Frame.{Frame}
 use Rattle.tsn_model.specs.Certificate.{IsFrameOn, begin_on, end_on}
 use Rattle.tsn_model.specs.Argument.{Fact as ModelFact, from, until, IsFact, View, AreOn, AreSome, first_head, last_end, work_on, put_last, put_first, shown}
 use Rattle.tsn_model.proofs.Routes.{UsesLink-counted}
-use Rattle.tsn_argument.specs.declared.motion.Placing.{Placing}
+use Rattle.tsn_cert.specs.declared.motion.Placing.{Placing}
 use Rattle.tsn_argue.specs.Faults.{AreWrongAmong}
 use Rattle.tsn_argue.specs.Motion.{FindsPlacing}
 use Rattle.tsn_argue.specs.Frames.{FindsChoice}

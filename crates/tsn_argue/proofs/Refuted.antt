@@ -28,8 +28,8 @@ use Rattle.tsn_check.specs.Plans.{IsPlanRight}
 use Rattle.tsn_check.specs.Faults.{IsScheduleFault, IsClaimFault}
 use Rattle.tsn_cert.specs.declared.plan.Plan.{Plan}
 use Rattle.tsn_cert.specs.declared.plan.Plan.TheVariants as plan
-use Rattle.tsn_argument.specs.declared.argument.Argument.{Argument}
-use Rattle.tsn_argument.specs.Meaning.{steps_of}
+use Rattle.tsn_cert.specs.declared.argument.Argument.{Argument}
+use Rattle.tsn_cert.specs.Meaning.{steps_of}
 use Rattle.tsn_argue.specs.Certified.{IsFitting, ArgumentCertifies}
 use Rattle.tsn_argue.specs.Faults.{IsShowFault}
 use Rattle.tsn_argue.proofs.FirstLemmas.{first_wrong_refutes, one_first_wrong, told_refutes, one_first_told, all_there, none_before}

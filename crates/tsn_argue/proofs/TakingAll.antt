@@ -7,12 +7,12 @@ use Rattle.std.proofs.lemmas.List.Elements.{All-push}
 use Rattle.tsn_model.specs.Network.{Network}
 use Rattle.tsn_model.specs.Argument as model
 use Rattle.tsn_model.specs.Argument.{IsFact, IsImpossible, IsAllowed, IsRight, IsSettled, Argues, first_ground, shown, opposite, learned, learned_all, narrowed, AreAllowed, settled, begun, ended, known_with, known_after}
-use Rattle.tsn_argument.specs.Meaning.{clause_of, move_of, step_of, steps_of}
+use Rattle.tsn_cert.specs.Meaning.{clause_of, move_of, step_of, steps_of}
 use Rattle.std.specs.Borrow.{Bor}
-use Rattle.tsn_argument.specs.declared.fact.Clause.{Clause}
-use Rattle.tsn_argument.specs.declared.fact.Fact.{Fact}
-use Rattle.tsn_argument.specs.declared.motion.Move.{Move}
-use Rattle.tsn_argument.specs.declared.step.Step.{Step}
+use Rattle.tsn_cert.specs.declared.fact.Clause.{Clause}
+use Rattle.tsn_cert.specs.declared.fact.Fact.{Fact}
+use Rattle.tsn_cert.specs.declared.motion.Move.{Move}
+use Rattle.tsn_cert.specs.declared.step.Step.{Step}
 use Rattle.tsn_argue.specs.Faults.{IsWrongMove, IsWrongNext, IsWrongStep, IsWrongAfter, IsOpen, IsArgumentFault, AreRight, known_by, known_from, first_known}
 use Rattle.tsn_argue.specs.State.{view_of, base_of, IsSound, Becomes}
 use Rattle.tsn_argue.specs.Motion.{clauses_of, AreFacts}

@@ -7,11 +7,11 @@ use Rattle.tsn_model.specs.Argument.{goal_first, goal_least, goal_none, Argues}
 use Rattle.tsn_model.proofs.Arguments.{argued_first, argued_optimal, argued_none}
 use Rattle.tsn_cert.specs.declared.plan.Plan.{Plan}
 use Rattle.tsn_cert.specs.declared.plan.Plan.TheVariants as plan
-use Rattle.tsn_argument.specs.Meaning.{steps_of}
-use Rattle.tsn_argument.specs.declared.argument.Argument.{Argument}
-use Rattle.tsn_argument.specs.declared.argument.Goal.{Goal}
-use Rattle.tsn_argument.specs.declared.argument.Goal.TheVariants as aim
-use Rattle.tsn_argument.specs.declared.step.Step.{Step}
+use Rattle.tsn_cert.specs.Meaning.{steps_of}
+use Rattle.tsn_cert.specs.declared.argument.Argument.{Argument}
+use Rattle.tsn_cert.specs.declared.argument.Goal.{Goal}
+use Rattle.tsn_cert.specs.declared.argument.Goal.TheVariants as aim
+use Rattle.tsn_cert.specs.declared.step.Step.{Step}
 use Rattle.tsn_check.specs.Plans.{IsPlanRight, IsOptimalPlan, IsFirstPlan}
 use Rattle.tsn_check.specs.declared.verdict.Verdict.TheVariants.{Optimal, First, NoSchedule}
 use Rattle.tsn_argue.specs.Certified.{goal_for, IsFitting, ArgumentCertifies, argument_verdict}

@@ -2,7 +2,7 @@
 use Rattle.std.specs.Prelude.{Result, Ok, Err}
 use Rattle.tsn_model.specs.Network.{Network}
 use Rattle.tsn_cert.specs.declared.plan.Plan.{Plan}
-use Rattle.tsn_argument.specs.declared.argument.Argument.{Argument}
+use Rattle.tsn_cert.specs.declared.argument.Argument.{Argument}
 use Rattle.tsn_argue.specs.Certified.{IsFitting}
 use Rattle.tsn_argue.specs.Faults.{IsWrongAim}
 use Rattle.tsn_argue.specs.Steps.{goal_of, IsAim}

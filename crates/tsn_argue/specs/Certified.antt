@@ -9,12 +9,12 @@ use Rattle.tsn_model.specs.Argument as model
 use Rattle.tsn_model.specs.Argument.{goal_first, goal_least, goal_none, Argues}
 use Rattle.tsn_cert.specs.declared.plan.Plan.{Plan}
 use Rattle.tsn_cert.specs.declared.plan.Plan.TheVariants as plan
-use Rattle.tsn_argument.specs.Meaning.{steps_of}
-use Rattle.tsn_argument.specs.declared.argument.Argument.{Argument}
-use Rattle.tsn_argument.specs.declared.argument.Goal.{Goal}
-use Rattle.tsn_argument.specs.declared.argument.Goal.TheVariants as aim
-use Rattle.tsn_argument.specs.declared.certificate.Certificate.{Certificate}
-use Rattle.tsn_argument.specs.declared.certificate.Certificate.TheVariants.{Tree, Argument as Argued}
+use Rattle.tsn_cert.specs.Meaning.{steps_of}
+use Rattle.tsn_cert.specs.declared.argument.Argument.{Argument}
+use Rattle.tsn_cert.specs.declared.argument.Goal.{Goal}
+use Rattle.tsn_cert.specs.declared.argument.Goal.TheVariants as aim
+use Rattle.tsn_cert.specs.declared.certificate.Certificate.{Certificate}
+use Rattle.tsn_cert.specs.declared.certificate.Certificate.TheVariants.{Tree, Argument as Argued}
 use Rattle.tsn_check.specs.Plans.{offsets_in, IsPlanRight}
 use Rattle.tsn_check.specs.Certified as tree
 use Rattle.tsn_check.specs.Certified.{verdict_of}

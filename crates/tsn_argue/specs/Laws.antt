@@ -2,8 +2,8 @@
 use Rattle.std.specs.Prelude.{◌≡◌}
 use Rattle.tsn_model.specs.Network.{Network}
 use Rattle.tsn_cert.specs.declared.plan.Plan.{Plan}
-use Rattle.tsn_argument.specs.declared.argument.Argument.{Argument}
-use Rattle.tsn_argument.specs.declared.certificate.Certificate.{Certificate}
+use Rattle.tsn_cert.specs.declared.argument.Argument.{Argument}
+use Rattle.tsn_cert.specs.declared.certificate.Certificate.{Certificate}
 use Rattle.tsn_check.specs.declared.fault.CheckFault.{CheckFault}
 use Rattle.tsn_argue.specs.Certified.{ArgumentCertifies, Certifies}
 use Rattle.tsn_argue.specs.Faults.{IsWhy, IsFirstFault}

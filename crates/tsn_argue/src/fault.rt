@@ -3,7 +3,7 @@ ghost use Rattle.std.specs.Prelude.{◌≡◌};
 ghost use Rattle.tsn_argue.specs.Faults.{step_code, code_of};
 
 use crate::wrong::Wrong;
-use tsn_argument::Goal;
+use tsn_cert::Goal;
 use tsn_check::CheckFault;
 use tsn_model::NoMemory;
 

@@ -1,14 +1,14 @@
 //! Who listens to the steps of an argument as they are checked.
 ghost use Rattle.std.specs.Prelude.{◌≡◌, [], ◌∷◌, List, Option, None, All};
 ghost use Rattle.tsn_model.specs.Argument.{IsFact};
-ghost use Rattle.tsn_argument.specs.Meaning.{move_of, step_of};
+ghost use Rattle.tsn_cert.specs.Meaning.{move_of, step_of};
 ghost use Rattle.tsn_argue.specs.State.{view_of, base_of, IsSound};
 ghost use Rattle.tsn_argue.specs.Motion.{facts_of, clauses_of};
 ghost use Rattle.tsn_argue.specs.Told.{Event, begins, makes, ends, with_told, IsMade};
 
 use crate::motion::Shown;
 use crate::view::View;
-use tsn_argument::{Clause, Move, Step};
+use tsn_cert::{Clause, Move, Step};
 
 /// Listens to the steps of an argument: it is told of each move that was made, in their order, and of no other.
 pub trait Listener {

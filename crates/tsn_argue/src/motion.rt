@@ -1,7 +1,7 @@
 //! Whether a move may be made on a view, and what it shows.
 ghost use Rattle.std.specs.Prelude.{◌≡◌, ◌≤◌, [], ◌∷◌, List, length, map, false, All, MatchBool};
 ghost use Rattle.tsn_model.specs.Argument.{Fact as ModelFact, IsFact, go, turn, apply, arrive, put_last, put_first, pack, round, follow, refuting, left_open};
-ghost use Rattle.tsn_argument.specs.Meaning.{decision_of, clause_of, move_of};
+ghost use Rattle.tsn_cert.specs.Meaning.{decision_of, clause_of, move_of};
 ghost use Rattle.tsn_argue.specs.State.{view_of, IsSound};
 ghost use Rattle.tsn_argue.specs.News.{news_of};
 ghost use Rattle.tsn_argue.specs.Faults.{AreAlike};
@@ -14,7 +14,7 @@ use crate::link::{
 use crate::news::{News, turned};
 use crate::view::View;
 use crate::wrong::Wrong;
-use tsn_argument::{Clause, Fact, Move, Order, Placing};
+use tsn_cert::{Clause, Fact, Move, Order, Placing};
 use tsn_model::{Arc, Decision, Frame};
 use tsn_timing::{arc_of, is_conflict};
 

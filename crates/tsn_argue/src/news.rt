@@ -1,10 +1,10 @@
 //! Facts as a view learns them: their numbers may have a sign.
 ghost use Rattle.std.specs.Prelude.{◌≡◌};
 ghost use Rattle.tsn_model.specs.Argument.{opposite, turned};
-ghost use Rattle.tsn_argument.specs.Meaning.{fact_of};
+ghost use Rattle.tsn_cert.specs.Meaning.{fact_of};
 ghost use Rattle.tsn_argue.specs.News.{news_of};
 
-use tsn_argument::Fact;
+use tsn_cert::Fact;
 use tsn_model::{Decision, Side};
 
 /// A fact that a view may learn. Times are in nanoseconds.

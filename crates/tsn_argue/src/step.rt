@@ -2,7 +2,7 @@
 ghost use Rattle.std.specs.Prelude.{◌≡◌, ◌⊎◌, OnOk, IfOk, IfErr, [], ◌∷◌, map, length, All};
 ghost use Rattle.tsn_model.specs.Network.{stream_count};
 ghost use Rattle.tsn_model.specs.Argument.{IsFact, Argues, opposite, learned_all, settled, shown};
-ghost use Rattle.tsn_argument.specs.Meaning.{fact_of, clause_of, move_of, step_of, steps_of};
+ghost use Rattle.tsn_cert.specs.Meaning.{fact_of, clause_of, move_of, step_of, steps_of};
 ghost use Rattle.tsn_argue.specs.Faults.{IsArgumentFault};
 ghost use Rattle.tsn_argue.specs.State.{view_of, base_of, IsSound, Becomes};
 ghost use Rattle.tsn_argue.specs.Motion.{clauses_of, facts_of, AreFacts};
@@ -17,7 +17,7 @@ use crate::news::News;
 use crate::view::View;
 use crate::wrong::Wrong;
 use std::alloc::{AllocError, Global};
-use tsn_argument::{Clause, Fact, Move, Step};
+use tsn_cert::{Clause, Fact, Move, Step};
 use tsn_model::NoMemory;
 use tsn_timing::{Timing, is_conflict};
 

@@ -1,7 +1,7 @@
 //! What a move uses of what is known.
 use crate::news::{News, turned};
 use crate::view::View;
-use tsn_argument::{Clause, Move, Order};
+use tsn_cert::{Clause, Move, Order};
 use tsn_model::{Decision, Frame, Side};
 
 /// A part of what is known: a number or a decision of a view, or a clause that was shown.

@@ -2,7 +2,7 @@
 ghost use Rattle.std.specs.Prelude.{◌≡◌, ◌⊎◌, IfOk, IfErr, IsOkUnless, Ok, OnOk};
 ghost use Rattle.tsn_model.specs.Schedule.{HasNoSchedule};
 ghost use Rattle.tsn_model.specs.Argument.{Goal as ModelGoal};
-ghost use Rattle.tsn_argument.specs.Meaning.{steps_of};
+ghost use Rattle.tsn_cert.specs.Meaning.{steps_of};
 ghost use Rattle.tsn_check.specs.Plans.{IsOptimalPlan, IsFirstPlan, IsPlanRight};
 ghost use Rattle.tsn_argue.specs.Certified.{ArgumentCertifies, Certifies, IsFitting, argument_verdict, certificate_verdict};
 ghost use Rattle.tsn_argue.specs.Faults.{IsWrongPlan, IsWhy, IsShowFault, IsFirstFault};
@@ -14,8 +14,7 @@ use crate::fault::ArgumentFault;
 use crate::listener::{Listener, Silent};
 use crate::step::check_steps;
 use std::alloc::Global;
-use tsn_argument::{Argument, Certificate, Goal};
-use tsn_cert::Plan;
+use tsn_cert::{Argument, Certificate, Goal, Plan};
 use tsn_check::{CheckFault, Verdict, check, check_plan};
 use tsn_net::Problem;
 use tsn_timing::Timing;

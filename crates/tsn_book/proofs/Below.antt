@@ -14,8 +14,8 @@ use Rattle.tsn_model.specs.Places.{pending}
 use Rattle.tsn_model.specs.Search.{Outcome, split, solved, pruned, tied, refuted, Event, Settlement, children_of, made_paths}
 use Rattle.tsn_model.proofs.Places.{pending-nil, pending-left, pending-right}
 use Rattle.tsn_model.proofs.Decisions.{take-decided}
-use Rattle.tsn_search_laws.specs.Walk.{path_made, IsPlaceOf}
-use Rattle.tsn_search_laws.proofs.Histories.{made_paths-snoc}
+use Rattle.tsn_model.specs.Walk.{path_made, IsPlaceOf}
+use Rattle.tsn_model.proofs.Histories.{made_paths-snoc}
 use Rattle.tsn_node.specs.declared.outcome.Look.{Look}
 use Rattle.tsn_node.specs.Outcome.{outcome_of}
 use Rattle.tsn_book.specs.declared.event.Event.{Event as Found}

@@ -13,19 +13,19 @@ use Rattle.tsn_model.specs.declared.Decision.{Decision}
 use Rattle.tsn_model.specs.Network.{Network, IsWellFormed}
 use Rattle.tsn_model.specs.Arcs.{conflicts_of}
 use Rattle.tsn_model.specs.Schedule.{IsValid, flowspan, target_of, earlier, first_of}
-use Rattle.tsn_search_laws.specs.Laws.{IsBelowBounds}
-use Rattle.tsn_search_laws.proofs.Kept.{kept_valid, kept_target, solved-le-cycle}
-use Rattle.tsn_search_laws.proofs.Finished.{legal_beginning}
-use Rattle.tsn_search_laws.proofs.Bounds.{best_is_below, solved_among, settlement_right}
+use Rattle.tsn_model.specs.SearchLaws.{IsBelowBounds}
+use Rattle.tsn_model.proofs.Kept.{kept_valid, kept_target, solved-le-cycle}
+use Rattle.tsn_model.proofs.Finished.{legal_beginning}
+use Rattle.tsn_model.proofs.BestBounds.{best_is_below, solved_among, settlement_right}
 use Rattle.tsn_model.proofs.Conflicts.{conflict_listed}
-use Rattle.tsn_search_laws.proofs.Counting.{length-legal, length-legal_open}
+use Rattle.tsn_model.proofs.Counting.{length-legal, length-legal_open}
 use Rattle.tsn_model.specs.Certificate.{Leaf}
 use Rattle.tsn_model.specs.Search.{Outcome, split, solved, pruned, tied, refuted, Settlement, children_of, made_paths, open_paths, is_settled, solved_bound, pruned_bound, solved_bounds, pruned_bounds, settled_by, least_or_none, best_bound, solutions, kept_of, tally_of, IsRight, IsAllowed, IsLegal, tally_as}
 use Rattle.tsn_model.proofs.Lists.{Contains-head}
-use Rattle.tsn_search_laws.proofs.Lists.{flat_map-snoc, length-Without}
-use Rattle.tsn_search_laws.proofs.Histories.{legal_snoc, open_paths-snoc, open_but, open_but-Without}
-use Rattle.tsn_search_laws.proofs.Following.{settled_by-this, kept_lower_after, kept_even_after, kept_same_after}
-use Rattle.tsn_search_laws.proofs.Gathering.{tally-another}
+use Rattle.tsn_model.proofs.SearchLists.{flat_map-snoc, length-Without}
+use Rattle.tsn_model.proofs.Histories.{legal_snoc, open_paths-snoc, open_but, open_but-Without}
+use Rattle.tsn_model.proofs.Following.{settled_by-this, kept_lower_after, kept_even_after, kept_same_after}
+use Rattle.tsn_model.proofs.Gathering.{tally-another}
 use Rattle.tsn_book.specs.declared.statuses.Origin.{Origin}
 use Rattle.tsn_book.specs.declared.statuses.Status.{Status}
 use Rattle.tsn_book.specs.declared.statuses.Status.TheVariants.{Open}

@@ -11,7 +11,7 @@ use Rattle.tsn_model.specs.declared.Decision.{Decision}
 use Rattle.tsn_model.specs.Network.{Network}
 use Rattle.tsn_model.specs.Certificate.{decided}
 use Rattle.tsn_model.specs.Search.{made_paths}
-use Rattle.tsn_search_laws.proofs.Paths.{decided-parts, nil-ne-decided}
+use Rattle.tsn_model.proofs.Paths.{decided-parts, nil-ne-decided}
 use Rattle.tsn_book.specs.declared.statuses.Origin.{Origin}
 use Rattle.tsn_book.specs.declared.statuses.Origin.TheVariants.{Root, Child}
 use Rattle.tsn_book.specs.declared.statuses.Status.{Status}

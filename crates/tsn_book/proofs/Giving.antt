@@ -6,7 +6,7 @@ use Rattle.std.proofs.lemmas.List.Elements.{All-head}
 use Rattle.tsn_model.specs.Network.{Network}
 use Rattle.tsn_model.specs.Certificate.{Node}
 use Rattle.tsn_timing.specs.Solution.{Solution}
-use Rattle.tsn_search_laws.specs.Order.{node_of}
+use Rattle.tsn_model.specs.Order.{node_of}
 use Rattle.tsn_node.specs.Outcome.{outcome_of}
 use Rattle.tsn_node.specs.declared.outcome.Look.TheVariants.{Split}
 use Rattle.tsn_book.specs.declared.log.Settled.{Settled}

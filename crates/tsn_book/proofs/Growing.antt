@@ -11,8 +11,8 @@ use Rattle.tsn_model.specs.declared.Decision.{Decision}
 use Rattle.tsn_model.specs.Network.{Network}
 use Rattle.tsn_model.specs.Certificate.{decided}
 use Rattle.tsn_model.specs.Search.{Outcome, split, solved, pruned, tied, refuted, Event, Settlement, path_eq, children_of, made_paths, open_paths, is_settled, ends_of, IsRight, IsAllowed, IsLegal}
-use Rattle.tsn_search_laws.proofs.Paths.{path_eq-false}
-use Rattle.tsn_search_laws.proofs.Histories.{legal_nil, legal_snoc, made_paths-snoc, is_settled-snoc, open_from_made, made_apart, child_not_settled, child_ne_parent}
+use Rattle.tsn_model.proofs.Paths.{path_eq-false}
+use Rattle.tsn_model.proofs.Histories.{legal_nil, legal_snoc, made_paths-snoc, is_settled-snoc, open_from_made, made_apart, child_not_settled, child_ne_parent}
 use Rattle.tsn_book.specs.declared.statuses.Origin.{Origin}
 use Rattle.tsn_book.specs.declared.statuses.Origin.TheVariants.{Root, Child}
 use Rattle.tsn_book.specs.declared.statuses.Status.{Status}

@@ -1,7 +1,7 @@
 -- What a ledger's parts say of its places.
 use Rattle.std.proofs.Common.{◌≡◌, ℕ, ◌<◌, List, length, arith, sym, ap, subst}
 use Rattle.tsn_model.specs.Search.{Outcome, made_paths, IsAllowed}
-use Rattle.tsn_search_laws.specs.Walk.{path_made}
+use Rattle.tsn_model.specs.Walk.{path_made}
 use Rattle.tsn_book.specs.declared.ledger.Ledger.{Ledger}
 use Rattle.tsn_book.specs.declared.log.Settled.{Settled}
 use Rattle.tsn_book.specs.Arena.{path_at, paths_of, history_of, settled_in}

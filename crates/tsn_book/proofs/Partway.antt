@@ -3,7 +3,7 @@ use Rattle.std.proofs.Common.{pos, ◌≡◌, ℕ, ◌+◌, ◌≤◌, ◌<◌, 
 use Rattle.tsn_model.specs.declared.Decision.{Decision}
 use Rattle.tsn_model.specs.Network.{Network}
 use Rattle.tsn_model.specs.Search.{Event}
-use Rattle.tsn_search_laws.specs.Walk.{IsPlaceOf}
+use Rattle.tsn_model.specs.Walk.{IsPlaceOf}
 use Rattle.tsn_node.specs.declared.outcome.Look.{Look}
 use Rattle.tsn_node.specs.declared.outcome.Look.TheVariants.{Split}
 use Rattle.tsn_node.specs.Outcome.{outcome_of}

@@ -15,9 +15,9 @@ use Rattle.tsn_model.specs.Network.{Network}
 use Rattle.tsn_model.specs.Certificate.{decided}
 use Rattle.tsn_model.specs.Search.{Outcome, split, solved, pruned, tied, refuted, Settlement, path_eq, children_of, made_paths, open_paths, is_settled, ends_of, IsLegal}
 use Rattle.tsn_model.proofs.Lists.{Contains-cons_cases, from_flat_map}
-use Rattle.tsn_search_laws.proofs.Lists.{snoc_induction}
-use Rattle.tsn_search_laws.proofs.Paths.{path_eq-true, path_eq-refl, path_eq-false, decided-parts, nil-ne-decided}
-use Rattle.tsn_search_laws.proofs.Histories.{settled_at, parent_settled, settled_is_made, settled_once, open_is_made, open_not_settled, child_of}
+use Rattle.tsn_model.proofs.SearchLists.{snoc_induction}
+use Rattle.tsn_model.proofs.Paths.{path_eq-true, path_eq-refl, path_eq-false, decided-parts, nil-ne-decided}
+use Rattle.tsn_model.proofs.Histories.{settled_at, parent_settled, settled_is_made, settled_once, open_is_made, open_not_settled, child_of}
 use Rattle.tsn_book.specs.declared.statuses.Origin.{Origin}
 use Rattle.tsn_book.specs.declared.statuses.Origin.TheVariants.{Root, Child}
 use Rattle.tsn_book.specs.declared.statuses.Status.{Status}

@@ -16,13 +16,13 @@ use Rattle.tsn_model.specs.Certificate.{Node, decided}
 use Rattle.tsn_model.specs.Search.{Outcome, split, solved, pruned, tied, refuted, Settlement, children_of, open_paths, kept_of, is_settled, IsLegal}
 use Rattle.tsn_model.proofs.Lists.{Contains-head, Contains-more, AllPairs-head, AllPairs-tail}
 use Rattle.tsn_timing.specs.Solution.{Solution}
-use Rattle.tsn_search_laws.specs.Order.{node_of}
-use Rattle.tsn_search_laws.specs.Laws.{AreAcceptedTree}
-use Rattle.tsn_search_laws.proofs.Lists.{AllPairs-nil}
-use Rattle.tsn_search_laws.proofs.Histories.{settled_at}
-use Rattle.tsn_search_laws.proofs.Growths.{Growth, open_place, leaf_place, branch_place, in_order, open_in, Stands, Backs, legal_growth, grown_tree, nil-left, nil-right}
-use Rattle.tsn_search_laws.proofs.Preorders.{SettledBefore, in_order_ordered, Precedes-irreflexive}
-use Rattle.tsn_search_laws.proofs.Finished.{history_backed}
+use Rattle.tsn_model.specs.Order.{node_of}
+use Rattle.tsn_model.specs.SearchLaws.{AreAcceptedTree}
+use Rattle.tsn_model.proofs.SearchLists.{AllPairs-nil}
+use Rattle.tsn_model.proofs.Histories.{settled_at}
+use Rattle.tsn_model.proofs.Growths.{Growth, open_place, leaf_place, branch_place, in_order, open_in, Stands, Backs, legal_growth, grown_tree, nil-left, nil-right}
+use Rattle.tsn_model.proofs.Preorders.{SettledBefore, in_order_ordered, Precedes-irreflexive}
+use Rattle.tsn_model.proofs.Finished.{history_backed}
 use Rattle.tsn_node.specs.Outcome.{outcome_of}
 use Rattle.tsn_node.specs.declared.outcome.Look.TheVariants.{Split as FoundSplit}
 use Rattle.tsn_book.specs.declared.statuses.Origin.{Origin}

@@ -4,7 +4,7 @@ use Rattle.std.specs.Prelude.{◌==◌}
 use Rattle.std.proofs.lemmas.Bool.{eq-eqb, eqb-true}
 use Rattle.tsn_model.specs.Search.{Outcome, split, solved, pruned, tied, refuted, Settlement, solved_bound, solved_bounds, settled_by}
 use Rattle.tsn_model.proofs.Lists.{Contains-head, Contains-nil, Contains-flat_map, from_flat_map, Contains-filter, from_filter, Contains-map, from_map}
-use Rattle.tsn_search_laws.proofs.Lists.{Contains-one, Contains-from_Any, Any-from_Contains}
+use Rattle.tsn_model.proofs.SearchLists.{Contains-one, Contains-from_Any, Any-from_Contains}
 use Rattle.tsn_book.specs.declared.statuses.Origin.{Origin}
 use Rattle.tsn_book.specs.declared.log.Settled.{Settled}
 use Rattle.tsn_book.specs.Arena.{paths_of, settlement_of, history_of}

@@ -9,9 +9,9 @@ use Rattle.tsn_model.specs.Certificate.{Leaf, leaf_node, tie_node}
 use Rattle.tsn_model.specs.Search.{Outcome, split, solved, pruned, tied, refuted, Settlement, kept_of, IsRight, IsLegal}
 use Rattle.tsn_model.proofs.Schedules.{flowspan-le-cycle}
 use Rattle.tsn_timing.specs.Solution.{Solution}
-use Rattle.tsn_search_laws.specs.Order.{chains_until, node_of}
-use Rattle.tsn_search_laws.proofs.Bounds.{settlement_right}
-use Rattle.tsn_search_laws.proofs.Finished.{right_stays}
+use Rattle.tsn_model.specs.Order.{chains_until, node_of}
+use Rattle.tsn_model.proofs.BestBounds.{settlement_right}
+use Rattle.tsn_model.proofs.Finished.{right_stays}
 use Rattle.tsn_book.specs.Book.{planned, HasTie}
 
 -- where two lists differ, or one ends

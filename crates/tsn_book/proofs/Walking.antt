@@ -11,9 +11,9 @@ use Rattle.tsn_model.specs.declared.Decision.{Decision}
 use Rattle.tsn_model.specs.Network.{Network}
 use Rattle.tsn_model.specs.Certificate.{decided}
 use Rattle.tsn_model.specs.Search.{Outcome, split, solved, pruned, tied, refuted, Settlement, made_paths, open_paths, PathBefore, IsFirstOpen, IsLegal}
-use Rattle.tsn_search_laws.proofs.Histories.{open_is_made}
-use Rattle.tsn_search_laws.proofs.Counting.{made_decides}
-use Rattle.tsn_search_laws.proofs.Kept.{nil-from_none}
+use Rattle.tsn_model.proofs.Histories.{open_is_made}
+use Rattle.tsn_model.proofs.Counting.{made_decides}
+use Rattle.tsn_model.proofs.Kept.{nil-from_none}
 use Rattle.tsn_book.specs.declared.statuses.Origin.{Origin}
 use Rattle.tsn_book.specs.declared.statuses.Status.{Status}
 use Rattle.tsn_book.specs.declared.statuses.Status.TheVariants.{Open, Split, Leaf}

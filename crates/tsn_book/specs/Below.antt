@@ -14,7 +14,7 @@ use Rattle.tsn_model.specs.Network.{Network}
 use Rattle.tsn_model.specs.Certificate.{decided}
 use Rattle.tsn_model.specs.Places.{pending}
 use Rattle.tsn_model.specs.Search.{Outcome, split, solved, pruned, tied, refuted, Event, Settlement}
-use Rattle.tsn_search_laws.specs.Walk.{path_made, IsPlaceOf}
+use Rattle.tsn_model.specs.Walk.{path_made, IsPlaceOf}
 use Rattle.tsn_book.specs.Book.{IsFault}
 use Rattle.tsn_book.specs.declared.fault.BookFault.{BookFault}
 

@@ -9,8 +9,8 @@ use Rattle.tsn_model.specs.Certificate.{Leaf, beyond, HasBound, Tree, AcceptsFir
 use Rattle.tsn_model.specs.Arcs.{conflicts_of}
 use Rattle.tsn_model.specs.Search.{Outcome, split, solved, pruned, tied, refuted, Event, Settlement, open_paths, best_bound, kept_of, solved_bound, pruned_bound, tally_of, IsNoBetter, IsAllowed, IsLegal, tally_as}
 use Rattle.tsn_timing.specs.Solution.{Solution, IsSolved}
-use Rattle.tsn_search_laws.specs.Order.{Precedes, node_of}
-use Rattle.tsn_search_laws.specs.Replies.{not_open, limit_met, not_conflict, already_decided, not_met, IsFirstRefusal}
+use Rattle.tsn_model.specs.Order.{Precedes, node_of}
+use Rattle.tsn_model.specs.Replies.{not_open, limit_met, not_conflict, already_decided, not_met, IsFirstRefusal}
 use Rattle.tsn_book.specs.Arena.{IsEvent, IsTree, AreClosed, history_of}
 use Rattle.tsn_book.specs.declared.statuses.Origin.{Origin}
 use Rattle.tsn_book.specs.declared.statuses.Status.{Status}

@@ -8,9 +8,9 @@ use Rattle.tsn_model.specs.declared.Decision.{Decision}
 use Rattle.tsn_model.specs.Network.{Network}
 use Rattle.tsn_model.specs.Certificate.{Node}
 use Rattle.tsn_model.specs.Search.{Settlement, kept_of}
-use Rattle.tsn_search_laws.specs.Order.{Precedes, node_of}
-use Rattle.tsn_search_laws.specs.Laws.{AreAcceptedTree}
-use Rattle.tsn_search_laws.proofs.Growths.{Growth, in_order, open_in, Stands}
+use Rattle.tsn_model.specs.Order.{Precedes, node_of}
+use Rattle.tsn_model.specs.SearchLaws.{AreAcceptedTree}
+use Rattle.tsn_model.proofs.Growths.{Growth, in_order, open_in, Stands}
 use Rattle.tsn_timing.specs.Solution.{Solution}
 use Rattle.tsn_node.specs.Outcome.{outcome_of}
 use Rattle.tsn_node.specs.declared.outcome.Look.TheVariants.{Split}

@@ -6,8 +6,8 @@ ghost use Rattle.tsn_model.specs.Search.{Outcome, made_paths, open_paths, best_b
 ghost use Rattle.tsn_node.specs.Outcome.{outcome_of};
 ghost use Rattle.tsn_node.specs.Right.{HasProof, SplitsUndecided};
 ghost use Rattle.tsn_book.specs.Event.{event_of};
-ghost use Rattle.tsn_search_laws.specs.Laws.{IsBelowBounds};
-ghost use Rattle.tsn_search_laws.specs.Walk.{path_made, IsPlaceOf};
+ghost use Rattle.tsn_model.specs.SearchLaws.{IsBelowBounds};
+ghost use Rattle.tsn_model.specs.Walk.{path_made, IsPlaceOf};
 ghost use Rattle.tsn_book.specs.Book.{Progress, IsLawful, IsFault, SpellsAccepted, AreNodesOf};
 ghost use Rattle.tsn_book.specs.Solving.{IsSolvedBy};
 

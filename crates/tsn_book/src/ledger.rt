@@ -4,7 +4,7 @@ ghost use Rattle.tsn_cert.specs.declared.cert.Format.{Format};
 ghost use Rattle.tsn_model.specs.declared.Side.TheVariants.{Left};
 ghost use Rattle.tsn_model.specs.Certificate.{decided};
 ghost use Rattle.tsn_model.specs.Search.{made_paths, open_paths, best_bound, kept_of, solved_bound, split, tally_as, IsAllowed};
-ghost use Rattle.tsn_search_laws.specs.Walk.{path_made, IsPlaceOf};
+ghost use Rattle.tsn_model.specs.Walk.{path_made, IsPlaceOf};
 ghost use Rattle.tsn_node.specs.declared.outcome.Look.{Look};
 ghost use Rattle.tsn_node.specs.Outcome.{outcome_of};
 ghost use Rattle.tsn_node.specs.Right.{HasProof, SplitsUndecided};

@@ -2,7 +2,7 @@
 ghost use Rattle.std.specs.Prelude.{◌≡◌, ◌≢◌, ◌<◌, ◌^◌, ◌∷◌, [], take, drop, ℕ, length, Ok, None, Option, map, IfOk, OnErr, MatchOption, option_copied, slice_index_or};
 ghost use Rattle.tsn_cert.specs.Node.{tree_node};
 ghost use Rattle.tsn_model.specs.Search.{open_paths};
-ghost use Rattle.tsn_search_laws.specs.Order.{node_of};
+ghost use Rattle.tsn_model.specs.Order.{node_of};
 ghost use Rattle.tsn_model.specs.Schedule.{common};
 ghost use Rattle.tsn_model.specs.Certificate.{tie_node};
 ghost use Rattle.tsn_cert.specs.Leaf.{bound_leaf};

@@ -10,3 +10,4 @@ pub mod Shown
 pub mod Calm
 pub mod Tying
 pub mod Tied
+pub mod Bounds

@@ -7,3 +7,4 @@ pub mod Chains
 pub mod Ends
 pub mod Descent
 pub mod Rates
+pub mod Bound

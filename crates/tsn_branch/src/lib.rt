@@ -1,4 +1,6 @@
-//! A look at one node of the search: what the decisions on its path leave open, or why nothing is left.
+//! A look at one node of the search: what the decisions on its path leave open, or why nothing is left. And what a search of any kind
+//! is given: the tables that it reads and the supervisor that it passes, such as one that tells how far it has got; and a flowspan that
+//! no schedule undercuts.
 #![tactic(auto)]
 
 ghost use Rattle.std.specs.Prelude.{IfOk, IfSome, option_copied};
@@ -11,20 +13,31 @@ ghost use Rattle.tsn_node.specs.Right.{HasProof, SplitsUndecided};
 ghost use Rattle.tsn_branch.specs.Least.{IsLeastAbove, ComesWithSplit};
 
 mod arcs;
+pub mod bound;
 mod chains;
 pub mod descent;
+mod heard;
 mod instants;
 mod judge;
 mod judgement;
 mod loads;
+pub mod prepared;
+pub mod progress;
+pub mod setting;
+pub mod supervisor;
 mod tables;
 
 use crate::arcs::least_at;
 use crate::judge::judge;
 pub use arcs::fits;
+pub use bound::lower_bound;
 pub use descent::Descent;
 pub use loads::Loads;
+pub use prepared::Prepared;
+pub use progress::Progress;
+pub use setting::Setting;
 use std::alloc::Global;
+pub use supervisor::{LearnedNews, News, NoSupervisor, Phase, Supervisor};
 pub use tables::{Aim, Tables};
 use tsn_conflict::sharing::Conflicts;
 pub use tsn_diff::Least;

@@ -11,3 +11,8 @@ pub mod Text
 pub mod Laws
 pub mod Spelled
 pub mod Says
+pub mod Meaning
+pub mod Argument
+pub mod Certificate
+pub mod ArgumentText
+pub mod ArgumentLaws

@@ -1,19 +1,33 @@
-//! Plans and certificates, and what the files that hold them say.
+//! Plans and certificates, and what the files that hold them say. A certificate is of either kind: a tree of nodes, or an argument, whose
+//! steps each show a clause.
 #![tactic(auto)]
 
+pub mod argument;
+mod argument_limits;
 pub mod cert;
+pub mod certificate;
 pub mod chain;
 pub mod chains;
 pub mod entries;
+pub mod fact;
 pub mod fault;
 pub mod leaf;
 pub mod limits;
+pub mod motion;
+pub mod order;
 pub mod plan;
+pub mod step;
 
+pub use argument::{Argument, Goal};
 pub use cert::{Cert, Format, Node, Nodes};
+pub use certificate::Certificate;
 pub use chain::Chain;
 pub use chains::Chains;
 pub use entries::Entries;
+pub use fact::{Clause, Fact};
 pub use fault::FileFault;
 pub use leaf::{Leaf, LowerBound};
+pub use motion::{Move, Moves, Placing};
+pub use order::{Order, Orders};
 pub use plan::{Offsets, Plan};
+pub use step::{Frames, Step, Steps};

@@ -1,15 +1,30 @@
-//! A schedule as a picture: SVG with a row for each directed link in use.
+//! A schedule as a picture: SVG with a row for each directed link in use; and what each stream and each link gets by it, in nanoseconds.
 #![tactic(auto)]
 
+mod csv;
+mod format;
 mod frame;
+mod frames;
+mod json;
 mod key;
+pub mod link;
 mod mark;
+pub mod output;
 pub mod picture;
+mod rest;
 mod rows;
 mod scale;
+pub mod shares;
 mod shown;
+pub mod stream;
+mod table;
 pub mod words;
 
+pub use link::{LinkShare, link_share, link_shares};
+pub use output::{to_csv, to_json, to_text};
 pub use picture::{View, chart, chart_of, marked_chart};
+pub use rest::longest_open;
+pub use shares::{Shares, plan_shares};
 pub use shown::Shown;
+pub use stream::{StreamShare, stream_share, stream_shares};
 pub use tsn_model::NoMemory;

@@ -5,9 +5,9 @@ use Rattle.tsn_cli.specs.declared.table.Table.{Table}
 use Rattle.tsn_cli.specs.Shown.{shown_output}
 use Rattle.tsn_cli.specs.Explain.{CertAnswers}
 use Rattle.tsn_cli.specs.Tables.{TableAnswers}
-use Rattle.tsn_run.proofs.CheckLemmas.{goes_on_after_network}
-use Rattle.tsn_run.proofs.InputLemmas.{TakesInputs}
-use Rattle.tsn_run.proofs.RunLemmas.{TellsFaults}
+use Rattle.tsn_reason.proofs.CheckLemmas.{goes_on_after_network}
+use Rattle.tsn_reason.proofs.InputLemmas.{TakesInputs}
+use Rattle.tsn_reason.proofs.RunLemmas.{TellsFaults}
 
 -- how what is shown tells a fault of a source
 pub shown_faults : TellsFaults shown_output

@@ -8,10 +8,10 @@ use Rattle.tsn_model.specs.Bridge.{LinkGates}
 use Rattle.tsn_model.proofs.OnTime.{hop_uses}
 use Rattle.tsn_gate.specs.GateLists.{IsUsed}
 use Rattle.tsn_gate.specs.Merged.{AreListsBy}
-use Rattle.tsn_replay.specs.Faults.{NamesLinks, KeepsLimits, IsListed, IsWithin, HasReplayFault}
-use Rattle.tsn_replay.specs.declared.fault.ReplayFault.{ReplayFault}
-use Rattle.tsn_replay.specs.declared.fault.ReplayFault.TheVariants.{UnknownLink, Limit, Memory}
-use Rattle.tsn_replay.specs.Feeding.{background_for}
+use Rattle.tsn_gate.specs.Faults.{NamesLinks, KeepsLimits, IsListed, IsWithin, HasReplayFault}
+use Rattle.tsn_gate.specs.declared.replay_fault.ReplayFault.{ReplayFault}
+use Rattle.tsn_gate.specs.declared.replay_fault.ReplayFault.TheVariants.{UnknownLink, Limit, Memory}
+use Rattle.tsn_gate.specs.Feeding.{background_for}
 
 -- lists that last the cycle, one for each link that a stream uses
 record AreWhole (network : Network) (lists : List LinkGates) : Type 0 where

@@ -10,18 +10,18 @@ use Rattle.tsn_net.specs.File.{States}
 use Rattle.tsn_net.specs.Problem.{NamedNetwork}
 use Rattle.tsn_cert.specs.declared.plan.Plan.{Plan}
 use Rattle.tsn_cert.specs.Plan.{plan_in}
-use Rattle.tsn_argument.specs.declared.certificate.Certificate.{Certificate}
-use Rattle.tsn_argument.specs.Certificate.{certificate_in}
+use Rattle.tsn_cert.specs.declared.certificate.Certificate.{Certificate}
+use Rattle.tsn_cert.specs.Certificate.{certificate_in}
 use Rattle.tsn_argue.specs.Certified.{Certifies, certificate_verdict}
 use Rattle.tsn_chart.specs.declared.picture.View.{View}
 use Rattle.tsn_cli.specs.declared.showing.Showing.{Showing}
 use Rattle.tsn_cli.specs.declared.showing.Showing.TheVariants.{Verdict, Words, Picture}
 use Rattle.tsn_cli.specs.declared.table.Table.TheVariants.{Chart}
-use Rattle.tsn_run.specs.Run.{Output, Command, IsLine, SourceRun}
-use Rattle.tsn_run.specs.Outcome.{ComesTo, TellsFailures}
+use Rattle.tsn_reason.specs.Run.{Output, Command, IsLine, SourceRun}
+use Rattle.tsn_reason.specs.Outcome.{ComesTo, TellsFailures}
 use Rattle.tsn_cli.specs.Shown.{shown_output}
-use Rattle.tsn_run.specs.Refusal.{IsOutcome, RefusesNetwork, RefusesPlan}
-use Rattle.tsn_run.specs.Check.{RefusesCert, ShowsNothing, StatesNetwork, accepted}
+use Rattle.tsn_reason.specs.Refusal.{IsOutcome, RefusesNetwork, RefusesPlan}
+use Rattle.tsn_reason.specs.Check.{RefusesCert, ShowsNothing, StatesNetwork, accepted}
 use Rattle.tsn_cli.specs.Tables.{ShowsPlan, RejectsPlan}
 
 -- the output is a text, of which nothing more is said

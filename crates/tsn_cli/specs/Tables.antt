@@ -15,30 +15,30 @@ use Rattle.tsn_cert.specs.Plan.{plan_in}
 use Rattle.tsn_check.specs.declared.fault.CheckFault.{CheckFault}
 use Rattle.tsn_check.specs.Faults.{IsPlanFault}
 use Rattle.tsn_gate.specs.Merged.{AreListsBy}
-use Rattle.tsn_gate_output.specs.Format.{text_in}
-use Rattle.tsn_replay.specs.declared.trace.Row.{Row}
-use Rattle.tsn_replay.specs.Feeding.{background_for}
-use Rattle.tsn_replay.specs.Rows as replay
-use Rattle.tsn_replay.specs.Rows.{AreRows}
-use Rattle.tsn_replay.specs.Csv.{csv_text}
+use Rattle.tsn_gate.specs.Format.{text_in}
+use Rattle.tsn_gate.specs.declared.trace.Row.{Row}
+use Rattle.tsn_gate.specs.Feeding.{background_for}
+use Rattle.tsn_gate.specs.Rows as replay
+use Rattle.tsn_gate.specs.Rows.{AreRows}
+use Rattle.tsn_gate.specs.Csv.{csv_text}
 use Rattle.tsn_chart.specs.declared.picture.View.{View}
-use Rattle.tsn_streams.specs.declared.stream.StreamShare.{StreamShare}
-use Rattle.tsn_streams.specs.declared.link.LinkShare.{LinkShare}
-use Rattle.tsn_streams.specs.Shares.{stream_shares, AreSharesOfLinks}
-use Rattle.tsn_streams.specs.Table as streams
-use Rattle.tsn_streams.specs.Json as streams_json
-use Rattle.tsn_streams.specs.Csv as streams_csv
-use Rattle.tsn_options.specs.declared.ReplayFormat.{ReplayFormat}
-use Rattle.tsn_options.specs.declared.ReplayFormat.TheVariants as replays
-use Rattle.tsn_options.specs.declared.StreamsFormat.{StreamsFormat}
-use Rattle.tsn_options.specs.declared.StreamsFormat.TheVariants as shares
+use Rattle.tsn_chart.specs.declared.stream.StreamShare.{StreamShare}
+use Rattle.tsn_chart.specs.declared.link.LinkShare.{LinkShare}
+use Rattle.tsn_chart.specs.Shares.{stream_shares, AreSharesOfLinks}
+use Rattle.tsn_chart.specs.Table as streams
+use Rattle.tsn_chart.specs.Json as streams_json
+use Rattle.tsn_chart.specs.Csv as streams_csv
+use Rattle.tsn_words.specs.declared.options.ReplayFormat.{ReplayFormat}
+use Rattle.tsn_words.specs.declared.options.ReplayFormat.TheVariants as replays
+use Rattle.tsn_words.specs.declared.options.StreamsFormat.{StreamsFormat}
+use Rattle.tsn_words.specs.declared.options.StreamsFormat.TheVariants as shares
 use Rattle.tsn_cli.specs.declared.table.GatesOptions.{GatesOptions}
 use Rattle.tsn_cli.specs.declared.table.ReplayOptions.{ReplayOptions}
 use Rattle.tsn_cli.specs.declared.table.Table.{Table}
 use Rattle.tsn_cli.specs.declared.table.Table.TheVariants.{Gates, Replay, Chart, Streams}
-use Rattle.tsn_run.specs.Run.{Output, Command, IsLine}
-use Rattle.tsn_run.specs.declared.outcome.Outcome.TheVariants.{RefusedPlan}
-use Rattle.tsn_run.specs.Refusal.{IsOutcome, RefusesNetwork, RefusesPlan}
+use Rattle.tsn_reason.specs.Run.{Output, Command, IsLine}
+use Rattle.tsn_reason.specs.declared.outcome.Outcome.TheVariants.{RefusedPlan}
+use Rattle.tsn_reason.specs.Refusal.{IsOutcome, RefusesNetwork, RefusesPlan}
 
 -- the lists in the format that is asked for
 abbrev pub lists_text : GatesOptions → NamedNetwork → List LinkGates → List ℕ

@@ -5,9 +5,9 @@ use Rattle.tsn_model.specs.Network.{Network}
 use Rattle.tsn_model.specs.Schedule.{IsValid, IsFirstViolation, flowspan}
 use Rattle.tsn_net.specs.File.{States}
 use Rattle.tsn_net.specs.Problem.{NamedNetwork}
-use Rattle.tsn_run.specs.declared.outcome.Outcome.TheVariants.{Taken, Valid, NotValid}
-use Rattle.tsn_run.specs.Run.{Output, Command}
-use Rattle.tsn_run.specs.Refusal.{IsOutcome, RefusesNetwork}
+use Rattle.tsn_reason.specs.declared.outcome.Outcome.TheVariants.{Taken, Valid, NotValid}
+use Rattle.tsn_reason.specs.Run.{Output, Command}
+use Rattle.tsn_reason.specs.Refusal.{IsOutcome, RefusesNetwork}
 
 -- the offsets are a valid schedule
 abbrev pub Accepts : Network → List ℕ → Output → Type 0

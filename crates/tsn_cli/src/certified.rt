@@ -3,10 +3,10 @@ ghost use Rattle.std.specs.Prelude.{◌≡◌, ◌<◌, ◌-◌, ◌^◌, ◌⊎
 ghost use Rattle.tsn_argue.specs.Certified.{Certifies, certificate_verdict};
 ghost use Rattle.tsn_argue.specs.Faults.{IsFirstFault};
 ghost use Rattle.tsn_cli.specs.declared.table.Table.TheVariants.{Chart};
-ghost use Rattle.tsn_run.specs.Run.{source_over};
-ghost use Rattle.tsn_run.specs.Outcome.{ComesOver};
+ghost use Rattle.tsn_reason.specs.Run.{source_over};
+ghost use Rattle.tsn_reason.specs.Outcome.{ComesOver};
 ghost use Rattle.tsn_cli.specs.Shown.{IsSaid, shown_output};
-ghost use Rattle.tsn_run.specs.Check.{ShowsNothing};
+ghost use Rattle.tsn_reason.specs.Check.{ShowsNothing};
 ghost use Rattle.tsn_cli.specs.Explain.{CertAnswers, GoesOnOver, JudgesShown, ShowsAccepted, ShowsText};
 ghost use Rattle.tsn_cli.specs.Tables.{RejectsPlan, ShowsPlan};
 
@@ -16,19 +16,19 @@ use crate::table::Table;
 use crate::tables;
 use std::alloc::Global;
 use tsn_argue::{Silent, judge_argument};
-use tsn_argument::Certificate;
-use tsn_cert::Plan;
+use tsn_cert::{Certificate, Plan};
 use tsn_chart::View;
 use tsn_check::{CheckFault, Verdict, check};
 use tsn_codec::certificate_from_json;
 use tsn_device::device::{ReadFault, Source, read_all};
-use tsn_explain::explanation;
+use tsn_explain::{explanation, marked_frames};
 use tsn_model::NoMemory;
-use tsn_needs::marked_frames;
 use tsn_net::Problem;
-use tsn_reason::{Claim, File, cert_file_line, line_on_argument, line_on_tree};
-use tsn_run::run::MAX_FILE;
-use tsn_run::{FileKind, InputsRead, cert_rejection, file_refusal, read_inputs};
+use tsn_reason::run::MAX_FILE;
+use tsn_reason::{
+    Claim, File, FileKind, InputsRead, cert_file_line, cert_rejection, file_refusal,
+    line_on_argument, line_on_tree, read_inputs,
+};
 
 /// What is shown of a plan and its certificate, before it is written.
 pub fn certified_shown<N: Source, P: Source, C: Source>(

@@ -1,9 +1,9 @@
 //! `check`: judges a plan and its certificate.
 ghost use Rattle.std.specs.Prelude.{◌<◌, ◌-◌, ◌^◌, [], ◌∷◌, IfOk, Ok};
-ghost use Rattle.tsn_run.specs.Run.{RunsOver, sink_over, source_over};
-ghost use Rattle.tsn_run.specs.Refusal.{IsOutcome};
-ghost use Rattle.tsn_run.specs.Outcome.{ComesOver, EndsAs, outcome_of, output_of};
-ghost use Rattle.tsn_run.specs.Check.{CheckAnswers, accepted};
+ghost use Rattle.tsn_reason.specs.Run.{RunsOver, sink_over, source_over};
+ghost use Rattle.tsn_reason.specs.Refusal.{IsOutcome};
+ghost use Rattle.tsn_reason.specs.Outcome.{ComesOver, EndsAs, outcome_of, output_of};
+ghost use Rattle.tsn_reason.specs.Check.{CheckAnswers, accepted};
 
 use crate::certified::certified_shown;
 use crate::showing::{Showing, Shown};
@@ -12,8 +12,8 @@ use tsn_cert::Plan;
 use tsn_check::Verdict;
 use tsn_device::device::{ReadFault, Sink, Source};
 use tsn_model::NoMemory;
-use tsn_run::run::respond;
-use tsn_run::{Answer, Outcome};
+use tsn_reason::run::respond;
+use tsn_reason::{Answer, Outcome};
 
 /// Reads a network file, a plan file and a certificate file of format 1, 2 or 3, each judged before the next is read, and writes a
 /// line on the first that is refused, or on what the certificate shows. The answer is the status.

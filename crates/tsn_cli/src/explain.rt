@@ -1,6 +1,6 @@
 //! `explain`, and `chart` with a certificate: show why no schedule is faster.
 ghost use Rattle.std.specs.Prelude.{◌<◌, ◌-◌, ◌^◌, [], ◌∷◌};
-ghost use Rattle.tsn_run.specs.Run.{RunsOver, sink_over, source_over};
+ghost use Rattle.tsn_reason.specs.Run.{RunsOver, sink_over, source_over};
 ghost use Rattle.tsn_cli.specs.Explain.{ExplainAnswers, MarkedChartAnswers};
 
 use crate::certified::certified_shown;

@@ -1,13 +1,13 @@
 //! A network file that is judged alone.
 ghost use Rattle.std.specs.Prelude.{◌<◌, ◌-◌, ◌^◌, [], ◌∷◌};
-ghost use Rattle.tsn_run.specs.Run.{RunsOver, sink_over, source_over};
-ghost use Rattle.tsn_run.specs.Outcome.{ComesOver, EndsAs, outcome_of, output_of};
+ghost use Rattle.tsn_reason.specs.Run.{RunsOver, sink_over, source_over};
+ghost use Rattle.tsn_reason.specs.Outcome.{ComesOver, EndsAs, outcome_of, output_of};
 ghost use Rattle.tsn_cli.specs.Valid.{JudgeAnswers};
 
 use std::alloc::Global;
 use tsn_device::device::{ReadFault, Sink, Source};
-use tsn_run::run::respond;
-use tsn_run::{Answer, NetworkRead, Outcome, read_network};
+use tsn_reason::run::respond;
+use tsn_reason::{Answer, NetworkRead, Outcome, read_network};
 
 /// Reads a network file, and writes a line on why it is refused; nothing where it is not. The answer is the status.
 pub fn judge_run<S: Source, W: Sink>(alloc: Global, source: &mut S, sink: &mut W) -> u8

@@ -18,5 +18,5 @@ pub use judge::{judge_answer, judge_run};
 pub use showing::{Showing, Shown, show};
 pub use table::{GatesOptions, ReplayOptions, Table};
 pub use tables::{chart_run, gates_run, replay_run, streams_run, table_shown};
-pub use tsn_options::{GatesFormat, ReplayFormat, StreamsFormat};
+pub use tsn_words::{GatesFormat, ReplayFormat, StreamsFormat};
 pub use valid::{valid_answer, valid_run};

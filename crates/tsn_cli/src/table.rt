@@ -1,8 +1,8 @@
 //! What a plan is shown by.
 
 use tsn_chart::View;
-use tsn_gate_output::DeviceLimits;
-use tsn_options::{GatesFormat, ReplayFormat, StreamsFormat};
+use tsn_gate::DeviceLimits;
+use tsn_words::{GatesFormat, ReplayFormat, StreamsFormat};
 
 /// How the gate control lists of a plan are printed, and of how many nanoseconds an entry is to be at least: with `merge`,
 /// lists that keep the wanted gates take the place of those that the schedule asks for. A script has the limits of a device.

@@ -2,14 +2,14 @@
 //! stream and each link gets.
 ghost use Rattle.std.specs.Prelude.{◌≡◌, ◌≤◌, ◌<◌, ◌-◌, ◌^◌, ◌⊎◌, [], ◌∷◌, All, IfOk, IsErr, Ok, length, string_bytes};
 ghost use Rattle.tsn_model.specs.Schedule.{IsValid};
-ghost use Rattle.tsn_run.specs.Run.{RunsOver, sink_over, source_over};
-ghost use Rattle.tsn_run.specs.Outcome.{ComesOver};
-ghost use Rattle.tsn_run.specs.Refusal.{IsOutcome};
-ghost use Rattle.tsn_run.specs.declared.outcome.Outcome.TheVariants.{RefusedPlan};
+ghost use Rattle.tsn_reason.specs.Run.{RunsOver, sink_over, source_over};
+ghost use Rattle.tsn_reason.specs.Outcome.{ComesOver};
+ghost use Rattle.tsn_reason.specs.Refusal.{IsOutcome};
+ghost use Rattle.tsn_reason.specs.declared.outcome.Outcome.TheVariants.{RefusedPlan};
 ghost use Rattle.tsn_cli.specs.Shown.{shown_output};
-ghost use Rattle.tsn_replay.specs.declared.trace.Row.{Row};
-ghost use Rattle.tsn_streams.specs.declared.link.LinkShare.{LinkShare};
-ghost use Rattle.tsn_streams.specs.declared.stream.StreamShare.{StreamShare};
+ghost use Rattle.tsn_gate.specs.declared.trace.Row.{Row};
+ghost use Rattle.tsn_chart.specs.declared.link.LinkShare.{LinkShare};
+ghost use Rattle.tsn_chart.specs.declared.stream.StreamShare.{StreamShare};
 ghost use Rattle.tsn_cli.specs.Tables.{CanShow, ChartAnswers, GatesAnswers, RejectsPlan, ReplayAnswers, ShowsLists, ShowsPicture, ShowsPlan, ShowsReplay, ShowsShares, ShowsTable, StreamsAnswers, TableAnswers, rows_text, shares_text};
 
 use crate::showing::{Shown, show};
@@ -17,19 +17,15 @@ use crate::table::{GatesOptions, ReplayOptions, Table};
 use crate::untaken::untaken;
 use std::alloc::Global;
 use tsn_cert::Plan;
-use tsn_chart::{View, marked_chart};
+use tsn_chart::{Shares, View, marked_chart, plan_shares, to_csv, to_json, to_text};
 use tsn_check::{CheckFault, check_plan};
 use tsn_device::device::{ReadFault, Sink, Source};
-use tsn_gate::{gate_lists, lists_by};
-use tsn_gate_output::text_in;
+use tsn_gate::{Background, ReplayFault, ReplayTable, gate_lists, lists_by, replay_rows, text_in};
 use tsn_model::NoMemory;
 use tsn_net::Problem;
-use tsn_options::{ReplayFormat, StreamsFormat};
-use tsn_reason::{Claim, Stated, plan_line};
-use tsn_replay::{Background, ReplayFault, ReplayTable, replay_rows};
-use tsn_run::{InputsRead, read_inputs, rejection};
-use tsn_streams::{Shares, plan_shares, to_csv, to_json, to_text};
+use tsn_reason::{Claim, InputsRead, Stated, plan_line, read_inputs, rejection};
 use tsn_timing::{Timing, Valid};
+use tsn_words::{ReplayFormat, StreamsFormat};
 
 /// Reads a network file and a plan file, the first judged before the second is read, and writes the plan's gate control
 /// lists, merged where that is asked for, in a format, or a line on what is refused. The answer is the status.

@@ -2,11 +2,10 @@
 
 use crate::table::GatesOptions;
 use std::alloc::Global;
-use tsn_gate::GateList;
-use tsn_gate_output::{closed_lines, device_lines};
+use tsn_gate::{GateList, closed_lines, device_lines};
 use tsn_model::NoMemory;
 use tsn_net::Problem;
-use tsn_options::GatesFormat;
+use tsn_words::GatesFormat;
 
 /// A line for each merged list that leaves others no time, and for each that has more entries than a device takes, or a shorter one
 /// than it takes, where they are printed as a script for a device; None where there is no memory for them.

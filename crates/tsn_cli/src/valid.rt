@@ -1,16 +1,15 @@
 //! `valid`: judges a list of offsets.
 ghost use Rattle.std.specs.Prelude.{◌<◌, ◌-◌, ◌^◌, ◌⊎◌, [], ◌∷◌, IfOk, Ok};
-ghost use Rattle.tsn_run.specs.Run.{RunsOver, sink_over, source_over};
-ghost use Rattle.tsn_run.specs.Outcome.{ComesOver, EndsAs, outcome_of, output_of};
+ghost use Rattle.tsn_reason.specs.Run.{RunsOver, sink_over, source_over};
+ghost use Rattle.tsn_reason.specs.Outcome.{ComesOver, EndsAs, outcome_of, output_of};
 ghost use Rattle.tsn_cli.specs.Valid.{ValidAnswers, Accepts, Rejects};
 
 use std::alloc::Global;
 use tsn_device::device::{ReadFault, Sink, Source};
 use tsn_model::NoMemory;
 use tsn_net::Problem;
-use tsn_reason::{Schedule, offsets_line};
-use tsn_run::run::respond;
-use tsn_run::{Answer, NetworkRead, Outcome, read_network};
+use tsn_reason::run::respond;
+use tsn_reason::{Answer, NetworkRead, Outcome, Schedule, offsets_line, read_network};
 use tsn_timing::Validity;
 
 /// Reads a network file, judges the offsets (nanoseconds, of any size, in the order of the file's streams), and writes

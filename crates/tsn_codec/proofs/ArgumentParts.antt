@@ -4,11 +4,11 @@ use Rattle.std.proofs.lemmas.Fmt.{decimal_digit}
 use Rattle.json.specs.Print.{escape_byte}
 use Rattle.serde_json.specs.Written.{comma_if, compact_text, items_text}
 use Rattle.tsn_cert.specs.Json.{items_of_list, file_text}
-use Rattle.tsn_argument.specs.Argument.{step_value, argument_value}
-use Rattle.tsn_argument.specs.Text.{head_text, steps_text, tail_text, ArgumentTextHasParts}
-use Rattle.tsn_argument.specs.declared.step.Step.{Step}
-use Rattle.tsn_argument.specs.declared.argument.Goal.{Goal}
-use Rattle.tsn_argument.specs.declared.argument.Goal.TheVariants as aim
+use Rattle.tsn_cert.specs.Argument.{step_value, argument_value}
+use Rattle.tsn_cert.specs.ArgumentText.{head_text, steps_text, tail_text, ArgumentTextHasParts}
+use Rattle.tsn_cert.specs.declared.step.Step.{Step}
+use Rattle.tsn_cert.specs.declared.argument.Goal.{Goal}
+use Rattle.tsn_cert.specs.declared.argument.Goal.TheVariants as aim
 
 -- the elements of an array of steps, and what stands behind its bracket
 items_parts : (later : Bool) (steps : List Step) (rest : List ℕ)

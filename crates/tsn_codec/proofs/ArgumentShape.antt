@@ -7,14 +7,14 @@ use Rattle.tsn_cert.specs.Json.{number_value, array_value, value_of}
 use Rattle.tsn_cert.specs.Fault.{shaped, answer}
 use Rattle.tsn_cert.proofs.Lags.{lag_no_float}
 use Rattle.tsn_codec.proofs.JsonLemmas.{no_float-items}
-use Rattle.tsn_argument.specs.Argument.{order_value, orders_value, frame_value, frames_value, fact_value, clause_value, move_value, moves_value, step_value, argument_of, argument_fits, argument_in, argument_value}
-use Rattle.tsn_argument.specs.declared.order.Order.{Order}
-use Rattle.tsn_argument.specs.declared.fact.Fact.{Fact}
-use Rattle.tsn_argument.specs.declared.fact.Fact.TheVariants as fact
-use Rattle.tsn_argument.specs.declared.motion.Move.{Move}
-use Rattle.tsn_argument.specs.declared.motion.Move.TheVariants as form
-use Rattle.tsn_argument.specs.declared.step.Step.{Step}
-use Rattle.tsn_argument.specs.declared.argument.Argument.{Argument}
+use Rattle.tsn_cert.specs.Argument.{order_value, orders_value, frame_value, frames_value, fact_value, clause_value, move_value, moves_value, step_value, argument_of, argument_fits, argument_in, argument_value}
+use Rattle.tsn_cert.specs.declared.order.Order.{Order}
+use Rattle.tsn_cert.specs.declared.fact.Fact.{Fact}
+use Rattle.tsn_cert.specs.declared.fact.Fact.TheVariants as fact
+use Rattle.tsn_cert.specs.declared.motion.Move.{Move}
+use Rattle.tsn_cert.specs.declared.motion.Move.TheVariants as form
+use Rattle.tsn_cert.specs.declared.step.Step.{Step}
+use Rattle.tsn_cert.specs.declared.argument.Argument.{Argument}
 
 -- ---- no float
 

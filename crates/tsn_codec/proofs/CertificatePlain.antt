@@ -5,11 +5,11 @@ use Rattle.tsn_cert.specs.Cert.{cert_value}
 use Rattle.tsn_codec.proofs.CertLemmas.{cert_back, depth-cert_value}
 use Rattle.tsn_cert.proofs.Written.{file_read}
 use Rattle.tsn_codec.proofs.CertPlain.{cert_plain, nodes_read_again}
-use Rattle.tsn_argument.specs.Argument.{argument_of}
-use Rattle.tsn_argument.specs.Certificate.{tree_or, certificate_of, certificate_fits}
-use Rattle.tsn_argument.specs.Laws.{CertificateTextIsRead}
-use Rattle.tsn_argument.specs.declared.certificate.Certificate.TheVariants as kind
-use Rattle.tsn_argument.proofs.Plain.{argument_read_again}
+use Rattle.tsn_cert.specs.Argument.{argument_of}
+use Rattle.tsn_cert.specs.Certificate.{tree_or, certificate_of, certificate_fits}
+use Rattle.tsn_cert.specs.ArgumentLaws.{CertificateTextIsRead}
+use Rattle.tsn_cert.specs.declared.certificate.Certificate.TheVariants as kind
+use Rattle.tsn_cert.proofs.PlainArguments.{argument_read_again}
 
 pub certificate_text_read : CertificateTextIsRead
 certificate_text_read (kind.Tree cert) form of fits =

@@ -13,10 +13,10 @@ use Rattle.tsn_cert.specs.Json.{when, whole_number}
 use Rattle.tsn_cert.specs.Cert.{format_of, nodes_of, are_of, cert_of}
 use Rattle.tsn_cert.specs.declared.cert.Cert.{Cert}
 use Rattle.tsn_cert.specs.declared.cert.Format.{Format}
-use Rattle.tsn_argument.specs.Argument.{goal_of, steps_in, argument_format, argument_of}
-use Rattle.tsn_argument.specs.declared.step.Step.{Step}
-use Rattle.tsn_argument.specs.declared.argument.Goal.{Goal}
-use Rattle.tsn_argument.specs.declared.argument.Argument.{Argument}
+use Rattle.tsn_cert.specs.Argument.{goal_of, steps_in, argument_format, argument_of}
+use Rattle.tsn_cert.specs.declared.step.Step.{Step}
+use Rattle.tsn_cert.specs.declared.argument.Goal.{Goal}
+use Rattle.tsn_cert.specs.declared.argument.Argument.{Argument}
 use Rattle.tsn_cert.proofs.SpelledLemmas.{converted_some, converted-object, spelled-shorter}
 
 -- the tokens begin with these members, where the object ends then

@@ -4,8 +4,8 @@ ghost use Rattle.serde_json.specs.Data.{depth};
 ghost use Rattle.serde_json.specs.Read.{max_depth};
 ghost use Rattle.serde_json.specs.View.{view};
 ghost use Rattle.tsn_cert.specs.Fault.{Gives, Reads};
-ghost use Rattle.tsn_argument.specs.Argument.{goal_of, steps_in, argument_of, argument_of_values, argument_fits, argument_in, argument_text};
-ghost use Rattle.tsn_argument.specs.Laws.{IsArgumentInGrammar};
+ghost use Rattle.tsn_cert.specs.Argument.{goal_of, steps_in, argument_of, argument_of_values, argument_fits, argument_in, argument_text};
+ghost use Rattle.tsn_cert.specs.ArgumentLaws.{IsArgumentInGrammar};
 
 mod print;
 mod read;
@@ -17,9 +17,8 @@ use crate::list::list_in;
 use crate::tokens::{Tokens, Unread};
 use serde_json::Value;
 use std::alloc::Global;
-use tsn_argument::argument::ARGUMENT_FORMAT;
-use tsn_argument::{Argument, Goal, Step, Steps};
-use tsn_cert::FileFault;
+use tsn_cert::argument::ARGUMENT_FORMAT;
+use tsn_cert::{Argument, FileFault, Goal, Step, Steps};
 use tsn_model::NoMemory;
 
 /// Reads an argument file.
@@ -30,7 +29,7 @@ pub fn argument_from_json(alloc: Global, bytes: &[u8]) -> Result<Argument, FileF
 }
 
 impl File for Argument {
-    ghost use Rattle.tsn_argument.specs.declared.argument.Argument.{Argument};
+    ghost use Rattle.tsn_cert.specs.declared.argument.Argument.{Argument};
 
     ghost Said = { Argument };
 

@@ -1,15 +1,14 @@
 //! Certificate files, read and printed.
 ghost use Rattle.std.specs.Prelude.{◌≡◌, IfOk, IsTrue, Ok, string_bytes};
 ghost use Rattle.tsn_cert.specs.Fault.{Gives};
-ghost use Rattle.tsn_argument.specs.Certificate.{certificate_fits, certificate_in, certificate_text, is_of_format};
+ghost use Rattle.tsn_cert.specs.Certificate.{certificate_fits, certificate_in, certificate_text, is_of_format};
 
 use crate::argument::argument_to_json;
 use crate::cert::{cert_from_json, cert_to_json};
 use crate::file;
 use crate::tokens::Unread;
 use std::alloc::Global;
-use tsn_argument::{Argument, Certificate};
-use tsn_cert::FileFault;
+use tsn_cert::{Argument, Certificate, FileFault};
 use tsn_model::NoMemory;
 
 /// What an argument that is printed begins with.

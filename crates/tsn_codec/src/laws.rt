@@ -1,6 +1,6 @@
 //! The laws of files. Each function does nothing: its contract is the law.
 ghost use Rattle.tsn_cert.specs.Laws.{PlanTextIsRead, CertTextIsRead};
-ghost use Rattle.tsn_argument.specs.Laws.{CertificateTextIsRead};
+ghost use Rattle.tsn_cert.specs.ArgumentLaws.{CertificateTextIsRead};
 
 /// The text of a plan within the limits of a file is read again as that plan.
 pub fn plan_text_is_read()

@@ -5,8 +5,8 @@ use Rattle.std.specs.Prelude.{◌⊎◌, ℕ, [], ◌∷◌, is_some, option_map
 use Rattle.tsn_words.specs.declared.words.Words.{Words}
 use Rattle.tsn_words.specs.declared.words.Words.TheVariants.{Valid, Plan, Check, Prove, Explain, Gates, Replay, Chart, Streams}
 use Rattle.tsn_words.specs.declared.words.PlanWords.{PlanWords}
-use Rattle.tsn_run.specs.Check.{CheckAnswers}
-use Rattle.tsn_run.specs.Run.{RunsOver, SinkRun}
+use Rattle.tsn_reason.specs.Check.{CheckAnswers}
+use Rattle.tsn_reason.specs.Run.{RunsOver, SinkRun}
 use Rattle.tsn_cli.specs.Valid.{ValidAnswers}
 use Rattle.tsn_cli.specs.Explain.{ExplainAnswers}
 use Rattle.tsn_cli.specs.Tables.{GatesAnswers, ReplayAnswers, StreamsAnswers}

@@ -8,15 +8,15 @@ use Rattle.tsn_model.specs.Network.{Network, IsWellFormed}
 use Rattle.tsn_model.specs.Search.{Event, Settlement, solved_bounds, settled_by, least_or_none, tally_of, open_paths, IsAllowed}
 use Rattle.tsn_model.specs.Core as shared
 use Rattle.tsn_model.specs.Core.{Teller, State, initial_state, observe, post, settle, teller_at, IsAboveSeen, MayTake, effect_of, IsSound, IsQuiet}
-use Rattle.tsn_search_laws.specs.Replies as replies
-use Rattle.tsn_search_laws.specs.Replies.{found, recorded, refused_for, not_open, limit_met, not_conflict, already_decided, not_met, Answers, AnswersAll}
-use Rattle.tsn_search_laws.proofs.Lists.{All-from_Contains}
-use Rattle.tsn_search_laws.proofs.Histories.{legal_last}
-use Rattle.tsn_search_laws.proofs.Numbers.{fold-min-le-each}
-use Rattle.tsn_search_laws.proofs.Kept.{least_attained, solved-le-cycle}
-use Rattle.tsn_search_laws.proofs.Bounds.{solved_by-among}
-use Rattle.tsn_search_laws.proofs.Steps.{effect_sound, initial_sound}
-use Rattle.tsn_search_laws.proofs.Finished.{finished_tree}
+use Rattle.tsn_model.specs.Replies as replies
+use Rattle.tsn_model.specs.Replies.{found, recorded, refused_for, not_open, limit_met, not_conflict, already_decided, not_met, Answers, AnswersAll}
+use Rattle.tsn_model.proofs.SearchLists.{All-from_Contains}
+use Rattle.tsn_model.proofs.Histories.{legal_last}
+use Rattle.tsn_model.proofs.Numbers.{fold-min-le-each}
+use Rattle.tsn_model.proofs.Kept.{least_attained, solved-le-cycle}
+use Rattle.tsn_model.proofs.BestBounds.{solved_by-among}
+use Rattle.tsn_model.proofs.Steps.{effect_sound, initial_sound}
+use Rattle.tsn_model.proofs.Finished.{finished_tree}
 use Rattle.tsn_book.specs.declared.fault.BookFault.{BookFault}
 use Rattle.tsn_book.specs.declared.fault.BookFault.TheVariants.{NotOpen, Limit, NotConflict, AlreadyDecided, Memory, NotMet}
 use Rattle.tsn_core.specs.declared.shared.Step.{Step}

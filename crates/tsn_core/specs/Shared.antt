@@ -11,10 +11,10 @@ use Rattle.tsn_model.specs.Network.{Network, IsWellFormed}
 use Rattle.tsn_model.specs.Search.{Settlement, kept_of, tally_of}
 use Rattle.tsn_model.specs.Core as shared
 use Rattle.tsn_model.specs.Core.{Teller, State, observe, post, settle, MayTake, IsSound}
-use Rattle.tsn_search_laws.specs.Order.{Precedes}
-use Rattle.tsn_search_laws.specs.Laws.{AreAcceptedTree}
-use Rattle.tsn_search_laws.specs.Replies as replies
-use Rattle.tsn_search_laws.specs.Replies.{found, recorded, refused_for, not_allowed, not_open, limit_met, not_conflict, already_decided, not_met, Answers, AnswersAll}
+use Rattle.tsn_model.specs.Order.{Precedes}
+use Rattle.tsn_model.specs.SearchLaws.{AreAcceptedTree}
+use Rattle.tsn_model.specs.Replies as replies
+use Rattle.tsn_model.specs.Replies.{found, recorded, refused_for, not_allowed, not_open, limit_met, not_conflict, already_decided, not_met, Answers, AnswersAll}
 use Rattle.tsn_node.specs.Outcome.{outcome_of}
 use Rattle.tsn_node.specs.Right.{HasProof}
 use Rattle.tsn_book.specs.Event.{event_of}

@@ -1,15 +1,14 @@
 //! What an argument shows, in words.
 use crate::busy::push_links;
+use crate::needs::{Part, part_of};
+use crate::network::Network;
+use crate::number::sum;
 use crate::told::Teller;
 use crate::words::{push_count, push_stream, push_time};
 use std::alloc::{AllocError, Global};
 use tsn_argue::hear_argument;
-use tsn_argument::{Argument, Goal};
-use tsn_cert::Plan;
+use tsn_cert::{Argument, Goal, Plan};
 use tsn_check::CheckFault;
-use tsn_needs::needs::{Part, part_of};
-use tsn_needs::network::Network;
-use tsn_needs::number::sum;
 use tsn_text::TextBuilder;
 
 /// The most steps that are told one by one.

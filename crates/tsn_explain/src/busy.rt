@@ -1,15 +1,15 @@
 //! The links that most of the steps of an argument use, in words.
 use crate::count::{count_up, most};
-use crate::load::push_begin;
+use crate::load::{Load, least_tail};
+use crate::load_words::push_begin;
+use crate::mention::{Mention, add_step};
+use crate::needs::Part;
+use crate::network::{Network, first_frame};
+use crate::number::{NONE, at, less, put, signed, sum};
 use crate::words::{push_count, push_time};
 use std::alloc::{AllocError, Global};
-use tsn_argument::{Argument, Goal, Step};
+use tsn_cert::{Argument, Goal, Step};
 use tsn_model::Frame;
-use tsn_needs::load::{Load, least_tail};
-use tsn_needs::mention::{Mention, add_step};
-use tsn_needs::needs::Part;
-use tsn_needs::network::{Network, first_frame};
-use tsn_needs::number::{NONE, at, less, put, signed, sum};
 use tsn_text::{ListBuilder, TextBuilder};
 
 /// How many links are told.

@@ -1,13 +1,13 @@
 //! The leaves of a tree of decisions, in words.
 use crate::argument::push_no_room;
-use crate::load::{push_begin, push_load, push_past};
+use crate::load_words::{push_begin, push_load, push_past};
+use crate::network::Network;
+use crate::number::sum;
+use crate::path::{Path, frames_of, load_of};
 use crate::round::push_round;
 use crate::words::{push_joint, push_order, push_stream, push_time};
 use std::alloc::Global;
 use tsn_cert::{Chain, Leaf, LowerBound, Node};
-use tsn_needs::network::Network;
-use tsn_needs::number::sum;
-use tsn_needs::path::{Path, frames_of, load_of};
 use tsn_text::TextBuilder;
 
 /// Writes what a leaf shows, where the decisions of the path to it hold.

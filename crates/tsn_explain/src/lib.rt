@@ -1,12 +1,21 @@
 //! Why no schedule is done before a plan is, or why there is none, in words for engineers: what a certificate that was accepted
-//! shows, by its links and frames. Nothing is claimed of the words.
+//! shows, by its links and frames. For that, what it needs to show it: the moves of an argument, and the loads of a tree's leaves; and
+//! the frames that they are about. Nothing is claimed of all this but that each call is safe and returns.
 #![tactic(auto)]
 
 mod argument;
 mod busy;
 mod count;
 mod leaf;
+mod least;
 mod load;
+mod load_words;
+mod marked;
+mod mention;
+mod needs;
+mod network;
+mod number;
+mod path;
 mod placing;
 mod round;
 mod told;
@@ -14,14 +23,14 @@ mod tree;
 mod words;
 
 use crate::argument::push_argument;
+use crate::network::Network;
+use crate::number::signed;
 use crate::tree::push_tree;
 use crate::words::push_time;
+pub use marked::marked_frames;
 use std::alloc::{AllocError, Global};
-use tsn_argument::Certificate;
-use tsn_cert::Plan;
+use tsn_cert::{Certificate, Plan};
 use tsn_model::NoMemory;
-use tsn_needs::network::Network;
-use tsn_needs::number::signed;
 use tsn_net::Problem;
 use tsn_text::TextBuilder;
 

@@ -1,64 +1,74 @@
-//! Frames that take a link up together, in words.
-use crate::words::{push_frames, push_link, push_time};
-use tsn_needs::load::Load;
-use tsn_needs::network::Network;
-use tsn_needs::number::less;
-use tsn_text::TextBuilder;
+//! Frames that take a link up together.
+use crate::network::Network;
+use crate::number::{less, sum, time};
+use tsn_argue::View;
+use tsn_model::Frame;
 
-fn is_one(load: Load<'_>) -> bool {
-    load.frames.len() == 1
+/// Frames on a link: when the first of them can start there, how long they take it up together, and how long after its
+/// occupancy the last of them arrives, in nanoseconds.
+#[derive(Clone, Copy)]
+pub struct Load<'a> {
+    pub link: usize,
+    pub frames: &'a [Frame],
+    pub head: i64,
+    pub work: i64,
+    pub tail: i64,
 }
 
-/// Writes the link, how long the frames take, and from when on.
-pub fn push_begin(text: &mut TextBuilder, network: Network<'_>, load: Load<'_>) {
-    push_link(text, network, load.link);
-    text.push_str(", ");
-    push_frames(text, network, load.frames);
-    let (take, start) = if is_one(load) {
-        (" takes ", " ns; it can't start before ")
-    } else {
-        (" take ", " ns together; the first can't start before ")
-    };
-    push_time(text, take, load.work);
-    push_time(text, start, load.head)
-}
+impl Load<'_> {
+    /// When the link is free again.
+    pub fn end(self) -> i64 {
+        sum(self.head, self.work)
+    }
 
-fn push_tail(text: &mut TextBuilder, load: Load<'_>) {
-    let it = if is_one(load) { "it" } else { "the last one" };
-    if load.tail > 0 {
-        text.push_str(", and after ");
-        text.push_str(it);
-        push_time(text, " ", load.tail);
-        text.push_str(" ns pass");
-    } else if load.tail < 0 {
-        text.push_str(", and ");
-        text.push_str(it);
-        push_time(text, " has arrived ", less(0, load.tail));
-        text.push_str(" ns before the gap behind it ends");
+    /// Before this not all of the frames have arrived.
+    pub fn bound(self) -> i64 {
+        sum(self.end(), self.tail)
     }
 }
 
-/// Writes that the frames have to be through sooner.
-pub fn push_too_late(text: &mut TextBuilder, load: Load<'_>, end: i64) {
-    let has = if is_one(load) {
-        ", and has to be through by "
-    } else {
-        ", and the last one has to be through by "
-    };
-    push_time(text, has, end);
-    push_time(text, ", which is ", less(load.end(), end));
-    text.push_str(" ns too soon")
+/// What frames come to on a link, as a view has it.
+pub fn load_on<'a>(
+    network: Network<'_>,
+    view: &View<'_>,
+    link: usize,
+    frames: &'a [Frame],
+) -> Load<'a> {
+    Load {
+        link,
+        frames,
+        head: head_on(network, view, link, frames),
+        work: network.work(link, frames),
+        tail: least_tail(network, link, frames),
+    }
 }
 
-/// Writes that the link is taken up past the cycle's end.
-pub fn push_past(text: &mut TextBuilder, load: Load<'_>, cycle: i64) {
-    push_time(text, ": so the link is taken up until ", load.end());
-    push_time(text, ", past the cycle's end at ", cycle)
+/// The earliest start of one of the frames on a link.
+pub fn head_on(network: Network<'_>, view: &View<'_>, link: usize, frames: &[Frame]) -> i64 {
+    let mut least = i64::MAX;
+    for frame in frames {
+        let offset = time(view.least(frame.stream));
+        least = least.min(sum(offset, network.begin(*frame, link)));
+    }
+    least
 }
 
-/// Writes before when nothing is done because of the frames on a link, from the link on.
-pub fn push_load(text: &mut TextBuilder, network: Network<'_>, load: Load<'_>) {
-    push_begin(text, network, load);
-    push_tail(text, load);
-    push_time(text, ": so nothing is done before ", load.bound())
+/// The latest end of one of the frames' occupancy of a link.
+pub fn end_on(network: Network<'_>, view: &View<'_>, link: usize, frames: &[Frame]) -> i64 {
+    let mut greatest = i64::MIN;
+    for frame in frames {
+        let offset = time(view.greatest(frame.stream));
+        greatest = greatest.max(sum(offset, network.end(*frame, link)));
+    }
+    greatest
+}
+
+/// The least time between the frames' occupancy of a link and their streams' arrival.
+pub fn least_tail(network: Network<'_>, link: usize, frames: &[Frame]) -> i64 {
+    let mut least = i64::MAX;
+    for frame in frames {
+        let arrival = network.times(frame.stream).arrival;
+        least = least.min(less(arrival, network.end(*frame, link)));
+    }
+    least
 }

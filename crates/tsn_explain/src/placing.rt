@@ -1,12 +1,12 @@
 //! Frames that go last or first of some on a link, in words.
+use crate::load::{end_on, head_on};
+use crate::network::Network;
+use crate::number::sum;
 use crate::words::{push_frames, push_link, push_time};
 use std::alloc::{AllocError, Global};
 use tsn_argue::View;
-use tsn_argument::Placing;
+use tsn_cert::Placing;
 use tsn_model::Frame;
-use tsn_needs::load::{end_on, head_on};
-use tsn_needs::network::Network;
-use tsn_needs::number::sum;
 use tsn_text::{ListBuilder, TextBuilder};
 
 /// Writes that a frame goes last on a link, or first, and why, up to what follows for its stream.

@@ -1,8 +1,8 @@
 //! Orders that lead from a stream back to it, in words.
+use crate::network::Network;
+use crate::number::sum;
 use crate::words::{push_joint, push_order, push_stream, push_time};
-use tsn_argument::Order;
-use tsn_needs::network::Network;
-use tsn_needs::number::sum;
+use tsn_cert::Order;
 use tsn_text::TextBuilder;
 
 /// Writes that these orders can't all hold; the orders too, unless they stand there already.

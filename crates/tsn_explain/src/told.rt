@@ -1,18 +1,18 @@
 //! The steps of an argument in words, as they are checked.
 ghost use Rattle.std.specs.Prelude.{None};
 
-use crate::load::{push_begin, push_load, push_too_late};
+use crate::load::{end_on, load_on};
+use crate::load_words::{push_begin, push_load, push_too_late};
+use crate::needs::{Halves, Part};
+use crate::network::{Network, order_of, turned};
+use crate::number::{NONE, at, next, signed, sum, time};
 use crate::placing::push_placing;
 use crate::round::push_round;
 use crate::words::{push_count, push_frames, push_joint, push_order, push_stream, push_time};
 use std::alloc::{AllocError, Global};
 use tsn_argue::{Listener, News, Shown, View};
-use tsn_argument::{Argument, Clause, Fact, Goal, Move, Order, Placing, Step};
+use tsn_cert::{Argument, Clause, Fact, Goal, Move, Order, Placing, Step};
 use tsn_model::Frame;
-use tsn_needs::load::{end_on, load_on};
-use tsn_needs::needs::{Halves, Part};
-use tsn_needs::network::{Network, order_of, turned};
-use tsn_needs::number::{NONE, at, next, signed, sum, time};
 use tsn_text::{ListBuilder, TextBuilder};
 
 /// Writes the steps of a part as it hears them: what is supposed, the moves that are of the part, and what follows.

@@ -1,15 +1,15 @@
 //! What a tree of decisions shows, in words.
 use crate::count::{count_up, most};
 use crate::leaf::push_leaf;
-use crate::load::push_load;
+use crate::least::{bound_of, least_of};
+use crate::load_words::push_load;
+use crate::marked::MOST_TOLD;
+use crate::network::Network;
+use crate::number::{at, put};
+use crate::path::{Path, frames_of, load_of};
 use crate::words::{push_count, push_link};
 use std::alloc::{AllocError, Global};
 use tsn_cert::{Cert, Format, Leaf, LowerBound, Node};
-use tsn_needs::least::{bound_of, least_of};
-use tsn_needs::marked::MOST_TOLD;
-use tsn_needs::network::Network;
-use tsn_needs::number::{at, put};
-use tsn_needs::path::{Path, frames_of, load_of};
 use tsn_text::TextBuilder;
 
 /// How many links are told.

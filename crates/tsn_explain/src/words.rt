@@ -1,8 +1,8 @@
 //! How streams, frames, links and orders are called, and how times are written. What isn't there is called by its number.
-use tsn_argument::Order;
+use crate::network::{Network, later_of};
+use crate::number::{less, signed};
+use tsn_cert::Order;
 use tsn_model::{Frame, Link};
-use tsn_needs::network::{Network, later_of};
-use tsn_needs::number::{less, signed};
 use tsn_text::TextBuilder;
 
 /// The most names that are told of a set of frames.

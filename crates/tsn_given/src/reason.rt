@@ -5,7 +5,7 @@ use crate::devices::Opened;
 use std::alloc::{AllocError, Global};
 use tsn_device::device::ReadFault;
 use tsn_device::{Action, Failure};
-use tsn_run::run::{DEVICE, MAX_FILE};
+use tsn_reason::run::{DEVICE, MAX_FILE};
 use tsn_text::line_of;
 
 /// Why what a run reads was not read whole, if it wasn't.

@@ -2,3 +2,9 @@ pub mod Flowspans
 pub mod Standings
 pub mod Running
 pub mod Halves
+pub mod Names
+pub mod Teller
+pub mod Desk
+pub mod Parts
+pub mod Gathered
+pub mod Steps

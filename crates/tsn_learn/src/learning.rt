@@ -2,7 +2,7 @@
 use crate::course::{Course, State, course_from, course_of};
 use crate::writing::{Aim, write_argument};
 use std::alloc::{AllocError, Global};
-use tsn_argument::{Argument, Goal};
+use tsn_cert::{Argument, Goal};
 use tsn_model::NoMemory;
 use tsn_solver::number::{copy, sum, unsigned_list};
 use tsn_solver::pace::Pace;

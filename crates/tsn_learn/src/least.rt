@@ -3,7 +3,7 @@ use crate::course::search_of;
 use crate::learning::{Budget, Hear, News, argue, within};
 use crate::writing::Aim;
 use std::alloc::{AllocError, Global};
-use tsn_argument::{Argument, Goal};
+use tsn_cert::{Argument, Goal};
 use tsn_model::NoMemory;
 use tsn_solver::ask::Answered;
 use tsn_solver::literal::Literal;

@@ -1,9 +1,12 @@
-//! The definitions that every crate of the planner speaks of (`specs/`), and the small plain types that they name.
+//! The definitions that every crate of the planner speaks of (`specs/`), and the small plain types that they name; laws of them (`laws`),
+//! and laws of the search (`search_laws`): what every legal history and every run of the shared search keeps, and what a finished search
+//! shows.
 #![tactic(auto)]
 
 pub mod bounds;
 pub mod laws;
 pub mod plain;
+pub mod search_laws;
 
 use std::alloc::AllocError;
 use thiserror::Error;

@@ -16,21 +16,21 @@ use Rattle.tsn_cert.specs.declared.plan.Plan.TheVariants as plan
 use Rattle.tsn_check.specs.Plans.{IsPlanRight}
 use Rattle.tsn_check.specs.Certified.{verdict_of}
 use Rattle.tsn_check.specs.Limits.{RightPlansFit, CertifiedTreesFit}
-use Rattle.tsn_argument.specs.declared.certificate.Certificate.{Certificate}
-use Rattle.tsn_argument.specs.declared.certificate.Certificate.TheVariants.{Tree, Argument}
-use Rattle.tsn_argument.specs.Certificate.{certificate_in, certificate_text}
-use Rattle.tsn_argument.specs.Laws.{CertificateTextIsRead}
+use Rattle.tsn_cert.specs.declared.certificate.Certificate.{Certificate}
+use Rattle.tsn_cert.specs.declared.certificate.Certificate.TheVariants.{Tree, Argument}
+use Rattle.tsn_cert.specs.Certificate.{certificate_in, certificate_text}
+use Rattle.tsn_cert.specs.ArgumentLaws.{CertificateTextIsRead}
 use Rattle.tsn_argue.specs.Certified.{Certifies, certificate_verdict}
 use Rattle.tsn_argue.specs.Laws.{FirstFaultsRefute}
 use Rattle.tsn_answer.specs.declared.effort.Effort.{Effort}
 use Rattle.tsn_answer.specs.Answer.{Shows, whole_verdict, IsReadAgain, IsWhole}
-use Rattle.tsn_run.specs.Run.{Output}
-use Rattle.tsn_run.specs.Refusal.{IsOutcome}
-use Rattle.tsn_run.specs.Check.{CheckAnswers, accepted}
+use Rattle.tsn_reason.specs.Run.{Output}
+use Rattle.tsn_reason.specs.Refusal.{IsOutcome}
+use Rattle.tsn_reason.specs.Check.{CheckAnswers, accepted}
 use Rattle.tsn_plan_output.specs.Plan.{TellsPlan}
 use Rattle.tsn_plan_output.specs.PlanOutput.{HasForm}
 use Rattle.tsn_plan_output.specs.PlanLaws.{PlannedIsAccepted}
-use Rattle.tsn_run.proofs.Accepting.{certificate_accepted}
+use Rattle.tsn_reason.proofs.Accepting.{certificate_accepted}
 
 abbrev IsDone : ℕ → Type 0
 IsDone status = (status ≡ 0) ⊎ (status ≡ 4)

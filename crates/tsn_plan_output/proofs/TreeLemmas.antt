@@ -4,8 +4,8 @@ use Rattle.std.proofs.lemmas.List.{length-map}
 use Rattle.std.proofs.lemmas.List.Sorted.{length_permutation}
 use Rattle.tsn_model.specs.Certificate.{preorder}
 use Rattle.tsn_model.specs.Search.{Settlement, best_bound, kept_of, open_paths}
-use Rattle.tsn_search_laws.specs.Order.{node_of}
-use Rattle.tsn_search_laws.proofs.Finished.{finished_tree}
+use Rattle.tsn_model.specs.Order.{node_of}
+use Rattle.tsn_model.proofs.Finished.{finished_tree}
 use Rattle.tsn_cert.specs.declared.cert.Cert.{Cert}
 use Rattle.tsn_cert.specs.declared.cert.Format.TheVariants.{Two}
 use Rattle.tsn_book.specs.Book.{Progress, IsLawful}

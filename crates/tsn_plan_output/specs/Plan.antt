@@ -12,20 +12,20 @@ use Rattle.tsn_net.specs.Problem.{NamedNetwork}
 use Rattle.tsn_cert.specs.declared.plan.Plan.{Plan}
 use Rattle.tsn_cert.specs.declared.plan.Plan.TheVariants as plan
 use Rattle.tsn_cert.specs.Plan.{plan_text}
-use Rattle.tsn_argument.specs.declared.certificate.Certificate.{Certificate}
-use Rattle.tsn_argument.specs.declared.certificate.Certificate.TheVariants.{Tree, Argument}
+use Rattle.tsn_cert.specs.declared.certificate.Certificate.{Certificate}
+use Rattle.tsn_cert.specs.declared.certificate.Certificate.TheVariants.{Tree, Argument}
 use Rattle.tsn_book.specs.Book.{Progress}
 use Rattle.tsn_answer.specs.declared.known.Known.{Known}
 use Rattle.tsn_answer.specs.declared.effort.Effort.{Effort}
 use Rattle.tsn_answer.specs.Optimum.{IsFoundPlan}
 use Rattle.tsn_answer.specs.Answer.{IsCertificateBy, IsCertOf, IsReadAgain, IsStoppedWith, Shows}
-use Rattle.tsn_run.specs.declared.stop.Stop.{Stop}
-use Rattle.tsn_run.specs.declared.outcome.Outcome.{Outcome}
-use Rattle.tsn_run.specs.declared.outcome.Outcome.TheVariants.{Optimal, NoSchedule, Stopped}
-use Rattle.tsn_run.specs.Run.{Output, Command}
-use Rattle.tsn_run.specs.Said.{line_of, status_of}
+use Rattle.tsn_reason.specs.declared.stop.Stop.{Stop}
+use Rattle.tsn_reason.specs.declared.outcome.Outcome.{Outcome}
+use Rattle.tsn_reason.specs.declared.outcome.Outcome.TheVariants.{Optimal, NoSchedule, Stopped}
+use Rattle.tsn_reason.specs.Run.{Output, Command}
+use Rattle.tsn_reason.specs.Said.{line_of, status_of}
 use Rattle.tsn_plan_output.specs.PlanOutput.{cert_bytes, HasFormIfAny, IsCut}
-use Rattle.tsn_run.specs.Refusal.{RefusesNetwork}
+use Rattle.tsn_reason.specs.Refusal.{RefusesNetwork}
 
 -- what is answered of a plan that was found, after so many nodes were settled, or by so many steps; of a plan that there is none, as of no schedule
 abbrev pub found_outcome : Plan → ℕ → Outcome

@@ -5,10 +5,10 @@ use Rattle.tsn_cert.specs.Plan.{plan_in}
 use Rattle.tsn_cert.specs.declared.plan.Plan.{Plan}
 use Rattle.tsn_answer.specs.declared.effort.Effort.{Effort}
 use Rattle.tsn_answer.specs.Answer.{whole_verdict}
-use Rattle.tsn_run.specs.Run.{Output}
-use Rattle.tsn_run.specs.Refusal.{IsOutcome}
+use Rattle.tsn_reason.specs.Run.{Output}
+use Rattle.tsn_reason.specs.Refusal.{IsOutcome}
 use Rattle.tsn_plan_output.specs.Plan.{PlanAnswers}
-use Rattle.tsn_run.specs.Check.{CheckAnswers, accepted}
+use Rattle.tsn_reason.specs.Check.{CheckAnswers, accepted}
 
 -- where `plan` has found a plan, or that there is none, and has written its certificate, whatever `check` answers to the network file and these two texts is
 -- that they are accepted: as the first plan, or as no schedule

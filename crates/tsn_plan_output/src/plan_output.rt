@@ -1,8 +1,8 @@
 //! What a run of `plan` prints.
 
-use tsn_argument::Argument;
 use tsn_book::Spelling;
-use tsn_run::Answer;
+use tsn_cert::Argument;
+use tsn_reason::Answer;
 
 /// A certificate that is to be written.
 #[derive(Drop)]

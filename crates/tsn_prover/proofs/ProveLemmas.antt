@@ -4,28 +4,28 @@ use Rattle.tsn_model.specs.Network.{Network}
 use Rattle.tsn_model.specs.declared.NoMemory.{NoMemory}
 use Rattle.tsn_cert.specs.declared.plan.Plan.{Plan}
 use Rattle.tsn_check.specs.Plans.{IsPlanRight}
-use Rattle.tsn_proving.specs.declared.proof.Proof.{Proof}
-use Rattle.tsn_proving.specs.Proof.{IsProof}
+use Rattle.tsn_answer.specs.declared.proof.Proof.{Proof}
+use Rattle.tsn_answer.specs.Proof.{IsProof}
 use Rattle.tsn_device.specs.declared.device.ReadFault.{ReadFault}
 use Rattle.tsn_device.specs.declared.device.ReadFault.TheVariants.{Broken, TooLong, Memory}
 use Rattle.tsn_prover.specs.declared.finding.Finding.{Finding}
 use Rattle.tsn_prover.specs.declared.proof_output.ProofOutput.{ProofOutput}
 use Rattle.tsn_device.specs.declared.run.TheConstants.{DEVICE}
-use Rattle.tsn_run.specs.declared.answer.Answer.{Answer}
-use Rattle.tsn_run.specs.declared.inputs.InputsRead.TheVariants.{Refused}
-use Rattle.tsn_run.specs.declared.outcome.Outcome.{Outcome}
-use Rattle.tsn_run.specs.declared.outcome.Outcome.TheVariants as ends
-use Rattle.tsn_run.specs.Run.{Answers, Command, IsLine, IsOutput, Output, Reading, SinkRun, TakesAll, writing_of, writings_of}
-use Rattle.tsn_run.specs.Said.{line_of, status_of, stop_of}
-use Rattle.tsn_run.specs.Refusal.{told}
-use Rattle.tsn_run.specs.Inputs.{ReadsInputs}
-use Rattle.tsn_run.specs.Outcome.{IsWrittenAs, line_taken, outcome_of}
+use Rattle.tsn_reason.specs.declared.answer.Answer.{Answer}
+use Rattle.tsn_reason.specs.declared.inputs.InputsRead.TheVariants.{Refused}
+use Rattle.tsn_reason.specs.declared.outcome.Outcome.{Outcome}
+use Rattle.tsn_reason.specs.declared.outcome.Outcome.TheVariants as ends
+use Rattle.tsn_reason.specs.Run.{Answers, Command, IsLine, IsOutput, Output, Reading, SinkRun, TakesAll, writing_of, writings_of}
+use Rattle.tsn_reason.specs.Said.{line_of, status_of, stop_of}
+use Rattle.tsn_reason.specs.Refusal.{told}
+use Rattle.tsn_reason.specs.Inputs.{ReadsInputs}
+use Rattle.tsn_reason.specs.Outcome.{IsWrittenAs, line_taken, outcome_of}
 use Rattle.tsn_prover.specs.Finding.{finding_of, stop_among}
 use Rattle.tsn_prover.specs.ProofOutput.{Finds, IsShown, finding_in, line_after, shown}
 use Rattle.tsn_prover.specs.Prove.{FindsAs, ProveAnswers, outcome_for, output_of}
-use Rattle.tsn_run.proofs.CheckLemmas.{goes_on_after_network}
-use Rattle.tsn_run.proofs.InputLemmas.{TakesInputs}
-use Rattle.tsn_run.proofs.RunLemmas.{Appends-nothing, Keeps-same, TellsFaults, some_of, told_fault}
+use Rattle.tsn_reason.proofs.CheckLemmas.{goes_on_after_network}
+use Rattle.tsn_reason.proofs.InputLemmas.{TakesInputs}
+use Rattle.tsn_reason.proofs.RunLemmas.{Appends-nothing, Keeps-same, TellsFaults, some_of, told_fault}
 
 -- how a run of `prove` tells a fault of a source
 pub shown_faults : TellsFaults shown

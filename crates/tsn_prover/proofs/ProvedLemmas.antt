@@ -9,22 +9,22 @@ use Rattle.tsn_cert.specs.declared.plan.Plan.{Plan}
 use Rattle.tsn_cert.specs.declared.plan.Plan.TheVariants as plan
 use Rattle.tsn_cert.specs.Plan.{plan_in}
 use Rattle.tsn_check.specs.declared.verdict.Verdict.TheVariants.{First}
-use Rattle.tsn_argument.specs.declared.argument.Goal.{Goal}
-use Rattle.tsn_argument.specs.declared.argument.Goal.TheVariants as aim
-use Rattle.tsn_argument.specs.Argument.{argument_text}
-use Rattle.tsn_argument.specs.declared.certificate.Certificate.TheVariants as certificate
-use Rattle.tsn_argument.specs.Certificate.{certificate_in}
+use Rattle.tsn_cert.specs.declared.argument.Goal.{Goal}
+use Rattle.tsn_cert.specs.declared.argument.Goal.TheVariants as aim
+use Rattle.tsn_cert.specs.Argument.{argument_text}
+use Rattle.tsn_cert.specs.declared.certificate.Certificate.TheVariants as certificate
+use Rattle.tsn_cert.specs.Certificate.{certificate_in}
 use Rattle.tsn_argue.specs.Certified.{argument_verdict, goal_for}
 use Rattle.tsn_argue.specs.Laws.{FirstFaultsRefute}
-use Rattle.tsn_proving.specs.declared.proof.Proof.{Proof}
-use Rattle.tsn_proving.specs.declared.proof.Proof.TheVariants.{Proved, Undercut, Stopped}
-use Rattle.tsn_proving.specs.Proof.{IsProof}
-use Rattle.tsn_run.specs.Run.{Output}
-use Rattle.tsn_run.specs.Refusal.{IsOutcome}
-use Rattle.tsn_run.specs.Check.{CheckAnswers, accepted}
+use Rattle.tsn_answer.specs.declared.proof.Proof.{Proof}
+use Rattle.tsn_answer.specs.declared.proof.Proof.TheVariants.{Proved, Undercut, Stopped}
+use Rattle.tsn_answer.specs.Proof.{IsProof}
+use Rattle.tsn_reason.specs.Run.{Output}
+use Rattle.tsn_reason.specs.Refusal.{IsOutcome}
+use Rattle.tsn_reason.specs.Check.{CheckAnswers, accepted}
 use Rattle.tsn_prover.specs.Prove.{output_of}
 use Rattle.tsn_prover.specs.ProveLaws.{ProvedIsAccepted, proved_verdict}
-use Rattle.tsn_run.proofs.Accepting.{certificate_accepted}
+use Rattle.tsn_reason.proofs.Accepting.{certificate_accepted}
 
 -- an argument that isn't for the first plan is for one that is optimal, or for none
 verdict_is : (goal : Goal) (stated : Plan) (found : model.Goal) → goal_for goal stated ≡ Some found → (argument_verdict goal ≡ First → ⊥)

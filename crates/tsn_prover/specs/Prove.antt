@@ -13,18 +13,18 @@ use Rattle.tsn_cert.specs.Plan.{plan_in, plan_text}
 use Rattle.tsn_check.specs.declared.fault.CheckFault.{CheckFault}
 use Rattle.tsn_check.specs.Plans.{IsPlanRight, span_in}
 use Rattle.tsn_check.specs.Faults.{IsClaimFault}
-use Rattle.tsn_argument.specs.Argument.{argument_text}
-use Rattle.tsn_proving.specs.declared.proof.Proof.{Proof}
-use Rattle.tsn_proving.specs.declared.proof.Proof.TheVariants.{Proved, Undercut, Stopped}
-use Rattle.tsn_proving.specs.Proof.{IsProof}
+use Rattle.tsn_cert.specs.Argument.{argument_text}
+use Rattle.tsn_answer.specs.declared.proof.Proof.{Proof}
+use Rattle.tsn_answer.specs.declared.proof.Proof.TheVariants.{Proved, Undercut, Stopped}
+use Rattle.tsn_answer.specs.Proof.{IsProof}
 use Rattle.tsn_prover.specs.declared.finding.Finding.{Finding}
 use Rattle.tsn_prover.specs.Finding.{finding_of}
-use Rattle.tsn_run.specs.declared.outcome.Outcome.{Outcome}
-use Rattle.tsn_run.specs.declared.outcome.Outcome.TheVariants as ends
-use Rattle.tsn_run.specs.declared.outcome.Outcome.TheVariants.{RefusedPlan}
-use Rattle.tsn_run.specs.Run.{Output, Command}
-use Rattle.tsn_run.specs.Said.{line_of, status_of}
-use Rattle.tsn_run.specs.Refusal.{IsOutcome, RefusesNetwork, RefusesPlan}
+use Rattle.tsn_reason.specs.declared.outcome.Outcome.{Outcome}
+use Rattle.tsn_reason.specs.declared.outcome.Outcome.TheVariants as ends
+use Rattle.tsn_reason.specs.declared.outcome.Outcome.TheVariants.{RefusedPlan}
+use Rattle.tsn_reason.specs.Run.{Output, Command}
+use Rattle.tsn_reason.specs.Said.{line_of, status_of}
+use Rattle.tsn_reason.specs.Refusal.{IsOutcome, RefusesNetwork, RefusesPlan}
 
 -- the flowspan of a plan, if it is a schedule
 abbrev pub span_if_any : Plan → Option ℕ

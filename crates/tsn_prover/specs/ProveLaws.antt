@@ -5,9 +5,9 @@ use Rattle.tsn_cert.specs.declared.plan.Plan.TheVariants as plan
 use Rattle.tsn_cert.specs.Plan.{plan_in}
 use Rattle.tsn_check.specs.declared.verdict.Verdict.{Verdict}
 use Rattle.tsn_check.specs.declared.verdict.Verdict.TheVariants.{Optimal, NoSchedule}
-use Rattle.tsn_run.specs.Run.{Output}
-use Rattle.tsn_run.specs.Refusal.{IsOutcome}
-use Rattle.tsn_run.specs.Check.{CheckAnswers, accepted}
+use Rattle.tsn_reason.specs.Run.{Output}
+use Rattle.tsn_reason.specs.Refusal.{IsOutcome}
+use Rattle.tsn_reason.specs.Check.{CheckAnswers, accepted}
 use Rattle.tsn_prover.specs.Prove.{ProveAnswers}
 
 -- what a proof shows of a plan: that no valid schedule undercuts it, or that there is none

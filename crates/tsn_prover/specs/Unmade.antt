@@ -4,13 +4,13 @@
 --     IsUnmade                       it was, or memory was refused
 use Rattle.std.specs.Prelude.{◌≡◌, ◌≢◌, ◌⊎◌, ℕ, List, [], Bool, Option, Result, codes}
 use Rattle.tsn_device.specs.declared.device.ReadFault.{ReadFault}
-use Rattle.tsn_run.specs.declared.answer.Answer.{Answer}
-use Rattle.tsn_run.specs.declared.outcome.Outcome.{Outcome}
-use Rattle.tsn_run.specs.declared.outcome.Outcome.TheVariants.{Failed}
-use Rattle.tsn_run.specs.declared.run.TheConstants.{DONE, MEMORY}
-use Rattle.tsn_run.specs.Run.{SinkRun, SourceRun}
-use Rattle.tsn_run.specs.Said.{status_of}
-use Rattle.tsn_run.specs.Outcome.{EndsAs, outcome_of}
+use Rattle.tsn_reason.specs.declared.answer.Answer.{Answer}
+use Rattle.tsn_reason.specs.declared.outcome.Outcome.{Outcome}
+use Rattle.tsn_reason.specs.declared.outcome.Outcome.TheVariants.{Failed}
+use Rattle.tsn_reason.specs.declared.run.TheConstants.{DONE, MEMORY}
+use Rattle.tsn_reason.specs.Run.{SinkRun, SourceRun}
+use Rattle.tsn_reason.specs.Said.{status_of}
+use Rattle.tsn_reason.specs.Outcome.{EndsAs, outcome_of}
 use Rattle.tsn_cli.specs.Valid.{JudgeAnswers}
 use Rattle.tsn_given.specs.Runs.{IsToldBy, OverNetwork, Says}
 

@@ -1,15 +1,15 @@
 //! What is told of how a search ended.
 ghost use Rattle.std.specs.Prelude.{◌≡◌, IfSome, string_bytes};
-ghost use Rattle.tsn_run.specs.Stop.{stop_text};
+ghost use Rattle.tsn_reason.specs.Stop.{stop_text};
 
 use std::alloc::Global;
 use std::io::Eprint;
 use std::time::Clock;
+use tsn_branch::Progress;
 use tsn_given::Made;
 use tsn_given::reason::write_line;
-use tsn_run::Stop;
-use tsn_run::device::ReadFault;
-use tsn_setting::Progress;
+use tsn_reason::Stop;
+use tsn_reason::device::ReadFault;
 
 /// The line on what is known where the limit was met, and else this one. The first names the command that writes a certificate, where
 /// the flowspan is shown to be the least.

@@ -2,10 +2,10 @@
 ghost use Rattle.std.specs.Prelude.{◌≡◌, ◌≢◌, ◌<◌, ◌-◌, ◌^◌, ◌⊎◌, ◌↔◌, [], ◌∷◌, IfOk, IfErr, IsErr, IfSome, IsTrue, None, Ok, OnOk, is_some};
 ghost use Rattle.tsn_check.specs.Plans.{IsPlanRight, span_in};
 ghost use Rattle.tsn_check.specs.Faults.{IsClaimFault};
-ghost use Rattle.tsn_proving.specs.declared.proof.Proof.TheVariants.{Proved, Stopped, Undercut};
-ghost use Rattle.tsn_run.specs.Run.{EndsOver, RunsOver, readings_of, sink_over, source_over};
-ghost use Rattle.tsn_run.specs.Said.{line_of, status_of};
-ghost use Rattle.tsn_run.specs.Outcome.{ComesOver, EndsAs, line_taken, outcome_of};
+ghost use Rattle.tsn_answer.specs.declared.proof.Proof.TheVariants.{Proved, Stopped, Undercut};
+ghost use Rattle.tsn_reason.specs.Run.{EndsOver, RunsOver, readings_of, sink_over, source_over};
+ghost use Rattle.tsn_reason.specs.Said.{line_of, status_of};
+ghost use Rattle.tsn_reason.specs.Outcome.{ComesOver, EndsAs, line_taken, outcome_of};
 ghost use Rattle.tsn_prover.specs.Finding.{finding_of, stop_among};
 ghost use Rattle.tsn_prover.specs.ProofOutput.{Finds, finding_in, line_after, shown};
 ghost use Rattle.tsn_prover.specs.Prove.{FindsAs, FindsOf, ProveAnswers, ProveFinds, RejectsClaim, outcome_for, output_of, span_if_any};
@@ -14,18 +14,18 @@ use crate::finding::{Finding, finding_of};
 use crate::print_proof::write_files;
 use crate::proof_output::ProofOutput;
 use std::alloc::Global;
-use tsn_argument::Argument;
-use tsn_cert::Plan;
+use tsn_answer::{Proof, prove};
+use tsn_branch::Supervisor;
+use tsn_cert::{Argument, Plan};
 use tsn_check::{CheckFault, check_plan};
 use tsn_codec::{argument_to_json, plan_to_json};
 use tsn_device::device::{ReadFault, Sink, Source};
 use tsn_model::NoMemory;
 use tsn_net::Problem;
-use tsn_proving::{Proof, prove};
-use tsn_reason::{Claim, Stated, plan_line};
-use tsn_run::run::{DEVICE, STOPPED, respond};
-use tsn_run::{Answer, InputsRead, Outcome, Stop, outcome_of, read_inputs, rejection};
-use tsn_setting::Supervisor;
+use tsn_reason::run::{DEVICE, STOPPED, respond};
+use tsn_reason::{
+    Answer, Claim, InputsRead, Outcome, Stated, Stop, outcome_of, plan_line, read_inputs, rejection,
+};
 use tsn_timing::Timing;
 
 /// How a run of `prove` ended: its status, and what was found of the plan, where one was taken and all was written.

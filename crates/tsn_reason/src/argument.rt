@@ -7,7 +7,7 @@ use crate::target::push_wrong_target;
 use crate::wrong::{push_time, push_wrong};
 use std::alloc::Global;
 use tsn_argue::{ArgumentFault, Open, StepFault};
-use tsn_argument::Goal;
+use tsn_cert::Goal;
 use tsn_model::NoMemory;
 use tsn_net::Problem;
 use tsn_text::{TextBuilder, line_of};

@@ -1,27 +1,44 @@
 //! Why what a command read is refused, in a line of words: what is wrong in a file or in offsets, by how much a leaf of a tree misses
 //! what it has to show, and which step of an argument is the first that is wrong.
+//!
+//! And what the runs of all commands share: what they answer, as a value and in a line, their statuses, what is read before a plan is dealt
+//! with, why a file or a plan is refused, and how a run ends.
 #![tactic(auto)]
 
+mod answer;
+mod answering;
 mod argument;
 mod argument_file;
 mod bound;
 mod certificate;
 mod claim;
+mod inputs;
 mod json;
 mod lags;
 mod network;
 mod offsets;
+mod outcome;
 mod plan;
+mod refusals;
+pub mod run;
+pub mod stop;
 mod target;
 mod tree;
 mod wrong;
 
+pub use answer::Answer;
+pub use answering::outcome_of;
 pub use argument::line_on_argument;
 pub use certificate::cert_file_line;
 pub use claim::{Claim, line_on_plan, line_on_tree};
+pub use inputs::{InputsRead, NetworkRead, read_inputs, read_network};
 pub use network::network_line;
 pub use offsets::{Schedule, offsets_line};
+pub use outcome::{FileKind, Outcome};
 pub use plan::{Stated, plan_file_line, plan_line};
+pub use refusals::{cert_rejection, file_refusal, refusal, rejection};
+pub use stop::Stop;
+pub use tsn_device::{device, memory};
 use tsn_model::NoMemory;
 
 /// A file that was read.

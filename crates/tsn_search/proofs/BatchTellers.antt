@@ -9,9 +9,9 @@ use Rattle.std.proofs.lemmas.List.Elements.{All-nil, All-cons, All-head, All-tai
 use Rattle.tsn_model.specs.Network.{Network}
 use Rattle.tsn_model.specs.Search.{Outcome, split, solved, pruned, tied, refuted}
 use Rattle.tsn_timing.specs.Solution.{Solution, IsSolved}
-use Rattle.tsn_search_laws.specs.Gathering.{tally_with}
+use Rattle.tsn_model.specs.Gathering.{tally_with}
 use Rattle.tsn_model.specs.declared.Tally.{Tally}
-use Rattle.tsn_share.specs.Teller.{OnlyLastSolved, Known, IsEven, settled_all, tally_with_all}
+use Rattle.tsn_incumbent.specs.Teller.{OnlyLastSolved, Known, IsEven, settled_all, tally_with_all}
 use Rattle.tsn_node.specs.Outcome.{IsSolvedBy, IsUnsolved}
 use Rattle.tsn_search.specs.Below.{EndsSolved}
 

@@ -9,9 +9,9 @@ use Rattle.tsn_model.specs.Search.{Settlement, tally_of, best_bound, open_paths}
 use Rattle.tsn_incumbent.specs.declared.view.Standing.{Standing}
 use Rattle.tsn_incumbent.specs.Standings.{Ended, Race}
 use Rattle.tsn_book.specs.Book.{Progress}
-use Rattle.tsn_share.specs.Names.{Names, IsBookOf}
-use Rattle.tsn_share.specs.Teller.{Known}
-use Rattle.tsn_share.specs.Gathered.{standings_of, Agrees, state_of}
+use Rattle.tsn_incumbent.specs.Names.{Names, IsBookOf}
+use Rattle.tsn_incumbent.specs.Teller.{Known}
+use Rattle.tsn_incumbent.specs.Gathered.{standings_of, Agrees, state_of}
 use Rattle.tsn_search.specs.Team.{AreBack, IsGathered, tellers_by}
 
 abbrev known_by : Network → List Settlement → Standing → Known

@@ -8,8 +8,8 @@ use Rattle.tsn_model.specs.Certificate.{beyond, ShowsAfter}
 use Rattle.tsn_model.specs.Search.{Outcome, split, solved, pruned, tied, refuted, Settlement, open_paths, best_bound, kept_of, IsLegal}
 use Rattle.tsn_model.proofs.Conflicts.{conflict_listed}
 use Rattle.tsn_conflict.specs.Kept.{Kept, AreConflictsOf}
-use Rattle.tsn_search_laws.proofs.Histories.{open_is_made}
-use Rattle.tsn_search_laws.proofs.Counting.{made_decides}
+use Rattle.tsn_model.proofs.Histories.{open_is_made}
+use Rattle.tsn_model.proofs.Counting.{made_decides}
 use Rattle.tsn_node.specs.Path.{Fits}
 use Rattle.tsn_timing.specs.Solution.{Solution, IsSolved}
 use Rattle.tsn_branch.specs.Look.{PrunesFrom, TiesWith}

@@ -3,9 +3,9 @@ use Rattle.std.proofs.Common.{◌≡◌, ℕ, zero, suc, ◌+◌, ◌<◌, List,
 use Rattle.std.specs.Prelude.{slice_index_or, All}
 use Rattle.std.proofs.lemmas.List.{take-append-le, take_all, length-map, map-append}
 use Rattle.std.proofs.lemmas.List.Elements.{All-nil, All-cons, All-head, All-tail, All-map, All-push}
-use Rattle.tsn_share.specs.Names.{Names}
-use Rattle.tsn_share.specs.Teller.{Known, IsEven, fresh_teller, tellers_from}
-use Rattle.tsn_share.specs.Gathered.{IsInOrder}
+use Rattle.tsn_incumbent.specs.Names.{Names}
+use Rattle.tsn_incumbent.specs.Teller.{Known, IsEven, fresh_teller, tellers_from}
+use Rattle.tsn_incumbent.specs.Gathered.{IsInOrder}
 use Rattle.tsn_search.specs.Team.{AreBack}
 
 -- tellers with no event are even, and in order

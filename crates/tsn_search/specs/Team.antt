@@ -10,8 +10,8 @@ use Rattle.tsn_model.specs.Search.{Settlement, tally_of, best_bound, open_paths}
 use Rattle.tsn_incumbent.specs.declared.view.Standing.{Standing}
 use Rattle.tsn_incumbent.specs.Standings.{Ended}
 use Rattle.tsn_book.specs.Book.{Progress}
-use Rattle.tsn_share.specs.Teller.{Known, IsEven}
-use Rattle.tsn_share.specs.Gathered.{IsInOrder, state_of}
+use Rattle.tsn_incumbent.specs.Teller.{Known, IsEven}
+use Rattle.tsn_incumbent.specs.Gathered.{IsInOrder, state_of}
 
 -- as many as there were, each even, in order
 pub record AreBack (count : ℕ) (tellers : List Known) : Type 0 where

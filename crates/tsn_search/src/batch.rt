@@ -2,7 +2,7 @@
 ghost use Rattle.std.specs.Prelude.{◌≡◌, ◌≤◌, true, MatchOption};
 ghost use Rattle.tsn_timing.specs.Solution.{IsSolved};
 ghost use Rattle.tsn_book.specs.Below.{path_after};
-ghost use Rattle.tsn_share.specs.Teller.{IsEven};
+ghost use Rattle.tsn_incumbent.specs.Teller.{IsEven};
 ghost use Rattle.tsn_search.specs.Batch.{IsGoingOn};
 ghost use Rattle.tsn_search.specs.Below.{IsBelow, IsBatch, outcomes_of};
 ghost use Rattle.tsn_search.specs.Search.{AreTablesOf};
@@ -13,9 +13,9 @@ use crate::settler::Settler;
 use crate::{BATCH, Batch, Below, BestSoFar};
 use std::sync::Wait;
 use tsn_book::BookFault;
+use tsn_branch::supervisor::{News, Supervisor};
+use tsn_incumbent::{Named, Shared, Teller, observe_as, post_as, settle_below_as};
 use tsn_node::Node;
-use tsn_setting::supervisor::{News, Supervisor};
-use tsn_share::{Named, Shared, Teller, observe_as, post_as, settle_below_as};
 use tsn_timing::{Solved, Timing};
 
 /// How a worker goes on below a node.

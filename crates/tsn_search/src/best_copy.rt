@@ -5,8 +5,8 @@ ghost use Rattle.tsn_timing.specs.Solution.{IsSolved};
 use crate::board::Board;
 use std::marker::{Model, PhantomData};
 use std::sync::Wait;
+use tsn_incumbent::{Named, Shared, Teller, best_as};
 use tsn_model::NoMemory;
-use tsn_share::{Named, Shared, Teller, best_as};
 use tsn_timing::Solved;
 
 /// A copy of the best schedule so far, as it was when the worker last asked for it.

@@ -1,7 +1,7 @@
 //! What the workers of a search share.
 use crate::board::Board;
-use tsn_setting::Setting;
-use tsn_share::{Named, Shared};
+use tsn_branch::Setting;
+use tsn_incumbent::{Named, Shared};
 
 /// What the workers of a search share, each of them and the caller.
 #[derive(Drop)]

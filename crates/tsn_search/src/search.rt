@@ -14,10 +14,9 @@ use crate::best::BestSoFar;
 use crate::news::{is_split, known, splits_among};
 use crate::open_nodes::OpenNodes;
 use tsn_book::{Book, BookFault, Event, EventRefusal};
-use tsn_branch::look;
+use tsn_branch::supervisor::{News, Supervisor};
+use tsn_branch::{Setting, look};
 use tsn_node::{NoMemory, Node};
-use tsn_setting::Setting;
-use tsn_setting::supervisor::{News, Supervisor};
 
 /// One who settles nodes in a book: by which number, and until how many are settled in all.
 #[derive(Drop)]

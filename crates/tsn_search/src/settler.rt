@@ -2,7 +2,7 @@
 ghost use Rattle.std.specs.Prelude.{◌≡◌};
 
 use crate::best_copy::Best;
-use tsn_share::{Named, Teller};
+use tsn_incumbent::{Named, Teller};
 
 /// A teller, with the number by which the supervisor knows it, and its copy of the best schedule.
 #[derive(Drop)]

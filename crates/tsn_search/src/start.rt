@@ -1,6 +1,6 @@
 //! What the caller settles before the workers start.
 ghost use Rattle.std.specs.Prelude.{◌≡◌};
-ghost use Rattle.tsn_share.specs.Teller.{IsEven};
+ghost use Rattle.tsn_incumbent.specs.Teller.{IsEven};
 ghost use Rattle.tsn_search.specs.Search.{AreTablesOf};
 
 use crate::batch::{Advance, settle_next};
@@ -8,9 +8,9 @@ use crate::context::Context;
 use crate::settler::Settler;
 use crate::{Below, OpenNodes};
 use std::sync::Wait;
+use tsn_branch::supervisor::Supervisor;
+use tsn_incumbent::Named;
 use tsn_node::NoMemory;
-use tsn_setting::supervisor::Supervisor;
-use tsn_share::Named;
 
 /// Settles nodes, each by itself: those on the way that a known schedule keeps to, where there is one, or else first open ones until
 /// so many are open; then tells which are open. The error says that there was no memory to begin.

@@ -5,7 +5,7 @@ use crate::Bag;
 use crate::settler::Settler;
 use crate::worker::Member;
 use std::alloc::{AllocError, Global};
-use tsn_share::{Named, Teller};
+use tsn_incumbent::{Named, Teller};
 
 /// Gives each teller a bag, and its number in the list.
 pub fn team_of<K: Named, B: Bag>(

@@ -1,7 +1,7 @@
 //! A search by several workers, each in a thread of its own.
 ghost use Rattle.std.specs.Prelude.{◌≡◌, ℕ, ◌+◌, ◌<◌, ◌≤◌, length, All, IfOk, slice_index_or};
-ghost use Rattle.tsn_share.specs.Names.{IsBookOf};
-ghost use Rattle.tsn_share.specs.Teller.{IsEven, tellers_from};
+ghost use Rattle.tsn_incumbent.specs.Names.{IsBookOf};
+ghost use Rattle.tsn_incumbent.specs.Teller.{IsEven, tellers_from};
 ghost use Rattle.tsn_search.specs.Search.{AreTablesOf};
 ghost use Rattle.tsn_search.specs.Team.{AreBack, IsGathered};
 
@@ -16,10 +16,10 @@ use std::sync::Wait;
 use std::thread;
 use std::thread::Threads;
 use tsn_book::Book;
+use tsn_branch::Setting;
+use tsn_branch::supervisor::Supervisor;
+use tsn_incumbent::{EndedWord, Named, Parts, Teller, gather};
 use tsn_node::NoMemory;
-use tsn_setting::Setting;
-use tsn_setting::supervisor::Supervisor;
-use tsn_share::{EndedWord, Named, Parts, Teller, gather};
 
 /// The caller begins, along a schedule where one is known, the workers go on, one a bag, and what all have settled is gathered: the
 /// word that they shared, with the seat of all of them, and the book. The error says that there was no memory for the caller.

@@ -1,6 +1,6 @@
 //! One worker.
 ghost use Rattle.std.specs.Prelude.{◌≡◌};
-ghost use Rattle.tsn_share.specs.Teller.{IsEven};
+ghost use Rattle.tsn_incumbent.specs.Teller.{IsEven};
 ghost use Rattle.tsn_search.specs.Search.{AreTablesOf};
 
 use crate::batch::{Advance, settle_next};
@@ -10,9 +10,9 @@ use crate::settler::Settler;
 use crate::{BATCH, Bag, Below};
 use std::sync::Wait;
 use std::thread;
+use tsn_branch::supervisor::Supervisor;
+use tsn_incumbent::Named;
 use tsn_node::Node;
-use tsn_setting::supervisor::Supervisor;
-use tsn_share::Named;
 
 /// A worker ends after so many rounds in turn in which it found no node.
 const ROUNDS: usize = 1000;

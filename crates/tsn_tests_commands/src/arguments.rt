@@ -3,7 +3,7 @@
 use std::process::Abort;
 use tsn_cli::valid_run;
 use tsn_networks::TWO_STREAMS;
-use tsn_run::memory::{MemorySink, MemorySource, NEVER};
+use tsn_reason::memory::{MemorySink, MemorySource, NEVER};
 use tsn_words::{Words, WordsFault, words_from};
 
 /// The run ends with this line and status 6.

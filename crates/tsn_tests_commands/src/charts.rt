@@ -10,7 +10,7 @@ use std::test::Fail;
 use tsn_chart::{Shown, View};
 use tsn_cli::chart_run;
 use tsn_networks::TWO_STREAMS;
-use tsn_run::memory::{MemorySink, MemorySource, NEVER};
+use tsn_reason::memory::{MemorySink, MemorySource, NEVER};
 
 /// The bytes of a picture from 0 to an instant.
 fn chart_to<R: Abort>(rt: &R, alloc: Global, until: u64) -> Vec<u8>

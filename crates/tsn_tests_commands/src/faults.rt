@@ -1,7 +1,7 @@
 //! What no command can meet: its words.
 
 use std::test::*;
-use tsn_replay::ReplayFault;
+use tsn_gate::ReplayFault;
 
 /// A command replays the lists of its plan, which are in order.
 #[test]

@@ -8,7 +8,7 @@ use std::io::{Eprint, Error, ErrorKind};
 use std::process::Abort;
 use std::test::*;
 use std::time::{Clock, Duration};
-use tsn_setting::Progress;
+use tsn_branch::Progress;
 use tsn_worker::{LearnedNews, News, Phase, Supervisor};
 
 /// A clock, and a standard error that is kept.

@@ -2,8 +2,8 @@
 use Rattle.std.proofs.Common.{◌≡◌, zero, suc, ◌+◌, ◌<◌, List, [], ◌∷◌, ◌++◌, length, get_or, ap, refl, arith, length-append}
 use Rattle.std.specs.Prelude.{All}
 use Rattle.std.proofs.lemmas.List.Elements.{All-nil, All-cons}
-use Rattle.tsn_share.specs.Teller.{Known, IsEven}
-use Rattle.tsn_share.specs.Gathered.{AreAll}
+use Rattle.tsn_incumbent.specs.Teller.{Known, IsEven}
+use Rattle.tsn_incumbent.specs.Gathered.{AreAll}
 
 -- taken out of a list of them
 pub three_popped : (xs : List Known) (x y z a b c : Known) → ((xs ++ x ∷ []) ++ y ∷ []) ++ z ∷ [] ≡ a ∷ b ∷ c ∷ [] → (x ≡ a) × (y ≡ b) × (z ≡ c)

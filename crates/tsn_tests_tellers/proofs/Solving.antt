@@ -10,7 +10,7 @@ use Rattle.tsn_model.specs.Certificate.{decided}
 use Rattle.tsn_model.specs.Search.{Event, Outcome, split, solved, pruned, tied, refuted}
 use Rattle.tsn_model.specs.Core.{IsAboveSeen}
 use Rattle.tsn_timing.specs.Solution.{Solution}
-use Rattle.tsn_search_laws.specs.Gathering.{tally_with}
+use Rattle.tsn_model.specs.Gathering.{tally_with}
 use Rattle.tsn_model.specs.declared.Tally.{Tally}
 use Rattle.tsn_branch.specs.Look.{IsLook}
 use Rattle.tsn_node.specs.Right.{HasProof, SplitsUndecided}
@@ -18,10 +18,10 @@ use Rattle.tsn_node.specs.Outcome.{outcome_of}
 use Rattle.tsn_node.specs.declared.outcome.Look.{Look}
 use Rattle.tsn_node.specs.declared.outcome.Look.TheVariants.{Split}
 use Rattle.tsn_book.specs.Below.{next_path, events_below}
-use Rattle.tsn_share.specs.Teller.{Known, IsEven, OnlyLastSolved, tally_with_all}
+use Rattle.tsn_incumbent.specs.Teller.{Known, IsEven, OnlyLastSolved, tally_with_all}
 use Rattle.tsn_node.specs.Outcome.{IsSolvedBy, IsUnsolved}
-use Rattle.tsn_share.specs.Gathered.{IsInOrder}
-use Rattle.tsn_share.proofs.Tellers.{above_solved}
+use Rattle.tsn_incumbent.specs.Gathered.{IsInOrder}
+use Rattle.tsn_incumbent.proofs.Tellers.{above_solved}
 use Rattle.tsn_tests_tellers.specs.Solving.{IsTied, IsWalk}
 
 -- what a look solves is below its target

@@ -4,7 +4,7 @@ ghost use Rattle.tsn_wiring.specs.Options.{gates_options, replay_options, IsView
 
 use tsn_chart::{Shown, View};
 use tsn_cli::{GatesOptions, ReplayOptions};
-use tsn_gate_output::DeviceLimits;
+use tsn_gate::DeviceLimits;
 use tsn_words::{ChartWords, GatesWords, ReplayWords};
 
 /// How gate lists are made and printed.

@@ -1,8 +1,8 @@
 //! The commands that judge and show, over what they are given.
 ghost use Rattle.std.specs.Prelude.{◌≡◌, [], ◌∷◌, option_map};
-ghost use Rattle.tsn_run.specs.Run.{RunsOver, sink_over};
-ghost use Rattle.tsn_run.specs.Check.{CheckAnswers};
-ghost use Rattle.tsn_run.specs.Outcome.{IsWrittenAs};
+ghost use Rattle.tsn_reason.specs.Run.{RunsOver, sink_over};
+ghost use Rattle.tsn_reason.specs.Check.{CheckAnswers};
+ghost use Rattle.tsn_reason.specs.Outcome.{IsWrittenAs};
 ghost use Rattle.tsn_cli.specs.Explain.{CertAnswers};
 ghost use Rattle.tsn_cli.specs.Shown.{IsShownBy};
 ghost use Rattle.tsn_cli.specs.Tables.{CanShow, TableAnswers};
@@ -19,8 +19,8 @@ use tsn_given::json::{reason_in, tell_answer};
 use tsn_given::reason::{failure_line, fault_of, source_line};
 use tsn_given::told::{Ran, Told, tell, tell_all};
 use tsn_given::{Given, Made};
-use tsn_run::device::ReadFault;
-use tsn_run::run::{DEVICE, DONE};
+use tsn_reason::device::ReadFault;
+use tsn_reason::run::{DEVICE, DONE};
 use tsn_words::{ChartWords, CheckWords, ValidWords};
 
 /// What the words of a command call its network and its plan.

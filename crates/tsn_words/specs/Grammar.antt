@@ -22,14 +22,14 @@ use Rattle.tsn_words.specs.declared.words.GatesWords.{GatesWords}
 use Rattle.tsn_words.specs.declared.words.ReplayWords.{ReplayWords}
 use Rattle.tsn_words.specs.declared.words.ChartWords.{ChartWords}
 use Rattle.tsn_words.specs.declared.words.StreamsWords.{StreamsWords}
-use Rattle.tsn_options.specs.declared.GatesFormat.{GatesFormat}
-use Rattle.tsn_options.specs.declared.GatesFormat.TheVariants as lists
-use Rattle.tsn_options.specs.declared.ReplayFormat.{ReplayFormat}
-use Rattle.tsn_options.specs.declared.ReplayFormat.TheVariants as replays
-use Rattle.tsn_options.specs.declared.StreamsFormat.{StreamsFormat}
-use Rattle.tsn_options.specs.declared.StreamsFormat.TheVariants as shares
-use Rattle.tsn_options.specs.declared.Method.{Method}
-use Rattle.tsn_options.specs.declared.Method.TheVariants as method
+use Rattle.tsn_words.specs.declared.options.GatesFormat.{GatesFormat}
+use Rattle.tsn_words.specs.declared.options.GatesFormat.TheVariants as lists
+use Rattle.tsn_words.specs.declared.options.ReplayFormat.{ReplayFormat}
+use Rattle.tsn_words.specs.declared.options.ReplayFormat.TheVariants as replays
+use Rattle.tsn_words.specs.declared.options.StreamsFormat.{StreamsFormat}
+use Rattle.tsn_words.specs.declared.options.StreamsFormat.TheVariants as shares
+use Rattle.tsn_words.specs.declared.options.Method.{Method}
+use Rattle.tsn_words.specs.declared.options.Method.TheVariants as method
 use Rattle.tsn_words.specs.declared.words.WordsFault.{WordsFault}
 use Rattle.tsn_words.specs.declared.words.WordsFault.TheVariants.{Refused, Asked}
 

@@ -8,12 +8,12 @@ ghost use Rattle.tsn_words.specs.Grammar.{AsksFor, HasCommand, IsAsked, IsFlag, 
 ghost use Rattle.tsn_words.specs.Grammar as grammar;
 ghost use Rattle.tsn_words.specs.Table.{IsReadAs, app_by, rule_by, with_form};
 
+use crate::options::{GatesFormat, Method, ReplayFormat, StreamsFormat};
 use crate::table::{Argument, FORMS, Form, Takes};
 use crate::words::{
-    ChartWords, CheckWords, DEFAULT_ENTRIES, DEFAULT_STEPS, ExplainWords, GatesFormat, GatesWords,
-    MAX_CYCLES, MAX_ENTRIES, MAX_LINK, MAX_OFFSET, MAX_STEPS, MAX_TIME, MAX_UNTIL, MAX_WORKERS,
-    Method, PlanWords, ProveWords, ReplayFormat, ReplayWords, StreamsFormat, StreamsWords, VERSION,
-    ValidWords, Words, WordsFault,
+    ChartWords, CheckWords, DEFAULT_ENTRIES, DEFAULT_STEPS, ExplainWords, GatesWords, MAX_CYCLES,
+    MAX_ENTRIES, MAX_LINK, MAX_OFFSET, MAX_STEPS, MAX_TIME, MAX_UNTIL, MAX_WORKERS, PlanWords,
+    ProveWords, ReplayWords, StreamsWords, VERSION, ValidWords, Words, WordsFault,
 };
 use clap::builder::ValueParser;
 use clap::error::ErrorKind;

@@ -1,12 +1,15 @@
-//! The words of the command line.
+//! The words of the command line; and what options choose, as words name it and calls take it: how a plan is searched for, and in which
+//! format an answer is printed.
 #![tactic(auto)]
 
 mod command;
+pub mod options;
 mod table;
 pub mod words;
 
 pub use command::words_from;
+pub use options::{GatesFormat, Method, ReplayFormat, StreamsFormat};
 pub use words::{
-    ChartWords, CheckWords, ExplainWords, GatesFormat, GatesWords, Method, PlanWords, ProveWords,
-    ReplayFormat, ReplayWords, StreamsFormat, StreamsWords, ValidWords, Words, WordsFault,
+    ChartWords, CheckWords, ExplainWords, GatesWords, PlanWords, ProveWords, ReplayWords,
+    StreamsWords, ValidWords, Words, WordsFault,
 };

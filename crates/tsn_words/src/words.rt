@@ -3,9 +3,9 @@ ghost use Rattle.std.specs.Prelude.{◌≡◌, ◌≤◌, All, vec_len};
 ghost use Rattle.std.specs.Option.{ForSome};
 ghost use Rattle.tsn_words.specs.declared.words.TheConstants.{MAX_WORKERS};
 
+use crate::options::{GatesFormat, Method, ReplayFormat, StreamsFormat};
 use std::alloc::AllocError;
 use thiserror::Error;
-pub use tsn_options::{GatesFormat, Method, ReplayFormat, StreamsFormat};
 
 /// The greatest offset, in nanoseconds.
 pub const MAX_OFFSET: u64 = 2_000_000_000;

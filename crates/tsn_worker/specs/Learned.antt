@@ -9,7 +9,7 @@ use Rattle.tsn_cert.specs.declared.plan.Plan.{Plan}
 use Rattle.tsn_cert.specs.declared.plan.Plan.TheVariants.{Schedule}
 use Rattle.tsn_check.specs.Plans.{span_in}
 use Rattle.tsn_check.specs.declared.verdict.Verdict.TheVariants.{Optimal}
-use Rattle.tsn_argument.specs.declared.argument.Argument.{Argument}
+use Rattle.tsn_cert.specs.declared.argument.Argument.{Argument}
 use Rattle.tsn_argue.specs.Certified.{ArgumentCertifies, argument_verdict}
 use Rattle.tsn_learn.specs.declared.learning.BestSoFar.{BestSoFar}
 use Rattle.tsn_answer.specs.declared.known.Known.{Known}

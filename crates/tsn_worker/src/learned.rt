@@ -1,23 +1,21 @@
 //! What the search that learns shows, once its argument is checked.
 ghost use Rattle.std.specs.Prelude.{◌≡◌, ◌≤◌, true, Ok, IfOk, IfErr, IfSome, IsTrue};
 ghost use Rattle.tsn_check.specs.Plans.{IsOptimalPlan, span_in};
-ghost use Rattle.tsn_setting.specs.Bound.{IsLowerBound};
+ghost use Rattle.tsn_branch.specs.Bound.{IsLowerBound};
 ghost use Rattle.tsn_answer.specs.Answer.{IsArgued};
 ghost use Rattle.tsn_answer.specs.Known.{IsKnown, LosesNothing};
 ghost use Rattle.tsn_worker.specs.Learned.{CountsBound, IsLearned, ShowsLeast, bound_in};
 
 use crate::telling::tell_bound;
 use std::alloc::Global;
-use tsn_answer::Known;
+use tsn_answer::{Hearer, Known, budget_of};
 use tsn_argue::check_argument;
-use tsn_argument::Argument;
-use tsn_cert::{Offsets, Plan};
+use tsn_branch::{Phase, Setting, Supervisor};
+use tsn_cert::{Argument, Offsets, Plan};
 use tsn_check::{CheckFault, Verdict};
 use tsn_learn::{Answer, BestSoFar, learn};
 use tsn_model::NoMemory;
 use tsn_net::Problem;
-use tsn_proving::{Hearer, budget_of};
-use tsn_setting::{Phase, Setting, Supervisor};
 use tsn_timing::Timing;
 
 /// What a search that learns comes to.

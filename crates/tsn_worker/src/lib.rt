@@ -12,5 +12,5 @@ pub use searched::{Planned, Searched};
 pub use tsn_answer::{
     Answer, Effort, FILE_ORDER_LIMIT, Found, Known, MAX_LIMIT, MAX_WORKERS, Method, plan_of,
 };
+pub use tsn_branch::{LearnedNews, News, NoSupervisor, Phase, Supervisor};
 pub use tsn_search::{Bag, DequeBag};
-pub use tsn_setting::{LearnedNews, News, NoSupervisor, Phase, Supervisor};

@@ -17,14 +17,14 @@ use std::sync::Wait;
 use std::thread::Threads;
 use tsn_answer::{Answer, Effort, FILE_ORDER_LIMIT, Found, Known, MAX_LIMIT, MAX_WORKERS};
 use tsn_book::Book;
+use tsn_branch::{Phase, Prepared, Setting, Supervisor, lower_bound};
+use tsn_incumbent::Parts;
 use tsn_model::NoMemory;
 use tsn_net::Problem;
-use tsn_options::Method;
 use tsn_search::search::settle_open;
 use tsn_search::threads::search;
 use tsn_search::{Bag, DequeBag};
-use tsn_setting::{Phase, Prepared, Setting, Supervisor, lower_bound};
-use tsn_share::Parts;
+use tsn_words::Method;
 
 /// From this limit on one worker goes on in the book that is there, where the search that learns gave up. Below it too few nodes may
 /// be left for the way along the best schedule that is known.

@@ -2,7 +2,7 @@
 ghost use Rattle.std.specs.Prelude.{◌≡◌, None};
 
 use tsn_answer::{Answer, Found};
-use tsn_share::EndedWord;
+use tsn_incumbent::EndedWord;
 
 /// What a search leaves; and, where several workers have searched and a book is what they leave, the word that they shared, with
 /// what each had seen and posted in the end.

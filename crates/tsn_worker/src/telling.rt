@@ -1,7 +1,7 @@
 //! What the supervisor of a search is told.
-ghost use Rattle.tsn_setting.specs.Bound.{IsLowerBound};
+ghost use Rattle.tsn_branch.specs.Bound.{IsLowerBound};
 
-use tsn_setting::{Setting, Supervisor};
+use tsn_branch::{Setting, Supervisor};
 
 /// Tells the supervisor what no valid schedule's flowspan is below, in nanoseconds.
 pub fn tell_bound<S: Supervisor>(setting: &Setting<'_, S>, bound: u64)

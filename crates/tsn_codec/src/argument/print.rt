@@ -1,14 +1,14 @@
 //! The value that an argument is printed as.
 ghost use Rattle.std.specs.Prelude.{◌≡◌, IfOk, OnOk, Some};
 ghost use Rattle.serde_json.specs.View.{view};
-ghost use Rattle.tsn_argument.specs.declared.motion.Move.TheVariants as form;
-ghost use Rattle.tsn_argument.specs.Argument.{worded_value, order_parts, order_items, frame_value, frames_of, frames_value, order_in, order_list, orders_of, orders_value, order_value, fact_in, fact_value, clause_in, clause_value, placing_parts, placing_items, move_in, move_value, moves_in, moves_value, step_in, step_value, steps_in, steps_value, goal_word, argument_of, argument_value};
+ghost use Rattle.tsn_cert.specs.declared.motion.Move.TheVariants as form;
+ghost use Rattle.tsn_cert.specs.Argument.{worded_value, order_parts, order_items, frame_value, frames_of, frames_value, order_in, order_list, orders_of, orders_value, order_value, fact_in, fact_value, clause_in, clause_value, placing_parts, placing_items, move_in, move_value, moves_in, moves_value, step_in, step_value, steps_in, steps_value, goal_word, argument_of, argument_value};
 
 use crate::document;
 use serde_json::{Value, json};
 use std::alloc::{AllocError, Global};
-use tsn_argument::argument::ARGUMENT_FORMAT;
-use tsn_argument::{Argument, Fact, Frames, Goal, Move, Order, Orders, Placing, Step};
+use tsn_cert::argument::ARGUMENT_FORMAT;
+use tsn_cert::{Argument, Fact, Frames, Goal, Move, Order, Orders, Placing, Step};
 use tsn_model::Frame;
 
 fn frame_value(alloc: Global, frame: Frame) -> Result<Value, AllocError>
@@ -38,7 +38,7 @@ fn frames_value(alloc: Global, frames: &Frames) -> Result<Value, AllocError>
     frame_list_value(alloc, frames.list())
 }
 
-#[tactic(auto, using(tsn_argument::proofs::Parts::order_back, tsn_argument::proofs::Parts::listed_order_back))]
+#[tactic(auto, using(tsn_cert::proofs::Parts::order_back, tsn_cert::proofs::Parts::listed_order_back))]
 fn order_value(alloc: Global, order: Order) -> Result<Value, AllocError>
     ensures value { IfOk result (λ v. view v ≡ order_value order) }
     ensures reads_back { OnOk result (order_in (order_value order) ≡ Some order) }
@@ -69,7 +69,7 @@ fn orders_value(alloc: Global, orders: &Orders) -> Result<Value, AllocError>
 }
 
 /// An array of a word and an order.
-#[tactic(auto, using(tsn_argument::proofs::Parts::order_back))]
+#[tactic(auto, using(tsn_cert::proofs::Parts::order_back))]
 fn order_behind(alloc: Global, word: &str, order: Order) -> Result<Value, AllocError>
     ensures value { IfOk result (λ v. view v ≡ worded_value word.now (order_items order)) }
     ensures reads_back { OnOk result (order_parts (order_items order) ≡ Some order) }
@@ -81,7 +81,7 @@ fn order_behind(alloc: Global, word: &str, order: Order) -> Result<Value, AllocE
     }
 }
 
-#[tactic(auto, using(tsn_argument::proofs::Parts::order_fact_back))]
+#[tactic(auto, using(tsn_cert::proofs::Parts::order_fact_back))]
 fn fact_value(alloc: Global, fact: &Fact) -> Result<Value, AllocError>
     ensures value { IfOk result (λ v. view v ≡ fact_value fact.now) }
     ensures reads_back { OnOk result (fact_in (fact_value fact.now) ≡ Some fact.now) }
@@ -107,7 +107,7 @@ fn clause_value(alloc: Global, facts: &[Fact]) -> Result<Value, AllocError>
 }
 
 /// An array of a word and a placing.
-#[tactic(auto, using(tsn_argument::proofs::Parts::placing_back))]
+#[tactic(auto, using(tsn_cert::proofs::Parts::placing_back))]
 fn placing_behind(alloc: Global, word: &str, placing: &Placing) -> Result<Value, AllocError>
     ensures value { IfOk result (λ v. view v ≡ worded_value word.now (placing_items placing.now)) }
     ensures reads_back { OnOk result (placing_parts (placing_items placing.now) ≡ Some placing.now) }
@@ -118,7 +118,7 @@ fn placing_behind(alloc: Global, word: &str, placing: &Placing) -> Result<Value,
     json!(in alloc; [word, placing.link, frame, others, some])
 }
 
-#[tactic(auto, using(tsn_argument::proofs::Parts::pack_back))]
+#[tactic(auto, using(tsn_cert::proofs::Parts::pack_back))]
 fn pack_value(alloc: Global, link: usize, frames: &Frames) -> Result<Value, AllocError>
     ensures value { IfOk result (λ v. view v ≡ move_value (form.Pack link frames.now)) }
     ensures reads_back { OnOk result (move_in (move_value (form.Pack link frames.now)) ≡ Some (form.Pack link frames.now)) }
@@ -127,7 +127,7 @@ fn pack_value(alloc: Global, link: usize, frames: &Frames) -> Result<Value, Allo
     json!(in alloc; ["pack", link, frames])
 }
 
-#[tactic(auto, using(tsn_argument::proofs::Parts::round_back))]
+#[tactic(auto, using(tsn_cert::proofs::Parts::round_back))]
 fn round_value(alloc: Global, orders: &Orders) -> Result<Value, AllocError>
     ensures value { IfOk result (λ v. view v ≡ move_value (form.Round orders.now)) }
     ensures reads_back { OnOk result (move_in (move_value (form.Round orders.now)) ≡ Some (form.Round orders.now)) }
@@ -136,7 +136,7 @@ fn round_value(alloc: Global, orders: &Orders) -> Result<Value, AllocError>
     json!(in alloc; ["round", orders])
 }
 
-#[tactic(auto, using(tsn_argument::proofs::Parts::follow_back))]
+#[tactic(auto, using(tsn_cert::proofs::Parts::follow_back))]
 fn follow_value(alloc: Global, known: Order, weaker: Order) -> Result<Value, AllocError>
     ensures value { IfOk result (λ v. view v ≡ move_value (form.Follow known weaker)) }
     ensures reads_back { OnOk result (move_in (move_value (form.Follow known weaker)) ≡ Some (form.Follow known weaker)) }
@@ -146,7 +146,7 @@ fn follow_value(alloc: Global, known: Order, weaker: Order) -> Result<Value, All
     json!(in alloc; ["follow", known, weaker])
 }
 
-#[tactic(auto, using(tsn_argument::proofs::Parts::go_back, tsn_argument::proofs::Parts::turn_back, tsn_argument::proofs::Parts::last_back, tsn_argument::proofs::Parts::first_back))]
+#[tactic(auto, using(tsn_cert::proofs::Parts::go_back, tsn_cert::proofs::Parts::turn_back, tsn_cert::proofs::Parts::last_back, tsn_cert::proofs::Parts::first_back))]
 fn move_value(alloc: Global, motion: &Move) -> Result<Value, AllocError>
     ensures value { IfOk result (λ v. view v ≡ move_value motion.now) }
     ensures reads_back { OnOk result (move_in (move_value motion.now) ≡ Some motion.now) }
@@ -175,7 +175,7 @@ fn moves_value(alloc: Global, moves: &[Move]) -> Result<Value, AllocError>
     Ok(Value::Array(items))
 }
 
-#[tactic(auto, using(tsn_argument::proofs::Parts::step_back))]
+#[tactic(auto, using(tsn_cert::proofs::Parts::step_back))]
 pub(super) fn step_value(alloc: Global, step: &Step) -> Result<Value, AllocError>
     ensures value { IfOk result (λ v. view v ≡ step_value step.now) }
     ensures reads_back { OnOk result (step_in (step_value step.now) ≡ Some step.now) }

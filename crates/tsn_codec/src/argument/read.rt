@@ -2,14 +2,14 @@
 ghost use Rattle.std.specs.Prelude.{◌≡◌};
 ghost use Rattle.tsn_cert.specs.Form.{row_of};
 ghost use Rattle.tsn_codec.specs.Takes.{Takes};
-ghost use Rattle.tsn_argument.specs.Argument.{order_row, order_form, bound_row, number_row, facts, fact_form, later_row, frame_form, frames_form, orders_form, placing_row, pack_row, round_row, follow_row, motions, move_form, step_form, steps_form, goal_form, goal_named};
+ghost use Rattle.tsn_cert.specs.Argument.{order_row, order_form, bound_row, number_row, facts, fact_form, later_row, frame_form, frames_form, orders_form, placing_row, pack_row, round_row, follow_row, motions, move_form, step_form, steps_form, goal_form, goal_named};
 ghost use Rattle.tsn_codec.specs.ArgumentSays.{order_element, frame_element, fact_element, move_element, step_element};
 
 use crate::list::{Element, few, list};
 use crate::tokens::{Tokens, Unread};
-use tsn_argument::order::MAX_ORDERS;
-use tsn_argument::step::MAX_FRAMES;
-use tsn_argument::{Clause, Fact, Frames, Goal, Move, Moves, Order, Orders, Placing, Step, Steps};
+use tsn_cert::order::MAX_ORDERS;
+use tsn_cert::step::MAX_FRAMES;
+use tsn_cert::{Clause, Fact, Frames, Goal, Move, Moves, Order, Orders, Placing, Step, Steps};
 use tsn_model::Frame;
 
 // ---- orders and frames
@@ -31,7 +31,7 @@ fn order(tokens: &mut Tokens<'_>) -> Result<Order, Unread>
 }
 
 impl Element for Order {
-    ghost use Rattle.tsn_argument.specs.declared.order.Order.{Order};
+    ghost use Rattle.tsn_cert.specs.declared.order.Order.{Order};
 
     ghost Said = { Order };
 
@@ -143,7 +143,7 @@ fn fact(tokens: &mut Tokens<'_>, word: &str) -> Result<Fact, Unread>
 }
 
 impl Element for Fact {
-    ghost use Rattle.tsn_argument.specs.declared.fact.Fact.{Fact};
+    ghost use Rattle.tsn_cert.specs.declared.fact.Fact.{Fact};
 
     ghost Said = { Fact };
 
@@ -238,7 +238,7 @@ fn motion(tokens: &mut Tokens<'_>, word: &str) -> Result<Move, Unread>
 }
 
 impl Element for Move {
-    ghost use Rattle.tsn_argument.specs.declared.motion.Move.{Move};
+    ghost use Rattle.tsn_cert.specs.declared.motion.Move.{Move};
 
     ghost Said = { Move };
 
@@ -258,7 +258,7 @@ impl Element for Move {
 // ---- steps
 
 impl Element for Step {
-    ghost use Rattle.tsn_argument.specs.declared.step.Step.{Step};
+    ghost use Rattle.tsn_cert.specs.declared.step.Step.{Step};
 
     ghost Said = { Step };
 

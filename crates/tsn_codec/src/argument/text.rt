@@ -1,10 +1,10 @@
 //! The text of an argument in parts: its beginning, its steps one after another, and its end.
 ghost use Rattle.std.specs.Prelude.{◌≡◌, IfOk, string_bytes};
-ghost use Rattle.tsn_argument.specs.Text.{head_text, step_text, tail_text, ArgumentTextHasParts};
+ghost use Rattle.tsn_cert.specs.ArgumentText.{head_text, step_text, tail_text, ArgumentTextHasParts};
 
 use crate::argument::print;
 use std::alloc::Global;
-use tsn_argument::{Goal, Step};
+use tsn_cert::{Goal, Step};
 use tsn_model::NoMemory;
 
 /// An argument's text is its beginning, its steps' texts and its end.

@@ -5,11 +5,11 @@ ghost use Rattle.tsn_model.specs.Certificate.{decided};
 ghost use Rattle.tsn_model.specs.Search.{split};
 ghost use Rattle.tsn_model.specs.Core.{IsAboveSeen};
 ghost use Rattle.tsn_timing.specs.Solution.{IsSolved};
-ghost use Rattle.tsn_search_laws.specs.Gathering.{tally_with};
+ghost use Rattle.tsn_model.specs.Gathering.{tally_with};
 ghost use Rattle.tsn_node.specs.declared.outcome.Look.TheVariants.{Split};
 ghost use Rattle.tsn_node.specs.Outcome.{outcome_of};
 ghost use Rattle.tsn_node.specs.Right.{HasProof, SplitsUndecided};
-ghost use Rattle.tsn_share.specs.Teller.{IsEven};
+ghost use Rattle.tsn_incumbent.specs.Teller.{IsEven};
 ghost use Rattle.tsn_node.specs.Outcome.{IsSolvedBy};
 ghost use Rattle.tsn_tests_tellers.specs.Solving.{the_conflict, IsWalk};
 
@@ -24,9 +24,9 @@ use std::process::Abort;
 use std::sync::Wait;
 use std::test::*;
 use tsn_book::{BatchRefusal, Event, Looks};
+use tsn_incumbent::{Named, Parts, Shared, Teller, post_as, settle_all_as, settle_below_as};
 use tsn_node::outcome::Look;
 use tsn_node::{Node, Side, Triple};
-use tsn_share::{Named, Parts, Shared, Teller, post_as, settle_all_as, settle_below_as};
 use tsn_timing::{Solved, Timing};
 
 /// Two events.
@@ -122,7 +122,7 @@ fn past_limit<K: Named, R: Wait + Abort + AllocGlobal>(rt: &R, timing: &Timing, 
 }
 
 /// Settles the root's split and the Left node as solved at once.
-#[tactic(auto, using(tsn_share::proofs::Tellers::above_solved))]
+#[tactic(auto, using(tsn_incumbent::proofs::Tellers::above_solved))]
 fn split_and_solved<K: Named, R: Wait + Abort + AllocGlobal>(
     rt: &R,
     timing: &Timing,
@@ -176,7 +176,7 @@ pub fn settle_by_batches<K: Named, R: Wait + Abort + AllocGlobal>(
 }
 
 /// Settles the root's split and the Left node as solved at once, and posts its schedule.
-#[tactic(auto, using(tsn_share::proofs::Tellers::above_solved, crate::proofs::Solving::solved_next))]
+#[tactic(auto, using(tsn_incumbent::proofs::Tellers::above_solved, crate::proofs::Solving::solved_next))]
 fn split_and_solve<K: Named, R: Wait + Abort + AllocGlobal>(
     rt: &R,
     timing: &Timing,

@@ -3,7 +3,7 @@ use std::process::Abort;
 use tsn_book::Book;
 use tsn_cert::Cert;
 use tsn_codec::cert_to_json;
-use tsn_share::EndedWord;
+use tsn_incumbent::EndedWord;
 
 fn certificate<R: Abort + AllocGlobal>(rt: &R, book: Book) -> Cert {
     match book.first_open(rt.alloc()).expect(rt, "memory") {

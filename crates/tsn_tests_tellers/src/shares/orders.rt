@@ -1,6 +1,6 @@
 //! Tellers that come back in another order than that of their numbers.
 ghost use Rattle.std.specs.Prelude.{◌≡◌, ◌++◌, ◌∷◌, []};
-ghost use Rattle.tsn_share.specs.Teller.{IsEven, fresh_teller};
+ghost use Rattle.tsn_incumbent.specs.Teller.{IsEven, fresh_teller};
 
 use crate::shares::ends::expect_finished;
 use crate::shares::networks::two_streams;
@@ -11,7 +11,7 @@ use std::process::Abort;
 use std::sync::Wait;
 use std::test::*;
 use tsn_book::Book;
-use tsn_share::{EndedWord, Named, Parts, Shared, Teller, gather_unordered};
+use tsn_incumbent::{EndedWord, Named, Parts, Shared, Teller, gather_unordered};
 use tsn_timing::Timing;
 
 /// In which order three tellers come back.

@@ -1,6 +1,6 @@
 //! How one teller finishes a search.
 ghost use Rattle.std.specs.Prelude.{◌≡◌, ◌+◌};
-ghost use Rattle.tsn_share.specs.Teller.{IsEven};
+ghost use Rattle.tsn_incumbent.specs.Teller.{IsEven};
 
 use crate::shares::batches::{settle_by_batches, settle_by_walks};
 use crate::shares::ends::expect_finished;
@@ -10,7 +10,7 @@ use crate::shares::steps::{gather_one, one_of, parts_of};
 use std::marker::Brand;
 use std::process::Abort;
 use std::sync::Wait;
-use tsn_share::{Named, Parts, Shared, Teller};
+use tsn_incumbent::{Named, Parts, Shared, Teller};
 use tsn_timing::Timing;
 
 /// How one teller settles nodes.

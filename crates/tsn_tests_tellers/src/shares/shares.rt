@@ -1,7 +1,7 @@
 //! Tellers that share a book, called in turn.
 ghost use Rattle.std.specs.Prelude.{◌≡◌, ◌+◌, ◌≤◌};
 ghost use Rattle.tsn_timing.specs.Solution.{IsSolved};
-ghost use Rattle.tsn_share.specs.Teller.{IsEven, fresh_teller};
+ghost use Rattle.tsn_incumbent.specs.Teller.{IsEven, fresh_teller};
 
 use crate::shares::ends::expect_finished;
 use crate::shares::networks::two_streams;
@@ -15,15 +15,15 @@ use std::process::Abort;
 use std::sync::Wait;
 use std::test::*;
 use tsn_book::{Book, Event, EventRefusal};
-use tsn_node::{Node, Side};
-use tsn_share::{
+use tsn_incumbent::{
     Counts, EndedWord, Named, Parts, Shared, Teller, gather, post_as, settle_and_post, settle_as,
     with_book,
 };
+use tsn_node::{Node, Side};
 use tsn_timing::{Solved, Timing};
 
 /// Splits the root.
-#[tactic(auto, unfolding(tsn_search_laws::specs::Gathering::tally_with))]
+#[tactic(auto, unfolding(tsn_model::specs::Gathering::tally_with))]
 fn split_root<K: Named, R: Wait + AllocGlobal>(
     rt: &R,
     shared: &Shared<K>,
@@ -62,7 +62,7 @@ struct Attempt {
 }
 
 /// Settles a node that a look solves below the target, and gives its schedule.
-#[tactic(auto, using(tsn_share::proofs::Tellers::above_solved, crate::proofs::Solving::solved_least))]
+#[tactic(auto, using(tsn_incumbent::proofs::Tellers::above_solved, crate::proofs::Solving::solved_least))]
 fn settle_solved<K: Named, R: Wait + Abort + AllocGlobal>(
     rt: &R,
     timing: &Timing,

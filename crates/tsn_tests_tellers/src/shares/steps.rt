@@ -5,7 +5,7 @@ ghost use Rattle.tsn_timing.specs.Solution.{IsSolved};
 ghost use Rattle.tsn_node.specs.Outcome.{outcome_of};
 ghost use Rattle.tsn_node.specs.Right.{HasProof, SplitsUndecided};
 ghost use Rattle.tsn_branch.specs.Look.{IsLook};
-ghost use Rattle.tsn_share.specs.Teller.{IsEven, fresh_teller};
+ghost use Rattle.tsn_incumbent.specs.Teller.{IsEven, fresh_teller};
 ghost use Rattle.tsn_node.specs.Outcome.{IsSolvedBy};
 ghost use Rattle.tsn_tests_tellers.specs.Solving.{IsTied, the_conflict};
 
@@ -15,9 +15,9 @@ use std::sync::Wait;
 use tsn_book::{Book, BookFault, Event};
 use tsn_branch::{fits, look};
 use tsn_conflict::conflicts;
+use tsn_incumbent::{EndedWord, Named, Parts, Shared, Teller, best_as, gather, observe_as};
 use tsn_node::outcome::Look;
 use tsn_node::{Node, Side, Triple};
-use tsn_share::{EndedWord, Named, Parts, Shared, Teller, best_as, gather, observe_as};
 use tsn_timing::{Solved, Timing};
 
 /// Adds an item.

@@ -1,5 +1,5 @@
 use Rattle.std.proofs.Common.{sym, subst}
-use Rattle.tsn_argument.specs.declared.certificate.Certificate.TheVariants.{Tree}
+use Rattle.tsn_cert.specs.declared.certificate.Certificate.TheVariants.{Tree}
 use Rattle.tsn_answer.specs.Optimum.{FindsOptimum}
 use Rattle.tsn_answer.specs.Answer.{IsAnswerReadAgain, IsAnswerShown, IsCertOf}
 use Rattle.tsn_answer.proofs.Deciding.{answer_read_again, certified_optimum, certified_shown}

@@ -1,8 +1,8 @@
 use Rattle.std.proofs.Common.{◌≡◌, true, false, get_or, refl, sym, ap, ◌∙◌, arith}
 use Rattle.tsn_model.specs.Argument.{contradicts, left_open}
-use Rattle.tsn_argument.specs.Meaning.{fact_of}
-use Rattle.tsn_argument.specs.declared.fact.Fact.{Fact}
-use Rattle.tsn_argument.specs.declared.fact.Fact.TheVariants.{From}
+use Rattle.tsn_cert.specs.Meaning.{fact_of}
+use Rattle.tsn_cert.specs.declared.fact.Fact.{Fact}
+use Rattle.tsn_cert.specs.declared.fact.Fact.TheVariants.{From}
 use Rattle.tsn_argue.specs.State.{view_of}
 use Rattle.tsn_argue.proofs.MotionLemmas.{count_skip, count_more}
 use Rattle.tsn_argue.proofs.motion.count_left.Goals as goal

@@ -1,7 +1,7 @@
 use Rattle.std.proofs.Common.{[], ◌∷◌, map, ap, ◌∙◌, arith}
 use Rattle.std.proofs.lemmas.Int.{ints}
 use Rattle.tsn_model.specs.Argument.{Fact as ModelFact}
-use Rattle.tsn_argument.specs.Meaning.{decision_of}
+use Rattle.tsn_cert.specs.Meaning.{decision_of}
 use Rattle.tsn_argue.specs.State.{view_of}
 use Rattle.tsn_argue.specs.Motion.{facts_of}
 use Rattle.tsn_argue.proofs.MotionLemmas.{round_shown, refutes}

@@ -1,8 +1,8 @@
 use Rattle.std.proofs.Common.{◌≡◌, ◌+◌, true, false, Ok, get_or, take, refl, sym, ap, ◌∙◌, subst}
 use Rattle.tsn_model.specs.Argument.{contradicts, left_open}
-use Rattle.tsn_argument.specs.Meaning.{fact_of, clause_of}
-use Rattle.tsn_argument.specs.declared.fact.Fact.{Fact}
-use Rattle.tsn_argument.specs.declared.fact.Fact.TheVariants.{From}
+use Rattle.tsn_cert.specs.Meaning.{fact_of, clause_of}
+use Rattle.tsn_cert.specs.declared.fact.Fact.{Fact}
+use Rattle.tsn_cert.specs.declared.fact.Fact.TheVariants.{From}
 use Rattle.tsn_argue.specs.Motion.{FindsUnit}
 use Rattle.tsn_argue.specs.declared.wrong.Wrong.TheVariants.{Left}
 use Rattle.tsn_argue.specs.State.{view_of}

@@ -3,7 +3,7 @@ use Rattle.std.specs.Prelude.{MatchOption}
 use Rattle.tsn_model.specs.Schedule.{common}
 use Rattle.tsn_model.specs.Certificate.{tie_node}
 use Rattle.tsn_timing.specs.Solution.{IsSolved}
-use Rattle.tsn_search_laws.specs.Order.{node_of}
+use Rattle.tsn_model.specs.Order.{node_of}
 use Rattle.tsn_cert.specs.Leaf.{bound_leaf}
 use Rattle.tsn_node.specs.Outcome.{outcome_of}
 use Rattle.tsn_book.specs.Book.{planned, HasTie}

@@ -2,9 +2,9 @@ use Rattle.std.proofs.Common.{refl}
 use Rattle.tsn_cli.specs.declared.showing.Shown.TheVariants.{Said}
 use Rattle.tsn_cli.specs.Shown.{shown_output}
 use Rattle.tsn_cli.specs.Explain.{CertAnswers}
-use Rattle.tsn_run.proofs.RunLemmas.{Keeps-same}
+use Rattle.tsn_reason.proofs.RunLemmas.{Keeps-same}
 use Rattle.tsn_cli.proofs.CommandLemmas.{cert_inputs, shown_faults}
-use Rattle.tsn_run.proofs.InputLemmas.{comes_after, comes_unread, comes_without}
+use Rattle.tsn_reason.proofs.InputLemmas.{comes_after, comes_unread, comes_without}
 use Rattle.tsn_cli.proofs.certified.certified_shown.Goals as goal
 
 pub returns-in-Ok-Taken-clause-comes : goal.returns-in-Ok-Taken-clause-comes

@@ -1,4 +1,4 @@
-use Rattle.tsn_run.proofs.RunLemmas.{tells_ok}
+use Rattle.tsn_reason.proofs.RunLemmas.{tells_ok}
 use Rattle.tsn_cli.proofs.check.answer_of.Goals as goal
 
 pub returns-in-Ok-Said : goal.returns-in-Ok-Said

@@ -1,5 +1,5 @@
-use Rattle.tsn_run.specs.Check.{CheckAnswers}
-use Rattle.tsn_run.proofs.LineLemmas.{ends_as}
+use Rattle.tsn_reason.specs.Check.{CheckAnswers}
+use Rattle.tsn_reason.proofs.LineLemmas.{ends_as}
 use Rattle.tsn_cli.proofs.check.check_answer.Goals as goal
 
 pub returns : goal.returns

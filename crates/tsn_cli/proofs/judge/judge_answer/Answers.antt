@@ -1,5 +1,5 @@
 use Rattle.tsn_cli.specs.Valid.{JudgeAnswers}
-use Rattle.tsn_run.proofs.LineLemmas.{ends_as}
+use Rattle.tsn_reason.proofs.LineLemmas.{ends_as}
 use Rattle.tsn_cli.proofs.judge.judge_answer.Goals as goal
 
 pub returns : goal.returns

@@ -1,6 +1,6 @@
-use Rattle.tsn_run.specs.Outcome.{output_of}
+use Rattle.tsn_reason.specs.Outcome.{output_of}
 use Rattle.tsn_cli.specs.Valid.{JudgeAnswers}
-use Rattle.tsn_run.proofs.RunLemmas.{runs_with}
+use Rattle.tsn_reason.proofs.RunLemmas.{runs_with}
 use Rattle.tsn_cli.proofs.judge.judge_run.Goals as goal
 
 pub returns : goal.returns

@@ -2,8 +2,8 @@ use Rattle.std.proofs.Common.{inl, inr}
 use Rattle.tsn_cli.specs.declared.showing.Shown.TheVariants.{Said}
 use Rattle.tsn_cli.specs.Shown.{shown_output}
 use Rattle.tsn_cli.specs.Tables.{TableAnswers}
-use Rattle.tsn_run.proofs.RunLemmas.{tells_ok}
-use Rattle.tsn_run.proofs.InputLemmas.{comes_failed, comes_refused, comes_taken}
+use Rattle.tsn_reason.proofs.RunLemmas.{tells_ok}
+use Rattle.tsn_reason.proofs.InputLemmas.{comes_failed, comes_refused, comes_taken}
 use Rattle.tsn_cli.proofs.CommandLemmas.{shown_faults, table_inputs}
 use Rattle.tsn_cli.proofs.tables.table_shown.Goals as goal
 

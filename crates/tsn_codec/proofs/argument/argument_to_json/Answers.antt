@@ -1,7 +1,7 @@
 use Rattle.std.proofs.Common.{◌∙◌, ap, Some}
 use Rattle.serde_json.specs.Written.{has_float}
 use Rattle.tsn_cert.specs.Json.{file_text}
-use Rattle.tsn_argument.proofs.Shape.{argument_depth}
+use Rattle.tsn_cert.proofs.Shape.{argument_depth}
 use Rattle.tsn_codec.proofs.ArgumentShape.{argument_no_float, argument_in-printed}
 use Rattle.tsn_codec.proofs.argument.argument_to_json.Goals as goal
 

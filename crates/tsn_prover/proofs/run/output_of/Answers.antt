@@ -1,8 +1,8 @@
 use Rattle.std.proofs.Common.{inl, inr}
 use Rattle.tsn_prover.specs.Prove.{ProveAnswers}
 use Rattle.tsn_prover.specs.ProofOutput.{shown}
-use Rattle.tsn_run.proofs.RunLemmas.{tells_ok}
-use Rattle.tsn_run.proofs.InputLemmas.{comes_failed, comes_refused, comes_taken}
+use Rattle.tsn_reason.proofs.RunLemmas.{tells_ok}
+use Rattle.tsn_reason.proofs.InputLemmas.{comes_failed, comes_refused, comes_taken}
 use Rattle.tsn_prover.proofs.FilesLemmas.{some_along}
 use Rattle.tsn_prover.proofs.ProveLemmas.{line_alone, no_finding, prove_inputs, refused_three, shown_faults}
 use Rattle.tsn_prover.proofs.run.output_of.Goals as goal

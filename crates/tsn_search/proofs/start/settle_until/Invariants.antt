@@ -1,5 +1,5 @@
 use Rattle.std.proofs.Common.{◌≡◌}
-use Rattle.tsn_share.specs.Teller.{IsEven}
+use Rattle.tsn_incumbent.specs.Teller.{IsEven}
 use Rattle.tsn_search.specs.Below.{IsBelow}
 use Rattle.tsn_search.proofs.start.settle_until.Given as goal
 

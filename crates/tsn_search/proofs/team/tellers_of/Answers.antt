@@ -1,5 +1,5 @@
 use Rattle.std.proofs.Common.{length, map, sym, ap, arith}
-use Rattle.tsn_share.specs.Teller.{Known}
+use Rattle.tsn_incumbent.specs.Teller.{Known}
 use Rattle.tsn_search.specs.declared.worker.Member.{Member}
 use Rattle.tsn_search.proofs.Teams.{given_more}
 use Rattle.tsn_search.proofs.team.tellers_of.Goals as goal

@@ -2,7 +2,7 @@ use Rattle.std.proofs.Common.{◌≡◌, ℕ, [], ◌∷◌, ◌++◌, length, S
 use Rattle.std.specs.Prelude.{All}
 use Rattle.std.proofs.lemmas.List.{length-map}
 use Rattle.std.proofs.lemmas.List.Elements.{All-pop}
-use Rattle.tsn_share.specs.Teller.{Known, IsEven}
+use Rattle.tsn_incumbent.specs.Teller.{Known, IsEven}
 use Rattle.tsn_search.specs.declared.worker.Member.{Member}
 use Rattle.tsn_search.proofs.Teams.{fresh_length, fresh_even, all_under, written, come_back}
 use Rattle.tsn_search.proofs.threads.settle_all.Goals as goal

@@ -1,5 +1,5 @@
 use Rattle.std.proofs.Common.{rules, ◌≤◌, sym, subst}
-use Rattle.tsn_proving.proofs.ShownPlans.{optimal_within}
+use Rattle.tsn_answer.proofs.ShownPlans.{optimal_within}
 use Rattle.tsn_worker.proofs.learned.bound_shown.Goals as goal
 
 pub returns-then-branch-clause-within_cycle : goal.returns-then-branch-clause-within_cycle

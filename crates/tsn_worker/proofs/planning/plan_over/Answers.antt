@@ -1,6 +1,6 @@
 use Rattle.std.proofs.Common.{◌∙◌, refl, subst}
 use Rattle.std.proofs.lemmas.Result.{IfOk-weaker}
-use Rattle.tsn_options.specs.declared.Method.TheVariants.{FileOrder}
+use Rattle.tsn_words.specs.declared.options.Method.TheVariants.{FileOrder}
 use Rattle.tsn_answer.specs.declared.effort.Effort.{Effort}
 use Rattle.tsn_answer.specs.Optimum.{FindsOptimum}
 use Rattle.tsn_answer.specs.Answer.{IsAnswerShown}

@@ -1,7 +1,7 @@
 use Rattle.std.proofs.Common.{◌≡◌, MatchBool, min, sym, ap, ◌∙◌, subst}
 use Rattle.std.specs.Prelude.{nat_lt}
 use Rattle.tsn_model.specs.Search.{best_bound}
-use Rattle.tsn_search_laws.specs.Replies.{IsUnmet}
+use Rattle.tsn_model.specs.Replies.{IsUnmet}
 use Rattle.tsn_node.specs.Outcome.{outcome_of}
 use Rattle.tsn_book.specs.Arena.{history_of}
 use Rattle.tsn_book.specs.Book.{IsMet}

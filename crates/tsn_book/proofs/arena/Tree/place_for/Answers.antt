@@ -1,7 +1,7 @@
 use Rattle.std.proofs.Common.{◌≡◌, Any, rules, sym, subst}
 use Rattle.std.proofs.lemmas.Result.{err_from_is_err_and}
 use Rattle.tsn_model.specs.Schedule.{IsConflict}
-use Rattle.tsn_search_laws.specs.Replies.{SplitsNone, SplitsAgain}
+use Rattle.tsn_model.specs.Replies.{SplitsNone, SplitsAgain}
 use Rattle.tsn_node.specs.Outcome.{outcome_of}
 use Rattle.tsn_node.specs.Right.{SplitsUndecided}
 use Rattle.tsn_book.specs.Arena.{path_at, paths_of, history_of, IsOpenPlace, IsStop}

@@ -1,5 +1,5 @@
 use Rattle.std.proofs.Common.{sym, subst}
-use Rattle.tsn_search_laws.specs.Laws.{IsBelowBounds}
+use Rattle.tsn_model.specs.SearchLaws.{IsBelowBounds}
 use Rattle.tsn_book.specs.Arena.{history_of}
 use Rattle.tsn_book.specs.Book.{Progress, IsLawful}
 use Rattle.tsn_book.proofs.Bookkeeping.{lawful, best_target}

@@ -1,6 +1,6 @@
 use Rattle.std.proofs.Common.{◌≡◌, arith, sym, ◌∙◌, subst, Some, None}
 use Rattle.tsn_model.specs.Search.{Outcome}
-use Rattle.tsn_search_laws.specs.Walk.{IsPlaceOf}
+use Rattle.tsn_model.specs.Walk.{IsPlaceOf}
 use Rattle.tsn_book.specs.Arena.{path_at, paths_of, IsOpenPlace}
 use Rattle.tsn_book.specs.Book.{Progress, IsFault}
 use Rattle.tsn_book.specs.declared.fault.BookFault.TheVariants.{NotOpen}

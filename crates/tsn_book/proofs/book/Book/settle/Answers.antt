@@ -1,6 +1,6 @@
 use Rattle.std.proofs.Common.{◌≡◌, ◌++◌, ◌∷◌, [], length, arith, sym, ap, ◌∙◌, subst}
 use Rattle.tsn_model.specs.Search.{made_paths, IsAllowed}
-use Rattle.tsn_search_laws.specs.Walk.{path_made}
+use Rattle.tsn_model.specs.Walk.{path_made}
 use Rattle.tsn_node.specs.Outcome.{outcome_of}
 use Rattle.tsn_book.specs.Arena.{history_of, IsOpenPlace}
 use Rattle.tsn_book.specs.Book.{Progress}

@@ -3,7 +3,7 @@ use Rattle.std.specs.List.{slice_index_or}
 use Rattle.std.proofs.lemmas.List.{nil_from_length}
 use Rattle.tsn_model.specs.declared.Decision.{Decision}
 use Rattle.tsn_model.specs.Search.{Event, Outcome}
-use Rattle.tsn_search_laws.specs.Walk.{path_made}
+use Rattle.tsn_model.specs.Walk.{path_made}
 use Rattle.tsn_node.specs.declared.outcome.Look.{Look}
 use Rattle.tsn_node.specs.Outcome.{outcome_of}
 use Rattle.tsn_node.specs.Right.{HasProof, SplitsUndecided}

@@ -3,7 +3,7 @@ use Rattle.tsn_model.specs.declared.Decision.{Decision}
 use Rattle.tsn_model.specs.declared.Side.TheVariants.{Left, Right}
 use Rattle.tsn_model.specs.Certificate.{decided}
 use Rattle.tsn_model.specs.Places.{pending}
-use Rattle.tsn_search_laws.specs.Walk.{path_made, IsPlaceOf}
+use Rattle.tsn_model.specs.Walk.{path_made, IsPlaceOf}
 use Rattle.tsn_book.specs.Arena.{settled_in}
 use Rattle.tsn_book.specs.Below.{IsAbove}
 use Rattle.tsn_book.proofs.Below.{after_turn, after_root, right_taken}

@@ -1,6 +1,6 @@
 use Rattle.std.proofs.Common.{◌≡◌}
 use Rattle.tsn_model.specs.Places.{pending}
-use Rattle.tsn_search_laws.specs.Walk.{IsPlaceOf}
+use Rattle.tsn_model.specs.Walk.{IsPlaceOf}
 use Rattle.tsn_book.specs.Arena.{settled_in}
 use Rattle.tsn_book.proofs.ledger.Ledger.go_on.Given as goal
 

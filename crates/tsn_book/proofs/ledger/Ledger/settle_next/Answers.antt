@@ -2,8 +2,8 @@ use Rattle.std.proofs.Common.{◌≡◌, List, sym, ap, ◌∙◌, subst}
 use Rattle.std.specs.Prelude.{OnOk}
 use Rattle.tsn_model.specs.declared.Decision.{Decision}
 use Rattle.tsn_model.specs.Search.{Settlement}
-use Rattle.tsn_search_laws.specs.Walk.{IsPlaceOf}
-use Rattle.tsn_search_laws.proofs.Walking.{place_stays}
+use Rattle.tsn_model.specs.Walk.{IsPlaceOf}
+use Rattle.tsn_model.proofs.Walking.{place_stays}
 use Rattle.tsn_node.specs.declared.outcome.Look.{Look}
 use Rattle.tsn_node.specs.Outcome.{outcome_of}
 use Rattle.tsn_book.specs.Arena.{settled_in, IsLeafOutcome}

@@ -3,7 +3,7 @@ use Rattle.tsn_model.specs.declared.Decision.{Decision}
 use Rattle.tsn_model.specs.declared.Side.TheVariants.{Left}
 use Rattle.tsn_model.specs.Search.{split}
 use Rattle.tsn_model.proofs.Decisions.{length-decided, take-decided}
-use Rattle.tsn_search_laws.specs.Walk.{IsPlaceOf}
+use Rattle.tsn_model.specs.Walk.{IsPlaceOf}
 use Rattle.tsn_node.specs.Right.{SplitsUndecided}
 use Rattle.tsn_node.specs.declared.outcome.Look.{Look}
 use Rattle.tsn_node.specs.Outcome.{outcome_of}

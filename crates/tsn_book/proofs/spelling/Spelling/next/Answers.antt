@@ -2,7 +2,7 @@ use Rattle.std.proofs.Common.{◌<◌, length, drop, sym, ap, ◌∙◌, arith}
 use Rattle.std.specs.List.{slice_index_or}
 use Rattle.tsn_cert.specs.Node.{tree_node}
 use Rattle.tsn_cert.specs.declared.cert.Cert.{Cert}
-use Rattle.tsn_search_laws.specs.Order.{node_of}
+use Rattle.tsn_model.specs.Order.{node_of}
 use Rattle.tsn_node.specs.Outcome.{outcome_of}
 use Rattle.tsn_book.specs.Book.{planned}
 use Rattle.tsn_book.proofs.Answering.{where_err}

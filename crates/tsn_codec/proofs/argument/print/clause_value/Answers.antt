@@ -1,7 +1,7 @@
 use Rattle.serde_json.specs.View.{view}
-use Rattle.tsn_argument.specs.Argument.{fact_in, fact_value}
-use Rattle.tsn_argument.specs.declared.fact.Fact.TheVariants as fact
-use Rattle.tsn_argument.proofs.Parts.{back_at, back_all}
+use Rattle.tsn_cert.specs.Argument.{fact_in, fact_value}
+use Rattle.tsn_cert.specs.declared.fact.Fact.TheVariants as fact
+use Rattle.tsn_cert.proofs.Parts.{back_at, back_all}
 use Rattle.tsn_codec.proofs.Printed.{shown_at, shown_all}
 use Rattle.tsn_codec.proofs.argument.print.clause_value.Goals as goal
 

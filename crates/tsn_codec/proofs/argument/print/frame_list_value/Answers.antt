@@ -1,5 +1,5 @@
 use Rattle.serde_json.specs.View.{view}
-use Rattle.tsn_argument.specs.Argument.{frame_value}
+use Rattle.tsn_cert.specs.Argument.{frame_value}
 use Rattle.tsn_codec.proofs.Printed.{shown_at, shown_all}
 use Rattle.tsn_codec.proofs.argument.print.frame_list_value.Goals as goal
 

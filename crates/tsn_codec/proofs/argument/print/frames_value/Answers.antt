@@ -1,5 +1,5 @@
 use Rattle.tsn_codec.proofs.JsonLemmas.{back}
-use Rattle.tsn_argument.proofs.Parts.{frames_back}
+use Rattle.tsn_cert.proofs.Parts.{frames_back}
 use Rattle.tsn_codec.proofs.argument.print.frames_value.Goals as goal
 
 pub returns-clause-reads_back : goal.returns-clause-reads_back

@@ -1,6 +1,6 @@
 use Rattle.serde_json.specs.View.{view}
-use Rattle.tsn_argument.specs.Argument.{move_in, move_value}
-use Rattle.tsn_argument.proofs.Parts.{back_more, back_all}
+use Rattle.tsn_cert.specs.Argument.{move_in, move_value}
+use Rattle.tsn_cert.proofs.Parts.{back_more, back_all}
 use Rattle.tsn_codec.proofs.Printed.{shown_more, shown_all}
 use Rattle.tsn_codec.proofs.argument.print.moves_value.Goals as goal
 

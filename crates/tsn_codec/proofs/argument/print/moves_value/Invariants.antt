@@ -1,7 +1,7 @@
 use Rattle.std.proofs.Common.{◌≡◌, take, map, Some}
 use Rattle.serde_json.specs.View.{view}
 use Rattle.tsn_cert.specs.Json.{each}
-use Rattle.tsn_argument.specs.Argument.{move_in, move_value}
+use Rattle.tsn_cert.specs.Argument.{move_in, move_value}
 use Rattle.tsn_codec.proofs.argument.print.moves_value.Given as goal
 
 abbrev pub invariant-loop-motion : goal.invariant-loop-motion

@@ -1,7 +1,7 @@
 use Rattle.std.proofs.Common.{◌≡◌, take, map, Some}
 use Rattle.serde_json.specs.View.{view}
 use Rattle.tsn_cert.specs.Json.{each}
-use Rattle.tsn_argument.specs.Argument.{order_in, order_value}
+use Rattle.tsn_cert.specs.Argument.{order_in, order_value}
 use Rattle.tsn_codec.proofs.argument.print.order_list_value.Given as goal
 
 abbrev pub invariant-loop-order : goal.invariant-loop-order

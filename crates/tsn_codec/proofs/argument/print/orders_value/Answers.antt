@@ -1,5 +1,5 @@
 use Rattle.std.proofs.lemmas.Result.{on_ok_weaker}
-use Rattle.tsn_argument.proofs.Parts.{orders_back}
+use Rattle.tsn_cert.proofs.Parts.{orders_back}
 use Rattle.tsn_codec.proofs.argument.print.orders_value.Goals as goal
 
 pub returns-clause-reads_back : goal.returns-clause-reads_back

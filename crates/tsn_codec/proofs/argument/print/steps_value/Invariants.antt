@@ -1,7 +1,7 @@
 use Rattle.std.proofs.Common.{◌≡◌, take, map, Some}
 use Rattle.serde_json.specs.View.{view}
 use Rattle.tsn_cert.specs.Json.{each}
-use Rattle.tsn_argument.specs.Argument.{step_in, step_value}
+use Rattle.tsn_cert.specs.Argument.{step_in, step_value}
 use Rattle.tsn_codec.proofs.argument.print.steps_value.Given as goal
 
 abbrev pub invariant-loop-step : goal.invariant-loop-step

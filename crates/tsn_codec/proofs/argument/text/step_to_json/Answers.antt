@@ -1,6 +1,6 @@
 use Rattle.std.proofs.Common.{◌∙◌, ◌∷◌, sym, ap}
 use Rattle.serde_json.specs.Written.{has_float, compact_text}
-use Rattle.tsn_argument.specs.Text.{step_text}
+use Rattle.tsn_cert.specs.ArgumentText.{step_text}
 use Rattle.tsn_codec.proofs.ArgumentShape.{step_no_float}
 use Rattle.tsn_codec.proofs.argument.text.step_to_json.Goals as goal
 

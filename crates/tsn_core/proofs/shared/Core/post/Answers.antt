@@ -3,7 +3,7 @@ use Rattle.std.specs.Prelude.{slice_set}
 use Rattle.std.proofs.lemmas.List.{length-set}
 use Rattle.tsn_model.specs.Search.{solved_bounds, settled_by}
 use Rattle.tsn_model.specs.Core.{State, post}
-use Rattle.tsn_search_laws.specs.Replies.{found}
+use Rattle.tsn_model.specs.Replies.{found}
 use Rattle.tsn_core.specs.declared.shared.Reply.TheVariants.{Found}
 use Rattle.tsn_core.specs.Shared.{Shared, IsReply}
 use Rattle.tsn_core.proofs.Sharing.{state_of, step_shared, posted_after}

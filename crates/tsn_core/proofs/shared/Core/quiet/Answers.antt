@@ -2,7 +2,7 @@ use Rattle.std.proofs.Common.{◌≡◌, length, sym, subst, arith}
 use Rattle.std.specs.Prelude.{IsTrue}
 use Rattle.tsn_model.specs.Search.{open_paths}
 use Rattle.tsn_model.specs.Core.{IsSound, IsQuiet}
-use Rattle.tsn_search_laws.proofs.Finished.{quiet_word}
+use Rattle.tsn_model.proofs.Finished.{quiet_word}
 use Rattle.tsn_core.specs.Shared.{Shared, HasPostedAll}
 use Rattle.tsn_core.proofs.Sharing.{state_of, quiet_where, quiet_tree}
 use Rattle.tsn_core.proofs.shared.Core.quiet.Goals as goal

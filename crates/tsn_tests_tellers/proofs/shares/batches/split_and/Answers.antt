@@ -1,7 +1,7 @@
 use Rattle.std.proofs.Common.{List, map, sym, subst}
 use Rattle.tsn_node.specs.Outcome.{outcome_of}
 use Rattle.tsn_book.specs.declared.event.Event.{Event}
-use Rattle.tsn_share.specs.Teller.{OnlyLastSolved}
+use Rattle.tsn_incumbent.specs.Teller.{OnlyLastSolved}
 use Rattle.tsn_tests_tellers.specs.Solving.{the_conflict}
 use Rattle.tsn_tests_tellers.proofs.Solving.{last_of_two}
 use Rattle.tsn_tests_tellers.proofs.shares.batches.split_and.Goals as goal

@@ -1,5 +1,5 @@
 use Rattle.std.proofs.Common.{◌∙◌, ap, sym}
-use Rattle.tsn_share.specs.Teller.{Known}
+use Rattle.tsn_incumbent.specs.Teller.{Known}
 use Rattle.tsn_tests_tellers.proofs.Solving.{walk_last, walk_least}
 use Rattle.tsn_tests_tellers.proofs.shares.batches.walk_left.Goals as goal
 

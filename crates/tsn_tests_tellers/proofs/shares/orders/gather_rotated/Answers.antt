@@ -1,6 +1,6 @@
 use Rattle.std.proofs.Common.{◌≡◌, ◌<◌, List, length, sym, subst, arith}
-use Rattle.tsn_share.specs.Teller.{Known}
-use Rattle.tsn_share.specs.Gathered.{AreAll}
+use Rattle.tsn_incumbent.specs.Teller.{Known}
+use Rattle.tsn_incumbent.specs.Gathered.{AreAll}
 use Rattle.tsn_tests_tellers.proofs.Orders.{rotated_all}
 use Rattle.tsn_tests_tellers.proofs.shares.orders.gather_rotated.Goals as goal
 

@@ -1,7 +1,0 @@
-use Rattle.std.proofs.Common.{◌∙◌, sym}
-use Rattle.tsn_argument.proofs.Plain.{argument_read_again}
-use Rattle.tsn_argument.proofs.argument.Argument.is_within_limits.Goals as goal
-
-pub returns-clause-reads_back : goal.returns-clause-reads_back
-returns-clause-reads_back c holds =
-    argument_read_again c.args.self.now c.fits.ensures.grammar (sym c.fits.ensures.fits ∙ holds)

@@ -1,5 +1,0 @@
-pub mod Meaning
-pub mod Argument
-pub mod Certificate
-pub mod Text
-pub mod Laws

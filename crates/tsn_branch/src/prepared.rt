@@ -1,0 +1,77 @@
+//! What a search reads.
+ghost use Rattle.std.specs.Prelude.{◌≡◌, IfOk};
+ghost use Rattle.std.proofs.Props.{props};
+ghost use Rattle.tsn_conflict.specs.Kept.{AreConflictsOf};
+ghost use Rattle.tsn_branch.specs.Loads.{AreLoadsOf};
+ghost use Rattle.tsn_branch.specs.Rates.{rate-prop};
+
+use crate::loads::Loads;
+use crate::setting::Setting;
+use crate::tables::Tables;
+use std::alloc::Global;
+use tsn_conflict::conflicts;
+use tsn_conflict::sharing::Conflicts;
+use tsn_net::Problem;
+use tsn_node::NoMemory;
+use tsn_timing::Timing;
+
+/// The times of a problem, its conflicts and the loads of its links.
+#[derive(Drop)]
+pub struct Prepared {
+    pub timing: Timing,
+    pub conflicts: Conflicts,
+    pub loads: Loads,
+    pub ghost right_conflicts: { AreConflictsOf timing conflicts } by { Prim.hlevel (props, rate-prop) },
+    pub ghost right_loads: { AreLoadsOf timing loads },
+}
+
+impl Prepared {
+    /// Those of a problem. The error says that there was no memory.
+    //
+    // Here and below a large value is dropped by a call, since the parts of one that goes out of scope are dropped in place, and
+    // each proved at each such place.
+    pub fn of(alloc: Global, problem: &Problem) -> Result<Prepared, NoMemory>
+        ensures timing { IfOk result (λ prepared. prepared.timing ≡ problem.now.network) }
+        ensures conflicts { IfOk result (λ prepared. AreConflictsOf prepared.timing prepared.conflicts) }
+        ensures loads { IfOk result (λ prepared. AreLoadsOf prepared.timing prepared.loads) }
+    {
+        let timing = problem.timing(alloc)?;
+        let conflicts = match conflicts(alloc, &timing) {
+            Ok(conflicts) => conflicts,
+            Err(fault) => {
+                drop(timing);
+                return Err(fault);
+            }
+        };
+        match Loads::of(alloc, &timing) {
+            Ok(loads) => Ok(Prepared {
+                timing,
+                conflicts,
+                loads,
+            }),
+            Err(fault) => {
+                drop(timing);
+                drop(conflicts);
+                Err(fault)
+            }
+        }
+    }
+
+    /// What a search is given that reads it.
+    pub fn setting<'a, S>(&'a self, alloc: Global, supervisor: &'a S) -> Setting<'a, S>
+        ensures timing { result.tables.timing.now ≡ self.now.timing }
+        ensures conflicts { result.tables.conflicts.now ≡ self.now.conflicts }
+        ensures loads { result.tables.loads.now ≡ self.now.loads }
+    {
+        let tables = Tables {
+            timing: &self.timing,
+            conflicts: &self.conflicts,
+            loads: &self.loads,
+        };
+        Setting {
+            alloc,
+            tables,
+            supervisor,
+        }
+    }
+}

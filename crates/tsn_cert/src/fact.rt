@@ -1,0 +1,58 @@
+ghost use Rattle.std.specs.Prelude.{◌≡◌};
+
+use crate::order::Order;
+use std::marker::Model;
+
+/// What a clause may say of a schedule. Times are in nanoseconds.
+#[derive(Clone, Copy, Drop, PartialEq, Eq)]
+pub enum Fact {
+    /// The offset of this stream is at least this.
+    From(usize, u64),
+    /// The offset of this stream is at most this.
+    Until(usize, u64),
+    /// One stream goes before another one on a link.
+    Order(Order),
+    /// The flowspan is at least this.
+    DoneFrom(u64),
+    /// The flowspan is at most this.
+    DoneUntil(u64),
+}
+
+/// Facts of which one holds; without any it says nothing, and its step shows the view that its moves lead to.
+#[derive(Drop)]
+pub struct Clause {
+    list: Vec<Fact>,
+}
+
+impl Model for Clause {
+    ghost use Rattle.std.specs.Prelude.{List};
+    ghost use Rattle.tsn_cert.specs.declared.fact.Fact.{Fact};
+
+    ghost Value = { List Fact };
+
+    ghost view = { λ clause. clause.list.items };
+}
+
+impl Clause {
+    /// The clause of these facts.
+    pub fn of(list: Vec<Fact>) -> Clause
+        ensures { result ≡ list.items }
+    {
+        Clause { list }
+    }
+
+    /// The facts, in order.
+    pub fn list(&self) -> &[Fact]
+        ensures { result.now ≡ self.now }
+    {
+        self.list.as_slice()
+    }
+
+    /// Gives the list back.
+    pub fn into_list(self) -> Vec<Fact>
+        ensures { result.items ≡ self }
+    {
+        let Clause { list } = self;
+        list
+    }
+}

@@ -1,0 +1,58 @@
+-- The shares as comma-separated values (RFC 4180).
+--     stream_record, link_record       a record of a stream and one of a link, which have the same fields
+--     csv_text                         all records
+use Rattle.std.specs.Prelude.{ℕ, List, [], ◌∷◌, ◌++◌, if◌then◌else◌, codes}
+use Rattle.std.specs.List.{flat_map}
+use Rattle.std.specs.Fmt.{decimal}
+use Rattle.tsn_model.specs.Network.{Network, link_at}
+use Rattle.tsn_net.specs.Problem.{NamedNetwork}
+use Rattle.tsn_text.specs.Field.{quoted_field}
+use Rattle.tsn_chart.specs.declared.stream.StreamShare.{StreamShare}
+use Rattle.tsn_chart.specs.declared.link.LinkShare.{LinkShare}
+use Rattle.tsn_gate.specs.Table.{name_at}
+use Rattle.tsn_chart.specs.Shares.{sends_several}
+use Rattle.tsn_chart.specs.Table.{stream_name}
+
+-- a stream's numbers, each after a comma, and the empty fields of a link
+unfoldable pub stream_numbers : StreamShare → List ℕ
+stream_numbers share =
+    codes "," ++ (decimal share.offset ++ (codes "," ++ (decimal share.latency ++ (codes "," ++ (decimal share.arrival ++ (codes "," ++ (decimal share.to_latest
+    ++ (codes "," ++ (decimal share.to_cycle ++ codes ",,,,,,,")))))))))
+
+-- the end of its line: its period and its frames in it, where some stream of the network sends several a cycle
+unfoldable pub stream_end : Network → StreamShare → List ℕ
+stream_end network share =
+    if sends_several network then codes "," ++ (decimal share.period ++ (codes "," ++ (decimal share.frames ++ codes ",\r\n"))) else 13 ∷ 10 ∷ []
+
+-- the stream's name in quotes, its numbers, and the end
+abbrev pub stream_record : NamedNetwork → StreamShare → List ℕ
+stream_record problem share = quoted_field (stream_name problem share.stream) ++ (stream_numbers share ++ stream_end problem.network share)
+
+-- the empty fields of a stream, and the link's number
+unfoldable pub link_head : ℕ → List ℕ
+link_head link = codes ",,,,,," ++ (decimal link ++ codes ",")
+
+-- a link's numbers, each after a comma
+unfoldable pub link_numbers : LinkShare → List ℕ
+link_numbers share =
+    codes "," ++ (decimal share.scheduled ++ (codes "," ++ (decimal share.guard ++ (codes "," ++ (decimal share.open ++ (codes "," ++ decimal share.longest_open))))))
+
+-- the end of its line: the empty fields of a stream and how many windows it has, where some stream of the network sends several frames a cycle
+unfoldable pub link_end : Network → LinkShare → List ℕ
+link_end network share = if sends_several network then codes ",,," ++ (decimal share.windows ++ 13 ∷ 10 ∷ []) else 13 ∷ 10 ∷ []
+
+-- the link's number, the names in quotes of the nodes that it joins, and its numbers
+abbrev pub link_record : NamedNetwork → LinkShare → List ℕ
+link_record problem share =
+    let link = link_at problem.network share.link in
+    link_head share.link ++ (quoted_field (name_at problem link.from) ++ (codes "," ++ (quoted_field (name_at problem link.to) ++ (link_numbers share ++ link_end problem.network share))))
+
+-- the names of the fields
+abbrev pub header_text : Network → List ℕ
+header_text network =
+    codes "stream,offset,latency,arrival,to_latest,to_cycle,link,from,to,scheduled,guard,open,longest_open"
+    ++ (if sends_several network then codes ",period,frames,windows\r\n" else codes "\r\n")
+
+-- the header, a record for each stream, then one for each link
+abbrev pub csv_text : NamedNetwork → List StreamShare → List LinkShare → List ℕ
+csv_text problem streams links = header_text problem.network ++ (flat_map (stream_record problem) streams ++ flat_map (link_record problem) links)

@@ -1,0 +1,65 @@
+-- The shares as lines of JSON.
+--     stream_value, link_value     the value of a line
+--     json_text                    all lines
+use Rattle.std.specs.Prelude.{ℕ, List, [], ◌∷◌, ◌++◌, if◌then◌else◌, codes}
+use Rattle.std.specs.List.{flat_map}
+use Rattle.serde_json.specs.Data.{Data, number, unsigned, string, object, no_members, member}
+use Rattle.serde_json.specs.Written.{compact_text}
+use Rattle.tsn_model.specs.Network.{link_at}
+use Rattle.tsn_net.specs.Problem.{NamedNetwork}
+use Rattle.tsn_chart.specs.declared.stream.StreamShare.{StreamShare}
+use Rattle.tsn_chart.specs.declared.link.LinkShare.{LinkShare}
+use Rattle.tsn_gate.specs.Table.{name_at}
+use Rattle.tsn_chart.specs.Shares.{sends_several}
+use Rattle.tsn_chart.specs.Table.{stream_name}
+
+abbrev pub number_value : ℕ → Data
+number_value n = number (unsigned n)
+
+-- an object with the stream's name and its numbers
+abbrev pub stream_value : NamedNetwork → StreamShare → Data
+stream_value problem share =
+    object (member (codes "arrival") (number_value share.arrival) (member (codes "latency") (number_value share.latency)
+    (member (codes "offset") (number_value share.offset) (member (codes "stream") (string (stream_name problem share.stream))
+    (member (codes "to_cycle") (number_value share.to_cycle) (member (codes "to_latest") (number_value share.to_latest) no_members))))))
+
+-- the same with the period, and the frames in it
+abbrev pub several_value : NamedNetwork → StreamShare → Data
+several_value problem share =
+    object (member (codes "arrival") (number_value share.arrival) (member (codes "frames") (number_value share.frames)
+    (member (codes "latency") (number_value share.latency) (member (codes "offset") (number_value share.offset)
+    (member (codes "period") (number_value share.period) (member (codes "stream") (string (stream_name problem share.stream))
+    (member (codes "to_cycle") (number_value share.to_cycle) (member (codes "to_latest") (number_value share.to_latest) no_members))))))))
+
+-- an object with the link, the names of the nodes that it joins, and its numbers
+abbrev pub link_value : NamedNetwork → LinkShare → Data
+link_value problem share =
+    let link = link_at problem.network share.link in
+    object (member (codes "from") (string (name_at problem link.from)) (member (codes "guard") (number_value share.guard)
+    (member (codes "link") (number_value share.link) (member (codes "longest_open") (number_value share.longest_open)
+    (member (codes "open") (number_value share.open) (member (codes "scheduled") (number_value share.scheduled)
+    (member (codes "to") (string (name_at problem link.to)) no_members)))))))
+
+-- the same with how many windows it has
+abbrev pub windows_value : NamedNetwork → LinkShare → Data
+windows_value problem share =
+    let link = link_at problem.network share.link in
+    object (member (codes "from") (string (name_at problem link.from)) (member (codes "guard") (number_value share.guard)
+    (member (codes "link") (number_value share.link) (member (codes "longest_open") (number_value share.longest_open)
+    (member (codes "open") (number_value share.open) (member (codes "scheduled") (number_value share.scheduled)
+    (member (codes "to") (string (name_at problem link.to)) (member (codes "windows") (number_value share.windows) no_members))))))))
+
+-- a value as JSON with no space, and a line feed
+abbrev pub line_text : Data → List ℕ
+line_text value = compact_text value ++ 10 ∷ []
+
+-- the line of a stream, and that of a link: with the frames where some stream of the network sends several a cycle
+abbrev pub stream_json : NamedNetwork → StreamShare → List ℕ
+stream_json problem share = if sends_several problem.network then line_text (several_value problem share) else line_text (stream_value problem share)
+
+abbrev pub link_json : NamedNetwork → LinkShare → List ℕ
+link_json problem share = if sends_several problem.network then line_text (windows_value problem share) else line_text (link_value problem share)
+
+-- a line for each stream, then one for each link
+abbrev pub json_text : NamedNetwork → List StreamShare → List LinkShare → List ℕ
+json_text problem streams links = flat_map (stream_json problem) streams ++ flat_map (link_json problem) links

@@ -1,0 +1,54 @@
+-- The shares as a table.
+--     stream_line, link_line, table_text     its lines, and all of them
+--     stream_name                            names
+use Rattle.std.specs.Prelude.{ℕ, List, [], ◌∷◌, ◌++◌, if◌then◌else◌, slice_get, unwrap_or, codes}
+use Rattle.std.specs.List.{flat_map}
+use Rattle.std.specs.Fmt.{decimal}
+use Rattle.tsn_model.specs.Network.{Network, link_at}
+use Rattle.tsn_net.specs.Problem.{NamedNetwork}
+use Rattle.tsn_gate.specs.Table.{name_at}
+use Rattle.tsn_chart.specs.declared.stream.StreamShare.{StreamShare}
+use Rattle.tsn_chart.specs.declared.link.LinkShare.{LinkShare}
+use Rattle.tsn_chart.specs.Shares.{sends_several}
+
+-- the name of a stream; past the last one, none
+abbrev pub stream_name : NamedNetwork → ℕ → List ℕ
+stream_name problem stream = unwrap_or (slice_get problem.stream_names stream) []
+
+-- a stream's numbers, each after its word
+unfoldable pub stream_numbers : StreamShare → List ℕ
+stream_numbers share =
+    codes " offset " ++ (decimal share.offset ++ (codes " latency " ++ (decimal share.latency ++ (codes " arrival " ++ (decimal share.arrival
+    ++ (codes " to_latest " ++ (decimal share.to_latest ++ (codes " to_cycle " ++ decimal share.to_cycle))))))))
+
+-- the end of its line: its period and its frames in it, where some stream of the network sends several a cycle
+unfoldable pub stream_end : Network → StreamShare → List ℕ
+stream_end network share =
+    if sends_several network then codes " period " ++ (decimal share.period ++ (codes " frames " ++ (decimal share.frames ++ 10 ∷ []))) else 10 ∷ []
+
+-- the stream's name, its numbers, and the end
+abbrev pub stream_line : NamedNetwork → StreamShare → List ℕ
+stream_line problem share = codes "stream " ++ (stream_name problem share.stream ++ (stream_numbers share ++ stream_end problem.network share))
+
+-- a link's number, and the names of the nodes that it joins
+unfoldable pub link_head : ℕ → List ℕ → List ℕ → List ℕ
+link_head link from to = codes "link " ++ (decimal link ++ (codes " " ++ (from ++ (codes " " ++ to))))
+
+-- a link's numbers, each after its word
+unfoldable pub link_numbers : LinkShare → List ℕ
+link_numbers share =
+    codes " scheduled " ++ (decimal share.scheduled ++ (codes " guard " ++ (decimal share.guard
+    ++ (codes " open " ++ (decimal share.open ++ (codes " longest_open " ++ decimal share.longest_open))))))
+
+-- the end of its line: how many windows it has, where some stream of the network sends several frames a cycle
+unfoldable pub link_end : Network → LinkShare → List ℕ
+link_end network share = if sends_several network then codes " windows " ++ (decimal share.windows ++ 10 ∷ []) else 10 ∷ []
+
+abbrev pub link_line : NamedNetwork → LinkShare → List ℕ
+link_line problem share =
+    let link = link_at problem.network share.link in
+    link_head share.link (name_at problem link.from) (name_at problem link.to) ++ (link_numbers share ++ link_end problem.network share)
+
+-- a line for each stream, then one for each link
+abbrev pub table_text : NamedNetwork → List StreamShare → List LinkShare → List ℕ
+table_text problem streams links = flat_map (stream_line problem) streams ++ flat_map (link_line problem) links

@@ -1,0 +1,66 @@
+//! What all streams and links get.
+ghost use Rattle.std.specs.Prelude.{◌≡◌, ◌+◌, ◌<◌, All, IfOk, length};
+ghost use Rattle.tsn_model.specs.Schedule.{IsValid};
+ghost use Rattle.tsn_chart.specs.Shares.{AreSharesOfLinks, stream_shares};
+
+use crate::link::{LinkShare, link_shares};
+use crate::stream::{StreamShare, stream_shares};
+use std::alloc::Global;
+use tsn_gate::gate_lists;
+use tsn_model::NoMemory;
+use tsn_net::Problem;
+use tsn_timing::Valid;
+
+/// What each stream gets by a schedule, in stream order, and each directed link that a stream uses, by link number.
+#[derive(Drop)]
+pub struct Shares {
+    pub streams: Vec<StreamShare>,
+    pub links: Vec<LinkShare>,
+}
+
+/// What the streams and links get by a valid schedule, the links by the gate control lists that it asks for.
+///
+/// # Errors
+///
+/// There was no memory.
+pub fn plan_shares(alloc: Global, problem: &Problem, valid: &Valid) -> Result<Shares, NoMemory>
+    requires { IsValid problem.now.network valid.now }
+    ensures streams { IfOk result (λ shares. shares.streams.items ≡ stream_shares problem.now.network valid.now) }
+    ensures links { IfOk result (λ shares. AreSharesOfLinks problem.now.network valid.now shares.links.items) }
+    ensures whole { IfOk result (λ shares. All (λ (share : LinkShare). share.scheduled + share.guard + share.open ≡ problem.now.network.cycle) shares.links.items) }
+    ensures named { IfOk result (λ shares. All (λ (share : StreamShare). share.stream < length problem.now.stream_names) shares.streams.items) }
+    ensures exist { IfOk result (λ shares. All (λ (share : LinkShare). share.link < length problem.now.network.links) shares.links.items) }
+{
+    let streams = of_streams(alloc, problem, valid)?;
+    let links = of_links(alloc, problem, valid)?;
+    Ok(Shares { streams, links })
+}
+
+/// What the streams get.
+fn of_streams(alloc: Global, problem: &Problem, valid: &Valid) -> Result<Vec<StreamShare>, NoMemory>
+    requires { IsValid problem.now.network valid.now }
+    ensures value { IfOk result (λ shares. shares.items ≡ stream_shares problem.now.network valid.now) }
+    ensures named { IfOk result (λ shares. All (λ (share : StreamShare). share.stream < length problem.now.stream_names) shares.items) }
+{
+    // Each stream has a name.
+    let _streams = problem.streams();
+    let timing = problem.timing(alloc)?;
+    let shares = stream_shares(alloc, &timing, valid);
+    drop(timing);
+    shares
+}
+
+/// What the links get.
+fn of_links(alloc: Global, problem: &Problem, valid: &Valid) -> Result<Vec<LinkShare>, NoMemory>
+    requires { IsValid problem.now.network valid.now }
+    ensures value { IfOk result (λ shares. AreSharesOfLinks problem.now.network valid.now shares.items) }
+    ensures whole { IfOk result (λ shares. All (λ (share : LinkShare). share.scheduled + share.guard + share.open ≡ problem.now.network.cycle) shares.items) }
+    ensures exist { IfOk result (λ shares. All (λ (share : LinkShare). share.link < length problem.now.network.links) shares.items) }
+{
+    let timing = problem.timing(alloc)?;
+    let lists = gate_lists(alloc, problem, valid)?;
+    let shares = link_shares(alloc, &timing, &lists);
+    drop(lists);
+    drop(timing);
+    shares
+}

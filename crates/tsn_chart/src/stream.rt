@@ -1,0 +1,82 @@
+//! What a stream gets.
+ghost use Rattle.std.specs.Prelude.{◌≡◌, ◌<◌, IfOk};
+ghost use Rattle.tsn_model.specs.Network.{stream_count};
+ghost use Rattle.tsn_model.specs.Schedule.{IsValid};
+ghost use Rattle.tsn_chart.specs.Shares.{stream_share, stream_shares};
+
+use std::alloc::{AllocError, Global};
+use tsn_model::NoMemory;
+use tsn_timing::{Timing, Valid};
+
+/// What a stream gets by a schedule, in nanoseconds.
+#[derive(Clone, Copy)]
+pub struct StreamShare {
+    /// The stream.
+    pub stream: usize,
+    /// When its sender starts the first frame of each period, counted from the period's start.
+    pub offset: u64,
+    /// How long its frames of a period are on the route: from its offset until the last one has arrived and its last link is
+    /// free again.
+    pub latency: u64,
+    /// When the last frame of a period has arrived, counted from the period's start.
+    pub arrival: u64,
+    /// What is left from then to its latest instant.
+    pub to_latest: u64,
+    /// What is left of the period when its last link is free again.
+    pub to_cycle: u64,
+    /// Its period.
+    pub period: u64,
+    /// How many frames it sends in each period.
+    pub frames: u64,
+}
+
+/// What a stream gets by a valid schedule.
+#[tactic(auto, unfolding(crate::specs::Shares::stream_share))]
+pub fn stream_share(timing: &Timing, valid: &Valid, stream: usize) -> StreamShare
+    requires stream { stream < stream_count timing.now }
+    requires valid { IsValid timing.now valid.now }
+    ensures { result ≡ stream_share timing.now valid.now stream }
+{
+    let period = timing.period(stream);
+    let offset = valid.offsets()[stream];
+    let latency = timing.span(stream);
+    let arrival = offset + timing.arrival(stream);
+    StreamShare {
+        stream,
+        offset,
+        latency,
+        arrival,
+        to_latest: timing.latest(stream).saturating_sub(arrival),
+        to_cycle: period.saturating_sub(offset + latency),
+        period,
+        frames: timing.burst(stream),
+    }
+}
+
+/// What each stream gets by a valid schedule, in stream order.
+///
+/// # Errors
+///
+/// There was no memory.
+pub fn stream_shares(
+    alloc: Global,
+    timing: &Timing,
+    valid: &Valid,
+) -> Result<Vec<StreamShare>, NoMemory>
+    requires { IsValid timing.now valid.now }
+    ensures { IfOk result (λ shares. shares.items ≡ stream_shares timing.now valid.now) }
+{
+    Ok(shares_of(alloc, timing, valid)?)
+}
+
+/// What each stream gets.
+fn shares_of(alloc: Global, timing: &Timing, valid: &Valid) -> Result<Vec<StreamShare>, AllocError>
+    requires { IsValid timing.now valid.now }
+    ensures { IfOk result (λ shares. shares.items ≡ stream_shares timing.now valid.now) }
+{
+    let mut shares = Vec::new(alloc);
+    for stream in 0..timing.streams() {
+        shares.push(stream_share(timing, valid, stream))?;
+    }
+    Ok(shares)
+}

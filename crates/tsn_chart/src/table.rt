@@ -1,0 +1,75 @@
+//! The lines of a table.
+ghost use Rattle.std.specs.Prelude.{◌≡◌, ◌++◌, OnOk, string_bytes};
+ghost use Rattle.tsn_chart.specs.Table.{link_end, link_line, stream_end, stream_line};
+
+use crate::format::Format;
+use crate::frames::sends_several;
+use crate::link::LinkShare;
+use crate::stream::StreamShare;
+use std::alloc::AllocError;
+use std::fmt::Write;
+use tsn_gate::list::names;
+use tsn_net::Problem;
+
+/// A table: a line for each stream and each link.
+pub struct Table;
+
+impl Format for Table {
+    ghost stream_text = { stream_line };
+
+    ghost link_text = { link_line };
+
+    #[tactic(auto, unfolding(crate::specs::Table::stream_numbers))]
+    fn stream(text: &mut String, problem: &Problem, share: &StreamShare) -> Result<(), AllocError> {
+        text.push_str("stream ")?;
+        text.push_str(problem.stream_name(share.stream))?;
+        write!(
+            text,
+            " offset {} latency {} arrival {} to_latest {} to_cycle {}",
+            share.offset, share.latency, share.arrival, share.to_latest, share.to_cycle
+        )?;
+        end_stream(text, problem, share)
+    }
+
+    #[tactic(auto, unfolding(crate::specs::Table::link_head, crate::specs::Table::link_numbers))]
+    fn link(text: &mut String, problem: &Problem, share: &LinkShare) -> Result<(), AllocError> {
+        let (from, to) = names(problem, share.link);
+        write!(text, "link {} ", share.link)?;
+        text.push_str(from)?;
+        text.push_str(" ")?;
+        text.push_str(to)?;
+        write!(
+            text,
+            " scheduled {} guard {} open {} longest_open {}",
+            share.scheduled, share.guard, share.open, share.longest_open
+        )?;
+        end_link(text, problem, share)
+    }
+}
+
+/// Ends a stream's line: with its period and its frames in it, where some stream sends several a cycle.
+#[tactic(auto, unfolding(crate::specs::Table::stream_end))]
+fn end_stream(text: &mut String, problem: &Problem, share: &StreamShare) -> Result<(), AllocError>
+    ensures { OnOk result (string_bytes text.new ≡ string_bytes text.old ++ stream_end problem.now.network share.now) }
+{
+    let period = share.period;
+    let frames = share.frames;
+    if sends_several(problem) {
+        write!(text, " period {period} frames {frames}\n")
+    } else {
+        text.push_str("\n")
+    }
+}
+
+/// Ends a link's line: with how many windows it has, where some stream sends several frames a cycle.
+#[tactic(auto, unfolding(crate::specs::Table::link_end))]
+fn end_link(text: &mut String, problem: &Problem, share: &LinkShare) -> Result<(), AllocError>
+    ensures { OnOk result (string_bytes text.new ≡ string_bytes text.old ++ link_end problem.now.network share.now) }
+{
+    let windows = share.windows;
+    if sends_several(problem) {
+        write!(text, " windows {windows}\n")
+    } else {
+        text.push_str("\n")
+    }
+}

@@ -1,0 +1,220 @@
+-- A run stays a bridge run up to the present instant, by each start and by each step of time.
+use Rattle.std.proofs.Common.{◌≡◌, ℕ, ◌+◌, ◌*◌, ◌≤◌, ◌<◌, ◌⊎◌, List, [], ◌∷◌, ◌++◌, All, Contains, refl, sym, ap, subst, arith, inl, inr, get_or}
+use Rattle.std.specs.List.{AllPairs}
+use Rattle.std.proofs.lemmas.Bool.{cases_lt, cases_eq}
+use Rattle.std.proofs.lemmas.List.Elements.{All-contains, All-weaker, Contains-push, Contains-append_left, Contains-append_right, Contains-append_cases}
+use Rattle.tsn_model.specs.Network.{Network}
+use Rattle.tsn_model.specs.Bridge.{LinkGates, BackgroundOpen, Passage, BridgeRun, WireUse, link_of, wire_uses, AreDisjoint, IsPassage, StartedAt, NotStartedBefore, IsReady, IsBlocked, IsBridgeRun, IsTaken, IsHeld, IsFed}
+use Rattle.tsn_model.specs.Bridge.Background.{greedy}
+use Rattle.tsn_gate.specs.Progress.{IsRunSoFar, IsGreedySoFar, IsQuiet}
+use Rattle.tsn_gate.proofs.ListLemmas.{All-insert, AllPairs-insert}
+
+-- one run has what another has, and more starts, none of them before an instant
+pub record Extends (network : Network) (old new : BridgeRun) (now : ℕ) : Type 0 where
+  pub uses : (wire : WireUse) → Contains (wire_uses network old) wire → Contains (wire_uses network new) wire
+  pub starts : (p : Passage) (s : ℕ) → StartedAt old p s → StartedAt new p s
+  pub fresh : (p : Passage) (s : ℕ) → StartedAt new p s → StartedAt old p s ⊎ (now ≤ s)
+
+module _ (network : Network) (offsets : List ℕ) (gates : List LinkGates) (cycles : ℕ) (old new : BridgeRun) (now : ℕ) (extends : Extends network old new now) where
+  pub ready_more : (p : Passage) (t : ℕ) → IsReady network offsets old p t → IsReady network offsets new p t
+  ready_more p t (inl first) = inl first
+  ready_more p t (inr (before, s, next, at, after)) = inr (before, s, next, extends.starts (record p { hop = before }) s at, after)
+
+  pub blocked_more : (p : Passage) (ready t : ℕ) → t ≤ now → IsBlocked network offsets gates cycles old p ready t → IsBlocked network offsets gates cycles new p ready t
+  blocked_more p ready t upto (inl closed) = inl closed
+  blocked_more p ready t upto (inr (inl (k, wire, below, is, facts))) =
+      let has = extends.uses wire (k, below, is) in
+      inr (inl (has.0, wire, has.1, has.2, facts))
+  blocked_more p ready t upto (inr (inr (earlier, earlier_ready, passage, queued, not_before))) =
+      inr (inr (
+        earlier,
+        earlier_ready,
+        passage,
+        record { same_link = queued.same_link; ready = ready_more earlier earlier_ready queued.ready; order = queued.order },
+        λ s at. elim (extends.fresh earlier s at) [ inl before ↦ not_before s before | inr late ↦ omega arith ],
+      ))
+
+  pub taken_more : (link t : ℕ) → IsTaken network old link t → IsTaken network new link t
+  taken_more link t (k, wire, below, is, facts) = let has = extends.uses wire (k, below, is) in (has.0, wire, has.1, has.2, facts)
+
+  pub held_more : (link t : ℕ) → IsHeld network gates old link t → IsHeld network gates new link t
+  held_more link t (inl closed) = inl closed
+  held_more link t (inr taken) = inr (taken_more link t taken)
+
+  pub not_started_less : (p : Passage) (t : ℕ) → NotStartedBefore new p t → NotStartedBefore old p t
+  not_started_less p t none s at = none s (extends.starts p s at)
+
+  -- what waits is blocked as before, on every link but the one with the start, where it is blocked at that instant too
+  module _ (free after : ℕ → ℕ) (so_far : IsRunSoFar network offsets gates cycles free now old) (link : ℕ)
+      (others : (q : Passage) (ready : ℕ) → IsPassage network cycles q → link_of network q ≡ link → IsReady network offsets old q ready → ready ≤ now → NotStartedBefore new q (now + 1)
+      → IsBlocked network offsets gates cycles new q ready now)
+      (ready_less : (q : Passage) (ready : ℕ) → IsReady network offsets new q ready → IsReady network offsets old q ready ⊎ (now < ready))
+      (elsewhere : (m : ℕ) → (m ≡ link → ⊥) → after m ≡ free m)
+      (busy : (m t : ℕ) → now ≤ t → t < after m → IsTaken network new m t)
+      (begin : All (λ (wire : WireUse). (wire.from ≤ now) × (wire.from < cycles * network.cycle)) (wire_uses network new)) where
+    pub waits_more : (q : Passage) (ready t : ℕ) → IsPassage network cycles q → IsReady network offsets new q ready → ready ≤ t → t < cycles * network.cycle
+        → (t < now) ⊎ (t < after (link_of network q)) → NotStartedBefore new q (t + 1) → IsBlocked network offsets gates cycles new q ready t
+    waits_more q ready t passage is_ready since in_time when none = elim (cases_lt now t) [
+      | inl later ↦
+          let soon : t < after (link_of network q) = elim when [ inl past ↦ absurd (omega arith) | inr soon ↦ soon ] in
+          let taken = busy (link_of network q) t (omega arith) soon in
+          let from = All-contains (λ (wire : WireUse). (wire.from ≤ now) × (wire.from < cycles * network.cycle)) (wire_uses network new) taken.1 begin (taken.0, taken.2, taken.3) in
+          let from_le = from.0 in
+          inr (inl (taken.0, taken.1, taken.2, taken.3, (taken.4.0, omega arith, taken.4.2)))
+      | inr upto ↦ elim (ready_less q ready is_ready) [
+        | inr late ↦ absurd (omega arith)
+        | inl before ↦ elim (cases_lt t now) [
+          | inl past ↦ blocked_more q ready t upto (so_far.waits q ready t passage before since in_time (inl past) (not_started_less q (t + 1) none))
+          | inr not_past ↦
+              let soon : t < after (link_of network q) = elim when [ inl past ↦ absurd (omega arith) | inr soon ↦ soon ] in
+              elim (cases_eq (link_of network q) link) [
+                | inl same ↦
+                    let here : now ≡ t = omega arith in
+                    subst (λ u. IsBlocked network offsets gates cycles new q ready u) here
+                    (others q ready passage same before (omega arith) (subst (λ u. NotStartedBefore new q (u + 1)) (sym here) none))
+                | inr differ ↦
+                    let still : t < free (link_of network q) = subst (λ n. t < n) (elsewhere (link_of network q) differ) soon in
+                    blocked_more q ready t upto (so_far.waits q ready t passage before since in_time (inr still) (not_started_less q (t + 1) none))
+              ]
+        ]
+      ]
+    ]
+
+  -- so is what is held of the background
+  module _ (free after : ℕ → ℕ) (so_far : IsRunSoFar network offsets gates cycles free now old) (link : ℕ) (elsewhere : (m : ℕ) → (m ≡ link → ⊥) → after m ≡ free m)
+      (busy : (m t : ℕ) → now ≤ t → t < after m → IsTaken network new m t) where
+    pub greedy_more : (m t : ℕ) → ((t < now) ⊎ (t < free m) → IsHeld network gates old m t) → (t < now) ⊎ (t < after m) → IsHeld network gates new m t
+    greedy_more m t before (inl past) = held_more m t (before (inl past))
+    greedy_more m t before (inr soon) = elim (cases_lt t now) [
+      | inl past ↦ held_more m t (before (inl past))
+      | inr present ↦ inr (busy m t present soon)
+    ]
+
+-- ---- one more use of a wire that is free
+
+module _ (network : Network) (offsets : List ℕ) (gates : List LinkGates) (cycles : ℕ) (free after : ℕ → ℕ) (now : ℕ) (old new : BridgeRun) (so_far : IsRunSoFar network offsets gates cycles free now old)
+    (wire : WireUse) (xs ys : List WireUse) (old_is : wire_uses network old ≡ xs ++ ys) (new_is : wire_uses network new ≡ (xs ++ wire ∷ []) ++ ys)
+    (is_free : free wire.link ≤ now) (from_is : wire.from ≡ now) (in_time : now < cycles * network.cycle) (forward : now ≤ wire.until) (here : after wire.link ≡ wire.until)
+    (elsewhere : (m : ℕ) → (m ≡ wire.link → ⊥) → after m ≡ free m) where
+  abbrev pub Begins : WireUse → Type 0
+  Begins held = (held.from ≤ now) × (held.from < cycles * network.cycle)
+
+  has_new : Contains (wire_uses network new) wire
+  has_new = subst (λ uses. Contains uses wire) (sym new_is) (Contains-append_left (xs ++ wire ∷ []) ys wire (Contains-push xs wire))
+
+  pub uses_kept : (held : WireUse) → Contains (wire_uses network old) held → Contains (wire_uses network new) held
+  uses_kept held has = subst (λ uses. Contains uses held) (sym new_is)
+      (elim (Contains-append_cases xs ys held (subst (λ uses. Contains uses held) old_is has)) [
+        | inl left ↦ Contains-append_left (xs ++ wire ∷ []) ys held (Contains-append_left xs (wire ∷ []) held left)
+        | inr right ↦ Contains-append_right (xs ++ wire ∷ []) ys held right
+      ])
+
+  -- what holds of each use, and of the new one
+  with_new : (P : WireUse → Type 0) → All P (wire_uses network old) → P wire → All P (wire_uses network new)
+  with_new P all one = subst (All P) (sym new_is) (All-insert P xs ys wire (subst (All P) old_is all) one)
+
+  pub begin_more : All Begins (wire_uses network new)
+  begin_more = with_new Begins so_far.uses_begin (omega arith, omega arith)
+
+  free_less : (m : ℕ) → free m ≤ after m
+  free_less m = elim (cases_eq m wire.link) [
+    | inl same ↦
+        let before : free m ≡ free wire.link = ap free same in
+        let later : after m ≡ after wire.link = ap after same in
+        omega arith
+    | inr differ ↦ let still = elsewhere m differ in omega arith
+  ]
+
+  pub end_more : All (λ (held : WireUse). held.until ≤ after held.link) (wire_uses network new)
+  end_more = with_new (λ (held : WireUse). held.until ≤ after held.link)
+      (All-weaker (λ (held : WireUse). held.until ≤ free held.link) (λ (held : WireUse). held.until ≤ after held.link) (λ held below. let less = free_less held.link in omega arith) (wire_uses network old) so_far.uses_end)
+      (omega arith)
+
+  before_new : (held : WireUse) → held.until ≤ free held.link → AreDisjoint held wire
+  before_new held ends same t begun still from until =
+      let link : free held.link ≡ free wire.link = ap free same in
+      absurd (omega arith)
+
+  pub shared_more : AllPairs AreDisjoint (wire_uses network new)
+  shared_more = subst (AllPairs AreDisjoint) (sym new_is)
+      (AllPairs-insert AreDisjoint xs ys wire (subst (AllPairs AreDisjoint) old_is so_far.wires_shared)
+      (subst (All (λ held. AreDisjoint held wire)) old_is (All-weaker (λ (held : WireUse). held.until ≤ free held.link) (λ held. AreDisjoint held wire) before_new (wire_uses network old) so_far.uses_end))
+      (λ held apart same t from until begun still. apart (sym same) t begun still from until))
+
+  pub busy_more : (m t : ℕ) → now ≤ t → t < after m → IsTaken network new m t
+  busy_more m t since soon = elim (cases_eq m wire.link) [
+    | inl same ↦
+        let has = has_new in
+        let later : after m ≡ after wire.link = ap after same in
+        (has.0, wire, has.1, has.2, (sym same, omega arith, omega arith))
+    | inr differ ↦
+        let taken = so_far.busy m t since (subst (λ n. t < n) (elsewhere m differ) soon) in
+        let has = uses_kept taken.1 (taken.0, taken.2, taken.3) in
+        (has.0, taken.1, has.1, has.2, taken.4)
+  ]
+
+-- ---- time that passes
+
+module _ (network : Network) (offsets : List ℕ) (gates : List LinkGates) (cycles : ℕ) (free : ℕ → ℕ) (now later : ℕ) (run : BridgeRun) (forward : now ≤ later) where
+  pub time_passes : IsRunSoFar network offsets gates cycles free now run
+      → ((t : ℕ) → now ≤ t → t < later → t < cycles * network.cycle → (link : ℕ) → free link ≤ t → IsQuiet network offsets gates cycles t run link)
+      → IsRunSoFar network offsets gates cycles free later run
+  time_passes so_far quiet = record {
+    wires_shared = so_far.wires_shared;
+    uses_begin = All-weaker (λ (wire : WireUse). (wire.from ≤ now) × (wire.from < cycles * network.cycle)) (λ (wire : WireUse). (wire.from ≤ later) × (wire.from < cycles * network.cycle))
+        (λ wire begins. let before = begins.0 in (omega arith, begins.1)) (wire_uses network run) so_far.uses_begin;
+    uses_end = so_far.uses_end;
+    busy = λ link t since soon. so_far.busy link t (omega arith) soon;
+    background_length = so_far.background_length;
+    background_open = so_far.background_open;
+    passages = so_far.passages;
+    once = so_far.once;
+    ready = so_far.ready;
+    fits = so_far.fits;
+    waits = λ q ready t passage is_ready since in_time when none. elim (cases_lt t now) [
+      | inl past ↦ so_far.waits q ready t passage is_ready since in_time (inl past) none
+      | inr present ↦ elim (cases_lt t (free (link_of network q))) [
+        | inl taken ↦ so_far.waits q ready t passage is_ready since in_time (inr taken) none
+        | inr open' ↦
+            let soon : t < later = elim when [ inl soon ↦ soon | inr taken ↦ absurd (omega arith) ] in
+            (quiet t present soon in_time (link_of network q) open').blocked q ready passage refl is_ready since none
+      ]
+    ];
+  }
+
+  pub greedy_passes : IsGreedySoFar network gates cycles free now run
+      → ((t : ℕ) → now ≤ t → t < later → t < cycles * network.cycle → All (λ (item : LinkGates). free item.link ≤ t → ¬ BackgroundOpen gates item.link t) gates)
+      → IsGreedySoFar network gates cycles free later run
+  greedy_passes steady closed = record {
+    greatest = steady.greatest;
+    held = λ t in_time k d below when. elim (cases_lt t now) [
+      | inl past ↦ steady.held t in_time k d below (inl past)
+      | inr present ↦ elim (cases_lt t (free (get_or gates k d).link)) [
+        | inl taken ↦ steady.held t in_time k d below (inr taken)
+        | inr open' ↦
+            let soon : t < later = elim when [ inl soon ↦ soon | inr taken ↦ absurd (omega arith) ] in
+            inl (closed t present soon in_time k d below open')
+      ]
+    ];
+  }
+
+-- ---- the end
+
+pub run_ends : (network : Network) (offsets : List ℕ) (gates : List LinkGates) (cycles : ℕ) (free : ℕ → ℕ) (run : BridgeRun) → IsRunSoFar network offsets gates cycles free (cycles * network.cycle) run
+    → IsBridgeRun network offsets gates cycles run
+run_ends network offsets gates cycles free run so_far = record {
+  wires_shared = so_far.wires_shared;
+  uses_begin = All-weaker (λ (wire : WireUse). (wire.from ≤ cycles * network.cycle) × (wire.from < cycles * network.cycle)) (λ (wire : WireUse). wire.from < cycles * network.cycle)
+      (λ wire begins. begins.1) (wire_uses network run) so_far.uses_begin;
+  background_length = so_far.background_length;
+  background_open = so_far.background_open;
+  passages = so_far.passages;
+  once = so_far.once;
+  ready = so_far.ready;
+  fits = so_far.fits;
+  waits = λ q ready t passage is_ready since in_time none. so_far.waits q ready t passage is_ready since in_time (inl in_time) none;
+}
+
+pub greedy_ends : (network : Network) (gates : List LinkGates) (cycles : ℕ) (free : ℕ → ℕ) (run : BridgeRun) → IsGreedySoFar network gates cycles free (cycles * network.cycle) run
+    → IsFed network gates cycles greedy run
+greedy_ends network gates cycles free run so_far = (so_far.greatest, λ t in_time k d below. so_far.held t in_time k d below (inl in_time))

@@ -1,0 +1,53 @@
+-- The start of a scheduled frame keeps the state of a replay, said of what the code reads and computes.
+use Rattle.std.proofs.Common.{◌≡◌, ℕ, ◌+◌, ◌≤◌, ◌<◌, ◌^◌, length, get_or, slice_set, Some, refl, sym, ap, ◌∙◌, subst}
+use Rattle.std.specs.Vec.{with_item}
+use Rattle.tsn_model.specs.Network.{stream_count, hop_count}
+use Rattle.tsn_model.specs.Timing.{occupancy}
+use Rattle.tsn_model.specs.Bridge.{LinkGates, BridgeRun}
+use Rattle.tsn_gate.specs.declared.queue.Frame.{Frame}
+use Rattle.tsn_gate.specs.declared.engine.State.{State}
+use Rattle.tsn_gate.specs.Queue.{Waits, frame_in, passage_of}
+use Rattle.tsn_gate.specs.Ports.{IsFirstPort, port_in}
+use Rattle.tsn_gate.specs.Progress.{Setting, IsSetting, IsUnderWay, IsPortAt, IsState, advanced}
+use Rattle.tsn_gate.proofs.PassageStarts.{with_passage}
+use Rattle.tsn_gate.proofs.Steps.{read_frame}
+use Rattle.tsn_gate.proofs.Stepping.{link, link_is, below, waiting_below, waits_here, stream_below, started_under_way, started_others}
+
+module _ (setting : Setting) (state : State) (can : IsSetting setting) (is : IsState setting state) (number : ℕ) (first : IsFirstPort state.ports state.end number)
+    (waiting : ℕ) (head : (port_in state.ports number).head ≡ Some waiting) (time : ℕ) (time_is : (port_in state.ports number).scheduled ≡ time) (order : time ≤ (port_in state.ports number).background)
+    (frame : Frame) (read : frame ≡ get_or state.frames.items waiting frame) where
+  frame_is : frame ≡ frame_in state.frames.items waiting
+  frame_is = read_frame state.frames.items waiting frame (waiting_below setting state can is number first waiting head time time_is order) read
+
+  pub starting_stream : frame.stream < stream_count setting.network
+  starting_stream = subst (λ (f : Frame). f.stream < stream_count setting.network) (sym frame_is) (stream_below setting state can is number first waiting head time time_is order)
+
+  pub starting_hop : frame.hop < hop_count setting.network frame.stream
+  starting_hop = subst (λ (f : Frame). f.hop < hop_count setting.network f.stream) (sym frame_is) (waits_here setting state can is number first waiting head time time_is order).waits
+
+  module _ (moved : Frame) (moved_is : moved ≡ advanced setting.network frame time) where
+    pub moved_stream : moved.stream < stream_count setting.network
+    moved_stream = subst (λ n. n < stream_count setting.network) (sym (ap (λ (f : Frame). f.stream) moved_is)) starting_stream
+
+    -- on the link of its list, until the wire is free again
+    module _ (early : moved.ready ≤ 2 ^ 50) (list : LinkGates) (at : ℕ) (at_is : at ≡ (get_or setting.gates number list).link) (duration : ℕ) (duration_is : duration ≡ occupancy setting.network frame.stream at) (some : 1 ≤ duration)
+        (short : duration ≤ 1233600) (starts : BridgeRun) (starts_are : starts ≡ with_passage state.starts (passage_of frame) time) where
+      on : link setting state can is number first ≡ at
+      on = sym (at_is ∙ link_is setting state can is number list (below setting state can is number first))
+
+      occupies : duration ≡ occupancy setting.network frame.stream (link setting state can is number first)
+      occupies = duration_is ∙ ap (occupancy setting.network frame.stream) (sym on)
+
+      abbrev after : State
+      after = record state { time = time; frames = with_item state.frames waiting moved; free = with_item state.free at (time + duration); starts = starts }
+
+      pub starting_under_way : IsUnderWay setting after
+      starting_under_way = started_under_way setting state can is number first waiting head time time_is order frame frame_is duration occupies some short moved moved_is early starts starts_are
+          (with_item state.frames waiting moved) refl (with_item state.free at (time + duration))
+          (ap (λ l. slice_set state.free.items l (time + duration)) (sym on))
+
+      pub starting_others : (other : ℕ) → other < length setting.gates → (number ≡ other → ⊥) → ((d : LinkGates) → Waits setting.network (get_or setting.gates other d).link moved → ⊥)
+          → IsPortAt setting after other (port_in state.ports other)
+      starting_others = started_others setting state can is number first waiting head time time_is order frame frame_is duration occupies some short moved moved_is early starts starts_are
+          (with_item state.frames waiting moved) refl (with_item state.free at (time + duration))
+          (ap (λ l. slice_set state.free.items l (time + duration)) (sym on))

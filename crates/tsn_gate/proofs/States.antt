@@ -1,0 +1,78 @@
+-- The state of a replay, but for its steps.
+use Rattle.std.proofs.Common.{◌≡◌, ℕ, ◌<◌, List, length, get_or, slice_set, Some, None, sym, ap, ◌∙◌, subst}
+use Rattle.std.proofs.lemmas.List.{get_or_default, get_or-set_same, get_or-set_other, length-set}
+use Rattle.tsn_model.specs.Network.{stream_count}
+use Rattle.tsn_gate.specs.declared.feed.Waiting.{Waiting}
+use Rattle.tsn_gate.specs.declared.port.Port.{Port}
+use Rattle.tsn_gate.specs.declared.queue.Frame.{Frame}
+use Rattle.tsn_gate.specs.declared.engine.State.{State}
+use Rattle.tsn_gate.specs.Feeding.{waiting_on}
+use Rattle.tsn_gate.specs.Ports.{port_in}
+use Rattle.tsn_gate.specs.Progress.{Setting, IsSetting, IsUnderWay, IsPortAt, IsRenewed}
+use Rattle.tsn_gate.proofs.Heads.{from_frame}
+use Rattle.tsn_gate.proofs.Steps.{IsGiven, line_given}
+
+-- ---- ports by number
+
+pub port_read : (ports : List Port) (number : ℕ) (d : Port) → number < length ports → get_or ports number d ≡ port_in ports number
+unfolding port_in
+port_read ports number d below = get_or_default ports number d (record { head = None; scheduled = 0; background = 0 }) below
+
+pub port_set_same : (ports : List Port) (number : ℕ) (port : Port) → number < length ports → port_in (slice_set ports number port) number ≡ port
+unfolding port_in
+port_set_same ports number port below = get_or-set_same ports number port _ below
+
+pub port_set_other : (ports : List Port) (number other : ℕ) (port : Port) → (number ≡ other → ⊥) → port_in (slice_set ports number port) other ≡ port_in ports other
+unfolding port_in
+port_set_other ports number other port differ = get_or-set_other ports number other port _ (λ same. differ (sym same))
+
+-- ---- what is under way
+
+pub under_way_ports : (setting : Setting) (state : State) (ports : List Port) → IsUnderWay setting state → IsUnderWay setting (record state { ports = ports })
+under_way_ports setting state ports is = record {
+  end = is.end;
+  time = is.time;
+  small = is.small;
+  made = is.made;
+  records = is.records;
+  run = is.run;
+  fed = is.fed;
+  tracked = is.tracked;
+  line = is.line;
+  feed = is.feed;
+  wires = is.wires;
+  numbers = is.numbers;
+  visits = is.visits;
+  frees = is.frees;
+  readies = is.readies;
+}
+
+pub streams_below : (setting : Setting) (state : State) → IsUnderWay setting state → (k : ℕ) (d : Frame) → k < length state.frames.items → (get_or state.frames.items k d).stream < stream_count setting.network
+streams_below setting state is k d below = from_frame (λ (frame : Frame). frame.stream < stream_count setting.network) state.frames.items k d below (is.tracked.each k below).stream
+
+pub given_on : (setting : Setting) (state : State) → IsSetting setting → IsUnderWay setting state → (link : ℕ) → link < length setting.network.links → (waiting : Waiting) → waiting_on state.feed link ≡ Some waiting → IsGiven setting.network link waiting
+given_on setting state can is link exists waiting first =
+    line_given setting.network setting.gates setting.cycles _ state.time (waiting_on state.feed) is.made setting.background can.background is.fed link exists waiting first
+
+-- ---- a port that is made anew
+
+module _ (setting : Setting) (number : ℕ) (old new : State) (is : IsRenewed setting number old new) where
+  pub renewed_under_way : IsUnderWay setting old → IsUnderWay setting new
+  renewed_under_way before = subst (IsUnderWay setting) (sym is.ports) (under_way_ports setting old (slice_set old.ports number is.port) before)
+
+  pub renewed_count : length new.ports ≡ length old.ports
+  renewed_count = ap (λ (state : State). length state.ports) is.ports ∙ length-set old.ports number is.port
+
+  pub renewed_here : number < length old.ports → IsPortAt setting new number (port_in new.ports number)
+  renewed_here below = subst (λ (state : State). IsPortAt setting state number (port_in state.ports number)) (sym is.ports)
+      (subst (IsPortAt setting old number) (sym (port_set_same old.ports number is.port below)) is.is_port)
+
+  pub renewed_other : (other : ℕ) → (number ≡ other → ⊥) → IsPortAt setting old other (port_in old.ports other) → IsPortAt setting new other (port_in new.ports other)
+  renewed_other other differ before = subst (λ (state : State). IsPortAt setting state other (port_in state.ports other)) (sym is.ports)
+      (subst (IsPortAt setting old other) (sym (port_set_other old.ports number other is.port differ)) before)
+
+  pub renewed_end : new.end ≡ old.end
+  renewed_end = ap (λ (state : State). state.end) is.ports
+
+  pub renewed_free : new.free ≡ old.free
+  renewed_free = ap (λ (state : State). state.free) is.ports

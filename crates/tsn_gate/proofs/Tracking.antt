@@ -1,0 +1,293 @@
+-- The frames of a replay are what its run waits for.
+use Rattle.std.proofs.Common.{◌≡◌, ℕ, ◌+◌, ◌*◌, ◌≤◌, ◌<◌, ◌⊎◌, List, ◌++◌, map, length, get_or, Option, Some, None, refl, sym, ap, ◌∙◌, subst, arith, inl, inr}
+use Rattle.std.specs.List.{AllPairs}
+use Rattle.std.proofs.lemmas.Bool.{cases_lt, cases_eq, cases_order}
+use Rattle.std.proofs.lemmas.List.{get_or_default, length-append}
+use Rattle.std.proofs.Math.ListN.{get_or-map, length-map, get_or-append}
+use Rattle.std.proofs.lemmas.List.Elements.{All-contains, Contains-append_left}
+use Rattle.tsn_model.specs.Network.{Network, IsWellFormed, hop_count, route_link}
+use Rattle.tsn_model.specs.Timing.{hop_delay}
+use Rattle.tsn_model.specs.Schedule.{offset_of}
+use Rattle.tsn_model.specs.Bridge.{LinkGates, Passage, ScheduledStart, BridgeRun, WireUse, link_of, length_of, scheduled_use, background_use, wire_uses, AreDisjoint, IsPassage, StartedAt, NotStartedBefore, IsReady, FitsAt, IsBlocked}
+use Rattle.tsn_model.proofs.Limits.{occupancy-ge}
+use Rattle.tsn_model.proofs.OnTime.{hop_once, same_cycle, link_exists, passage_cases}
+use Rattle.tsn_model.proofs.Lists.{Contains-map}
+use Rattle.tsn_gate.specs.declared.queue.Frame.{Frame}
+use Rattle.tsn_gate.specs.Queue.{Waits, IsHead, IsSilent, frame_in, passage_of}
+use Rattle.tsn_gate.specs.Progress.{IsRunSoFar, IsTracked, IsDue, IsQuiet}
+use Rattle.tsn_gate.specs.Frames.{AreSpaced}
+use Rattle.tsn_gate.proofs.Nexts.{waiting_link}
+
+-- two elements at different numbers of the first of two lists
+pairs_apart : {X Y : Type 0} (R : Y → Y → Type 0) (f : X → Y) (xs : List X) (ys : List Y) (d : X) (i j : ℕ) → AllPairs R (map f xs ++ ys) → i < j → j < length xs → R (f (get_or xs i d)) (f (get_or xs j d))
+pairs_apart {X} {Y} R f xs ys d i j pairs order below =
+    let long : length (map f xs) ≡ length xs = length-map xs f in
+    let whole : length (map f xs ++ ys) ≡ length (map f xs) + length ys = length-append (map f xs) ys in
+    let at : (k : ℕ) → k < length xs → get_or (map f xs ++ ys) k (f d) ≡ f (get_or xs k d) = λ k k_below. get_or-append (map f xs) ys (f d) k (omega arith) ∙ get_or-map f xs k d in
+    subst (λ y. R (f (get_or xs i d)) y) (at j below) (subst (λ y. R y (get_or (map f xs ++ ys) j (f d))) (at i (omega arith)) (pairs i j (f d) order (omega arith)))
+
+-- two uses of one wire that begin together have an instant in common
+together : (network : Network) (p q : Passage) (s : ℕ) → link_of network p ≡ link_of network q → 1 ≤ length_of network p → 1 ≤ length_of network q
+    → AreDisjoint (scheduled_use network (record { passage = p; time = s })) (scheduled_use network (record { passage = q; time = s }))
+    ⊎ AreDisjoint (scheduled_use network (record { passage = q; time = s })) (scheduled_use network (record { passage = p; time = s })) → ⊥
+unfolding scheduled_use
+together network p q s same p_long q_long (inl apart) = apart same s (omega arith) (omega arith) (omega arith) (omega arith)
+together network p q s same p_long q_long (inr apart) = apart (sym same) s (omega arith) (omega arith) (omega arith) (omega arith)
+
+module _ (network : Network) (formed : IsWellFormed network) (offsets : List ℕ) (gates : List LinkGates) (cycles : ℕ) (free : ℕ → ℕ) (now : ℕ) (run : BridgeRun)
+    (spaced : AreSpaced network) (so_far : IsRunSoFar network offsets gates cycles free now run) where
+  pub ready_once : (q : Passage) (a b : ℕ) → IsReady network offsets run q a → IsReady network offsets run q b → a ≡ b
+  ready_once q a b (inl (first, at_a)) (inl (first_too, at_b)) = omega arith
+  ready_once q a b (inl (first, at_a)) (inr (before, s, next, started, after)) = absurd (omega arith)
+  ready_once q a b (inr (before, s, next, started, after)) (inl (first, at_b)) = absurd (omega arith)
+  ready_once q a b (inr (before, s, next, started, after)) (inr (before_too, t, next_too, started_too, after_too)) =
+      let same : before_too ≡ before = omega arith in
+      let one = so_far.once (record q { hop = before }) s t started (subst (λ k. StartedAt run (record q { hop = k }) t) same started_too) in
+      let delay : hop_delay network q.stream (route_link network q.stream before_too) ≡ hop_delay network q.stream (route_link network q.stream before) =
+      ap (λ k. hop_delay network q.stream (route_link network q.stream k)) same in
+      omega arith
+
+  -- two starts on one link are not at one instant
+  starts_apart : (p q : Passage) (s : ℕ) → StartedAt run p s → StartedAt run q s → link_of network p ≡ link_of network q → 1 ≤ length_of network p → 1 ≤ length_of network q → (p ≡ q → ⊥) → ⊥
+  unfolding wire_uses scheduled_use
+  starts_apart p q s (i, i_below, i_is) (j, j_below, j_is) same p_long q_long differ =
+      let at_j : get_or run.scheduled j (record { passage = p; time = s }) ≡ record { passage = q; time = s } = get_or_default run.scheduled j (record { passage = p; time = s }) (record { passage = q; time = s }) j_below ∙ j_is in
+      let disjoint : (a b : ScheduledStart) → a ≡ record { passage = p; time = s } → b ≡ record { passage = q; time = s }
+      → AreDisjoint (scheduled_use network a) (scheduled_use network b) ⊎ AreDisjoint (scheduled_use network b) (scheduled_use network a) → ⊥ =
+      λ a b a_is b_is apart. together network p q s same p_long q_long
+      (elim apart [
+        | inl ab ↦ inl (subst (λ y. AreDisjoint (scheduled_use network (record { passage = p; time = s })) (scheduled_use network y)) b_is (subst (λ x. AreDisjoint (scheduled_use network x) (scheduled_use network b)) a_is ab))
+        | inr ba ↦ inr (subst (λ y. AreDisjoint (scheduled_use network (record { passage = q; time = s })) (scheduled_use network y)) a_is (subst (λ x. AreDisjoint (scheduled_use network x) (scheduled_use network a)) b_is ba))
+      ]) in
+      elim (cases_order i j) [
+        | inl one ↦ differ (ap (λ (b : ScheduledStart). b.passage) (sym i_is ∙ (ap (λ n. get_or run.scheduled n (record { passage = p; time = s })) one ∙ at_j)))
+        | inr two ↦ elim two [
+          | inl before ↦ disjoint (get_or run.scheduled i (record { passage = p; time = s })) (get_or run.scheduled j (record { passage = p; time = s })) i_is at_j
+              (inl (pairs_apart AreDisjoint (scheduled_use network) run.scheduled (map (background_use network) run.background) (record { passage = p; time = s }) i j so_far.wires_shared before j_below))
+          | inr after ↦ disjoint (get_or run.scheduled i (record { passage = p; time = s })) (get_or run.scheduled j (record { passage = p; time = s })) i_is at_j
+              (inr (pairs_apart AreDisjoint (scheduled_use network) run.scheduled (map (background_use network) run.background) (record { passage = p; time = s }) j i so_far.wires_shared after i_below))
+        ]
+      ]
+
+  long : (p : Passage) → IsPassage network cycles p → 1 ≤ length_of network p
+  unfolding length_of link_of
+  long p passage = occupancy-ge network formed p.stream (route_link network p.stream p.hop) (link_exists network formed p.stream passage.stream p.hop passage.hop)
+
+  one_hop : (p q : Passage) → IsPassage network cycles p → IsPassage network cycles q → link_of network p ≡ link_of network q → p.stream ≡ q.stream → p.hop ≡ q.hop
+  unfolding link_of
+  one_hop p q passage q_passage link stream =
+      hop_once network formed q.stream q_passage.stream p.hop q.hop (subst (λ i. p.hop < hop_count network i) stream passage.hop) q_passage.hop
+      (ap (λ i. route_link network i p.hop) (sym stream) ∙ link)
+
+  same_link : (p q : Passage) (j k : ℕ) → p.stream ≡ q.stream → j ≡ k → link_of network (record p { hop = j }) ≡ link_of network (record q { hop = k })
+  unfolding link_of
+  same_link p q j k stream hop = ap (λ n. route_link network p.stream n) hop ∙ ap (λ i. route_link network i k) stream
+
+  -- two that are ready together on one hop are of one cycle and shift
+  one_cycle : (p q : Passage) (t : ℕ) → IsPassage network cycles p → IsPassage network cycles q → link_of network p ≡ link_of network q → p.stream ≡ q.stream → p.hop ≡ q.hop
+      → IsReady network offsets run p t → IsReady network offsets run q t → (p.cycle ≡ q.cycle) × (p.shift ≡ q.shift)
+  one_cycle p q t passage q_passage link stream hop (inl (first, at)) (inl (first_too, at_too)) =
+      let offset : offset_of offsets p.stream ≡ offset_of offsets q.stream = ap (offset_of offsets) stream in
+      let cycle = same_cycle p.cycle q.cycle network.cycle p.shift q.shift (spaced.within p.stream p.shift passage.stream passage.sent)
+      (spaced.within q.stream q.shift q_passage.stream q_passage.sent) (omega arith) in
+      let begun : p.cycle * network.cycle ≡ q.cycle * network.cycle = ap (λ n. n * network.cycle) cycle in
+      (cycle, omega arith)
+  one_cycle p q t passage q_passage link stream hop (inl (first, at)) (inr (before, s, next, started, after)) = absurd (omega arith)
+  one_cycle p q t passage q_passage link stream hop (inr (before, s, next, started, after)) (inl (first, at)) = absurd (omega arith)
+  one_cycle p q t passage q_passage link stream hop (inr (before, s, next, started, after)) (inr (before_too, u, next_too, started_too, after_too)) =
+      let same : before ≡ before_too = omega arith in
+      let delay : hop_delay network p.stream (route_link network p.stream before) ≡ hop_delay network q.stream (route_link network q.stream before_too) =
+      ap (λ k. hop_delay network p.stream (route_link network p.stream k)) same ∙ ap (λ i. hop_delay network i (route_link network i before_too)) stream in
+      let together_at : s ≡ u = omega arith in
+      elim (passage_cases (record p { hop = before }) (record q { hop = before_too })) [
+        | inl is ↦ (ap (λ (x : Passage). x.cycle) is, ap (λ (x : Passage). x.shift) is)
+        | inr differ ↦
+            let p_passage : IsPassage network cycles (record p { hop = before }) = record {
+              stream = passage.stream;
+              sent = passage.sent;
+              cycle = passage.cycle;
+              hop = let b = passage.hop in omega arith;
+            } in
+            let u_passage : IsPassage network cycles (record q { hop = before_too }) = record {
+              stream = q_passage.stream;
+              sent = q_passage.sent;
+              cycle = q_passage.cycle;
+              hop = let b = q_passage.hop in omega arith;
+            } in
+            absurd (starts_apart (record p { hop = before }) (record q { hop = before_too }) s started (subst (λ v. StartedAt run (record q { hop = before_too }) v) (sym together_at) started_too)
+            (same_link p q before before_too stream same) (long (record p { hop = before }) p_passage) (long (record q { hop = before_too }) u_passage) differ)
+      ]
+
+  -- two frames of one stream are ready on a link at different instants
+  pub readies_differ : (p q : Passage) (t : ℕ) → IsPassage network cycles p → IsPassage network cycles q → link_of network p ≡ link_of network q → p.stream ≡ q.stream
+      → IsReady network offsets run p t → IsReady network offsets run q t → p ≡ q
+  readies_differ p q t passage q_passage link stream ready q_ready =
+      let hop = one_hop p q passage q_passage link stream in
+      let same = one_cycle p q t passage q_passage link stream hop ready q_ready in
+      λ i. record { stream = stream i; shift = same.1 i; cycle = same.0 i; hop = hop i }
+
+  reached_from : (q : Passage) (ready : ℕ) → IsReady network offsets run q ready → (hop : ℕ) → ((k s : ℕ) → hop ≤ k → StartedAt run (record q { hop = k }) s → ⊥) → q.hop ≤ hop
+  reached_from q ready (inl (first, at)) hop unstarted = omega arith
+  reached_from q ready (inr (before, s, next, started, after)) hop unstarted = elim (cases_lt before hop) [
+    | inl less ↦ omega arith
+    | inr past ↦ absurd (unstarted before s past started)
+  ]
+
+  module _ (frames : List Frame) (tracked : IsTracked network offsets cycles run frames) where
+    -- a passage that is ready and hasn't started is a waiting frame's
+    record Found (q : Passage) (ready : ℕ) : Type 0 where
+      number : ℕ
+      below : number < length frames
+      is : passage_of (frame_in frames number) ≡ q
+      ready_is : (frame_in frames number).ready ≡ ready
+      waits : Waits network (link_of network q) (frame_in frames number)
+
+    found : (q : Passage) (ready : ℕ) → IsPassage network cycles q → IsReady network offsets run q ready → ((s : ℕ) → StartedAt run q s → ⊥) → Found q ready
+    unfolding passage_of link_of
+    found q ready passage is_ready never =
+        let at = tracked.complete q.stream q.shift q.cycle passage.stream passage.sent passage.cycle in
+        let frame = tracked.each at.0 at.1 in
+        let same_at : (k s : ℕ) → StartedAt run (record {
+          stream = (frame_in frames at.0).stream;
+          shift = (frame_in frames at.0).shift;
+          cycle = (frame_in frames at.0).cycle;
+          hop = k;
+        }) s → StartedAt run (record { stream = q.stream; shift = q.shift; cycle = q.cycle; hop = k }) s =
+        λ k s started. subst (λ (x : Passage). StartedAt run x s) (λ i. record { stream = at.2 i; shift = at.3 i; cycle = at.4 i; hop = k }) started in
+        let same_from : (k s : ℕ) → StartedAt run (record { stream = q.stream; shift = q.shift; cycle = q.cycle; hop = k }) s
+        → StartedAt run (record {
+          stream = (frame_in frames at.0).stream;
+          shift = (frame_in frames at.0).shift;
+          cycle = (frame_in frames at.0).cycle;
+          hop = k;
+        }) s =
+        λ k s started. subst (λ (x : Passage). StartedAt run x s) (λ i. record { stream = sym at.2 i; shift = sym at.3 i; cycle = sym at.4 i; hop = k })
+        started in
+        let not_past : (frame_in frames at.0).hop ≤ q.hop = elim (cases_lt q.hop (frame_in frames at.0).hop) [
+          | inl past ↦ let started = frame.started q.hop past in absurd (never started.0 (same_at q.hop started.0 started.1))
+          | inr not_past ↦ not_past
+        ] in
+        let reached : q.hop ≤ (frame_in frames at.0).hop = reached_from q ready is_ready (frame_in frames at.0).hop (λ k s before started. frame.unstarted k s before (same_from k s started)) in
+        let hop : (frame_in frames at.0).hop ≡ q.hop = omega arith in
+        let is : record {
+          stream = (frame_in frames at.0).stream;
+          shift = (frame_in frames at.0).shift;
+          cycle = (frame_in frames at.0).cycle;
+          hop = (frame_in frames at.0).hop;
+        } ≡ q = λ i. record { stream = at.2 i; shift = at.3 i; cycle = at.4 i; hop = hop i } in
+        let below : (frame_in frames at.0).hop < hop_count network (frame_in frames at.0).stream = subst (λ (x : Passage). x.hop < hop_count network x.stream) (sym is) passage.hop in
+        record {
+          number = at.0;
+          below = at.1;
+          is = is;
+          ready_is = ready_once q (frame_in frames at.0).ready ready (subst (λ (x : Passage). IsReady network offsets run x (frame_in frames at.0).ready) is (frame.ready below)) is_ready;
+          waits = record { waits = below; on = ap (λ (x : Passage). route_link network x.stream x.hop) is };
+        }
+
+    frame_passage : (number : ℕ) → number < length frames → (frame_in frames number).hop < hop_count network (frame_in frames number).stream → IsPassage network cycles (passage_of (frame_in frames number))
+    unfolding passage_of
+    frame_passage number below waits = let frame = tracked.each number below in
+        record { stream = frame.stream; sent = frame.sent; cycle = frame.cycle; hop = waits }
+
+    -- a waiting frame other than the head is behind it
+    behind : (link : ℕ) (head number : ℕ) → IsHead network frames link (Some head) → number < length frames → Waits network link (frame_in frames number)
+        → (passage_of (frame_in frames number) ≡ passage_of (frame_in frames head) → ⊥)
+        → ((frame_in frames head).ready < (frame_in frames number).ready) ⊎ (((frame_in frames head).ready ≡ (frame_in frames number).ready) × ((frame_in frames head).stream < (frame_in frames number).stream))
+    unfolding passage_of
+    behind link head number (head_below, head_waits, first) below waits differ = elim (first number below waits) [
+      | inl sooner ↦ inl sooner
+      | inr (same, order) ↦ elim (cases_lt (frame_in frames head).stream (frame_in frames number).stream) [
+        | inl less ↦ inr (same, less)
+        | inr not_less ↦
+            let stream : (frame_in frames number).stream ≡ (frame_in frames head).stream = omega arith in
+            let h = frame_passage head head_below head_waits.waits in
+            let p = frame_passage number below waits.waits in
+            absurd (differ (readies_differ (passage_of (frame_in frames number)) (passage_of (frame_in frames head)) (frame_in frames number).ready p h
+            (waiting_link network link (frame_in frames number) waits ∙ sym (waiting_link network link (frame_in frames head) head_waits)) stream
+            ((tracked.each number below).ready waits.waits) (subst (IsReady network offsets run (passage_of (frame_in frames head))) same ((tracked.each head head_below).ready head_waits.waits))))
+      ]
+    ]
+
+    frame_never : (number : ℕ) → number < length frames → (s : ℕ) → StartedAt run (passage_of (frame_in frames number)) s → ⊥
+    unfolding passage_of
+    frame_never number below s started = (tracked.each number below).unstarted (frame_in frames number).hop s (omega arith) started
+
+    -- every start so far is at or before the present instant
+    not_later : (q : Passage) (t s : ℕ) → now ≤ t → NotStartedBefore run q (t + 1) → StartedAt run q s → ⊥
+    unfolding wire_uses scheduled_use
+    not_later q t s present none started =
+        let late = none s started in
+        let begins = All-contains (λ (wire : WireUse). (wire.from ≤ now) × (wire.from < cycles * network.cycle)) (wire_uses network run) (scheduled_use network (record { passage = q; time = s })) so_far.uses_begin
+        (Contains-append_left (map (scheduled_use network) run.scheduled) (map (background_use network) run.background) _ (Contains-map (scheduled_use network) run.scheduled (record { passage = q; time = s }) started)) in
+        let early = begins.0 in
+        absurd (omega arith)
+
+    one_number : (a b : ℕ) → a < length frames → b < length frames → passage_of (frame_in frames a) ≡ passage_of (frame_in frames b) → a ≡ b
+    unfolding passage_of
+    one_number a b a_below b_below is = tracked.distinct a b a_below b_below (ap (λ (x : Passage). x.stream) is) (ap (λ (x : Passage). x.shift) is)
+        (ap (λ (x : Passage). x.cycle) is)
+
+    passage_order : (a b : Frame) → (a.ready < b.ready) ⊎ ((a.ready ≡ b.ready) × (a.stream < b.stream)) → (a.ready < b.ready) ⊎ ((a.ready ≡ b.ready) × ((passage_of a).stream < (passage_of b).stream))
+    unfolding passage_of
+    passage_order a b order = order
+
+    order_at : (a b c : ℕ) (p q r : Passage) → b ≡ c → q ≡ r → (a < b) ⊎ ((a ≡ b) × (p.stream < q.stream)) → (a < c) ⊎ ((a ≡ c) × (p.stream < r.stream))
+    order_at a b c p q r ready is (inl sooner) = inl (omega arith)
+    order_at a b c p q r ready is (inr (same, less)) = inr (omega arith, subst (λ (x : Passage). p.stream < x.stream) is less)
+
+    blocked_by : (head : Option ℕ) (link t : ℕ) (q : Passage) (ready : ℕ) → IsPassage network cycles q → link_of network q ≡ link → Found q ready → ready ≤ t → IsHead network frames link head
+        → ((number : ℕ) → head ≡ Some number → (frame_in frames number).ready ≤ t → FitsAt network gates (passage_of (frame_in frames number)) t → ⊥) → NotStartedBefore run q (t + 1)
+        → IsBlocked network offsets gates cycles run q ready t
+    blocked_by None link t q ready passage on at since none closed not_yet = absurd (none at.number at.below (subst (λ l. Waits network l (frame_in frames at.number)) on at.waits))
+    blocked_by (Some head) link t q ready passage on at since is_head closed not_yet =
+        let waits = subst (λ l. Waits network l (frame_in frames at.number)) on at.waits in
+        let head_below = is_head.0 in
+        let ready_is = at.ready_is in
+        elim (cases_eq head at.number) [
+          | inl same ↦
+              let is : passage_of (frame_in frames head) ≡ q = ap (λ n. passage_of (frame_in frames n)) same ∙ at.is in
+              let early : (frame_in frames head).ready ≡ ready = ap (λ n. (frame_in frames n).ready) same ∙ at.ready_is in
+              inl (λ fits. closed head refl (omega arith) (subst (λ x. FitsAt network gates x t) (sym is) fits))
+          | inr differ ↦ elim (passage_cases (passage_of (frame_in frames at.number)) (passage_of (frame_in frames head))) [
+            | inl is ↦ absurd (differ (sym (one_number at.number head at.below head_below is)))
+            | inr apart ↦
+                let order = behind link head at.number is_head at.below waits apart in
+                inr (inr (
+                  passage_of (frame_in frames head),
+                  (frame_in frames head).ready,
+                  frame_passage head head_below is_head.1.waits,
+                  record {
+                    same_link = waiting_link network link (frame_in frames head) is_head.1 ∙ sym on;
+                    ready = (tracked.each head head_below).ready is_head.1.waits;
+                    order = order_at (frame_in frames head).ready (frame_in frames at.number).ready ready (passage_of (frame_in frames head)) (passage_of (frame_in frames at.number)) q at.ready_is at.is (passage_order (frame_in frames head) (frame_in frames at.number) order);
+                  },
+                  λ s started. absurd (frame_never head head_below s started),
+                ))
+          ]
+        ]
+
+    pub quiet_from_silent : (link t : ℕ) → now ≤ t → IsSilent network gates frames link t → IsQuiet network offsets gates cycles t run link
+    quiet_from_silent link t present silent = record {
+      blocked = λ q ready passage on is_ready since none.
+          let at = found q ready passage is_ready (λ s started. not_later q t s present none started) in
+          blocked_by silent.head link t q ready passage on at since silent.is_head silent.closed none;
+    }
+
+    -- the head of a queue that fits is due
+    pub due_from_head : (link number t : ℕ) → now ≤ t → t < cycles * network.cycle → free link ≤ t → IsHead network frames link (Some number) → (frame_in frames number).ready ≤ t
+        → FitsAt network gates (passage_of (frame_in frames number)) t → IsDue network offsets gates cycles free t run (passage_of (frame_in frames number)) (frame_in frames number).ready
+    due_from_head link number t present in_time wire head since fits = record {
+      passage_is = frame_passage number head.0 head.1.waits;
+      ready_at = (tracked.each number head.0).ready head.1.waits;
+      since = since;
+      unstarted = frame_never number head.0;
+      wire = subst (λ l. free l ≤ t) (sym (waiting_link network link (frame_in frames number) head.1)) wire;
+      in_time = in_time;
+      fits = fits;
+      first = λ other other_ready passage same ready none differ.
+          let at = found other other_ready passage ready (λ s started. not_later other t s present none started) in
+          let on : link_of network other ≡ link = same ∙ waiting_link network link (frame_in frames number) head.1 in
+          let waits = subst (λ l. Waits network l (frame_in frames at.number)) on at.waits in
+          order_at (frame_in frames number).ready (frame_in frames at.number).ready other_ready (passage_of (frame_in frames number)) (passage_of (frame_in frames at.number)) other at.ready_is at.is
+          (passage_order (frame_in frames number) (frame_in frames at.number) (behind link number at.number head at.below waits (λ is. differ (sym at.is ∙ is))));
+    }

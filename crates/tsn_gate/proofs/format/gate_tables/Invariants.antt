@@ -1,0 +1,7 @@
+use Rattle.std.proofs.Common.{◌≡◌, take, string_bytes}
+use Rattle.std.specs.List.{flat_map}
+use Rattle.tsn_gate.specs.Table.{table_text}
+use Rattle.tsn_gate.proofs.format.gate_tables.Given as goal
+
+abbrev pub invariant-loop-list : goal.invariant-loop-list
+invariant-loop-list l = string_bytes l.text ≡ flat_map (table_text l.problem) (take l.list-index l.lists)

@@ -1,0 +1,17 @@
+use Rattle.std.proofs.Common.{◌≡◌, ◌++◌}
+use Rattle.std.specs.List.{flat_map, range_with_len}
+use Rattle.tsn_model.specs.Network.{stream_count}
+use Rattle.tsn_gate.proofs.Fresh.{cycle_frames, frames_upto}
+use Rattle.tsn_gate.proofs.queue.frames_of.Given as goal
+
+abbrev pub invariant-loop-cycle : goal.invariant-loop-cycle
+invariant-loop-cycle l = record {
+  so_far : l.frames.items ≡ frames_upto l.network l.offsets l.cycles l.stream ++ flat_map (cycle_frames l.network l.offsets l.cycles l.stream)
+      (range_with_len 0 l.cycle);
+}
+
+abbrev pub invariant-loop-stream : goal.invariant-loop-stream
+invariant-loop-stream l = record {
+  so_far : l.frames.items ≡ frames_upto l.network l.offsets l.cycles l.stream;
+  last : l.stream-end ≡ stream_count l.network;
+}

@@ -1,0 +1,64 @@
+use Rattle.std.proofs.Common.{arith}
+use Rattle.tsn_model.proofs.Limits.{hops-le}
+use Rattle.tsn_gate.proofs.Counting.{cell_numbers}
+use Rattle.tsn_gate.proofs.rows.cell.Goals as goal
+
+pub overflow_add-index : goal.overflow_add-index
+overflow_add-index c =
+    let formed = c.cycle-limits.ensures.well_formed in
+    let numbers = cell_numbers c.args.timing.now formed c.args.firsts.now c.requires.firsts c.args.cycle c.args.stream c.args.shift c.place_of.result
+    c.streams.result
+    c.requires.few c.requires.stream c.requires.sent c.place_of.ensures.value c.streams.ensures.value in
+    let few = hops-le c.args.timing.now formed c.args.stream c.requires.stream in
+    let hop = c.requires.hop in
+    omega arith
+
+pub overflow_mul-result : goal.overflow_mul-result
+overflow_mul-result c =
+    let formed = c.cycle-limits.ensures.well_formed in
+    let numbers = cell_numbers c.args.timing.now formed c.args.firsts.now c.requires.firsts c.args.cycle c.args.stream c.args.shift c.place_of.result
+    c.streams.result
+    c.requires.few c.requires.stream c.requires.sent c.place_of.ensures.value c.streams.ensures.value in
+    let few = hops-le c.args.timing.now formed c.args.stream c.requires.stream in
+    let hop = c.requires.hop in
+    omega arith
+
+pub overflow_add-result : goal.overflow_add-result
+overflow_add-result c =
+    let formed = c.cycle-limits.ensures.well_formed in
+    let numbers = cell_numbers c.args.timing.now formed c.args.firsts.now c.requires.firsts c.args.cycle c.args.stream c.args.shift c.place_of.result
+    c.streams.result
+    c.requires.few c.requires.stream c.requires.sent c.place_of.ensures.value c.streams.ensures.value in
+    let few = hops-le c.args.timing.now formed c.args.stream c.requires.stream in
+    let hop = c.requires.hop in
+    omega arith
+
+pub overflow_mul-result-2 : goal.overflow_mul-result-2
+overflow_mul-result-2 c =
+    let formed = c.cycle-limits.ensures.well_formed in
+    let numbers = cell_numbers c.args.timing.now formed c.args.firsts.now c.requires.firsts c.args.cycle c.args.stream c.args.shift c.place_of.result
+    c.streams.result
+    c.requires.few c.requires.stream c.requires.sent c.place_of.ensures.value c.streams.ensures.value in
+    let few = hops-le c.args.timing.now formed c.args.stream c.requires.stream in
+    let hop = c.requires.hop in
+    omega arith
+
+pub overflow_add-result-2 : goal.overflow_add-result-2
+overflow_add-result-2 c =
+    let formed = c.cycle-limits.ensures.well_formed in
+    let numbers = cell_numbers c.args.timing.now formed c.args.firsts.now c.requires.firsts c.args.cycle c.args.stream c.args.shift c.place_of.result
+    c.streams.result
+    c.requires.few c.requires.stream c.requires.sent c.place_of.ensures.value c.streams.ensures.value in
+    let few = hops-le c.args.timing.now formed c.args.stream c.requires.stream in
+    let hop = c.requires.hop in
+    omega arith
+
+pub returns-clause-within : goal.returns-clause-within
+returns-clause-within c =
+    let formed = c.cycle-limits.ensures.well_formed in
+    let numbers = cell_numbers c.args.timing.now formed c.args.firsts.now c.requires.firsts c.args.cycle c.args.stream c.args.shift c.place_of.result
+    c.streams.result
+    c.requires.few c.requires.stream c.requires.sent c.place_of.ensures.value c.streams.ensures.value in
+    let few = hops-le c.args.timing.now formed c.args.stream c.requires.stream in
+    let hop = c.requires.hop in
+    omega arith

@@ -1,0 +1,187 @@
+-- What a replay keeps from one start to the next.
+--     IsRunSoFar      what has started is a bridge run up to the present instant
+--     IsFrame, IsTracked      the frames that wait
+--     IsListSoFar, IsFedSoFar its background is what was handed in
+--     Setting, IsState        the whole state of a replay
+--     IsRenewed, IsSending, AreStarts      what its steps do, and what is left at its end
+use Rattle.std.specs.Prelude.{◌≡◌, ℕ, ◌+◌, ◌*◌, ◌≤◌, ◌<◌, ◌⊎◌, ◌≢◌, ◌-◌, List, [], length, slice_index_or, slice_set, max, sum_by, Bool, All, AllPairs, Option, Some, None}
+use Rattle.tsn_model.specs.Network.{Network, IsWellFormed, stream_count, hop_count, route_link, link_at}
+use Rattle.tsn_model.specs.Bridge.{LinkGates, BackgroundOpen, Passage, ScheduledStart, BackgroundStart, BridgeRun, WireUse, IsBridgeRun, IsFed, link_of, wire_uses, AreDisjoint, IsPassage, StartedAt, NotStartedBefore, IsReady, FitsAt, IsBlocked, IsTaken, IsHeld, Background, BackgroundFrame, frame_at, IsBefore, FrameStartedBefore}
+use Rattle.tsn_gate.specs.declared.queue.Frame.{Frame}
+use Rattle.tsn_gate.specs.Queue.{AreInLine, AreAllVisits, passage_of, frame_in, free_on}
+use Rattle.tsn_model.specs.Timing.{hop_delay, Sends}
+use Rattle.tsn_model.specs.Bridge.Background.{nothing, greedy, frames}
+use Rattle.tsn_gate.specs.declared.feed.Waiting.{Waiting}
+use Rattle.tsn_gate.specs.declared.engine.State.{State}
+use Rattle.tsn_gate.specs.declared.engine.Replay.{Replay}
+use Rattle.tsn_gate.specs.declared.engine.Sending.{Sending}
+use Rattle.tsn_gate.specs.Frames.{AreSpaced}
+use Rattle.tsn_gate.specs.Openings.{HasLists, HasBackground, AreListNumbers}
+use Rattle.tsn_gate.specs.Records.{IsRecord}
+use Rattle.tsn_gate.specs.Feeding.{background_of, IsLine, IsFeedOf, waiting_on, greatest_on}
+use Rattle.tsn_gate.specs.declared.port.Port.{Port}
+use Rattle.tsn_gate.specs.Ports.{IsPort, port_in}
+use Rattle.tsn_gate.specs.Bounds.{latest_end, latest_free, latest_instant}
+
+-- what has started is a bridge run up to instant `now`; each wire is taken from now on until it is free, and then by nobody
+pub record IsRunSoFar (network : Network) (offsets : List ℕ) (gates : List LinkGates) (cycles : ℕ) (free : ℕ → ℕ) (now : ℕ) (run : BridgeRun) : Type 0 where
+  pub wires_shared : AllPairs AreDisjoint (wire_uses network run)
+  pub uses_begin : All (λ (wire : WireUse). (wire.from ≤ now) × (wire.from < cycles * network.cycle)) (wire_uses network run)
+  pub uses_end : All (λ (wire : WireUse). wire.until ≤ free wire.link) (wire_uses network run)
+  pub busy : (link t : ℕ) → now ≤ t → t < free link → IsTaken network run link t
+  pub background_length : All (λ (begun : BackgroundStart). begun.octets ≤ 1522) run.background
+  pub background_open : All (λ (begun : BackgroundStart). BackgroundOpen gates begun.link begun.time) run.background
+  pub passages : All (λ (begun : ScheduledStart). IsPassage network cycles begun.passage) run.scheduled
+  pub once : (passage : Passage) (s t : ℕ) → StartedAt run passage s → StartedAt run passage t → s ≡ t
+  pub ready : All (λ (begun : ScheduledStart). (t : ℕ) × IsReady network offsets run begun.passage t × (t ≤ begun.time)) run.scheduled
+  pub fits : All (λ (begun : ScheduledStart). FitsAt network gates begun.passage begun.time) run.scheduled
+  pub waits : (passage : Passage) (ready t : ℕ) → IsPassage network cycles passage → IsReady network offsets run passage ready → ready ≤ t → t < cycles * network.cycle
+      → (t < now) ⊎ (t < free (link_of network passage)) → NotStartedBefore run passage (t + 1) → IsBlocked network offsets gates cycles run passage ready t
+
+-- greedy background up to instant `now`: no instant passed at which a background frame could have started
+pub record IsGreedySoFar (network : Network) (gates : List LinkGates) (cycles : ℕ) (free : ℕ → ℕ) (now : ℕ) (run : BridgeRun) : Type 0 where
+  pub greatest : All (λ (begun : BackgroundStart). begun.octets ≡ 1522) run.background
+  pub held : (t : ℕ) → t < cycles * network.cycle → All (λ (item : LinkGates). (t < now) ⊎ (t < free item.link) → IsHeld network gates run item.link t) gates
+
+-- the passage can start at instant `now`, and is first in its link's queue
+pub record IsDue (network : Network) (offsets : List ℕ) (gates : List LinkGates) (cycles : ℕ) (free : ℕ → ℕ) (now : ℕ) (run : BridgeRun) (passage : Passage) (ready : ℕ) : Type 0 where
+  pub passage_is : IsPassage network cycles passage
+  pub ready_at : IsReady network offsets run passage ready
+  pub since : ready ≤ now
+  pub unstarted : (s : ℕ) → StartedAt run passage s → ⊥
+  pub wire : free (link_of network passage) ≤ now
+  pub in_time : now < cycles * network.cycle
+  pub fits : FitsAt network gates passage now
+  pub first : (other : Passage) (other_ready : ℕ) → IsPassage network cycles other → link_of network other ≡ link_of network passage → IsReady network offsets run other other_ready
+      → NotStartedBefore run other (now + 1) → (other ≡ passage → ⊥) → (ready < other_ready) ⊎ ((ready ≡ other_ready) × (passage.stream < other.stream))
+
+-- at instant `now` no scheduled frame can start on the link
+pub record IsQuiet (network : Network) (offsets : List ℕ) (gates : List LinkGates) (cycles : ℕ) (now : ℕ) (run : BridgeRun) (link : ℕ) : Type 0 where
+  pub blocked : (passage : Passage) (ready : ℕ) → IsPassage network cycles passage → link_of network passage ≡ link → IsReady network offsets run passage ready → ready ≤ now
+      → NotStartedBefore run passage (now + 1) → IsBlocked network offsets gates cycles run passage ready now
+
+-- a background frame can start on the link at instant `now`, and no scheduled one
+pub record IsBackgroundDue (network : Network) (offsets : List ℕ) (gates : List LinkGates) (cycles : ℕ) (free : ℕ → ℕ) (now : ℕ) (run : BridgeRun) (link : ℕ) : Type 0 where
+  pub wire : free link ≤ now
+  pub in_time : now < cycles * network.cycle
+  pub opened : BackgroundOpen gates link now
+  pub quiet : IsQuiet network offsets gates cycles now run link
+
+-- a frame has started on the hops before its own, and from `ready` on waits for that one, if its route has it
+pub record IsFrame (network : Network) (offsets : List ℕ) (cycles : ℕ) (run : BridgeRun) (frame : Frame) : Type 0 where
+  pub stream : frame.stream < stream_count network
+  pub sent : Sends network frame.stream frame.shift
+  pub cycle : frame.cycle < cycles
+  pub hop : frame.hop ≤ hop_count network frame.stream
+  pub started : (k : ℕ) → k < frame.hop → (s : ℕ) × StartedAt run (record { stream = frame.stream; shift = frame.shift; cycle = frame.cycle; hop = k }) s
+  pub unstarted : (k s : ℕ) → frame.hop ≤ k → StartedAt run (record { stream = frame.stream; shift = frame.shift; cycle = frame.cycle; hop = k }) s → ⊥
+  pub ready : frame.hop < hop_count network frame.stream → IsReady network offsets run (passage_of frame) frame.ready
+
+-- there is one frame for each frame that a stream sends in each cycle
+pub record IsTracked (network : Network) (offsets : List ℕ) (cycles : ℕ) (run : BridgeRun) (frames : List Frame) : Type 0 where
+  pub each : (number : ℕ) → number < length frames → IsFrame network offsets cycles run (frame_in frames number)
+  pub complete : (stream shift cycle : ℕ) → stream < stream_count network → Sends network stream shift → cycle < cycles
+      → (number : ℕ) × (number < length frames) × ((frame_in frames number).stream ≡ stream) × ((frame_in frames number).shift ≡ shift) × ((frame_in frames number).cycle ≡ cycle)
+  pub distinct : (a b : ℕ) → a < length frames → b < length frames → (frame_in frames a).stream ≡ (frame_in frames b).stream → (frame_in frames a).shift ≡ (frame_in frames b).shift
+      → (frame_in frames a).cycle ≡ (frame_in frames b).cycle → a ≡ b
+
+-- the frame once it has started at an instant
+abbrev pub advanced : Network → Frame → ℕ → Frame
+advanced network frame time = record frame { hop = frame.hop + 1; ready = time + hop_delay network frame.stream (route_link network frame.stream frame.hop) }
+
+-- a list's background up to instant `now`: each of its frames once, in line, from its wanted start on, and none waited that could start
+pub record IsListSoFar (network : Network) (gates : List LinkGates) (cycles : ℕ) (list : List BackgroundFrame) (free : ℕ → ℕ) (now : ℕ) (run : BridgeRun) : Type 0 where
+  pub listed : All (λ (begun : BackgroundStart). (begun.number < length list) × (begun.link ≡ (frame_at list begun.number).link) × (begun.octets ≡ (frame_at list begun.number).octets)) run.background
+  pub once : AllPairs (λ (a b : BackgroundStart). a.number ≢ b.number) run.background
+  pub wanted : All (λ (begun : BackgroundStart). (frame_at list begun.number).wanted ≤ begun.time) run.background
+  pub in_order : All (λ (begun : BackgroundStart). (earlier : ℕ) → IsBefore list earlier begun.number → FrameStartedBefore run earlier begun.time) run.background
+  pub waits : (number t : ℕ) → number < length list → (frame_at list number).wanted ≤ t → t < cycles * network.cycle → (t < now) ⊎ (t < free (frame_at list number).link) → ¬ FrameStartedBefore run number (t + 1)
+      → IsHeld network gates run (frame_at list number).link t ⊎ ((earlier : ℕ) × IsBefore list earlier number × ¬ FrameStartedBefore run earlier (t + 1))
+
+-- the background so far is what was handed in, and on each link this frame waits next
+abbrev pub IsFedSoFar : Network → List LinkGates → ℕ → (ℕ → ℕ) → ℕ → Background → (ℕ → Option Waiting) → BridgeRun → Type 0
+IsFedSoFar network gates cycles free now nothing line run = (run.background ≡ []) × ((link : ℕ) → link < length network.links → line link ≡ None)
+IsFedSoFar network gates cycles free now greedy line run = IsGreedySoFar network gates cycles free now run × ((link : ℕ) → link < length network.links → line link ≡ Some (greatest_on link))
+IsFedSoFar network gates cycles free now (frames list) line run = IsListSoFar network gates cycles list free now run × ((link : ℕ) → link < length network.links → IsLine list run link (line link))
+
+-- what is replayed
+pub record Setting : Type 0 where
+  pub network : Network
+  pub offsets : List ℕ
+  pub gates : List LinkGates
+  pub cycles : ℕ
+  pub background : Background
+  pub keeps : Bool
+
+abbrev pub setting_of : Replay → Setting
+setting_of replay = record { network = replay.network.now; offsets = replay.offsets.now; gates = replay.gates.now; cycles = replay.cycles; background = background_of replay.background.now; keeps = replay.keeps }
+
+-- it can be replayed
+pub record IsSetting (setting : Setting) : Type 0 where
+  pub formed : IsWellFormed setting.network
+  pub count : length setting.offsets ≡ stream_count setting.network
+  pub small : All (λ offset. offset ≤ setting.network.cycle) setting.offsets
+  pub spaced : AreSpaced setting.network
+  pub few : setting.cycles ≤ 16
+  pub lists : HasLists setting.network setting.gates
+  pub background : HasBackground setting.network setting.gates setting.background
+
+-- the state is under way, but for its ports
+pub record IsUnderWay (setting : Setting) (state : State) : Type 0 where
+  pub end : state.end ≡ setting.cycles * setting.network.cycle
+  pub time : state.time ≤ state.end
+  pub small : state.end ≤ latest_end
+  pub made : BridgeRun
+  pub records : IsRecord setting.keeps made state.starts
+  pub run : IsRunSoFar setting.network setting.offsets setting.gates setting.cycles (free_on state.free.items) state.time made
+  pub fed : IsFedSoFar setting.network setting.gates setting.cycles (free_on state.free.items) state.time setting.background (waiting_on state.feed) made
+  pub tracked : IsTracked setting.network setting.offsets setting.cycles made state.frames.items
+  pub line : AreInLine setting.network setting.cycles state.frames.items
+  pub feed : IsFeedOf setting.background (length setting.network.links) state.feed
+  pub wires : length state.free.items ≡ length setting.network.links
+  pub numbers : AreListNumbers setting.gates (length setting.network.links) state.numbers.items
+  pub visits : AreAllVisits setting.network (length setting.network.links) state.visits.items
+  pub frees : All (λ time. time ≤ latest_free) state.free.items
+  pub readies : All (λ (frame : Frame). frame.ready ≤ latest_instant) state.frames.items
+
+-- this is the port of the list of that number
+abbrev pub IsPortAt : Setting → State → ℕ → Port → Type 0
+IsPortAt setting state number port = (d : LinkGates) → IsPort setting.network (slice_index_or setting.gates number d).entries state.frames.items (waiting_on state.feed (slice_index_or setting.gates number d).link)
+    (slice_index_or setting.gates number d).link (max (free_on state.free.items (slice_index_or setting.gates number d).link) state.time) state.end port
+
+-- the ports are those of the lists
+pub record HasPorts (setting : Setting) (state : State) : Type 0 where
+  pub count : length state.ports ≡ length setting.gates
+  pub each : (number : ℕ) → number < length setting.gates → IsPortAt setting state number (port_in state.ports number)
+
+-- the state is under way
+pub record IsState (setting : Setting) (state : State) : Type 0 where
+  pub under_way : IsUnderWay setting state
+  pub ports : HasPorts setting state
+
+-- the states differ in the port of that number, which is made anew
+pub record IsRenewed (setting : Setting) (number : ℕ) (old new : State) : Type 0 where
+  pub port : Port
+  pub is_port : IsPortAt setting old number port
+  pub ports : new ≡ record old { ports = slice_set old.ports number port }
+
+-- the background frame that waits on the link of the list of that number, and when its wire is free once it has started at the port's instant
+pub record IsSending (setting : Setting) (state : State) (number : ℕ) (port : Port) (sending : Sending) : Type 0 where
+  pub on : (d : LinkGates) → (slice_index_or setting.gates number d).link ≡ sending.link
+  pub exists : sending.link < length setting.network.links
+  pub waits : waiting_on state.feed sending.link ≡ Some sending.waiting
+  pub until : sending.until ≡ port.background + (sending.waiting.octets + 20) * (link_at setting.network sending.link).octet_time
+  pub some : 1 ≤ (link_at setting.network sending.link).octet_time
+  pub few : (link_at setting.network sending.link).octet_time ≤ 800
+  pub early : sending.until ≤ latest_free
+
+-- the starts that are kept are those of a whole bridge run that the background feeds
+pub record AreStarts (setting : Setting) (starts : BridgeRun) : Type 0 where
+  pub made : BridgeRun
+  pub records : IsRecord setting.keeps made starts
+  pub run : IsBridgeRun setting.network setting.offsets setting.gates setting.cycles made
+  pub fed : IsFed setting.network setting.gates setting.cycles setting.background made
+
+-- how long the wires are still free, all together
+abbrev pub time_left : State → ℕ
+time_left state = sum_by (λ time. state.end - time) state.free.items

@@ -1,0 +1,313 @@
+//! The replay, one start after another.
+ghost use Rattle.std.specs.Prelude.{◌≡◌, ◌≢◌, ◌≤◌, ◌<◌, ◌^◌, ℕ, length, max, All, AllPairs, IfOk, Some, None, slice_index_or};
+ghost use Rattle.tsn_model.specs.Network.{stream_count, hop_count, link_at};
+ghost use Rattle.tsn_model.specs.Bridge.{LinkGates};
+ghost use Rattle.tsn_gate.specs.Bounds.{latest_free};
+ghost use Rattle.tsn_gate.specs.Openings.{AreListNumbers};
+ghost use Rattle.tsn_gate.specs.Queue.{Waits, free_on};
+ghost use Rattle.tsn_gate.specs.Feeding.{waiting_on, HasLink};
+ghost use Rattle.tsn_gate.specs.Ports.{IsPort, IsFirstPort, port_in};
+ghost use Rattle.tsn_gate.specs.Records.{noted};
+ghost use Rattle.tsn_gate.specs.Progress.{setting_of, IsSetting, IsUnderWay, IsPortAt, IsState, IsRenewed, IsSending, AreStarts, time_left};
+
+use crate::background::Background;
+use crate::feed::{Feed, Waiting};
+use crate::openings::Openings;
+use crate::port::{LinkQueue, Port};
+use crate::queue::{Frame, advance, frames_of};
+use crate::starts::Starts;
+use crate::tournament::PortQueue;
+use crate::visits::{Visit, visits_of};
+use std::alloc::{AllocError, Global};
+use tsn_model::bounds::OVERHEAD_OCTETS;
+use tsn_model::plain::PlainNetwork;
+
+/// What is replayed: the cycles of a network with these offsets (nanoseconds, one a stream), by gate control lists, each
+/// of its own link and one for each link that a stream uses; and whether the starts of background frames are kept.
+#[derive(Clone, Copy)]
+pub struct Replay<'a> {
+    pub network: &'a PlainNetwork,
+    pub offsets: &'a [u64],
+    pub gates: &'a [Openings],
+    pub cycles: usize,
+    pub background: &'a Background,
+    pub keeps: bool,
+}
+
+/// A replay that is under way: its end and the present instant, in nanoseconds; the frames that wait or are still to come;
+/// by link when its wire is free, the number of its list, and the hops on it; a port for each list; and what is kept of the
+/// starts.
+#[derive(Drop)]
+pub struct State {
+    end: u64,
+    time: u64,
+    frames: Vec<Frame>,
+    free: Vec<u64>,
+    numbers: Vec<usize>,
+    visits: Vec<Vec<Visit>>,
+    feed: Feed,
+    ports: PortQueue,
+    starts: Starts,
+}
+
+/// A background frame that starts on a link, and when the wire is free again.
+#[derive(Clone, Copy)]
+pub struct Sending {
+    link: usize,
+    waiting: Waiting,
+    until: u64,
+}
+
+impl Replay<'_> {
+    /// Replays all cycles.
+    pub fn run(&self, alloc: Global) -> Result<Starts, AllocError>
+        requires { IsSetting (setting_of self.now) }
+        ensures { IfOk result (AreStarts (setting_of self.now)) }
+    {
+        let mut state = self.begin(alloc)?;
+        while let Some(number) = state.ports.first(state.end) {
+            self.step(&mut state, number)?;
+        }
+        Ok(state.starts)
+    }
+
+    /// The state before any start.
+    fn begin(&self, alloc: Global) -> Result<State, AllocError>
+        requires { IsSetting (setting_of self.now) }
+        ensures { IfOk result (IsState (setting_of self.now)) }
+    {
+        let links = self.network.links();
+        let mut state = State {
+            end: self.cycles as u64 * self.network.cycle(),
+            time: 0,
+            frames: frames_of(alloc, self.network, self.offsets, self.cycles)?,
+            free: vec![in alloc; 0u64; links]?,
+            numbers: numbers_by_link(alloc, self.gates, links)?,
+            visits: visits_of(alloc, self.network)?,
+            feed: Feed::of(alloc, self.background, links)?,
+            ports: PortQueue::new(alloc, self.gates.len())?,
+            starts: Starts::new(alloc),
+        };
+        self.renew_all(&mut state);
+        Ok(state)
+    }
+
+    /// All ports, anew.
+    fn renew_all(&self, state: &mut State)
+        requires setting { IsSetting (setting_of self.now) }
+        requires state { IsUnderWay (setting_of self.now) state.old }
+        requires count { length state.old.ports ≡ length self.now.gates.now }
+        ensures { IsState (setting_of self.now) state.new }
+    {
+        for number in 0..self.gates.len() {
+            self.renew_port(state, number);
+        }
+    }
+
+    /// The port of the list of that number, anew.
+    fn renew_port(&self, state: &mut State, number: usize)
+        requires setting { IsSetting (setting_of self.now) }
+        requires state { IsUnderWay (setting_of self.now) state.old }
+        requires list { number < length self.now.gates.now }
+        requires port { number < length state.old.ports }
+        ensures { IsRenewed (setting_of self.now) number state.old state.new }
+    {
+        let port = self.port(state, &self.gates[number]);
+        state.ports.set(number, port);
+    }
+
+    /// The port of a list, now.
+    fn port(&self, state: &State, list: &Openings) -> Port
+        requires setting { IsSetting (setting_of self.now) }
+        requires state { IsUnderWay (setting_of self.now) state.now }
+        requires exists { list.now.link < length self.now.network.now.links }
+        ensures { IsPort self.now.network.now list.now.entries state.now.frames.items (waiting_on state.now.feed list.now.link) list.now.link
+            (max (free_on state.now.free.items list.now.link) state.now.time) state.now.end result }
+    {
+        let link = list.link();
+        let queue = LinkQueue {
+            network: self.network,
+            cycles: self.cycles,
+            frames: &state.frames,
+            list,
+        };
+        Port::of(
+            queue,
+            &state.visits[link],
+            state.feed.waiting(link),
+            state.free[link].max(state.time),
+            state.end,
+        )
+    }
+
+    /// What starts first of all starts.
+    fn step(&self, state: &mut State, number: usize) -> Result<(), AllocError>
+        requires setting { IsSetting (setting_of self.now) }
+        requires state { IsState (setting_of self.now) state.old }
+        requires first { IsFirstPort state.old.ports state.old.end number }
+        ensures state { IfOk result (λ _. IsState (setting_of self.now) state.new) }
+        ensures falls { IfOk result (λ _. time_left state.new < time_left state.old) }
+    {
+        let port = state.ports.get(number);
+        match port.head {
+            Some(frame) if port.scheduled <= port.background => {
+                self.start(state, number, frame, port.scheduled)
+            }
+            _ => self.send(state, number, port),
+        }
+    }
+
+    /// A scheduled frame starts on the link of a list.
+    fn start(
+        &self,
+        state: &mut State,
+        number: usize,
+        waiting: usize,
+        time: u64,
+    ) -> Result<(), AllocError>
+        requires setting { IsSetting (setting_of self.now) }
+        requires state { IsState (setting_of self.now) state.old }
+        requires first { IsFirstPort state.old.ports state.old.end number }
+        requires head { (port_in state.old.ports number).head ≡ Some waiting }
+        requires time { (port_in state.old.ports number).scheduled ≡ time }
+        requires order { time ≤ (port_in state.old.ports number).background }
+        ensures state { IfOk result (λ _. IsState (setting_of self.now) state.new) }
+        ensures falls { IfOk result (λ _. time_left state.new < time_left state.old) }
+    {
+        let link = self.gates[number].link();
+        let frame = state.frames[waiting];
+        let moved = advance(self.network, &frame, time);
+        state.starts.start(&frame, time)?;
+        state.time = time;
+        state.free[link] = time + self.network.occupancy(frame.stream, link);
+        state.frames[waiting] = moved;
+        self.renew(state, number, &moved);
+        Ok(())
+    }
+
+    /// The port of a list, and that of the link on which a frame waits now, anew.
+    fn renew(&self, state: &mut State, number: usize, moved: &Frame)
+        requires setting { IsSetting (setting_of self.now) }
+        requires state { IsUnderWay (setting_of self.now) state.old }
+        requires stream { moved.now.stream < stream_count self.now.network.now }
+        requires list { number < length self.now.gates.now }
+        requires count { length state.old.ports ≡ length self.now.gates.now }
+        requires others { (other : ℕ) → other < length self.now.gates.now → (number ≡ other → ⊥)
+            → ((d : LinkGates) → Waits self.now.network.now (slice_index_or self.now.gates.now other d).link moved.now → ⊥)
+            → IsPortAt (setting_of self.now) state.old other (port_in state.old.ports other) }
+        ensures state { IsState (setting_of self.now) state.new }
+        ensures end { state.new.end ≡ state.old.end }
+        ensures free { state.new.free ≡ state.old.free }
+    {
+        self.renew_port(state, number);
+        if let Some(next) = self.list_of(state, moved) {
+            self.renew_port(state, next);
+        }
+    }
+
+    /// The number of the list of the link on which a frame waits.
+    fn list_of(&self, state: &State, frame: &Frame) -> Option<usize>
+        requires setting { IsSetting (setting_of self.now) }
+        requires state { IsUnderWay (setting_of self.now) state.now }
+        requires stream { frame.now.stream < stream_count self.now.network.now }
+        ensures list { (number : ℕ) → result ≡ Some number → number < length self.now.gates.now }
+        ensures waits { (number : ℕ) (d : LinkGates) → number < length self.now.gates.now
+            → Waits self.now.network.now (slice_index_or self.now.gates.now number d).link frame.now → result ≡ Some number }
+    {
+        if frame.hop < self.network.hops(frame.stream) {
+            let link = self.network.route_link(frame.stream, frame.hop);
+            Some(state.numbers[link])
+        } else {
+            None
+        }
+    }
+
+    /// The background frame that waits starts on the link of a list.
+    fn send(&self, state: &mut State, number: usize, port: Port) -> Result<(), AllocError>
+        requires setting { IsSetting (setting_of self.now) }
+        requires state { IsState (setting_of self.now) state.old }
+        requires first { IsFirstPort state.old.ports state.old.end number }
+        requires port { port_in state.old.ports number ≡ port }
+        requires order { port.scheduled ≤ port.background → port.head ≡ None }
+        ensures state { IfOk result (λ _. IsState (setting_of self.now) state.new) }
+        ensures falls { IfOk result (λ _. time_left state.new < time_left state.old) }
+    {
+        let sending = self.sending(state, number, port);
+        self.note(&mut state.starts, sending.waiting, port.background)?;
+        state.time = port.background;
+        state.free[sending.link] = sending.until;
+        state.feed.sent(sending.link);
+        let next = state.feed.waiting(sending.link);
+        let queue = LinkQueue {
+            network: self.network,
+            cycles: self.cycles,
+            frames: &state.frames,
+            list: &self.gates[number],
+        };
+        let renewed = port.after_sent(queue, next, sending.until, state.end);
+        state.ports.set(number, renewed);
+        Ok(())
+    }
+
+    /// The background frame that waits on the link of a list, when it starts at the port's instant.
+    fn sending(&self, state: &State, number: usize, port: Port) -> Sending
+        requires setting { IsSetting (setting_of self.now) }
+        requires state { IsState (setting_of self.now) state.now }
+        requires first { IsFirstPort state.now.ports state.now.end number }
+        requires port { port_in state.now.ports number ≡ port }
+        requires order { port.scheduled ≤ port.background → port.head ≡ None }
+        ensures { IsSending (setting_of self.now) state.now number port result }
+    {
+        let link = self.gates[number].link();
+        let Some(waiting) = state.feed.waiting(link) else {
+            unreachable!()
+        };
+        let duration = (waiting.octets + OVERHEAD_OCTETS) * rate(self.network, link);
+        Sending {
+            link,
+            waiting,
+            until: port.background + duration,
+        }
+    }
+
+    /// Keeps the start of a background frame, if such starts are kept.
+    fn note(&self, starts: &mut Starts, waiting: Waiting, time: u64) -> Result<(), AllocError>
+        ensures { IfOk result (λ _. starts.new ≡ noted self.now.keeps starts.old
+            (record { link = waiting.link; time = time; octets = waiting.octets; number = waiting.number })) }
+    {
+        if self.keeps {
+            starts.send(waiting, time)
+        } else {
+            Ok(())
+        }
+    }
+}
+
+/// By link the number of its list.
+fn numbers_by_link(
+    alloc: Global,
+    gates: &[Openings],
+    links: usize,
+) -> Result<Vec<usize>, AllocError>
+    requires exist { All (λ (list : LinkGates). list.link < links) gates.now }
+    requires distinct { AllPairs (λ (a b : LinkGates). a.link ≢ b.link) gates.now }
+    ensures { IfOk result (λ numbers. AreListNumbers gates.now links numbers.items) }
+{
+    let mut numbers = vec![in alloc; 0usize; links]?;
+    for number in 0..gates.len() {
+        let link = gates[number].link();
+        numbers[link] = number;
+    }
+    Ok(numbers)
+}
+
+/// How long an octet takes on a link.
+fn rate(network: &PlainNetwork, link: usize) -> u64
+    requires { link < length network.now.links }
+    ensures value { result ≡ (link_at network.now link).octet_time }
+    ensures some { 1 ≤ result }
+    ensures limit { result ≤ 800 }
+{
+    let _limits = network.cycle();
+    network.link(link).octet_time
+}

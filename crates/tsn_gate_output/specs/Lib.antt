@@ -1,4 +1,0 @@
-pub mod Taprio
-pub mod Json
-pub mod Device
-pub mod Format

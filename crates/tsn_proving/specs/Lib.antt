@@ -1,2 +1,0 @@
-pub mod Proof
-pub mod Laws

@@ -1,0 +1,71 @@
+//! Why a file, a plan or a certificate is refused.
+ghost use Rattle.std.specs.Prelude.{◌≡◌, IfOk, IsErr, Ok};
+ghost use Rattle.tsn_reason.specs.Refusal.{IsOutcome};
+ghost use Rattle.tsn_reason.specs.Outcome.{output_of};
+
+use crate::answer::Answer;
+use crate::outcome::{FileKind, Outcome};
+use std::alloc::Global;
+use tsn_cert::FileFault;
+use tsn_check::CheckFault;
+use tsn_model::NoMemory;
+use tsn_net::{Code, NetFault};
+
+/// What is said of a network file with this fault, for this reason.
+pub fn refusal(alloc: Global, fault: NetFault, reason: Option<String>) -> Result<Answer, NoMemory>
+    ensures outcome { IfOk result (λ a. a.outcome ≡ Outcome.RefusedNetwork fault) }
+    ensures line { IfOk result (λ a. IsOutcome (Outcome.RefusedNetwork fault) (output_of (Ok a))) }
+    ensures memory { fault.code ≡ Code.Memory → IsErr result }
+{
+    if fault.code == Code::Memory {
+        return Err(NoMemory);
+    }
+    Answer::because(alloc, Outcome::RefusedNetwork(fault), reason)
+}
+
+/// What is said of a file of this kind with this fault.
+pub fn file_refusal(
+    alloc: Global,
+    kind: FileKind,
+    fault: FileFault,
+    reason: Option<String>,
+) -> Result<Answer, NoMemory>
+    ensures line { IfOk result (λ a. IsOutcome (Outcome.RefusedFile kind fault) (output_of (Ok a))) }
+    ensures memory { fault ≡ FileFault.Memory → IsErr result }
+{
+    if fault == FileFault::Memory {
+        return Err(NoMemory);
+    }
+    Answer::because(alloc, Outcome::RefusedFile(kind, fault), reason)
+}
+
+/// What is said of a plan with this fault.
+pub fn rejection(
+    alloc: Global,
+    fault: CheckFault,
+    reason: Option<String>,
+) -> Result<Answer, NoMemory>
+    ensures outcome { IfOk result (λ a. a.outcome ≡ Outcome.RefusedPlan fault) }
+    ensures line { IfOk result (λ a. IsOutcome (Outcome.RefusedPlan fault) (output_of (Ok a))) }
+    ensures memory { fault ≡ CheckFault.Memory → IsErr result }
+{
+    if fault == CheckFault::Memory {
+        return Err(NoMemory);
+    }
+    Answer::because(alloc, Outcome::RefusedPlan(fault), reason)
+}
+
+/// What is said of a plan and a certificate with this fault.
+pub fn cert_rejection(
+    alloc: Global,
+    fault: CheckFault,
+    reason: Option<String>,
+) -> Result<Answer, NoMemory>
+    ensures line { IfOk result (λ a. IsOutcome (Outcome.RefusedCert fault) (output_of (Ok a))) }
+    ensures memory { fault ≡ CheckFault.Memory → IsErr result }
+{
+    if fault == CheckFault::Memory {
+        return Err(NoMemory);
+    }
+    Answer::because(alloc, Outcome::RefusedCert(fault), reason)
+}

@@ -1,5 +1,0 @@
-use Rattle.std.proofs.Common.{rules}
-use Rattle.tsn_share.proofs.shared.best_as.Goals as goal
-
-pub returns-clause-best : goal.returns-clause-best
-returns-clause-best g c = search rules depth 4
