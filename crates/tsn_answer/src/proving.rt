@@ -14,8 +14,7 @@ use tsn_cert::{Argument, Offsets, Plan};
 use tsn_check::{CheckFault, Verdict};
 use tsn_learn::{Answer, BestSoFar, LeastAnswer, learn, show_least};
 use tsn_model::NoMemory;
-use tsn_net::Problem;
-use tsn_timing::Timing;
+use tsn_timing::{Problem, Timing};
 
 /// Whether no valid schedule undercuts the plan, or there is none where the plan says so, with an argument of at most `limit`
 /// steps; else a valid schedule that undercuts it; or, where neither was found by `limit` conflicts and the work that goes with

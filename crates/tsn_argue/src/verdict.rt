@@ -16,8 +16,7 @@ use crate::step::check_steps;
 use std::alloc::Global;
 use tsn_cert::{Argument, Certificate, Goal, Plan};
 use tsn_check::{CheckFault, Verdict, check, check_plan};
-use tsn_net::Problem;
-use tsn_timing::Timing;
+use tsn_timing::{Problem, Timing};
 
 /// Whether the certificate, a tree or an argument, shows that the plan is optimal, or the first of the optimal schedules, or
 /// that there is none where the plan says so; else the first fault: of the plan, then of the target and the goal, then of

@@ -11,9 +11,8 @@ use crate::tables::Tables;
 use std::alloc::Global;
 use tsn_conflict::conflicts;
 use tsn_conflict::sharing::Conflicts;
-use tsn_net::Problem;
 use tsn_node::NoMemory;
-use tsn_timing::Timing;
+use tsn_timing::{Problem, Timing};
 
 /// The times of a problem, its conflicts and the loads of its links.
 #[derive(Drop)]

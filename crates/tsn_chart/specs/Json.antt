@@ -6,7 +6,7 @@ use Rattle.std.specs.List.{flat_map}
 use Rattle.serde_json.specs.Data.{Data, number, unsigned, string, object, no_members, member}
 use Rattle.serde_json.specs.Written.{compact_text}
 use Rattle.tsn_model.specs.Network.{link_at}
-use Rattle.tsn_net.specs.Problem.{NamedNetwork}
+use Rattle.tsn_timing.specs.Problem.{NamedNetwork}
 use Rattle.tsn_chart.specs.declared.stream.StreamShare.{StreamShare}
 use Rattle.tsn_chart.specs.declared.link.LinkShare.{LinkShare}
 use Rattle.tsn_gate.specs.Table.{name_at}

@@ -9,8 +9,8 @@ use crate::stream::StreamShare;
 use std::alloc::{AllocError, Global};
 use std::fmt::Write;
 use tsn_gate::list::names;
-use tsn_net::Problem;
 use tsn_text::write_quoted;
+use tsn_timing::Problem;
 
 /// The names of the fields that each record has.
 const HEADER: &str =

@@ -1,13 +1,13 @@
 //! What is the same in each format of the shares: a text for each stream, then one for each link.
 ghost use Rattle.std.specs.Prelude.{◌≡◌, ◌++◌, ◌<◌, ℕ, All, IfOk, List, OnOk, length, string_bytes};
 ghost use Rattle.std.specs.List.{flat_map};
-ghost use Rattle.tsn_net.specs.Problem.{NamedNetwork};
+ghost use Rattle.tsn_timing.specs.Problem.{NamedNetwork};
 
 use crate::link::LinkShare;
 use crate::stream::StreamShare;
 use std::alloc::AllocError;
 use tsn_model::NoMemory;
-use tsn_net::Problem;
+use tsn_timing::Problem;
 
 /// A format of the shares.
 pub trait Format {

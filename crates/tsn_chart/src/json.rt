@@ -11,7 +11,7 @@ use crate::stream::StreamShare;
 use serde_json::{Value, json};
 use std::alloc::{AllocError, Global};
 use tsn_gate::list::names;
-use tsn_net::Problem;
+use tsn_timing::Problem;
 
 /// Lines of JSON: an object for each stream and each link.
 pub struct Json;

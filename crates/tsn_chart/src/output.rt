@@ -12,7 +12,7 @@ use crate::stream::StreamShare;
 use crate::table::Table;
 use std::alloc::Global;
 use tsn_model::NoMemory;
-use tsn_net::Problem;
+use tsn_timing::Problem;
 
 /// The shares as a table: a line for each stream with its name and numbers, then one for each link with its number, the names
 /// of the nodes that it joins, and its numbers, each after its word. Where some stream sends several frames a cycle, the lines

@@ -11,8 +11,7 @@ use crate::shown::{Shown, is_shown, rows_shown};
 use std::alloc::{AllocError, Global};
 use tsn_gate::GateList;
 use tsn_model::NoMemory;
-use tsn_net::Problem;
-use tsn_timing::{Timing, Valid};
+use tsn_timing::{Problem, Timing, Valid};
 
 /// What is drawn.
 #[derive(Clone, Copy)]

@@ -8,8 +8,7 @@ use crate::stream::{StreamShare, stream_shares};
 use std::alloc::Global;
 use tsn_gate::gate_lists;
 use tsn_model::NoMemory;
-use tsn_net::Problem;
-use tsn_timing::Valid;
+use tsn_timing::{Problem, Valid};
 
 /// What each stream gets by a schedule, in stream order, and each directed link that a stream uses, by link number.
 #[derive(Drop)]

@@ -9,7 +9,7 @@ use crate::stream::StreamShare;
 use std::alloc::AllocError;
 use std::fmt::Write;
 use tsn_gate::list::names;
-use tsn_net::Problem;
+use tsn_timing::Problem;
 
 /// A table: a line for each stream and each link.
 pub struct Table;

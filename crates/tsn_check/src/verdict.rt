@@ -16,8 +16,7 @@ use crate::tree::check_tree;
 use std::alloc::Global;
 use tsn_cert::{Cert, Format, Node, Plan};
 use tsn_conflict::conflicts;
-use tsn_net::Problem;
-use tsn_timing::Timing;
+use tsn_timing::{Problem, Timing};
 
 /// What an accepted certificate shows.
 #[derive(Clone, Copy, PartialEq, Eq)]

@@ -4,8 +4,8 @@ use Rattle.tsn_model.specs.declared.Violation.{Violation}
 use Rattle.tsn_model.specs.Network.{Network}
 use Rattle.tsn_model.specs.Schedule.{IsValid, IsFirstViolation, flowspan}
 use Rattle.tsn_net.specs.File.{States}
-use Rattle.tsn_net.specs.Problem.{NamedNetwork}
-use Rattle.tsn_reason.specs.declared.outcome.Outcome.TheVariants.{Taken, Valid, NotValid}
+use Rattle.tsn_timing.specs.Problem.{NamedNetwork}
+use Rattle.tsn_reason.specs.declared.outcome.Outcome.TheVariants.{Valid, NotValid}
 use Rattle.tsn_reason.specs.Run.{Output, Command}
 use Rattle.tsn_reason.specs.Refusal.{IsOutcome, RefusesNetwork}
 
@@ -22,8 +22,3 @@ abbrev pub ValidAnswers : List ℕ → Command
 ValidAnswers offsets (file ∷ []) output =
     RefusesNetwork file output ⊎ ((problem : NamedNetwork) × States file problem × (Accepts problem.network offsets output ⊎ Rejects problem.network offsets output))
 ValidAnswers offsets _ output = ⊥
-
--- the answer for a network file that is judged alone: nothing is said of one that is taken
-abbrev pub JudgeAnswers : Command
-JudgeAnswers (file ∷ []) output = RefusesNetwork file output ⊎ ((problem : NamedNetwork) × States file problem × IsOutcome Taken output)
-JudgeAnswers _ output = ⊥

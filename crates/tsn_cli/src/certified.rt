@@ -23,12 +23,12 @@ use tsn_codec::certificate_from_json;
 use tsn_device::device::{ReadFault, Source, read_all};
 use tsn_explain::{explanation, marked_frames};
 use tsn_model::NoMemory;
-use tsn_net::Problem;
 use tsn_reason::run::MAX_FILE;
 use tsn_reason::{
     Claim, File, FileKind, InputsRead, cert_file_line, cert_rejection, file_refusal,
     line_on_argument, line_on_tree, read_inputs,
 };
+use tsn_timing::Problem;
 
 /// What is shown of a plan and its certificate, before it is written.
 pub fn certified_shown<N: Source, P: Source, C: Source>(

@@ -1,11 +1,13 @@
-//! The runs of the commands that judge or show what they read, over readers and writers of bytes.
+//! The runs of the commands that judge or show what they read, over readers and writers of bytes; and these commands by their words, over
+//! whatever they are given.
 #![tactic(auto)]
 
 mod certified;
 mod check;
 mod explain;
-mod judge;
+pub mod options;
 mod showing;
+pub mod shown;
 mod table;
 mod tables;
 mod untaken;
@@ -14,7 +16,6 @@ mod valid;
 pub use certified::certified_shown;
 pub use check::{check_answer, check_run};
 pub use explain::{explain_run, marked_chart_run};
-pub use judge::{judge_answer, judge_run};
 pub use showing::{Showing, Shown, show};
 pub use table::{GatesOptions, ReplayOptions, Table};
 pub use tables::{chart_run, gates_run, replay_run, streams_run, table_shown};

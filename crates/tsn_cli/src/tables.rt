@@ -22,9 +22,8 @@ use tsn_check::{CheckFault, check_plan};
 use tsn_device::device::{ReadFault, Sink, Source};
 use tsn_gate::{Background, ReplayFault, ReplayTable, gate_lists, lists_by, replay_rows, text_in};
 use tsn_model::NoMemory;
-use tsn_net::Problem;
 use tsn_reason::{Claim, InputsRead, Stated, plan_line, read_inputs, rejection};
-use tsn_timing::{Timing, Valid};
+use tsn_timing::{Problem, Timing, Valid};
 use tsn_words::{ReplayFormat, StreamsFormat};
 
 /// Reads a network file and a plan file, the first judged before the second is read, and writes the plan's gate control

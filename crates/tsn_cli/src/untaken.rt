@@ -4,7 +4,7 @@ use crate::table::GatesOptions;
 use std::alloc::Global;
 use tsn_gate::{GateList, closed_lines, device_lines};
 use tsn_model::NoMemory;
-use tsn_net::Problem;
+use tsn_timing::Problem;
 use tsn_words::GatesFormat;
 
 /// A line for each merged list that leaves others no time, and for each that has more entries than a device takes, or a shorter one

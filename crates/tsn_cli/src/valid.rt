@@ -7,10 +7,9 @@ ghost use Rattle.tsn_cli.specs.Valid.{ValidAnswers, Accepts, Rejects};
 use std::alloc::Global;
 use tsn_device::device::{ReadFault, Sink, Source};
 use tsn_model::NoMemory;
-use tsn_net::Problem;
 use tsn_reason::run::respond;
 use tsn_reason::{Answer, NetworkRead, Outcome, Schedule, offsets_line, read_network};
-use tsn_timing::Validity;
+use tsn_timing::{Problem, Validity};
 
 /// Reads a network file, judges the offsets (nanoseconds, of any size, in the order of the file's streams), and writes
 /// a line on them. The answer is the status.

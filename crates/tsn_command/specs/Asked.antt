@@ -11,8 +11,8 @@ use Rattle.tsn_cli.specs.Valid.{ValidAnswers}
 use Rattle.tsn_cli.specs.Explain.{ExplainAnswers}
 use Rattle.tsn_cli.specs.Tables.{GatesAnswers, ReplayAnswers, StreamsAnswers}
 use Rattle.tsn_plan_output.specs.Plan.{PlanAnswers}
-use Rattle.tsn_wiring.specs.Options.{gates_options, replay_options}
-use Rattle.tsn_wiring.specs.Charts.{RunsChart}
+use Rattle.tsn_cli.specs.Options.{gates_options, replay_options}
+use Rattle.tsn_cli.specs.Charts.{RunsChart}
 use Rattle.tsn_given.specs.Runs.{RunsTold}
 use Rattle.tsn_prover.specs.Devices.{CannotBegin, Devices, OnCert, OnNetwork, OnPlan, RunsProve}
 use Rattle.tsn_prover.specs.Files.{MadeFiles}

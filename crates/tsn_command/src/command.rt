@@ -11,11 +11,11 @@ use std::io::Eprint;
 use std::sync::Wait;
 use std::thread::Threads;
 use std::time::Clock;
+use tsn_cli::options::{gates_options, replay_options};
+use tsn_cli::shown::{CertNames, PlanNames, certified, check, picture, table, valid};
 use tsn_cli::{Showing, Table};
 use tsn_given::{Given, Made, Ran};
 use tsn_prover::prove;
-use tsn_wiring::options::{gates_options, replay_options};
-use tsn_wiring::shown::{CertNames, PlanNames, certified, check, picture, table, valid};
 use tsn_words::{ExplainWords, Words};
 
 /// Runs a command over what its words name, and says the status. Where a file is refused, or a device fails, a line is told on why.

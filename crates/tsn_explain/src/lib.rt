@@ -31,8 +31,8 @@ pub use marked::marked_frames;
 use std::alloc::{AllocError, Global};
 use tsn_cert::{Certificate, Plan};
 use tsn_model::NoMemory;
-use tsn_net::Problem;
 use tsn_text::TextBuilder;
+use tsn_timing::Problem;
 
 /// Why no schedule is done before the plan is, or why there is none: lines that each end in a line feed. Instants are in
 /// nanoseconds from the cycle's start. The steps of an argument are numbered from 0, as they stand in its file. The certificate is

@@ -8,8 +8,8 @@ use std::collections::BTreeMap;
 use tsn_argue::{Listener, News, Reader, Shown, Use, View, hear_argument, read_first, read_second};
 use tsn_cert::{Argument, Clause, Goal, Move, Plan, Step};
 use tsn_check::CheckFault;
-use tsn_net::Problem;
 use tsn_text::ListBuilder;
+use tsn_timing::Problem;
 
 /// Which facts of a move are needed: what it says of the second stream of an order or of the flowspan, and then what it says of the
 /// first one or of the stream that arrives; other moves show one fact.

@@ -2,8 +2,7 @@
 use crate::number::{less, signed, sum};
 use tsn_cert::Order;
 use tsn_model::{Decision, Frame, Side, Triple};
-use tsn_net::Problem;
-use tsn_timing::Timing;
+use tsn_timing::{Problem, Timing};
 
 /// A network and its times, in nanoseconds.
 #[derive(Clone, Copy)]

@@ -3,7 +3,7 @@ use Rattle.std.proofs.Common.{◌≡◌, ℕ, ◌≤◌, ◌<◌, List, [], leng
 use Rattle.std.proofs.lemmas.List.{get_or_past}
 use Rattle.tsn_model.specs.declared.Link.{Link}
 use Rattle.tsn_model.specs.Network.{Network, IsWellFormed, IsLink, link_at}
-use Rattle.tsn_net.specs.Problem.{NamedNetwork}
+use Rattle.tsn_timing.specs.Problem.{NamedNetwork}
 use Rattle.tsn_gate.specs.Table.{name_at}
 
 pub IsLink-at : (network : Network) → IsWellFormed network → (link : ℕ) → link < length network.links → IsLink network (link_at network link)

@@ -3,7 +3,7 @@
 use Rattle.std.specs.Prelude.{ℕ, Option, List}
 use Rattle.std.specs.List.{flat_map}
 use Rattle.tsn_model.specs.Bridge.{LinkGates}
-use Rattle.tsn_net.specs.Problem.{NamedNetwork}
+use Rattle.tsn_timing.specs.Problem.{NamedNetwork}
 use Rattle.tsn_gate.specs.Table.{table_text}
 use Rattle.tsn_gate.specs.Taprio.{script_text_within}
 use Rattle.tsn_gate.specs.Json.{json_text}

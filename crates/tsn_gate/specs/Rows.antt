@@ -7,7 +7,7 @@ use Rattle.std.specs.Fmt.{decimal}
 use Rattle.tsn_model.specs.Network.{Network, IsWellFormed, stream_count, hop_count}
 use Rattle.tsn_model.specs.Timing.{shifts}
 use Rattle.tsn_model.specs.Bridge.{Passage, ScheduledStart, BridgeRun, IsPassage, StartedAt, planned}
-use Rattle.tsn_net.specs.Problem.{NamedNetwork}
+use Rattle.tsn_timing.specs.Problem.{NamedNetwork}
 use Rattle.tsn_gate.specs.declared.trace.Row.{Row}
 use Rattle.tsn_gate.specs.Frames.{AreSpaced, AreFirsts, frames_of, index_of}
 

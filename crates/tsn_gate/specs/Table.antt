@@ -7,7 +7,7 @@ use Rattle.std.specs.Fmt.{decimal, digit_glyph}
 use Rattle.tsn_model.specs.declared.GateEntry.{GateEntry}
 use Rattle.tsn_model.specs.Network.{link_at}
 use Rattle.tsn_model.specs.Bridge.{LinkGates}
-use Rattle.tsn_net.specs.Problem.{NamedNetwork}
+use Rattle.tsn_timing.specs.Problem.{NamedNetwork}
 
 -- an octet as two upper case hexadecimal digits, a space, the interval in decimal, and a line feed
 unfoldable pub entry_text : GateEntry → List ℕ

@@ -9,7 +9,7 @@ use Rattle.tsn_model.specs.declared.GateEntry.{GateEntry}
 use Rattle.tsn_model.specs.Network.{Network, link_at}
 use Rattle.tsn_model.specs.Gates.{cycle_of}
 use Rattle.tsn_model.specs.Bridge.{LinkGates}
-use Rattle.tsn_net.specs.Problem.{NamedNetwork}
+use Rattle.tsn_timing.specs.Problem.{NamedNetwork}
 use Rattle.tsn_gate.specs.Table.{name_at}
 
 -- a printable ASCII character but the backslash

@@ -5,8 +5,8 @@ ghost use Rattle.tsn_gate.specs.Csv.{numbers_text, record_text};
 use crate::trace::Row;
 use std::alloc::AllocError;
 use std::fmt::Write;
-use tsn_net::Problem;
 use tsn_text::write_quoted;
+use tsn_timing::Problem;
 
 /// The first line: the names of the columns.
 pub const HEADER: &str = "stream,cycle,hop,planned,actual\r\n";

@@ -18,8 +18,7 @@ use crate::rows::rows_of;
 use crate::table::ReplayTable;
 use crate::trace::{Row, Trace};
 use std::alloc::{AllocError, Global};
-use tsn_net::Problem;
-use tsn_timing::Valid;
+use tsn_timing::{Problem, Valid};
 
 /// Replays so many cycles, 1 to 16, of a valid schedule by gate control lists, from instant 0 on. The bridges' clocks are
 /// without error.

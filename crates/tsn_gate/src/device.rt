@@ -8,7 +8,7 @@ use crate::timeline::BACKGROUND;
 use std::alloc::{AllocError, Global};
 use std::fmt::Write;
 use tsn_model::{GateEntry, NoMemory};
-use tsn_net::Problem;
+use tsn_timing::Problem;
 
 /// A line for each list that has more entries than a device takes, and one for each that has an entry shorter than it takes on
 /// the list's link; the lists in their order. No text where the device takes them all.

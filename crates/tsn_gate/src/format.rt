@@ -10,7 +10,7 @@ use crate::list::GateList;
 use crate::taprio::{DeviceLimits, to_taprio_within};
 use std::alloc::Global;
 use tsn_model::NoMemory;
-use tsn_net::Problem;
+use tsn_timing::Problem;
 use tsn_words::GatesFormat;
 
 /// Gate control lists in a format, one list after the other. A script has the limits of a device.

@@ -9,7 +9,7 @@ use crate::list::{GateList, names};
 use serde_json::{Value, json};
 use std::alloc::{AllocError, Global};
 use tsn_model::{GateEntry, NoMemory};
-use tsn_net::Problem;
+use tsn_timing::Problem;
 
 /// A list as a line of JSON: an object with its cycle and entries (each an array of its octet and its interval in
 /// nanoseconds), the link, and the names of the nodes that it joins.

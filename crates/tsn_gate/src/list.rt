@@ -11,7 +11,7 @@ use std::alloc::{AllocError, Global};
 use std::fmt::Write;
 use std::marker::Model;
 use tsn_model::{GateEntry, NoMemory};
-use tsn_net::Problem;
+use tsn_timing::Problem;
 
 /// The longest cycle, in nanoseconds.
 const LONGEST_CYCLE: u64 = 1_000_000_000;

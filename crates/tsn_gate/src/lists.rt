@@ -12,8 +12,7 @@ use crate::windows::windows_on;
 use std::alloc::{AllocError, Global};
 use tsn_model::NoMemory;
 use tsn_model::bounds::MAX_OCTETS_ON_LINK;
-use tsn_net::Problem;
-use tsn_timing::{Timing, Valid};
+use tsn_timing::{Problem, Timing, Valid};
 
 /// For each directed link that a stream uses, by link number, the list that the schedule asks for: in a scheduled frame's
 /// window the scheduled class alone is open; before it, for as long as the greatest background frame takes, none is; and

@@ -12,8 +12,7 @@ use crate::lists::gate_lists;
 use crate::widened::widened;
 use std::alloc::{AllocError, Global};
 use tsn_model::{GateEntry, NoMemory};
-use tsn_net::Problem;
-use tsn_timing::Valid;
+use tsn_timing::{Problem, Valid};
 
 /// The lists that a schedule asks for, or with `merge` lists that keep them with entries of no less than so many
 /// nanoseconds where that can be done.

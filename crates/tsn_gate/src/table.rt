@@ -9,7 +9,7 @@ use std::alloc::{AllocError, Global};
 use std::fmt::Write;
 use std::marker::Model;
 use tsn_model::NoMemory;
-use tsn_net::Problem;
+use tsn_timing::Problem;
 
 /// The rows of a replay: one for each scheduled frame and hop, by cycle, then stream, then shift, then hop.
 #[derive(Drop)]

@@ -7,7 +7,7 @@ use crate::list::{GateList, names};
 use std::alloc::{AllocError, Global};
 use std::fmt::Write;
 use tsn_model::{GateEntry, NoMemory};
-use tsn_net::Problem;
+use tsn_timing::Problem;
 
 /// The first lines of a script, with its variables.
 const FIRST_LINES: &str =

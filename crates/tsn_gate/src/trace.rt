@@ -8,7 +8,7 @@ use crate::table::ReplayTable;
 use std::alloc::Global;
 use std::marker::Model;
 use tsn_model::NoMemory;
-use tsn_net::Problem;
+use tsn_timing::Problem;
 
 /// A stream's frame on a hop, in a cycle, each counted from 0: when it was planned to start there, and when it did, in
 /// nanoseconds from the replay's beginning. A frame that hadn't started by the end has no actual start. The shift says which

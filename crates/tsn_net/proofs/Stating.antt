@@ -3,7 +3,8 @@ use Rattle.std.proofs.Common.{◌≡◌, ℕ, List, sym, ap, ◌∙◌}
 use Rattle.std.proofs.lemmas.Option.{same_Some}
 use Rattle.toml.specs.Data.{Members, table}
 use Rattle.tsn_net.specs.Document.{Document, document_of}
-use Rattle.tsn_net.specs.Problem.{NamedNetwork, problem_of}
+use Rattle.tsn_net.specs.Problem.{problem_of}
+use Rattle.tsn_timing.specs.Problem.{NamedNetwork}
 use Rattle.tsn_net.specs.File.{Spells, States}
 
 -- it is the text of one document alone

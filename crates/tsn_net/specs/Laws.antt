@@ -11,7 +11,8 @@ use Rattle.tsn_net.specs.Fault.{code_number}
 use Rattle.tsn_net.specs.File.{States}
 use Rattle.tsn_model.specs.Schedule.{IsValid}
 use Rattle.tsn_model.specs.Held.{HasOffsets}
-use Rattle.tsn_net.specs.Problem.{NamedNetwork, free_network_of, offsets_of, network_of}
+use Rattle.tsn_net.specs.Problem.{free_network_of, offsets_of, network_of}
+use Rattle.tsn_timing.specs.Problem.{NamedNetwork}
 
 -- the place is one of the document: the top table, or a node, a cable or a stream that is there
 abbrev pub IsIn : Document → Place → Type 0

@@ -7,10 +7,11 @@ ghost use Rattle.tsn_net.specs.File.{Spells, States, HasFault, IsFaultless, out_
 
 use crate::document::Document;
 use crate::fault::{Code, NetFault, Place};
-use crate::problem::Problem;
+use crate::problem::problem_of;
 use crate::words::{not_toml_words, words_of};
 use std::alloc::Global;
 use toml::{Table, Value};
+use tsn_timing::Problem;
 
 /// Reads a network file. A fault is the least condition that holds, at the first place where it holds; want of memory
 /// may come in place of any answer.
@@ -65,7 +66,7 @@ pub fn read_or_refuse(alloc: Global, bytes: &[u8]) -> Result<Problem, Refused>
             words: words_of(alloc, document.names(amiss.place), amiss),
         });
     }
-    match Problem::of(alloc, &document) {
+    match problem_of(alloc, &document) {
         Ok(problem) => Ok(problem),
         Err(_) => Err(Refused::memory()),
     }

@@ -1,7 +1,7 @@
 -- One network file has one plan file.
 use Rattle.std.proofs.Common.{◌≡◌, ◌⊎◌, ℕ, Bool, inl, inr, List, [], ◌∷◌, slice_get, Some, None, sym, ap, ◌∙◌, subst, arith}
 use Rattle.tsn_model.specs.Network.{Network}
-use Rattle.tsn_net.specs.Problem.{NamedNetwork}
+use Rattle.tsn_timing.specs.Problem.{NamedNetwork}
 use Rattle.tsn_net.proofs.Stating.{stated_once}
 use Rattle.tsn_cert.specs.declared.plan.Plan.{Plan}
 use Rattle.tsn_cert.specs.declared.plan.Plan.TheVariants as plan

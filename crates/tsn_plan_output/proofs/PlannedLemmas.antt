@@ -4,7 +4,7 @@ use Rattle.std.specs.Prelude.{slice_get}
 use Rattle.std.proofs.lemmas.Option.{same_Some}
 use Rattle.tsn_model.specs.Network.{Network, IsWellFormed}
 use Rattle.tsn_net.specs.File.{States}
-use Rattle.tsn_net.specs.Problem.{NamedNetwork}
+use Rattle.tsn_timing.specs.Problem.{NamedNetwork}
 use Rattle.tsn_plan_output.proofs.HeldFormed.{stated_formed}
 use Rattle.tsn_cert.specs.Cert.{max_number, are_of}
 use Rattle.tsn_cert.specs.Plan.{plan_in, plan_text}

@@ -1,18 +1,26 @@
 -- How a run ended before its search, since a file of it can't be made.
+--     JudgeAnswers                   the answer on the network alone
 --     IsUnmadeOutcome                what is answered, by what is of the network alone
 --     UnmadeTold                     the network alone was judged, and that was told
 --     IsUnmade                       it was, or memory was refused
-use Rattle.std.specs.Prelude.{◌≡◌, ◌≢◌, ◌⊎◌, ℕ, List, [], Bool, Option, Result, codes}
+use Rattle.std.specs.Prelude.{◌≡◌, ◌≢◌, ◌⊎◌, ⊥, ℕ, List, [], ◌∷◌, Bool, Option, Result, codes}
 use Rattle.tsn_device.specs.declared.device.ReadFault.{ReadFault}
 use Rattle.tsn_reason.specs.declared.answer.Answer.{Answer}
 use Rattle.tsn_reason.specs.declared.outcome.Outcome.{Outcome}
-use Rattle.tsn_reason.specs.declared.outcome.Outcome.TheVariants.{Failed}
+use Rattle.tsn_reason.specs.declared.outcome.Outcome.TheVariants.{Failed, Taken}
 use Rattle.tsn_reason.specs.declared.run.TheConstants.{DONE, MEMORY}
-use Rattle.tsn_reason.specs.Run.{SinkRun, SourceRun}
+use Rattle.tsn_net.specs.File.{States}
+use Rattle.tsn_timing.specs.Problem.{NamedNetwork}
+use Rattle.tsn_reason.specs.Refusal.{IsOutcome, RefusesNetwork}
+use Rattle.tsn_reason.specs.Run.{Command, SinkRun, SourceRun}
 use Rattle.tsn_reason.specs.Said.{status_of}
 use Rattle.tsn_reason.specs.Outcome.{EndsAs, outcome_of}
-use Rattle.tsn_cli.specs.Valid.{JudgeAnswers}
 use Rattle.tsn_given.specs.Runs.{IsToldBy, OverNetwork, Says}
+
+-- the answer for a network file that is judged alone: nothing is said of one that is taken
+abbrev pub JudgeAnswers : Command
+JudgeAnswers (file ∷ []) output = RefusesNetwork file output ⊎ ((problem : NamedNetwork) × States file problem × IsOutcome Taken output)
+JudgeAnswers _ output = ⊥
 
 -- what is answered where the network was judged so: that it is refused, or else that a device failed
 abbrev pub IsUnmadeOutcome : Outcome → Outcome → Type 0

@@ -6,6 +6,7 @@
 pub mod ended;
 pub mod files;
 pub mod finding;
+mod judge;
 mod print_proof;
 pub mod proof;
 mod proof_output;

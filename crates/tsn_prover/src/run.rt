@@ -21,12 +21,11 @@ use tsn_check::{CheckFault, check_plan};
 use tsn_codec::{argument_to_json, plan_to_json};
 use tsn_device::device::{ReadFault, Sink, Source};
 use tsn_model::NoMemory;
-use tsn_net::Problem;
 use tsn_reason::run::{DEVICE, STOPPED, respond};
 use tsn_reason::{
     Answer, Claim, InputsRead, Outcome, Stated, Stop, outcome_of, plan_line, read_inputs, rejection,
 };
-use tsn_timing::Timing;
+use tsn_timing::{Problem, Timing};
 
 /// How a run of `prove` ended: its status, and what was found of the plan, where one was taken and all was written.
 #[derive(Clone, Copy)]

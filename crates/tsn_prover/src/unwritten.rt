@@ -4,9 +4,9 @@ ghost use Rattle.tsn_reason.specs.Run.{sink_over};
 ghost use Rattle.tsn_reason.specs.Outcome.{outcome_of};
 ghost use Rattle.tsn_prover.specs.Unmade.{IsUnmade, IsUnmadeOutcome};
 
+use crate::judge::judge_answer;
 use std::alloc::Global;
 use std::io::ErrorKind;
-use tsn_cli::judge_answer;
 use tsn_device::Failure;
 use tsn_given::json::{say_no_memory, tell_answer};
 use tsn_given::reason::{failure_line, fault_of, source_line};

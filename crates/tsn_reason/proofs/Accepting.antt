@@ -1,7 +1,7 @@
 -- A certificate that shows what a plan says is accepted by `check`.
 use Rattle.std.proofs.Common.{◌≡◌, inl, inr, ℕ, List, [], ◌∷◌, Result, Ok, Err, sym, ◌∙◌, subst}
 use Rattle.tsn_net.specs.File.{States}
-use Rattle.tsn_net.specs.Problem.{NamedNetwork}
+use Rattle.tsn_timing.specs.Problem.{NamedNetwork}
 use Rattle.tsn_net.proofs.Stating.{stated_once}
 use Rattle.tsn_cert.specs.declared.plan.Plan.{Plan}
 use Rattle.tsn_cert.specs.Plan.{plan_in}

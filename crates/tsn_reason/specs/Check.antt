@@ -6,7 +6,7 @@
 use Rattle.std.specs.Prelude.{◌≡◌, ◌⊎◌, ℕ, List, [], ◌∷◌, Ok, Err}
 use Rattle.tsn_model.specs.Network.{Network}
 use Rattle.tsn_net.specs.File.{States}
-use Rattle.tsn_net.specs.Problem.{NamedNetwork}
+use Rattle.tsn_timing.specs.Problem.{NamedNetwork}
 use Rattle.tsn_cert.specs.declared.plan.Plan.{Plan}
 use Rattle.tsn_cert.specs.declared.fault.FileFault.{FileFault}
 use Rattle.tsn_cert.specs.Plan.{plan_in}

@@ -9,8 +9,8 @@ use std::alloc::Global;
 use tsn_argue::{ArgumentFault, Open, StepFault};
 use tsn_cert::Goal;
 use tsn_model::NoMemory;
-use tsn_net::Problem;
 use tsn_text::{TextBuilder, line_of};
+use tsn_timing::Problem;
 
 /// The line on a plan or its argument, of the file of this name, with this fault.
 pub fn line_on_argument(

@@ -6,7 +6,7 @@ use crate::tree::tree_line;
 use std::alloc::Global;
 use tsn_cert::{Cert, Plan};
 use tsn_check::CheckFault;
-use tsn_net::Problem;
+use tsn_timing::Problem;
 
 /// A plan of a problem, and the name of the file that states it.
 #[derive(Clone, Copy)]

@@ -17,7 +17,8 @@ use tsn_cert::{FileFault, Plan};
 use tsn_codec::plan_from_json;
 use tsn_device::device::{ReadFault, Source, read_all};
 use tsn_model::NoMemory;
-use tsn_net::{Problem, read_or_refuse};
+use tsn_net::read_or_refuse;
+use tsn_timing::Problem;
 
 /// A network, or the line on why its file is refused.
 #[derive(Drop)]

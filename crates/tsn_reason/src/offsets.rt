@@ -4,9 +4,8 @@ use crate::Reason;
 use crate::wrong::push_later;
 use std::alloc::Global;
 use tsn_model::{Link, Triple, Violation};
-use tsn_net::Problem;
 use tsn_text::{TextBuilder, line_of};
-use tsn_timing::Timing;
+use tsn_timing::{Problem, Timing};
 
 /// Offsets of the streams of a network, in nanoseconds.
 #[derive(Clone, Copy)]

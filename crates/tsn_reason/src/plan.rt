@@ -9,9 +9,8 @@ use tsn_cert::plan::MAX_TIME;
 use tsn_cert::{FileFault, Plan};
 use tsn_check::CheckFault;
 use tsn_model::NoMemory;
-use tsn_net::Problem;
 use tsn_text::{TextBuilder, line_of};
-use tsn_timing::{Timing, Validity};
+use tsn_timing::{Problem, Timing, Validity};
 
 /// A plan of a problem with these times.
 #[derive(Clone, Copy)]

@@ -3,8 +3,8 @@
 use crate::offsets::{push_link, push_stream};
 use tsn_argue::Wrong;
 use tsn_model::{Decision, Frame, Side};
-use tsn_net::Problem;
 use tsn_text::TextBuilder;
+use tsn_timing::Problem;
 
 /// Writes what is wrong.
 pub fn push_wrong(text: &mut TextBuilder, problem: &Problem, wrong: Wrong) {

@@ -5,8 +5,9 @@ use std::process::Abort;
 use std::test::Fail;
 use tsn_gate::{GateEntry, GateFault, GateList};
 use tsn_model::NoMemory;
-use tsn_net::{Problem, read_problem};
+use tsn_net::read_problem;
 use tsn_networks::TWO_STREAMS;
+use tsn_timing::Problem;
 
 fn entry(interval: u64, octet: u8) -> GateEntry {
     GateEntry { interval, octet }

@@ -2,7 +2,8 @@
 
 use std::alloc::Global;
 use std::test::Fail;
-use tsn_net::{Problem, read_problem};
+use tsn_net::read_problem;
+use tsn_timing::Problem;
 
 fn problem_by(alloc: Global, text: &str) -> Option<Problem> {
     read_problem(alloc, text.as_bytes()).ok()

@@ -5,6 +5,7 @@ pub mod arc;
 pub mod frames;
 mod neighbours;
 mod overlaps;
+pub mod problem;
 pub mod solved;
 mod tables;
 pub mod timing;
@@ -13,6 +14,7 @@ pub mod window;
 
 pub use arc::{ChainSum, arc_of};
 pub use frames::is_conflict;
+pub use problem::Problem;
 pub use solved::Solved;
 pub use timing::{Timing, Validity};
 pub use tsn_model::{NoMemory, Triple, Violation};

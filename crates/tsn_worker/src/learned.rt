@@ -15,8 +15,7 @@ use tsn_cert::{Argument, Offsets, Plan};
 use tsn_check::{CheckFault, Verdict};
 use tsn_learn::{Answer, BestSoFar, learn};
 use tsn_model::NoMemory;
-use tsn_net::Problem;
-use tsn_timing::Timing;
+use tsn_timing::{Problem, Timing};
 
 /// What a search that learns comes to.
 #[derive(Drop)]

@@ -20,10 +20,10 @@ use tsn_book::Book;
 use tsn_branch::{Phase, Prepared, Setting, Supervisor, lower_bound};
 use tsn_incumbent::Parts;
 use tsn_model::NoMemory;
-use tsn_net::Problem;
 use tsn_search::search::settle_open;
 use tsn_search::threads::search;
 use tsn_search::{Bag, DequeBag};
+use tsn_timing::Problem;
 use tsn_words::Method;
 
 /// From this limit on one worker goes on in the book that is there, where the search that learns gave up. Below it too few nodes may

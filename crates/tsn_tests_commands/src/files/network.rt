@@ -5,8 +5,9 @@ ghost use Rattle.std.specs.Prelude.{◌<◌};
 use std::process::Abort;
 use std::test::Fail;
 use tsn_model::Link;
-use tsn_net::{Code, NetFault, Place, Problem, read_problem};
+use tsn_net::{Code, NetFault, Place, read_problem};
 use tsn_networks::TWO_STREAMS;
+use tsn_timing::Problem;
 
 const NAMES: [&str; 4] = ["A", "B", "C", "S"];
 

@@ -5,9 +5,8 @@ use std::alloc::{AllocError, Global};
 use std::process::Abort;
 use std::test::Fail;
 use tsn_model::{Link, NoMemory};
-use tsn_net::Problem;
 use tsn_networks::{CABLES, NODES, ONE, TWO};
-use tsn_timing::Timing;
+use tsn_timing::{Problem, Timing};
 
 /// The cables from A and B to the bridge, and the one from there to C, which has 100 Mb/s.
 const SLOW: &str = "link = [

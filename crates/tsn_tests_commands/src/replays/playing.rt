@@ -10,8 +10,7 @@ use std::alloc::{AllocError, Global};
 use std::process::Abort;
 use std::test::Fail;
 use tsn_gate::{Background, BackgroundFrame, GateEntry, GateList, Sent, Trace, gate_lists, replay};
-use tsn_net::Problem;
-use tsn_timing::Valid;
+use tsn_timing::{Problem, Valid};
 
 /// The parts of a network's file, with the offsets of its streams and the lists of its gates.
 #[derive(Clone, Copy)]

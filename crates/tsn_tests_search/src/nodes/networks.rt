@@ -1,9 +1,9 @@
 //! The networks of these tests, but for their cycle.
 
 use std::process::Abort;
-use tsn_net::{Problem, read_problem};
+use tsn_net::read_problem;
 use tsn_networks::{CABLES, NODES};
-use tsn_timing::Timing;
+use tsn_timing::{Problem, Timing};
 
 /// Nodes, cables and streams.
 pub type Network = (&'static str, &'static str, &'static str);

@@ -6,8 +6,8 @@ use std::sync::atomic::{AtomicU64, Ordering};
 use std::test::*;
 use std::thread::Threads;
 use tsn_cert::Plan;
-use tsn_net::Problem;
 use tsn_networks::TWO_STREAMS;
+use tsn_timing::Problem;
 use tsn_worker::{Answer, Supervisor, plan};
 
 /// A supervisor that counts how often the first teller passes.

@@ -8,7 +8,8 @@ use std::thread::Threads;
 use tsn_argue::check_certificate;
 use tsn_cert::{Certificate, Plan};
 use tsn_check::Verdict;
-use tsn_net::{Problem, read_problem};
+use tsn_net::read_problem;
+use tsn_timing::Problem;
 use tsn_worker::{Answer, Bag, MAX_WORKERS, Supervisor, plan, plan_over};
 
 /// More nodes than any of these networks has.

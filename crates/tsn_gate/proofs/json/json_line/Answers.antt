@@ -3,7 +3,7 @@ use Rattle.serde_json.specs.View.{items_of}
 use Rattle.serde_json.specs.Written.{has_float, items_have_float}
 use Rattle.tsn_model.specs.declared.GateEntry.{GateEntry}
 use Rattle.tsn_model.specs.Bridge.{LinkGates}
-use Rattle.tsn_net.specs.Problem.{NamedNetwork}
+use Rattle.tsn_timing.specs.Problem.{NamedNetwork}
 use Rattle.tsn_gate.specs.Json.{entry_value, line_text, list_value}
 use Rattle.tsn_gate.proofs.json.json_line.Goals as goal
 

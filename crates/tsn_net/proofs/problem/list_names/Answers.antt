@@ -1,5 +1,5 @@
 use Rattle.std.proofs.Common.{ap, ◌∙◌}
-use Rattle.tsn_net.specs.ProblemView.{names_in}
+use Rattle.tsn_timing.specs.ProblemView.{names_in}
 use Rattle.tsn_net.proofs.ProblemLemmas.{listed-next}
 use Rattle.tsn_net.proofs.problem.list_names.Goals as goal
 

@@ -1,7 +1,7 @@
 use Rattle.std.proofs.Common.{◌≡◌, map, take}
 use Rattle.toml.specs.View.{view}
 use Rattle.tsn_net.specs.Problem.{name_of_table}
-use Rattle.tsn_net.specs.ProblemView.{names_in}
+use Rattle.tsn_timing.specs.ProblemView.{names_in}
 use Rattle.tsn_net.proofs.problem.list_names.Given as goal
 
 -- the names so far

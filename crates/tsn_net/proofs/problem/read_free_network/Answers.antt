@@ -3,7 +3,7 @@ use Rattle.toml.specs.View.{view}
 use Rattle.tsn_net.specs.DocumentView.{document_view}
 use Rattle.tsn_model.specs.Network.{IsWellFormed}
 use Rattle.tsn_net.specs.Problem.{stream_of}
-use Rattle.tsn_net.specs.ProblemView.{names_in}
+use Rattle.tsn_timing.specs.ProblemView.{names_in}
 use Rattle.tsn_net.proofs.ProblemParts.{free_network_of-parts}
 use Rattle.tsn_net.proofs.problem.read_free_network.Goals as goal
 

@@ -1,5 +1,5 @@
 use Rattle.std.proofs.Common.{ap, ◌∙◌}
-use Rattle.tsn_net.specs.ProblemView.{names_in}
+use Rattle.tsn_timing.specs.ProblemView.{names_in}
 use Rattle.tsn_net.proofs.ProblemLemmas.{names-next}
 use Rattle.tsn_net.proofs.problem.read_names.Goals as goal
 

@@ -1,0 +1,56 @@
+//! The options by which a plan is shown, of the words of the command.
+ghost use Rattle.std.specs.Prelude.{◌≡◌};
+ghost use Rattle.tsn_cli.specs.Options.{gates_options, replay_options, IsViewOf};
+
+use crate::table::{GatesOptions, ReplayOptions};
+use tsn_chart::{Shown, View};
+use tsn_gate::DeviceLimits;
+use tsn_words::{ChartWords, GatesWords, ReplayWords};
+
+/// How gate lists are made and printed.
+pub fn gates_options(words: GatesWords<'_>) -> GatesOptions
+    ensures { result ≡ gates_options words.entry }
+{
+    GatesOptions {
+        format: words.format,
+        merge: words.merge,
+        limits: DeviceLimits {
+            most: words.most,
+            least: words.least,
+        },
+    }
+}
+
+/// How a replay is made and printed.
+pub fn replay_options(words: ReplayWords<'_>) -> ReplayOptions
+    ensures { result ≡ replay_options words.entry }
+{
+    let ReplayWords {
+        cycles,
+        greedy,
+        format,
+        merge,
+        ..
+    } = words;
+    ReplayOptions {
+        cycles,
+        greedy,
+        format,
+        merge,
+    }
+}
+
+/// What is drawn: one link where the words name it, and else all links in use where the words ask for them.
+pub fn view_of(words: ChartWords<'_>) -> View
+    ensures { IsViewOf words.entry result }
+{
+    let shown = match words.link {
+        Some(link) => Shown::Link(link),
+        None if words.all => Shown::All,
+        None => Shown::Auto,
+    };
+    View {
+        until: words.until as u64,
+        shown,
+    }
+}

@@ -1,7 +1,0 @@
-use Rattle.tsn_wiring.proofs.shown.picture.Goals as goal
-
-pub returns-in-Some : goal.returns-in-Some
-returns-in-Some g c = rw c.in-Some.is (c.view_of-view.result, (c.view_of-view.ensures, c.certified.ensures))
-
-pub returns-in-None : goal.returns-in-None
-returns-in-None g c = rw c.in-None.is (c.view_of-view.result, (c.view_of-view.ensures, c.table.ensures))
