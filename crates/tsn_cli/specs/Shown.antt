@@ -1,10 +1,11 @@
 -- What is shown of a plan, before it is written.
 --     shown_output, IsShownBy     its output
---     IsSaid                      it is an answer in a line
+--     IsSaid, shown_said          it is an answer in a line
 use Rattle.std.specs.Prelude.{◌≡◌, List, [], ◌∷◌, string_bytes, Result, Ok, Err}
 use Rattle.tsn_device.specs.declared.device.ReadFault.{ReadFault}
 use Rattle.tsn_cli.specs.declared.showing.Shown.{Shown}
 use Rattle.tsn_cli.specs.declared.showing.Shown.TheVariants.{Text, Said}
+use Rattle.tsn_reason.specs.declared.answer.Answer.{Answer}
 use Rattle.tsn_reason.specs.Run.{Output}
 use Rattle.tsn_reason.specs.Outcome.{output_of}
 
@@ -20,3 +21,7 @@ IsShownBy shown output = output ≡ shown_output shown
 abbrev pub IsSaid : Shown → Type 0
 IsSaid (Text text remarks) = ⊥
 IsSaid (Said answer) = Unit {0}
+
+abbrev pub shown_said : Result Answer ReadFault → Result Shown ReadFault
+shown_said (Ok answer) = Ok (Said answer)
+shown_said (Err fault) = Err fault

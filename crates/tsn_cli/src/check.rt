@@ -1,8 +1,9 @@
 //! `check`: judges a plan and its certificate.
-ghost use Rattle.std.specs.Prelude.{◌<◌, ◌-◌, ◌^◌, [], ◌∷◌, IfOk, Ok};
+ghost use Rattle.std.specs.Prelude.{◌≡◌, ◌<◌, ◌-◌, ◌^◌, [], ◌∷◌, IfOk, Ok};
 ghost use Rattle.tsn_reason.specs.Run.{RunsOver, sink_over, source_over};
 ghost use Rattle.tsn_reason.specs.Refusal.{IsOutcome};
-ghost use Rattle.tsn_reason.specs.Outcome.{ComesOver, EndsAs, outcome_of, output_of};
+ghost use Rattle.tsn_reason.specs.Outcome.{output_of};
+ghost use Rattle.tsn_cli.specs.Shown.{IsSaid, shown_said};
 ghost use Rattle.tsn_reason.specs.Check.{CheckAnswers, accepted};
 
 use crate::certified::certified_shown;
@@ -35,44 +36,16 @@ pub fn check_run<N: Source, P: Source, C: Source, W: Sink>(
         ∷ source_over C.given C.failed C.is_at_end cert.old cert.new ∷ [])
         (sink_over W.taken W.failed sink.old sink.new ∷ []) result }
 {
-    respond(sink, &answer_of(alloc, network, plan, cert))
+    let shown = certified_shown(alloc, network, plan, cert, Showing::Verdict);
+    respond(sink, &said(shown))
 }
 
-/// What `check_run` answers, before it is written.
-pub fn check_answer<N: Source, P: Source, C: Source>(
-    alloc: Global,
-    network: &mut N,
-    plan: &mut P,
-    cert: &mut C,
-) -> Result<Answer, ReadFault>
-    requires network_reads { N.failed network.old < 2 ^ 64 - 1 }
-    requires plan_reads { P.failed plan.old < 2 ^ 64 - 1 }
-    requires cert_reads { C.failed cert.old < 2 ^ 64 - 1 }
-
-    ensures { EndsAs CheckAnswers
-        (source_over N.given N.failed N.is_at_end network.old network.new
-        ∷ source_over P.given P.failed P.is_at_end plan.old plan.new
-        ∷ source_over C.given C.failed C.is_at_end cert.old cert.new ∷ []) [] (outcome_of result) }
+/// An answer in a line, which is all that is said of a verdict.
+pub(crate) fn said(shown: Result<Shown, ReadFault>) -> Result<Answer, ReadFault>
+    requires { IfOk shown IsSaid }
+    ensures { shown_said result ≡ shown }
 {
-    answer_of(alloc, network, plan, cert)
-}
-
-/// What the run answers.
-fn answer_of<N: Source, P: Source, C: Source>(
-    alloc: Global,
-    network: &mut N,
-    plan: &mut P,
-    cert: &mut C,
-) -> Result<Answer, ReadFault>
-    requires network_reads { N.failed network.old < 2 ^ 64 - 1 }
-    requires plan_reads { P.failed plan.old < 2 ^ 64 - 1 }
-    requires cert_reads { C.failed cert.old < 2 ^ 64 - 1 }
-    ensures { ComesOver output_of CheckAnswers
-        (source_over N.given N.failed N.is_at_end network.old network.new
-        ∷ source_over P.given P.failed P.is_at_end plan.old plan.new
-        ∷ source_over C.given C.failed C.is_at_end cert.old cert.new ∷ []) result }
-{
-    match certified_shown(alloc, network, plan, cert, Showing::Verdict) {
+    match shown {
         Ok(Shown::Said(answer)) => Ok(answer),
         Ok(Shown::Text(_, _)) => unreachable!(),
         Err(fault) => Err(fault),

@@ -14,7 +14,7 @@ mod untaken;
 mod valid;
 
 pub use certified::certified_shown;
-pub use check::{check_answer, check_run};
+pub use check::check_run;
 pub use explain::{explain_run, marked_chart_run};
 pub use showing::{Showing, Shown, show};
 pub use table::{GatesOptions, ReplayOptions, Table};

@@ -11,7 +11,7 @@ ghost use Rattle.tsn_cli.specs.Charts.{RunsChart};
 ghost use Rattle.tsn_given.specs.Runs.{OverCert, OverNetwork, OverPlan, RunsTold};
 
 use crate::certified::certified_shown;
-use crate::check::check_answer;
+use crate::check::said;
 use crate::options::view_of;
 use crate::showing::{Showing, Shown, show};
 use crate::table::Table;
@@ -76,7 +76,8 @@ pub fn check<'a, G: Given<'a>, W: Made>(
     let mut network = given.network(words.network);
     let mut plan = given.plan(words.plan);
     let mut cert = given.cert(words.cert);
-    let answer = check_answer(alloc, &mut network, &mut plan, &mut cert);
+    let shown = certified_shown(alloc, &mut network, &mut plan, &mut cert, Showing::Verdict);
+    let answer = said(shown);
     let fault = fault_of(&answer);
     let reason = source_line(alloc, fault, &network)
         .or(source_line(alloc, fault, &plan))

@@ -1,7 +1,7 @@
 //! `valid`: judges a list of offsets.
 ghost use Rattle.std.specs.Prelude.{◌<◌, ◌-◌, ◌^◌, ◌⊎◌, [], ◌∷◌, IfOk, Ok};
 ghost use Rattle.tsn_reason.specs.Run.{RunsOver, sink_over, source_over};
-ghost use Rattle.tsn_reason.specs.Outcome.{ComesOver, EndsAs, outcome_of, output_of};
+ghost use Rattle.tsn_reason.specs.Outcome.{ComesOver, output_of};
 ghost use Rattle.tsn_cli.specs.Valid.{ValidAnswers, Accepts, Rejects};
 
 use std::alloc::Global;
@@ -26,7 +26,7 @@ pub fn valid_run<S: Source, W: Sink>(
         (source_over S.given S.failed S.is_at_end source.old source.new ∷ [])
         (sink_over W.taken W.failed sink.old sink.new ∷ []) result }
 {
-    respond(sink, &answer_of(alloc, source, offsets))
+    respond(sink, &valid_answer(alloc, source, offsets))
 }
 
 /// What `valid_run` answers, before it is written.
@@ -35,15 +35,6 @@ pub fn valid_answer<S: Source>(
     source: &mut S,
     offsets: &[u64],
 ) -> Result<Answer, ReadFault>
-    requires { S.failed source.old < 2 ^ 64 - 1 }
-    ensures { EndsAs (ValidAnswers offsets.now)
-        (source_over S.given S.failed S.is_at_end source.old source.new ∷ []) [] (outcome_of result) }
-{
-    answer_of(alloc, source, offsets)
-}
-
-/// What the run answers.
-fn answer_of<S: Source>(alloc: Global, source: &mut S, offsets: &[u64]) -> Result<Answer, ReadFault>
     requires { S.failed source.old < 2 ^ 64 - 1 }
     ensures { ComesOver output_of (ValidAnswers offsets.now)
         (source_over S.given S.failed S.is_at_end source.old source.new ∷ []) result }

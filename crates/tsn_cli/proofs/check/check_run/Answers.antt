@@ -1,7 +1,9 @@
 use Rattle.tsn_reason.specs.Outcome.{output_of}
 use Rattle.tsn_reason.specs.Check.{CheckAnswers}
 use Rattle.tsn_reason.proofs.RunLemmas.{runs_with}
+use Rattle.tsn_cli.proofs.CommandLemmas.{said_comes}
 use Rattle.tsn_cli.proofs.check.check_run.Goals as goal
 
 pub returns : goal.returns
-returns g c = runs_with output_of CheckAnswers _ _ c.answer_of.result c.respond.result c.answer_of.ensures c.respond.ensures
+returns g c = runs_with output_of CheckAnswers _ _ c.said.result c.respond.result
+    (said_comes _ c.said.result c.certified_shown-shown.result c.said.ensures c.certified_shown-shown.ensures.comes) c.respond.ensures

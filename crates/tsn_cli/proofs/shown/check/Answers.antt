@@ -1,4 +1,7 @@
+use Rattle.tsn_reason.specs.Check.{CheckAnswers}
+use Rattle.tsn_reason.proofs.LineLemmas.{ends_as}
 use Rattle.tsn_given.proofs.RunsLemmas.{told_over}
+use Rattle.tsn_cli.proofs.CommandLemmas.{said_comes}
 use Rattle.tsn_cli.proofs.shown.check.Goals as goal
 
 pub returns : goal.returns
@@ -20,7 +23,8 @@ returns g c = (
             source = c.cert-cert.result;
             opened = c.cert-cert.ensures.opened;
             unfailing = c.cert-cert.ensures.failures;
-            ran = told_over _ _ _ _ c.check_answer-answer.result _ _ c.check_answer-answer.ensures c.tell_answer.ensures;
+            ran = let comes = said_comes _ c.said-answer.result c.certified_shown-shown.result c.said-answer.ensures c.certified_shown-shown.ensures.comes in
+                told_over _ _ _ _ c.said-answer.result _ _ (ends_as CheckAnswers _ c.said-answer.result comes) c.tell_answer.ensures;
           },
         );
       },

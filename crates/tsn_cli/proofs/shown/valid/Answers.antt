@@ -1,3 +1,5 @@
+use Rattle.tsn_cli.specs.Valid.{ValidAnswers}
+use Rattle.tsn_reason.proofs.LineLemmas.{ends_as}
 use Rattle.tsn_given.proofs.RunsLemmas.{told_over}
 use Rattle.tsn_cli.proofs.shown.valid.Goals as goal
 
@@ -8,6 +10,7 @@ returns g c = (
     source = c.network-network.result;
     opened = c.network-network.ensures.opened;
     unfailing = c.network-network.ensures.failures;
-    ran = told_over _ _ _ _ c.valid_answer-answer.result _ _ (rw c.deref.ensures.value at c.valid_answer-answer.ensures) c.tell_answer.ensures;
+    ran = told_over _ _ _ _ c.valid_answer-answer.result _ _
+        (ends_as (ValidAnswers c.args.words.now.offsets.items) _ _ (rw c.deref.ensures.value at c.valid_answer-answer.ensures)) c.tell_answer.ensures;
   },
 )

@@ -4,4 +4,4 @@ use Rattle.tsn_reason.proofs.RunLemmas.{runs_with}
 use Rattle.tsn_cli.proofs.valid.valid_run.Goals as goal
 
 pub returns : goal.returns
-returns g c = runs_with output_of (ValidAnswers c.args.offsets.now) _ _ c.answer_of.result c.respond.result c.answer_of.ensures c.respond.ensures
+returns g c = runs_with output_of (ValidAnswers c.args.offsets.now) _ _ c.valid_answer.result c.respond.result c.valid_answer.ensures c.respond.ensures
