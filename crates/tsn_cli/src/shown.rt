@@ -24,22 +24,7 @@ use tsn_given::told::{Ran, Told, tell, tell_all};
 use tsn_given::{Given, Made};
 use tsn_reason::device::ReadFault;
 use tsn_reason::run::{DEVICE, DONE};
-use tsn_words::{ChartWords, CheckWords, ValidWords};
-
-/// What the words of a command call its network and its plan.
-#[derive(Clone, Copy)]
-pub struct PlanNames<'a> {
-    pub network: &'a str,
-    pub plan: &'a str,
-}
-
-/// And its certificate.
-#[derive(Clone, Copy)]
-pub struct CertNames<'a> {
-    pub network: &'a str,
-    pub plan: &'a str,
-    pub cert: &'a str,
-}
+use tsn_words::{ChartWords, CheckWords, ExplainWords, ValidWords};
 
 /// Judges offsets; the network `-` is standard input.
 pub fn valid<'a, G: Given<'a>, W: Made>(
@@ -93,17 +78,18 @@ pub fn table<'a, G: Given<'a>, W: Made>(
     alloc: Global,
     given: &mut G,
     output: W,
-    names: PlanNames<'a>,
+    network: &'a str,
+    plan: &'a str,
     table: Table,
 ) -> Ran<W>
     requires table { CanShow table }
     requires output { W.failed output ≡ 0 }
-    ensures { OverPlan G.Source.given G.Source.failed G.Source.is_at_end (G.opens_network given.old names.entry.network.now)
-        (G.opens_plan given.old names.entry.plan.now)
+    ensures { OverPlan G.Source.given G.Source.failed G.Source.is_at_end (G.opens_network given.old network.now)
+        (G.opens_plan given.old plan.now)
         (λ sources. RunsOver (TableAnswers table) sources (sink_over W.taken W.failed output result.output ∷ []) result.status) }
 {
-    let mut network = given.network(names.network);
-    let mut plan = given.plan(names.plan);
+    let mut network = given.network(network);
+    let mut plan = given.plan(plan);
     let shown = table_shown(alloc, &mut network, &mut plan, table);
     let fault = fault_of(&shown);
     let stopped = source_line(alloc, fault, &network).or(source_line(alloc, fault, &plan));
@@ -117,17 +103,17 @@ pub fn certified<'a, G: Given<'a>, W: Made>(
     alloc: Global,
     given: &mut G,
     output: W,
-    names: CertNames<'a>,
+    words: ExplainWords<'a>,
     showing: Showing,
 ) -> Ran<W>
     requires { W.failed output ≡ 0 }
-    ensures { OverCert G.Source.given G.Source.failed G.Source.is_at_end (G.opens_network given.old names.entry.network.now)
-        (G.opens_plan given.old names.entry.plan.now) (G.opens_cert given.old names.entry.cert.now)
+    ensures { OverCert G.Source.given G.Source.failed G.Source.is_at_end (G.opens_network given.old words.entry.network.now)
+        (G.opens_plan given.old words.entry.plan.now) (G.opens_cert given.old words.entry.cert.now)
         (λ sources. RunsOver (CertAnswers showing) sources (sink_over W.taken W.failed output result.output ∷ []) result.status) }
 {
-    let mut network = given.network(names.network);
-    let mut plan = given.plan(names.plan);
-    let mut cert = given.cert(names.cert);
+    let mut network = given.network(words.network);
+    let mut plan = given.plan(words.plan);
+    let mut cert = given.cert(words.cert);
     let shown = certified_shown(alloc, &mut network, &mut plan, &mut cert, showing);
     let fault = fault_of(&shown);
     let stopped = source_line(alloc, fault, &network)
@@ -156,17 +142,14 @@ pub fn picture<'a, G: Given<'a>, W: Made>(
     let view = view_of(words);
     match words.cert {
         Some(cert) => {
-            let names = CertNames {
+            let words = ExplainWords {
                 network,
                 plan,
                 cert,
             };
-            certified(alloc, given, output, names, Showing::Picture(view))
+            certified(alloc, given, output, words, Showing::Picture(view))
         }
-        None => {
-            let names = PlanNames { network, plan };
-            table(alloc, given, output, names, Table::Chart(view))
-        }
+        None => table(alloc, given, output, network, plan, Table::Chart(view)),
     }
 }
 

@@ -12,11 +12,11 @@ use std::sync::Wait;
 use std::thread::Threads;
 use std::time::Clock;
 use tsn_cli::options::{gates_options, replay_options};
-use tsn_cli::shown::{CertNames, PlanNames, certified, check, picture, table, valid};
+use tsn_cli::shown::{certified, check, picture, table, valid};
 use tsn_cli::{Showing, Table};
 use tsn_given::{Given, Made, Ran};
 use tsn_prover::prove;
-use tsn_words::{ExplainWords, Words};
+use tsn_words::Words;
 
 /// Runs a command over what its words name, and says the status. Where a file is refused, or a device fails, a line is told on why.
 /// How far a search has got is told on a console, where the words ask for it.
@@ -59,53 +59,19 @@ pub fn run_to<'a, T: Threads + Wait + Sync, C: Clock + Eprint + Sync, G: Given<'
         Words::Plan(words) => plan(rt, console, alloc, given, output, words),
         Words::Check(words) => check(alloc, given, output, words),
         Words::Prove(words) => prove(console, alloc, given, output, words),
-        Words::Explain(
-            ExplainWords {
-                network,
-                plan,
-                cert,
-            },
-        ) => {
-            let names = CertNames {
-                network,
-                plan,
-                cert,
-            };
-            certified(alloc, given, output, names, Showing::Words)
-        }
+        Words::Explain(words) => certified(alloc, given, output, words, Showing::Words),
         Words::Gates(words) => {
-            let names = PlanNames {
-                network: words.network,
-                plan: words.plan,
-            };
-            table(
-                alloc,
-                given,
-                output,
-                names,
-                Table::Gates(gates_options(words)),
-            )
+            let lists = Table::Gates(gates_options(words));
+            table(alloc, given, output, words.network, words.plan, lists)
         }
         Words::Replay(words) => {
-            let names = PlanNames {
-                network: words.network,
-                plan: words.plan,
-            };
-            table(
-                alloc,
-                given,
-                output,
-                names,
-                Table::Replay(replay_options(words)),
-            )
+            let rows = Table::Replay(replay_options(words));
+            table(alloc, given, output, words.network, words.plan, rows)
         }
         Words::Chart(words) => picture(alloc, given, output, words),
         Words::Streams(words) => {
-            let names = PlanNames {
-                network: words.network,
-                plan: words.plan,
-            };
-            table(alloc, given, output, names, Table::Streams(words.format))
+            let shares = Table::Streams(words.format);
+            table(alloc, given, output, words.network, words.plan, shares)
         }
     }
 }
