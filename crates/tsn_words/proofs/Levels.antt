@@ -147,137 +147,6 @@ fit_numbers low high a one set none is = record {
 apart : {A : Type 0} → false ≡ true → A
 apart e = absurd (true≢false (sym e))
 
-differ : {A : Type 0} (a b : Text) → bytes_eq a b ≡ false → a ≡ b → A
-differ a b unequal e = absurd (true≢false (sym ((bytes_eq-Decides a b).1 e) ∙ unequal))
-
-valid_found : (rows : List Row) → IsGiven (codes "NET") rows → HasOffsets rows → HasCommand (codes "valid") rows
-valid_found rows network offsets = record {
-  valid = λ _. (network, offsets);
-  plan = λ e. differ (codes "valid") (codes "plan") refl e;
-  check = λ e. differ (codes "valid") (codes "check") refl e;
-  prove = λ e. differ (codes "valid") (codes "prove") refl e;
-  explain = λ e. differ (codes "valid") (codes "explain") refl e;
-  gates = λ e. differ (codes "valid") (codes "gates") refl e;
-  replay = λ e. differ (codes "valid") (codes "replay") refl e;
-  chart = λ e. differ (codes "valid") (codes "chart") refl e;
-  streams = λ e. differ (codes "valid") (codes "streams") refl e;
-  known = inl refl;
-}
-
-plan_found : (rows : List Row) → IsGiven (codes "NET") rows → IsWithin (codes "workers") MAX_WORKERS rows → IsWithin (codes "steps") 1000000000 rows → HasCommand (codes "plan") rows
-plan_found rows network workers steps = record {
-  valid = λ e. differ (codes "plan") (codes "valid") refl e;
-  plan = λ _. (network, workers, steps);
-  check = λ e. differ (codes "plan") (codes "check") refl e;
-  prove = λ e. differ (codes "plan") (codes "prove") refl e;
-  explain = λ e. differ (codes "plan") (codes "explain") refl e;
-  gates = λ e. differ (codes "plan") (codes "gates") refl e;
-  replay = λ e. differ (codes "plan") (codes "replay") refl e;
-  chart = λ e. differ (codes "plan") (codes "chart") refl e;
-  streams = λ e. differ (codes "plan") (codes "streams") refl e;
-  known = inr (inl refl);
-}
-
-check_found : (rows : List Row) → IsGiven (codes "NET") rows → IsGiven (codes "PLAN") rows → IsGiven (codes "CERT") rows → HasCommand (codes "check") rows
-check_found rows network plan cert = record {
-  valid = λ e. differ (codes "check") (codes "valid") refl e;
-  plan = λ e. differ (codes "check") (codes "plan") refl e;
-  check = λ _. (network, plan, cert);
-  prove = λ e. differ (codes "check") (codes "prove") refl e;
-  explain = λ e. differ (codes "check") (codes "explain") refl e;
-  gates = λ e. differ (codes "check") (codes "gates") refl e;
-  replay = λ e. differ (codes "check") (codes "replay") refl e;
-  chart = λ e. differ (codes "check") (codes "chart") refl e;
-  streams = λ e. differ (codes "check") (codes "streams") refl e;
-  known = inr (inr (inl refl));
-}
-
-prove_found : (rows : List Row) → IsGiven (codes "NET") rows → IsGiven (codes "PLAN") rows → IsWithin (codes "steps") 1000000000 rows → HasCommand (codes "prove") rows
-prove_found rows network plan steps = record {
-  valid = λ e. differ (codes "prove") (codes "valid") refl e;
-  plan = λ e. differ (codes "prove") (codes "plan") refl e;
-  check = λ e. differ (codes "prove") (codes "check") refl e;
-  prove = λ _. (network, plan, steps);
-  explain = λ e. differ (codes "prove") (codes "explain") refl e;
-  gates = λ e. differ (codes "prove") (codes "gates") refl e;
-  replay = λ e. differ (codes "prove") (codes "replay") refl e;
-  chart = λ e. differ (codes "prove") (codes "chart") refl e;
-  streams = λ e. differ (codes "prove") (codes "streams") refl e;
-  known = inr (inr (inr (inl refl)));
-}
-
-explain_found : (rows : List Row) → IsGiven (codes "NET") rows → IsGiven (codes "PLAN") rows → IsGiven (codes "CERT") rows
-    → HasCommand (codes "explain") rows
-explain_found rows network plan cert = record {
-  valid = λ e. differ (codes "explain") (codes "valid") refl e;
-  plan = λ e. differ (codes "explain") (codes "plan") refl e;
-  check = λ e. differ (codes "explain") (codes "check") refl e;
-  prove = λ e. differ (codes "explain") (codes "prove") refl e;
-  explain = λ _. (network, plan, cert);
-  gates = λ e. differ (codes "explain") (codes "gates") refl e;
-  replay = λ e. differ (codes "explain") (codes "replay") refl e;
-  chart = λ e. differ (codes "explain") (codes "chart") refl e;
-  streams = λ e. differ (codes "explain") (codes "streams") refl e;
-  known = inr (inr (inr (inr (inl refl))));
-}
-
-gates_found : (rows : List Row) → IsGiven (codes "NET") rows → IsGiven (codes "PLAN") rows → IsTime (codes "merge") rows → IsWithin (codes "most") 1000000 rows → IsTime (codes "least") rows
-    → HasCommand (codes "gates") rows
-gates_found rows network plan merge most least = record {
-  valid = λ e. differ (codes "gates") (codes "valid") refl e;
-  plan = λ e. differ (codes "gates") (codes "plan") refl e;
-  check = λ e. differ (codes "gates") (codes "check") refl e;
-  prove = λ e. differ (codes "gates") (codes "prove") refl e;
-  explain = λ e. differ (codes "gates") (codes "explain") refl e;
-  gates = λ _. (network, plan, merge, most, least);
-  replay = λ e. differ (codes "gates") (codes "replay") refl e;
-  chart = λ e. differ (codes "gates") (codes "chart") refl e;
-  streams = λ e. differ (codes "gates") (codes "streams") refl e;
-  known = inr (inr (inr (inr (inr (inl refl)))));
-}
-
-replay_found : (rows : List Row) → IsGiven (codes "NET") rows → IsGiven (codes "PLAN") rows → IsWithin (codes "cycles") 16 rows → IsTime (codes "merge") rows → HasCommand (codes "replay") rows
-replay_found rows network plan cycles merge = record {
-  valid = λ e. differ (codes "replay") (codes "valid") refl e;
-  plan = λ e. differ (codes "replay") (codes "plan") refl e;
-  check = λ e. differ (codes "replay") (codes "check") refl e;
-  prove = λ e. differ (codes "replay") (codes "prove") refl e;
-  explain = λ e. differ (codes "replay") (codes "explain") refl e;
-  gates = λ e. differ (codes "replay") (codes "gates") refl e;
-  replay = λ _. (network, plan, cycles, merge);
-  chart = λ e. differ (codes "replay") (codes "chart") refl e;
-  streams = λ e. differ (codes "replay") (codes "streams") refl e;
-  known = inr (inr (inr (inr (inr (inr (inl refl))))));
-}
-
-chart_found : (rows : List Row) → IsGiven (codes "NET") rows → IsGiven (codes "PLAN") rows → IsWithin (codes "until") 1000000000 rows → IsLink rows → HasCommand (codes "chart") rows
-chart_found rows network plan until link = record {
-  valid = λ e. differ (codes "chart") (codes "valid") refl e;
-  plan = λ e. differ (codes "chart") (codes "plan") refl e;
-  check = λ e. differ (codes "chart") (codes "check") refl e;
-  prove = λ e. differ (codes "chart") (codes "prove") refl e;
-  explain = λ e. differ (codes "chart") (codes "explain") refl e;
-  gates = λ e. differ (codes "chart") (codes "gates") refl e;
-  replay = λ e. differ (codes "chart") (codes "replay") refl e;
-  chart = λ _. (network, plan, until, link);
-  streams = λ e. differ (codes "chart") (codes "streams") refl e;
-  known = inr (inr (inr (inr (inr (inr (inr (inl refl)))))));
-}
-
-streams_found : (rows : List Row) → IsGiven (codes "NET") rows → IsGiven (codes "PLAN") rows → HasCommand (codes "streams") rows
-streams_found rows network plan = record {
-  valid = λ e. differ (codes "streams") (codes "valid") refl e;
-  plan = λ e. differ (codes "streams") (codes "plan") refl e;
-  check = λ e. differ (codes "streams") (codes "check") refl e;
-  prove = λ e. differ (codes "streams") (codes "prove") refl e;
-  explain = λ e. differ (codes "streams") (codes "explain") refl e;
-  gates = λ e. differ (codes "streams") (codes "gates") refl e;
-  replay = λ e. differ (codes "streams") (codes "replay") refl e;
-  chart = λ e. differ (codes "streams") (codes "chart") refl e;
-  streams = λ _. (network, plan);
-  known = inr (inr (inr (inr (inr (inr (inr (inr refl)))))));
-}
-
 -- the command as it is built below the program
 abbrev leaf : Shape → Shape
 leaf s = built_leaf (inherited (with_leaf_noted (marked_built grammar.tsn.top)) s)
@@ -296,7 +165,7 @@ valid_known p answers no_help e =
     let offsets : HasOffsets rows = offsets_given rows
     (rows_good s [] p.1 false [] e (codes "OFFSET") (IsUnsignedIn 0 2000000000)
     (apart, (λ _. fit_numbers _ _ _ refl (inr refl) refl refl, (apart, (apart, tt))))) wanted.1.0 in
-    valid_found rows network offsets
+    (network, offsets)
 
 plan_known : Known (leaf grammar.plan.top)
 plan_known p answers no_help e =
@@ -312,7 +181,7 @@ plan_known p answers no_help e =
     let steps : IsWithin (codes "steps") 1000000000 rows = first_fits (codes "steps") _ rows
     (rows_good s [] p.1 false [] e (codes "steps") (IsUnsignedIn 1 1000000000)
     (apart, (apart, (λ _. fit_numbers _ _ _ refl (inl refl) refl refl, (apart, (apart, (apart, (apart, (apart, (apart, tt)))))))))) in
-    plan_found rows network workers steps
+    (network, workers, steps)
 
 check_known : Known (leaf grammar.check.top)
 check_known p answers no_help e =
@@ -325,7 +194,7 @@ check_known p answers no_help e =
     (rows_good s [] p.1 false [] e (codes "PLAN") Any (apart, (λ _. fit_file _ refl refl refl, (apart, (apart, (apart, tt)))))) wanted.1.0 in
     let cert : IsGiven (codes "CERT") rows = first_given (codes "CERT") Any rows
     (rows_good s [] p.1 false [] e (codes "CERT") Any (apart, (apart, (λ _. fit_file _ refl refl refl, (apart, (apart, tt)))))) wanted.1.1.0 in
-    check_found rows network plan cert
+    (network, plan, cert)
 
 prove_known : Known (leaf grammar.prove.top)
 prove_known p answers no_help e =
@@ -339,7 +208,7 @@ prove_known p answers no_help e =
     let steps : IsWithin (codes "steps") 1000000000 rows = first_fits (codes "steps") _ rows
     (rows_good s [] p.1 false [] e (codes "steps") (IsUnsignedIn 1 1000000000)
     (apart, (apart, (λ _. fit_numbers _ _ _ refl (inl refl) refl refl, (apart, (apart, (apart, (apart, (apart, tt))))))))) in
-    prove_found rows network plan steps
+    (network, plan, steps)
 
 explain_known : Known (leaf grammar.explain.top)
 explain_known p answers no_help e =
@@ -352,7 +221,7 @@ explain_known p answers no_help e =
     (rows_good s [] p.1 false [] e (codes "PLAN") Any (apart, (λ _. fit_file _ refl refl refl, (apart, (apart, tt))))) wanted.1.0 in
     let cert : IsGiven (codes "CERT") rows = first_given (codes "CERT") Any rows
     (rows_good s [] p.1 false [] e (codes "CERT") Any (apart, (apart, (λ _. fit_file _ refl refl refl, (apart, tt))))) wanted.1.1.0 in
-    explain_found rows network plan cert
+    (network, plan, cert)
 
 gates_known : Known (leaf grammar.gates.top)
 gates_known p answers no_help e =
@@ -372,7 +241,7 @@ gates_known p answers no_help e =
     let least : IsTime (codes "least") rows = first_fits (codes "least") _ rows
     (rows_good s [] p.1 false [] e (codes "least") (IsUnsignedIn 0 1000000000)
     (apart, (apart, (apart, (apart, (apart, (λ _. fit_numbers _ _ _ refl (inl refl) refl refl, (apart, tt)))))))) in
-    gates_found rows network plan merge most least
+    (network, plan, merge, most, least)
 
 replay_known : Known (leaf grammar.replay.top)
 replay_known p answers no_help e =
@@ -389,7 +258,7 @@ replay_known p answers no_help e =
     let merge : IsTime (codes "merge") rows = first_fits (codes "merge") _ rows
     (rows_good s [] p.1 false [] e (codes "merge") (IsUnsignedIn 0 1000000000)
     (apart, (apart, (apart, (apart, (apart, (λ _. fit_numbers _ _ _ refl (inl refl) refl refl, (apart, tt)))))))) in
-    replay_found rows network plan cycles merge
+    (network, plan, cycles, merge)
 
 chart_known : Known (leaf grammar.chart.top)
 chart_known p answers no_help e =
@@ -406,7 +275,7 @@ chart_known p answers no_help e =
     let link : IsLink rows = first_fits (codes "link") _ rows
     (rows_good s [] p.1 false [] e (codes "link") (IsUnsignedIn 0 1023)
     (apart, (apart, (apart, (apart, (λ _. fit_numbers _ _ _ refl (inl refl) refl refl, (apart, (apart, tt)))))))) in
-    chart_found rows network plan until link
+    (network, plan, until, link)
 
 streams_known : Known (leaf grammar.streams.top)
 streams_known p answers no_help e =
@@ -417,7 +286,7 @@ streams_known p answers no_help e =
     (rows_good s [] p.1 false [] e (codes "NET") Any (λ _. fit_file _ refl refl refl, (apart, (apart, (apart, tt))))) wanted.0 in
     let plan : IsGiven (codes "PLAN") rows = first_given (codes "PLAN") Any rows
     (rows_good s [] p.1 false [] e (codes "PLAN") Any (apart, (λ _. fit_file _ refl refl refl, (apart, (apart, tt))))) wanted.1.0 in
-    streams_found rows network plan
+    (network, plan)
 
 or_false : (b : Bool) → (b || false) ≡ true → b ≡ true
 or_false true e = refl

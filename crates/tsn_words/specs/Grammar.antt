@@ -3,7 +3,7 @@
 --     IsNumber, number_of, offsets_in      numbers
 --     gates_format, replay_format, streams_format, plan_search, has_format      formats and searches
 --     AsksFor, takes_words, IsRefused      what the words ask for, and whether they are refused
---     IsGiven, IsWithin, IsTime, IsLink, HasOffsets, HasCommand, IsWhole      what a parse without a fault finds
+--     IsGiven, IsWithin, IsTime, IsLink, HasOffsets, Needs, HasCommand, IsWhole      what a parse without a fault finds
 use Rattle.std.specs.Prelude.{◌≡◌, ◌≤◌, ◌⊎◌, ◌&&◌, if◌then◌else◌, ℕ, List, map, length, codes, Option, Some, None, IfSome, MatchOption, is_some, option_map, Bool, true, false, All}
 use Rattle.std.specs.Str.Parse.{IsNumeral, digits_value, without_leading_plus}
 use Rattle.std.specs.Str.{bytes_eq}
@@ -288,18 +288,46 @@ IsLink rows = IfSome (first_of (codes "link") rows) (IsUnsignedIn 0 1023)
 abbrev pub HasOffsets : List Row → Type 0
 HasOffsets rows = MatchOption (all_of (codes "OFFSET") rows) ⊥ (λ words. (1 ≤ length words) × All (IsUnsignedIn 0 2000000000) words)
 
+-- the commands, and which one a name is
+pub data Kind : Type 0 where
+  a_valid : Kind
+  a_plan : Kind
+  a_check : Kind
+  a_prove : Kind
+  a_explain : Kind
+  a_gates : Kind
+  a_replay : Kind
+  a_chart : Kind
+  a_streams : Kind
+
+abbrev pub kind_of : Text → Option Kind
+kind_of name =
+    if bytes_eq name (codes "valid") then Some a_valid
+    else if bytes_eq name (codes "plan") then Some a_plan
+    else if bytes_eq name (codes "check") then Some a_check
+    else if bytes_eq name (codes "prove") then Some a_prove
+    else if bytes_eq name (codes "explain") then Some a_explain
+    else if bytes_eq name (codes "gates") then Some a_gates
+    else if bytes_eq name (codes "replay") then Some a_replay
+    else if bytes_eq name (codes "chart") then Some a_chart
+    else if bytes_eq name (codes "streams") then Some a_streams
+    else None
+
 -- a command that was met is one of the nine, and has what it requires, each value within its range
-pub record HasCommand (name : Text) (rows : List Row) : Type 0 where
-  pub valid : name ≡ codes "valid" → IsGiven (codes "NET") rows × HasOffsets rows
-  pub plan : name ≡ codes "plan" → IsGiven (codes "NET") rows × IsWithin (codes "workers") MAX_WORKERS rows × IsWithin (codes "steps") 1000000000 rows
-  pub check : name ≡ codes "check" → IsGiven (codes "NET") rows × IsGiven (codes "PLAN") rows × IsGiven (codes "CERT") rows
-  pub prove : name ≡ codes "prove" → IsGiven (codes "NET") rows × IsGiven (codes "PLAN") rows × IsWithin (codes "steps") 1000000000 rows
-  pub explain : name ≡ codes "explain" → IsGiven (codes "NET") rows × IsGiven (codes "PLAN") rows × IsGiven (codes "CERT") rows
-  pub gates : name ≡ codes "gates" → IsGiven (codes "NET") rows × IsGiven (codes "PLAN") rows × IsTime (codes "merge") rows × IsWithin (codes "most") 1000000 rows × IsTime (codes "least") rows
-  pub replay : name ≡ codes "replay" → IsGiven (codes "NET") rows × IsGiven (codes "PLAN") rows × IsWithin (codes "cycles") 16 rows × IsTime (codes "merge") rows
-  pub chart : name ≡ codes "chart" → IsGiven (codes "NET") rows × IsGiven (codes "PLAN") rows × IsWithin (codes "until") 1000000000 rows × IsLink rows
-  pub streams : name ≡ codes "streams" → IsGiven (codes "NET") rows × IsGiven (codes "PLAN") rows
-  pub known : (name ≡ codes "valid") ⊎ ((name ≡ codes "plan") ⊎ ((name ≡ codes "check") ⊎ ((name ≡ codes "prove") ⊎ ((name ≡ codes "explain") ⊎ ((name ≡ codes "gates") ⊎ ((name ≡ codes "replay") ⊎ ((name ≡ codes "chart") ⊎ (name ≡ codes "streams"))))))))
+abbrev pub Needs : Option Kind → List Row → Type 0
+Needs None rows = ⊥
+Needs (Some a_valid) rows = IsGiven (codes "NET") rows × HasOffsets rows
+Needs (Some a_plan) rows = IsGiven (codes "NET") rows × IsWithin (codes "workers") MAX_WORKERS rows × IsWithin (codes "steps") 1000000000 rows
+Needs (Some a_check) rows = IsGiven (codes "NET") rows × IsGiven (codes "PLAN") rows × IsGiven (codes "CERT") rows
+Needs (Some a_prove) rows = IsGiven (codes "NET") rows × IsGiven (codes "PLAN") rows × IsWithin (codes "steps") 1000000000 rows
+Needs (Some a_explain) rows = IsGiven (codes "NET") rows × IsGiven (codes "PLAN") rows × IsGiven (codes "CERT") rows
+Needs (Some a_gates) rows = IsGiven (codes "NET") rows × IsGiven (codes "PLAN") rows × IsTime (codes "merge") rows × IsWithin (codes "most") 1000000 rows × IsTime (codes "least") rows
+Needs (Some a_replay) rows = IsGiven (codes "NET") rows × IsGiven (codes "PLAN") rows × IsWithin (codes "cycles") 16 rows × IsTime (codes "merge") rows
+Needs (Some a_chart) rows = IsGiven (codes "NET") rows × IsGiven (codes "PLAN") rows × IsWithin (codes "until") 1000000000 rows × IsLink rows
+Needs (Some a_streams) rows = IsGiven (codes "NET") rows × IsGiven (codes "PLAN") rows
+
+abbrev pub HasCommand : Text → List Row → Type 0
+HasCommand name rows = Needs (kind_of name) rows
 
 -- what a parse without a fault finds
 abbrev pub IsWhole : Option (Text × List Row) → Type 0
