@@ -1,7 +1,7 @@
 -- What `clap` is told of the table of commands, and what the reading of a command's words comes to.
 --     rule_by, app_by, with_form     an argument, and a command, as `clap` has them
 --     IsReadAs                       what the values of a command's arguments are read as
-use Rattle.std.specs.Prelude.{◌≡◌, List, map, Some, Result, Ok, Err, true, false}
+use Rattle.std.specs.Prelude.{Option, ◌≡◌, List, map, Some, Result, Ok, Err, true, false}
 use Rattle.std.specs.List.{fold}
 use Rattle.clap.specs.Words.{App, Row, Rule, Text, new_app, new_rule, with_rule, with_subcommand}
 use Rattle.clap.specs.declared.builder.ArgAction.TheVariants.{Set, Append}
@@ -38,7 +38,11 @@ app_by form = fold with_rule (new_app form.name.now) (map rule_by form.arguments
 unfoldable pub with_form : App → Form → App
 with_form above form = with_subcommand above (app_by form).top
 
--- the words that the values of this command's arguments ask for; they are refused only where they name no format or search of the command's
+-- the words that a command that was met and its values ask for; they are refused only where they name no format or search of the command's
+abbrev pub IsReadOf : Option (Text × List Row) → Result Words WordsFault → Type 0
+IsReadOf found (Ok words) = IsAsked found words × (has_format found ≡ true)
+IsReadOf found (Err fault) = IsRefused fault → has_format found ≡ false
+
+-- the same of a command of this name
 abbrev pub IsReadAs : Text → List Row → Result Words WordsFault → Type 0
-IsReadAs name rows (Ok words) = IsAsked (Some (name, rows)) words × (has_format (Some (name, rows)) ≡ true)
-IsReadAs name rows (Err fault) = IsRefused fault → has_format (Some (name, rows)) ≡ false
+IsReadAs name rows result = IsReadOf (Some (name, rows)) result

@@ -4,9 +4,9 @@ ghost use Rattle.std.specs.List.{fold};
 ghost use Rattle.std.specs.Option.{ForSome};
 ghost use Rattle.clap.specs.Words.{IsUnsignedIn, app_of, first_of, found_of, kind_of, one_of, rows_of, rule_of, subcommand_rows_of};
 ghost use Rattle.clap.specs.declared.builder.command.Command.TheViews.{out-Command as fields_of};
-ghost use Rattle.tsn_words.specs.Grammar.{AsksFor, HasCommand, IsAsked, IsFlag, IsGiven, IsNumberIf, IsNumberOr, IsRefused, IsWhole, IsWithin, gates_format, has_format, number_of, plan_search, replay_format, streams_format, takes_words};
+ghost use Rattle.tsn_words.specs.Grammar.{AsksFor, HasCommand, IsAsked, IsFlag, IsGiven, IsNumberIf, IsNumberOr, IsRefused, IsWhole, IsWithin, gates_format, number_of, plan_search, replay_format, streams_format, takes_words};
 ghost use Rattle.tsn_words.specs.Grammar as grammar;
-ghost use Rattle.tsn_words.specs.Table.{IsReadAs, app_by, rule_by, with_form};
+ghost use Rattle.tsn_words.specs.Table.{IsReadAs, IsReadOf, app_by, rule_by, with_form};
 
 use crate::options::{GatesFormat, Method, ReplayFormat, StreamsFormat};
 use crate::table::{Argument, FORMS, Form, Takes};
@@ -156,9 +156,7 @@ fn fault_of(alloc: Global, error: &Error) -> WordsFault
 /// The command that was met, with its words.
 fn command_of<'a>(alloc: Global, matches: &ArgMatches<'a>) -> Result<Words<'a>, WordsFault>
     requires { IsWhole (subcommand_rows_of matches.now) }
-    ensures asked { IfOk result (IsAsked (subcommand_rows_of matches.now)) }
-    ensures known { IfOk result (λ _. has_format (subcommand_rows_of matches.now) ≡ true) }
-    ensures refused { IfErr result (λ fault. IsRefused fault → has_format (subcommand_rows_of matches.now) ≡ false) }
+    ensures { IsReadOf (subcommand_rows_of matches.now) result }
 {
     match matches.subcommand() {
         Some(("valid", words)) => valid_words(alloc, words),

@@ -1,10 +1,10 @@
-use Rattle.std.proofs.Common.{◌≡◌, List, Option, Some, None, ap, codes, sym, subst, option_map, rules}
+use Rattle.std.proofs.Common.{◌≡◌, List, Option, Some, None, Ok, codes, refl, sym, subst, option_map, rules}
 use Rattle.std.specs.Box.{box_value}
 use Rattle.clap.specs.Words.{Row, Text, found_of, rows_of, subcommand_name_of, subcommand_rows_of}
 use Rattle.clap.specs.declared.parser.matches.ArgMatches.{ArgMatches}
 use Rattle.clap.specs.declared.parser.matches.ArgMatches.TheViews.{out-ArgMatches, out-SubCommand}
-use Rattle.tsn_words.specs.Grammar.{HasCommand, IsAsked, IsWhole, has_format}
-use Rattle.tsn_words.proofs.Reading.{asked_of, known_of, refused_of}
+use Rattle.tsn_words.specs.Grammar.{HasCommand, IsWhole}
+use Rattle.tsn_words.specs.Table.{IsReadOf}
 use Rattle.tsn_words.proofs.command.command_of.Goals as goal
 
 abbrev Found : Type 0
@@ -36,17 +36,8 @@ valid c =
 pub valid_words-requires : goal.valid_words-requires
 valid_words-requires c = has c.args.matches.now c.in-Some-valid-default.words.now (codes "valid") c.requires (valid c)
 
-pub returns-in-Some-valid-default-clause-asked : goal.returns-in-Some-valid-default-clause-asked
-returns-in-Some-valid-default-clause-asked c =
-    asked_of _ (codes "valid") (rows_of (found_of c.in-Some-valid-default.words.now)) c.valid_words.result (valid c.before) c.valid_words.ensures
-
-pub returns-in-Some-valid-default-clause-known : goal.returns-in-Some-valid-default-clause-known
-returns-in-Some-valid-default-clause-known c =
-    known_of _ (codes "valid") (rows_of (found_of c.in-Some-valid-default.words.now)) c.valid_words.result (valid c.before) c.valid_words.ensures
-
-pub returns-in-Some-valid-default-clause-refused : goal.returns-in-Some-valid-default-clause-refused
-returns-in-Some-valid-default-clause-refused c =
-    refused_of _ (codes "valid") (rows_of (found_of c.in-Some-valid-default.words.now)) c.valid_words.result (valid c.before) c.valid_words.ensures
+pub returns-in-Some-valid-default : goal.returns-in-Some-valid-default
+returns-in-Some-valid-default c = subst (λ o. IsReadOf o c.valid_words.result) (sym (valid c.before)) c.valid_words.ensures
 
 plan : (c : goal.In-Some-plan-default)
     → subcommand_rows_of c.args.matches.now ≡ Some (codes "plan", rows_of (found_of c.in-Some-plan-default.words.now))
@@ -57,17 +48,8 @@ plan c =
 pub plan_words-requires : goal.plan_words-requires
 plan_words-requires c = has c.args.matches.now c.in-Some-plan-default.words.now (codes "plan") c.requires (plan c)
 
-pub returns-in-Some-plan-default-clause-asked : goal.returns-in-Some-plan-default-clause-asked
-returns-in-Some-plan-default-clause-asked c =
-    asked_of _ (codes "plan") (rows_of (found_of c.in-Some-plan-default.words.now)) c.plan_words.result (plan c.before) c.plan_words.ensures
-
-pub returns-in-Some-plan-default-clause-known : goal.returns-in-Some-plan-default-clause-known
-returns-in-Some-plan-default-clause-known c =
-    known_of _ (codes "plan") (rows_of (found_of c.in-Some-plan-default.words.now)) c.plan_words.result (plan c.before) c.plan_words.ensures
-
-pub returns-in-Some-plan-default-clause-refused : goal.returns-in-Some-plan-default-clause-refused
-returns-in-Some-plan-default-clause-refused c =
-    refused_of _ (codes "plan") (rows_of (found_of c.in-Some-plan-default.words.now)) c.plan_words.result (plan c.before) c.plan_words.ensures
+pub returns-in-Some-plan-default : goal.returns-in-Some-plan-default
+returns-in-Some-plan-default c = subst (λ o. IsReadOf o c.plan_words.result) (sym (plan c.before)) c.plan_words.ensures
 
 check : (c : goal.In-Some-check-default)
     → subcommand_rows_of c.args.matches.now ≡ Some (codes "check", rows_of (found_of c.in-Some-check-default.words.now))
@@ -78,12 +60,8 @@ check c =
 pub check_words-requires : goal.check_words-requires
 check_words-requires c = has c.args.matches.now c.in-Some-check-default.words.now (codes "check") c.requires (check c)
 
-pub returns-in-Some-check-default-clause-asked : goal.returns-in-Some-check-default-clause-asked
-returns-in-Some-check-default-clause-asked c =
-    subst (λ o. IsAsked o c.check_words.result) (sym (check c.before)) c.check_words.ensures
-
-pub returns-in-Some-check-default-clause-known : goal.returns-in-Some-check-default-clause-known
-returns-in-Some-check-default-clause-known c = ap has_format (check c.before)
+pub returns-in-Some-check-default : goal.returns-in-Some-check-default
+returns-in-Some-check-default c = subst (λ o. IsReadOf o (Ok c.check_words.result)) (sym (check c.before)) (c.check_words.ensures, refl)
 
 prove : (c : goal.In-Some-prove-default)
     → subcommand_rows_of c.args.matches.now ≡ Some (codes "prove", rows_of (found_of c.in-Some-prove-default.words.now))
@@ -94,12 +72,8 @@ prove c =
 pub prove_words-requires : goal.prove_words-requires
 prove_words-requires c = has c.args.matches.now c.in-Some-prove-default.words.now (codes "prove") c.requires (prove c)
 
-pub returns-in-Some-prove-default-clause-asked : goal.returns-in-Some-prove-default-clause-asked
-returns-in-Some-prove-default-clause-asked c =
-    subst (λ o. IsAsked o c.prove_words.result) (sym (prove c.before)) c.prove_words.ensures
-
-pub returns-in-Some-prove-default-clause-known : goal.returns-in-Some-prove-default-clause-known
-returns-in-Some-prove-default-clause-known c = ap has_format (prove c.before)
+pub returns-in-Some-prove-default : goal.returns-in-Some-prove-default
+returns-in-Some-prove-default c = subst (λ o. IsReadOf o (Ok c.prove_words.result)) (sym (prove c.before)) (c.prove_words.ensures, refl)
 
 explain : (c : goal.In-Some-explain-default)
     → subcommand_rows_of c.args.matches.now ≡ Some (codes "explain", rows_of (found_of c.in-Some-explain-default.words.now))
@@ -110,12 +84,8 @@ explain c =
 pub explain_words-requires : goal.explain_words-requires
 explain_words-requires c = has c.args.matches.now c.in-Some-explain-default.words.now (codes "explain") c.requires (explain c)
 
-pub returns-in-Some-explain-default-clause-asked : goal.returns-in-Some-explain-default-clause-asked
-returns-in-Some-explain-default-clause-asked c =
-    subst (λ o. IsAsked o c.explain_words.result) (sym (explain c.before)) c.explain_words.ensures
-
-pub returns-in-Some-explain-default-clause-known : goal.returns-in-Some-explain-default-clause-known
-returns-in-Some-explain-default-clause-known c = ap has_format (explain c.before)
+pub returns-in-Some-explain-default : goal.returns-in-Some-explain-default
+returns-in-Some-explain-default c = subst (λ o. IsReadOf o (Ok c.explain_words.result)) (sym (explain c.before)) (c.explain_words.ensures, refl)
 
 gates : (c : goal.In-Some-gates-default)
     → subcommand_rows_of c.args.matches.now ≡ Some (codes "gates", rows_of (found_of c.in-Some-gates-default.words.now))
@@ -126,17 +96,8 @@ gates c =
 pub gates_words-requires : goal.gates_words-requires
 gates_words-requires c = has c.args.matches.now c.in-Some-gates-default.words.now (codes "gates") c.requires (gates c)
 
-pub returns-in-Some-gates-default-clause-asked : goal.returns-in-Some-gates-default-clause-asked
-returns-in-Some-gates-default-clause-asked c =
-    asked_of _ (codes "gates") (rows_of (found_of c.in-Some-gates-default.words.now)) c.gates_words.result (gates c.before) c.gates_words.ensures
-
-pub returns-in-Some-gates-default-clause-known : goal.returns-in-Some-gates-default-clause-known
-returns-in-Some-gates-default-clause-known c =
-    known_of _ (codes "gates") (rows_of (found_of c.in-Some-gates-default.words.now)) c.gates_words.result (gates c.before) c.gates_words.ensures
-
-pub returns-in-Some-gates-default-clause-refused : goal.returns-in-Some-gates-default-clause-refused
-returns-in-Some-gates-default-clause-refused c =
-    refused_of _ (codes "gates") (rows_of (found_of c.in-Some-gates-default.words.now)) c.gates_words.result (gates c.before) c.gates_words.ensures
+pub returns-in-Some-gates-default : goal.returns-in-Some-gates-default
+returns-in-Some-gates-default c = subst (λ o. IsReadOf o c.gates_words.result) (sym (gates c.before)) c.gates_words.ensures
 
 replay : (c : goal.In-Some-replay-default)
     → subcommand_rows_of c.args.matches.now ≡ Some (codes "replay", rows_of (found_of c.in-Some-replay-default.words.now))
@@ -147,17 +108,8 @@ replay c =
 pub replay_words-requires : goal.replay_words-requires
 replay_words-requires c = has c.args.matches.now c.in-Some-replay-default.words.now (codes "replay") c.requires (replay c)
 
-pub returns-in-Some-replay-default-clause-asked : goal.returns-in-Some-replay-default-clause-asked
-returns-in-Some-replay-default-clause-asked c =
-    asked_of _ (codes "replay") (rows_of (found_of c.in-Some-replay-default.words.now)) c.replay_words.result (replay c.before) c.replay_words.ensures
-
-pub returns-in-Some-replay-default-clause-known : goal.returns-in-Some-replay-default-clause-known
-returns-in-Some-replay-default-clause-known c =
-    known_of _ (codes "replay") (rows_of (found_of c.in-Some-replay-default.words.now)) c.replay_words.result (replay c.before) c.replay_words.ensures
-
-pub returns-in-Some-replay-default-clause-refused : goal.returns-in-Some-replay-default-clause-refused
-returns-in-Some-replay-default-clause-refused c =
-    refused_of _ (codes "replay") (rows_of (found_of c.in-Some-replay-default.words.now)) c.replay_words.result (replay c.before) c.replay_words.ensures
+pub returns-in-Some-replay-default : goal.returns-in-Some-replay-default
+returns-in-Some-replay-default c = subst (λ o. IsReadOf o c.replay_words.result) (sym (replay c.before)) c.replay_words.ensures
 
 chart : (c : goal.In-Some-chart-default)
     → subcommand_rows_of c.args.matches.now ≡ Some (codes "chart", rows_of (found_of c.in-Some-chart-default.words.now))
@@ -168,12 +120,8 @@ chart c =
 pub chart_words-requires : goal.chart_words-requires
 chart_words-requires c = has c.args.matches.now c.in-Some-chart-default.words.now (codes "chart") c.requires (chart c)
 
-pub returns-in-Some-chart-default-clause-asked : goal.returns-in-Some-chart-default-clause-asked
-returns-in-Some-chart-default-clause-asked c =
-    subst (λ o. IsAsked o c.chart_words.result) (sym (chart c.before)) c.chart_words.ensures
-
-pub returns-in-Some-chart-default-clause-known : goal.returns-in-Some-chart-default-clause-known
-returns-in-Some-chart-default-clause-known c = ap has_format (chart c.before)
+pub returns-in-Some-chart-default : goal.returns-in-Some-chart-default
+returns-in-Some-chart-default c = subst (λ o. IsReadOf o (Ok c.chart_words.result)) (sym (chart c.before)) (c.chart_words.ensures, refl)
 
 streams : (c : goal.In-Some-streams-default)
     → subcommand_rows_of c.args.matches.now ≡ Some (codes "streams", rows_of (found_of c.in-Some-streams-default.words.now))
@@ -184,14 +132,5 @@ streams c =
 pub streams_words-requires : goal.streams_words-requires
 streams_words-requires c = has c.args.matches.now c.in-Some-streams-default.words.now (codes "streams") c.requires (streams c)
 
-pub returns-in-Some-streams-default-clause-asked : goal.returns-in-Some-streams-default-clause-asked
-returns-in-Some-streams-default-clause-asked c =
-    asked_of _ (codes "streams") (rows_of (found_of c.in-Some-streams-default.words.now)) c.streams_words.result (streams c.before) c.streams_words.ensures
-
-pub returns-in-Some-streams-default-clause-known : goal.returns-in-Some-streams-default-clause-known
-returns-in-Some-streams-default-clause-known c =
-    known_of _ (codes "streams") (rows_of (found_of c.in-Some-streams-default.words.now)) c.streams_words.result (streams c.before) c.streams_words.ensures
-
-pub returns-in-Some-streams-default-clause-refused : goal.returns-in-Some-streams-default-clause-refused
-returns-in-Some-streams-default-clause-refused c =
-    refused_of _ (codes "streams") (rows_of (found_of c.in-Some-streams-default.words.now)) c.streams_words.result (streams c.before) c.streams_words.ensures
+pub returns-in-Some-streams-default : goal.returns-in-Some-streams-default
+returns-in-Some-streams-default c = subst (λ o. IsReadOf o c.streams_words.result) (sym (streams c.before)) c.streams_words.ensures

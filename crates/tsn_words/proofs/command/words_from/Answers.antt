@@ -8,6 +8,7 @@ use Rattle.tsn_words.specs.Grammar.{IsAsked, IsRefused, IsWhole, has_format, tak
 use Rattle.tsn_words.specs.declared.words.WordsFault.{WordsFault}
 use Rattle.tsn_words.specs.declared.words.WordsFault.TheVariants.{Asked, Memory, Refused}
 use Rattle.tsn_words.proofs.Levels.{whole}
+use Rattle.tsn_words.proofs.Reading.{asked_of, known_of, refused_of}
 use Rattle.tsn_words.proofs.Taken.{taken}
 use Rattle.tsn_words.proofs.command.words_from.Goals as goal
 
@@ -54,7 +55,7 @@ pub returns-in-Ok-clause-asked : goal.returns-in-Ok-clause-asked
 returns-in-Ok-clause-asked c =
     let words : List Text = map (λ word. word.now) c.args.words.now in
     let P : Option (Text × List Row) → Type 0 = λ o. IfOk c.command_of.result (IsAsked o) in
-    subst P (found _ words c.in-Ok.matches c.in_ok-program.ensures c.in-Ok.ensures.matches) c.command_of.ensures.asked
+    subst P (found _ words c.in-Ok.matches c.in_ok-program.ensures c.in-Ok.ensures.matches) (asked_of _ c.command_of.result c.command_of.ensures)
 
 pub returns-in-Ok-clause-taken : goal.returns-in-Ok-clause-taken
 returns-in-Ok-clause-taken c =
@@ -62,7 +63,7 @@ returns-in-Ok-clause-taken c =
     let rows = found _ words c.in-Ok.matches c.in_ok-program.ensures c.in-Ok.ensures.matches in
     let all = taken words (faultless _ words c.in_ok-program.ensures c.in-Ok.ensures.kinds) in
     IfOk-weaker c.command_of.result (λ _. has_format (subcommand_rows_of c.in-Ok.matches) ≡ true) (λ _. takes_words words ≡ true)
-    (λ _ has. both (takes grammar.tsn words) _ all (ap has_format (sym rows) ∙ has)) c.command_of.ensures.known
+    (λ _ has. both (takes grammar.tsn words) _ all (ap has_format (sym rows) ∙ has)) (known_of _ c.command_of.result c.command_of.ensures)
 
 -- a fault that refuses words is one of their format
 refuses : (words : List Text) (m : ArgMatches) (fault : WordsFault) → subcommand_rows_of m ≡ subcommand_of grammar.tsn words
@@ -74,11 +75,11 @@ returns-in-Ok-clause-refused c =
     let words : List Text = map (λ word. word.now) c.args.words.now in
     let rows = found _ words c.in-Ok.matches c.in_ok-program.ensures c.in-Ok.ensures.matches in
     IfErr-weaker c.command_of.result (λ fault. IsRefused fault → has_format (subcommand_rows_of c.in-Ok.matches) ≡ false) (λ fault. IsRefused fault → takes_words words ≡ true → ⊥)
-    (λ fault none. refuses words c.in-Ok.matches fault rows none) c.command_of.ensures.refused
+    (λ fault none. refuses words c.in-Ok.matches fault rows none) (refused_of _ c.command_of.result c.command_of.ensures)
 
 pub returns-in-Ok-clause-memory : goal.returns-in-Ok-clause-memory
 returns-in-Ok-clause-memory c takes_all =
     let words : List Text = map (λ word. word.now) c.args.words.now in
     let rows = found _ words c.in-Ok.matches c.in_ok-program.ensures c.in-Ok.ensures.matches in
     IfErr-weaker c.command_of.result (λ fault. IsRefused fault → has_format (subcommand_rows_of c.in-Ok.matches) ≡ false) (λ fault. fault ≡ Memory)
-    (λ fault none. only_memory fault (λ refused. refuses words c.in-Ok.matches fault rows none refused takes_all)) c.command_of.ensures.refused
+    (λ fault none. only_memory fault (λ refused. refuses words c.in-Ok.matches fault rows none refused takes_all)) (refused_of _ c.command_of.result c.command_of.ensures)
