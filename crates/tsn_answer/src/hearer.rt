@@ -3,7 +3,7 @@ ghost use Rattle.std.specs.Prelude.{◌≡◌, ◌*◌, ◌-◌, ◌^◌, min, m
 ghost use Rattle.tsn_answer.specs.declared.hearer.TheConstants.{LEAST_WORK, WORK};
 
 use tsn_branch::{LearnedNews, Supervisor};
-use tsn_learn::{Budget, Hear, News};
+use tsn_learn::{Budget, CourseNews, Hear};
 
 /// How often the search that learns may look at arcs, clauses and streams of links for each node that a run may settle: with a
 /// million nodes it takes about a minute.
@@ -21,8 +21,8 @@ pub struct Hearer<'a, S> {
 }
 
 impl<'a, S: Supervisor> Hear for Hearer<'a, S> {
-    fn hear(&self, news: News) {
-        let News {
+    fn hear(&self, news: CourseNews) {
+        let CourseNews {
             flowspan,
             bound,
             stream,

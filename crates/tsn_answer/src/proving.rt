@@ -12,7 +12,7 @@ use tsn_argue::check_argument;
 use tsn_branch::{News, Phase, Prepared, Supervisor, lower_bound};
 use tsn_cert::{Argument, Offsets, Plan};
 use tsn_check::{CheckFault, Verdict};
-use tsn_learn::{Answer, BestSoFar, LeastAnswer, learn, show_least};
+use tsn_learn::{BestSoFar, LearnAnswer, LeastAnswer, learn, show_least};
 use tsn_model::NoMemory;
 use tsn_timing::{Problem, Timing};
 
@@ -152,8 +152,8 @@ fn about_none<S: Supervisor>(
         limit: task.limit,
     };
     match learn(alloc, timing, None, budget_of(task.limit), &hearer)? {
-        Answer::First(found) => {
-            let tsn_learn::Plan {
+        LearnAnswer::First(found) => {
+            let tsn_learn::LearnedPlan {
                 offsets,
                 flowspan: _,
                 argument,
@@ -162,14 +162,14 @@ fn about_none<S: Supervisor>(
             drop(argument);
             Ok(undercut(task, timing, offsets, conflicts))
         }
-        Answer::None {
+        LearnAnswer::None {
             argument,
             conflicts,
         } => match argument {
             Some(argument) => proved(alloc, task, argument, conflicts),
             None => Ok(stopped(task, conflicts)),
         },
-        Answer::GaveUp(best) => Ok(after_giving_up(task, timing, best)),
+        LearnAnswer::GaveUp(best) => Ok(after_giving_up(task, timing, best)),
     }
 }
 

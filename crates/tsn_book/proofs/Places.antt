@@ -23,8 +23,8 @@ use Rattle.tsn_book.specs.declared.statuses.Origin.TheVariants.{Root, Child}
 use Rattle.tsn_book.specs.declared.statuses.Status.{Status}
 use Rattle.tsn_book.specs.declared.statuses.Status.TheVariants.{Open, Split, Leaf}
 use Rattle.tsn_book.specs.declared.log.Settled.{Settled}
-use Rattle.tsn_book.specs.declared.arena.Stop.TheVariants.{Settled as AtSettled, Outside}
-use Rattle.tsn_book.specs.Arena.{path_at, path_from, with_path, paths_of, history_of, IsEvent, IsPlaced, IsTree, IsStop}
+use Rattle.tsn_book.specs.declared.arena.PathEnd.TheVariants.{Settled as AtSettled, Outside}
+use Rattle.tsn_book.specs.Arena.{path_at, path_from, with_path, paths_of, history_of, IsEvent, IsPlaced, IsTree, IsPathEnd}
 
 -- ---- paths
 
@@ -263,7 +263,7 @@ module _ {network : Network} {origins : List Origin} {statuses : List Status} {e
 
   -- a path with a beginning that wasn't made is outside the tree
   pub stops_outside : (path first rest : List Decision)
-      → path ≡ first ++ rest → (Contains (made_paths (history_of origins events)) first → ⊥) → IsStop origins statuses events path Outside
+      → path ≡ first ++ rest → (Contains (made_paths (history_of origins events)) first → ⊥) → IsPathEnd origins statuses events path Outside
   stops_outside path first rest parts unmade =
       let history = history_of origins events in
       let none : Contains (made_paths history) path → ⊥ =
@@ -273,7 +273,7 @@ module _ {network : Network} {origins : List Origin} {statuses : List Status} {e
   -- a settled place
   pub stops_settled : (place : ℕ) (outcome : Outcome) (event : ℕ)
       → IsEvent (history_of origins events) event (path_at (paths_of origins) place) outcome → (path : List Decision) → path_at (paths_of origins) place ≡ path
-      → IsStop origins statuses events path (AtSettled event)
+      → IsPathEnd origins statuses events path (AtSettled event)
   stops_settled place outcome event is path same =
       let history = history_of origins events in
       let there : IsEvent history event path outcome = subst (λ p. IsEvent history event p outcome) same is in
@@ -294,7 +294,7 @@ module _ {network : Network} {origins : List Origin} {statuses : List Status} {e
   pub stops_below : (path : List Decision) (place k : ℕ) (decision : Decision)
       → k < length path → path_at (paths_of origins) place ≡ take k path
       → (Contains (made_paths (history_of origins events)) (path_at (paths_of origins) place ++ get_or path k decision ∷ []) → ⊥)
-      → IsStop origins statuses events path Outside
+      → IsPathEnd origins statuses events path Outside
   stops_below path place k decision below so_far unmade =
       stops_outside tree path (path_at (paths_of origins) place ++ get_or path k decision ∷ []) (drop (k + 1) path)
       (sym (take-append-drop (k + 1) path) ∙ ap (λ p. p ++ drop (k + 1) path)

@@ -2,7 +2,7 @@
 --     paths_of, path_at        the places' paths
 --     history_of               what was settled, with the paths
 --     IsPlaced, IsTree         what is known of a place, and of all of them
---     IsStop                   where a walk along a path ends
+--     IsPathEnd                   where a walk along a path ends
 --     AreClosed                where nothing is open any longer
 use Rattle.std.specs.Prelude.{Bool, true, ◌&&◌, ◌≢◌, ◌≡◌, ℕ, ◌<◌, ◌≤◌, ◌+◌, ◌⊎◌, List, [], ◌∷◌, ◌++◌, map, fold, length, All, Contains, Some, None, position, false, slice_get}
 use Rattle.std.specs.List.{slice_index_or}
@@ -19,8 +19,8 @@ use Rattle.tsn_book.specs.declared.statuses.Origin.TheVariants.{Root, Child}
 use Rattle.tsn_book.specs.declared.statuses.Status.{Status}
 use Rattle.tsn_book.specs.declared.statuses.Status.TheVariants.{Open, Split, Leaf}
 use Rattle.tsn_book.specs.declared.log.Settled.{Settled}
-use Rattle.tsn_book.specs.declared.arena.Stop.{Stop}
-use Rattle.tsn_book.specs.declared.arena.Stop.TheVariants.{Open as AtOpen, Settled as AtSettled, Outside}
+use Rattle.tsn_book.specs.declared.arena.PathEnd.{PathEnd}
+use Rattle.tsn_book.specs.declared.arena.PathEnd.TheVariants.{Open as AtOpen, Settled as AtSettled, Outside}
 use Rattle.tsn_book.specs.declared.arena.Tree.{Tree}
 
 -- ---- paths
@@ -102,11 +102,11 @@ pub record IsOpenPlace (statuses : List Status) (place : ℕ) : Type 0 where
   pub is_open : slice_index_or statuses place Open ≡ Open
 
 -- where a walk along the path ends; outside an open place the path isn't open, and the number is that of the settlement which settled it, if one did
-abbrev pub IsStop : List Origin → List Status → List Settled → List Decision → Stop → Type 0
-IsStop origins statuses events path (AtOpen place) = IsOpenPlace statuses place × (path_at (paths_of origins) place ≡ path)
-IsStop origins statuses events path (AtSettled event) =
+abbrev pub IsPathEnd : List Origin → List Status → List Settled → List Decision → PathEnd → Type 0
+IsPathEnd origins statuses events path (AtOpen place) = IsOpenPlace statuses place × (path_at (paths_of origins) place ≡ path)
+IsPathEnd origins statuses events path (AtSettled event) =
     (Contains (open_paths (history_of origins events)) path → ⊥) × (position (λ settlement. path_eq settlement.event.path path) (history_of origins events) ≡ Some event)
-IsStop origins statuses events path Outside =
+IsPathEnd origins statuses events path Outside =
     (Contains (open_paths (history_of origins events)) path → ⊥) × (position (λ settlement. path_eq settlement.event.path path) (history_of origins events) ≡ None)
 
 -- a look waits, and there is room for a split

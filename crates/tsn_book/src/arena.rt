@@ -13,7 +13,7 @@ ghost use Rattle.tsn_book.specs.Event.{event_of};
 ghost use Rattle.tsn_book.specs.Below.{IsAbove};
 ghost use Rattle.tsn_book.specs.Book.{IsFault, IsMet, IsKept, is_better};
 ghost use Rattle.tsn_book.specs.Log.{next_of};
-ghost use Rattle.tsn_book.specs.Arena.{IsArena, IsStop, settled_in, path_in, IsOpenPlace, IsLeafOutcome, HasRoom, AreClosed, IsAhead, IsNewLeaf, IsClosing, IsParent, IsParentClosed, flag_at};
+ghost use Rattle.tsn_book.specs.Arena.{IsArena, IsPathEnd, settled_in, path_in, IsOpenPlace, IsLeafOutcome, HasRoom, AreClosed, IsAhead, IsNewLeaf, IsClosing, IsParent, IsParentClosed, flag_at};
 
 use crate::event::Event;
 use crate::fault::BookFault;
@@ -28,7 +28,7 @@ use tsn_timing::{Solved, Timing, is_conflict};
 
 /// Where a walk along a path ends: at an open place, at one that an event settled, or outside the tree.
 #[derive(Clone, Copy)]
-pub enum Stop {
+pub enum PathEnd {
     Open(usize),
     Settled(usize),
     Outside,
@@ -55,14 +55,14 @@ pub struct Tree {
 
 impl Tree {
     /// The place at the end of a path.
-    pub fn find(&self, path: &[Decision]) -> Stop
+    pub fn find(&self, path: &[Decision]) -> PathEnd
         requires { IsArena self.now }
-        ensures { IsStop self.now.places.origins self.now.places.statuses self.now.events.items path.now result }
+        ensures { IsPathEnd self.now.places.origins self.now.places.statuses self.now.events.items path.now result }
     {
         let mut place = 0;
         for decision in path {
             let Some(child) = self.child(place, *decision) else {
-                return Stop::Outside;
+                return PathEnd::Outside;
             };
             place = child;
         }
@@ -84,16 +84,16 @@ impl Tree {
     }
 
     // What ends a walk at a place.
-    fn stop_at(&self, place: usize) -> Stop
+    fn stop_at(&self, place: usize) -> PathEnd
         requires tree { IsArena self.now }
         requires place { place < length self.now.places.origins }
-        ensures { IsStop self.now.places.origins self.now.places.statuses self.now.events.items (path_in self.now place) result }
+        ensures { IsPathEnd self.now.places.origins self.now.places.statuses self.now.events.items (path_in self.now place) result }
     {
         let status = self.places.status(place);
         match status {
-            Status::Open => Stop::Open(place),
-            Status::Split { event, .. } => Stop::Settled(event),
-            Status::Leaf(event) => Stop::Settled(event),
+            Status::Open => PathEnd::Open(place),
+            Status::Split { event, .. } => PathEnd::Settled(event),
+            Status::Leaf(event) => PathEnd::Settled(event),
         }
     }
 
@@ -372,7 +372,7 @@ impl Tree {
     fn admit(
         &self,
         bounds: Bounds,
-        stop: Stop,
+        stop: PathEnd,
         path: &[Decision],
         look: &Look,
     ) -> Result<usize, BookFault>
@@ -380,15 +380,15 @@ impl Tree {
         requires best { bounds.best ≡ best_bound self.now.network (settled_in self.now) }
         requires kept { IsKept self.now.network (settled_in self.now) bounds.kept }
         requires proof { HasProof self.now.network path.now (outcome_of look.now) }
-        requires stop { IsStop self.now.places.origins self.now.places.statuses self.now.events.items path.now stop }
+        requires stop { IsPathEnd self.now.places.origins self.now.places.statuses self.now.events.items path.now stop }
         ensures { let history = settled_in self.now in MatchResult result
-            (λ place. (stop ≡ Stop.Open place) × (length history < bounds.limit) × IsMet self.now.network history path.now (outcome_of look.now))
+            (λ place. (stop ≡ PathEnd.Open place) × (length history < bounds.limit) × IsMet self.now.network history path.now (outcome_of look.now))
             (λ fault. IsFault self.now.network bounds.limit history (record { path = path.now; outcome = outcome_of look.now }) fault) }
     {
         let place = match stop {
-            Stop::Open(place) => place,
-            Stop::Settled(number) => return Err(BookFault::NotOpen(Some(number))),
-            Stop::Outside => return Err(BookFault::NotOpen(None)),
+            PathEnd::Open(place) => place,
+            PathEnd::Settled(number) => return Err(BookFault::NotOpen(Some(number))),
+            PathEnd::Outside => return Err(BookFault::NotOpen(None)),
         };
         if self.events.len() >= bounds.limit {
             return Err(BookFault::Limit(self.events.len()));

@@ -11,7 +11,7 @@ ghost use Rattle.tsn_model.specs.Walk.{path_made, IsPlaceOf};
 ghost use Rattle.tsn_book.specs.Book.{Progress, IsLawful, IsFault, SpellsAccepted, AreNodesOf};
 ghost use Rattle.tsn_book.specs.Solving.{IsSolvedBy};
 
-use crate::arena::{Bounds, Stop, Tree};
+use crate::arena::{Bounds, PathEnd, Tree};
 use crate::event::Event;
 use crate::fault::BookFault;
 use crate::ledger::Ledger;
@@ -128,9 +128,9 @@ impl Book {
             (λ fault. (outcome : Outcome) → IsFault book.network book.limit book.history (record { path = path.now; outcome = outcome }) fault) }
     {
         match self.ledger.tree.find(path) {
-            Stop::Open(place) => Ok(place),
-            Stop::Settled(number) => Err(BookFault::NotOpen(Some(number))),
-            Stop::Outside => Err(BookFault::NotOpen(None)),
+            PathEnd::Open(place) => Ok(place),
+            PathEnd::Settled(number) => Err(BookFault::NotOpen(Some(number))),
+            PathEnd::Outside => Err(BookFault::NotOpen(None)),
         }
     }
 
@@ -207,9 +207,9 @@ impl Book {
     /// The triple on which the node at the end of a path was split; none where it wasn't, or where the path leads outside the tree.
     pub fn split_at(&self, path: &[Decision]) -> Option<Triple> {
         match self.ledger.tree.find(path) {
-            Stop::Settled(number) => self.ledger.tree.split_by(number),
-            Stop::Open(_) => None,
-            Stop::Outside => None,
+            PathEnd::Settled(number) => self.ledger.tree.split_by(number),
+            PathEnd::Open(_) => None,
+            PathEnd::Outside => None,
         }
     }
 

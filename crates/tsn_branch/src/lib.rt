@@ -34,7 +34,7 @@ pub use bound::lower_bound;
 pub use descent::Descent;
 pub use loads::Loads;
 pub use prepared::Prepared;
-pub use progress::Progress;
+pub use progress::ProgressWriter;
 pub use setting::Setting;
 use std::alloc::Global;
 pub use supervisor::{LearnedNews, News, NoSupervisor, Phase, Supervisor};

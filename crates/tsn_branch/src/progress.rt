@@ -19,7 +19,7 @@ const PERIOD: u64 = 1000;
 /// search's own count, and how many conflicts there are a second. A clock or a standard error that fails takes lines away, and
 /// nothing else.
 #[derive(Drop)]
-pub struct Progress<'a, R: Clock + Eprint> {
+pub struct ProgressWriter<'a, R: Clock + Eprint> {
     rt: &'a R,
     /// Whether one worker searches, who goes on with the nodes that were open before the search that learns.
     is_alone: bool,
@@ -38,10 +38,10 @@ pub struct Progress<'a, R: Clock + Eprint> {
     before: AtomicU64,
 }
 
-impl<'a, R: Clock + Eprint> Progress<'a, R> {
+impl<'a, R: Clock + Eprint> ProgressWriter<'a, R> {
     /// Nothing is settled by so many workers, and the clock begins to run.
-    pub fn new(rt: &'a R, workers: usize) -> Progress<'a, R> {
-        Progress {
+    pub fn new(rt: &'a R, workers: usize) -> ProgressWriter<'a, R> {
+        ProgressWriter {
             rt,
             is_alone: workers <= 1,
             start: Instant::now(rt).ok(),
@@ -68,7 +68,7 @@ impl<'a, R: Clock + Eprint> Progress<'a, R> {
         };
         if self.learns.load(Ordering::SeqCst) {
             let best = Best::of(self.known.flowspan(), self.known.bound());
-            self.write_learned("in all", Aim::None, best, elapsed);
+            self.write_learned("in all", Sought::None, best, elapsed);
         } else {
             self.write("in all", elapsed);
         }
@@ -113,7 +113,7 @@ impl<'a, R: Clock + Eprint> Progress<'a, R> {
         );
     }
 
-    fn write_learned(&self, when: &str, aim: Aim, best: Best, elapsed: u64) {
+    fn write_learned(&self, when: &str, aim: Sought, best: Best, elapsed: u64) {
         let settled = self.settled.load(Ordering::SeqCst);
         let conflicts = self.conflicts.load(Ordering::SeqCst);
         let rate = self.rate(conflicts, elapsed);
@@ -123,7 +123,7 @@ impl<'a, R: Clock + Eprint> Progress<'a, R> {
     }
 }
 
-impl<'a, R: Clock + Eprint> Supervisor for Progress<'a, R> {
+impl<'a, R: Clock + Eprint> Supervisor for ProgressWriter<'a, R> {
     fn pass(&self, _teller: usize) {}
 
     fn hear(&self, _teller: usize, news: News) {
@@ -162,7 +162,7 @@ impl<'a, R: Clock + Eprint> Supervisor for Progress<'a, R> {
         if let Some(elapsed) = self.due_now() {
             let bound = news.bound.max(self.known.bound().unwrap_or(0));
             let best = Best::of(self.known.flowspan(), Some(bound));
-            self.write_learned("so far", Aim::of(news), best, elapsed);
+            self.write_learned("so far", Sought::of(news), best, elapsed);
         }
     }
 }
@@ -178,7 +178,7 @@ fn is_anew(phase: Phase, is_alone: bool) -> bool {
 
 /// What the search that learns is to show, as it is written.
 #[derive(Clone, Copy)]
-enum Aim {
+enum Sought {
     None,
     /// The least flowspan.
     Flowspan,
@@ -186,21 +186,21 @@ enum Aim {
     Stream(usize, usize),
 }
 
-impl Aim {
-    fn of(news: LearnedNews) -> Aim {
+impl Sought {
+    fn of(news: LearnedNews) -> Sought {
         match news.stream {
-            Some(stream) => Aim::Stream(stream.saturating_add(1), news.streams),
-            None => Aim::Flowspan,
+            Some(stream) => Sought::Stream(stream.saturating_add(1), news.streams),
+            None => Sought::Flowspan,
         }
     }
 }
 
-impl fmt::Display for Aim {
+impl fmt::Display for Sought {
     fn fmt<W: fmt::Write>(&self, f: &mut fmt::Formatter<W>) -> fmt::Result {
         match self {
-            Aim::None => Ok(()),
-            Aim::Flowspan => write!(f, "flowspan, "),
-            Aim::Stream(number, streams) => write!(f, "stream {number} of {streams}, "),
+            Sought::None => Ok(()),
+            Sought::Flowspan => write!(f, "flowspan, "),
+            Sought::Stream(number, streams) => write!(f, "stream {number} of {streams}, "),
         }
     }
 }

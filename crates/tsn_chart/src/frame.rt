@@ -1,9 +1,9 @@
 //! What stands round the rows: the head, the axis and the flowspan.
 ghost use Rattle.std.specs.Prelude.{◌≤◌};
 
+use crate::choice::LinkChoice;
 use crate::picture::Sheet;
 use crate::scale::{LEFT, PAGE, Scale, TOP, WIDTH};
-use crate::shown::Shown;
 use crate::words::write_microseconds;
 use std::alloc::AllocError;
 use std::fmt::Write;
@@ -64,11 +64,11 @@ fn write_title(text: &mut String, sheet: Sheet<'_>) -> Result<(), AllocError> {
 /// Writes why no link has a row.
 fn write_why_empty(text: &mut String, sheet: Sheet<'_>) -> Result<(), AllocError> {
     match sheet.shown {
-        Shown::Link(link) if link < sheet.problem.links() => {
+        LinkChoice::Link(link) if link < sheet.problem.links() => {
             write!(text, ": no stream uses link {link}")
         }
-        Shown::Link(link) => write!(text, ": there is no link {link}"),
-        Shown::Auto | Shown::All => text.push_str(": none is shared"),
+        LinkChoice::Link(link) => write!(text, ": there is no link {link}"),
+        LinkChoice::Auto | LinkChoice::All => text.push_str(": none is shared"),
     }
 }
 

@@ -1,6 +1,7 @@
 //! A schedule as a picture: SVG with a row for each directed link in use; and what each stream and each link gets by it, in nanoseconds.
 #![tactic(auto)]
 
+mod choice;
 mod csv;
 mod format;
 mod frame;
@@ -15,16 +16,15 @@ mod rest;
 mod rows;
 mod scale;
 pub mod shares;
-mod shown;
 pub mod stream;
 mod table;
 pub mod words;
 
+pub use choice::LinkChoice;
 pub use link::{LinkShare, link_share, link_shares};
 pub use output::{to_csv, to_json, to_text};
-pub use picture::{View, chart, chart_of, marked_chart};
+pub use picture::{Drawing, chart, chart_of, marked_chart};
 pub use rest::longest_open;
 pub use shares::{Shares, plan_shares};
-pub use shown::Shown;
 pub use stream::{StreamShare, stream_share, stream_shares};
 pub use tsn_model::NoMemory;

@@ -3,11 +3,11 @@ ghost use Rattle.std.specs.Prelude.{◌≡◌, ◌≤◌, ◌<◌, length, All};
 ghost use Rattle.tsn_model.specs.Network.{stream_count};
 ghost use Rattle.tsn_model.specs.Schedule.{IsValid};
 
+use crate::choice::{LinkChoice, is_shown, rows_shown};
 use crate::frame::{write_axis, write_background, write_flowspan, write_head};
 use crate::key::{key_height, write_key};
 use crate::rows::{Line, write_row};
 use crate::scale::Scale;
-use crate::shown::{Shown, is_shown, rows_shown};
 use std::alloc::{AllocError, Global};
 use tsn_gate::GateList;
 use tsn_model::NoMemory;
@@ -20,7 +20,7 @@ pub(crate) struct Sheet<'a> {
     pub(crate) timing: &'a Timing,
     pub(crate) offsets: &'a [u64],
     pub(crate) lists: &'a [GateList],
-    pub(crate) shown: Shown,
+    pub(crate) shown: LinkChoice,
     /// The stream and the link of the frames that are marked.
     pub(crate) marked: &'a [(usize, usize)],
     /// How many lists are shown.
@@ -45,16 +45,16 @@ impl<'a> Sheet<'a> {
 
 /// What is drawn of a schedule.
 #[derive(Clone, Copy)]
-pub struct View {
+pub struct Drawing {
     /// The instant at the right edge, in nanoseconds; the cycle's end where that is sooner.
     pub until: u64,
     /// Which links have a row.
-    pub shown: Shown,
+    pub shown: LinkChoice,
     pub ghost some: { 1 ≤ until },
     pub ghost few: { until ≤ 1000000000 },
 }
 
-/// The picture of a schedule as `chart_of` draws it, with the rows of `Shown::Auto`.
+/// The picture of a schedule as `chart_of` draws it, with the rows of `LinkChoice::Auto`.
 ///
 /// # Errors
 ///
@@ -71,8 +71,8 @@ pub fn chart(
     requires valid { IsValid problem.now.network valid.now }
     requires exist { All (λ list. list.link < length problem.now.network.links) lists.now }
 {
-    let shown = Shown::Auto;
-    chart_of(alloc, problem, valid, lists, View { until, shown })
+    let shown = LinkChoice::Auto;
+    chart_of(alloc, problem, valid, lists, Drawing { until, shown })
 }
 
 /// The schedule as an SVG document: time runs from 0 to `until` nanoseconds, but no further than the cycle, and each list that
@@ -91,12 +91,12 @@ pub fn chart_of(
     problem: &Problem,
     valid: &Valid,
     lists: &[GateList],
-    view: View,
+    drawing: Drawing,
 ) -> Result<String, NoMemory>
     requires valid { IsValid problem.now.network valid.now }
     requires exist { All (λ list. list.link < length problem.now.network.links) lists.now }
 {
-    marked_chart(alloc, problem, valid, lists, view, &[])
+    marked_chart(alloc, problem, valid, lists, drawing, &[])
 }
 
 /// The picture as `chart_of` draws it, where some frames are marked, by the numbers of their stream and of a link of its route:
@@ -110,21 +110,21 @@ pub fn marked_chart(
     problem: &Problem,
     valid: &Valid,
     lists: &[GateList],
-    view: View,
+    drawing: Drawing,
     marked: &[(usize, usize)],
 ) -> Result<String, NoMemory>
     requires valid { IsValid problem.now.network valid.now }
     requires exist { All (λ list. list.link < length problem.now.network.links) lists.now }
 {
     let timing = problem.timing(alloc)?;
-    let rows = rows_shown(&timing, lists, view.shown);
-    let scale = Scale::new(view.until.min(timing.cycle()), rows);
+    let rows = rows_shown(&timing, lists, drawing.shown);
+    let scale = Scale::new(drawing.until.min(timing.cycle()), rows);
     let sheet = Sheet {
         problem,
         timing: &timing,
         offsets: valid.offsets(),
         lists,
-        shown: view.shown,
+        shown: drawing.shown,
         marked,
         rows,
         scale,

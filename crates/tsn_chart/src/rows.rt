@@ -2,7 +2,7 @@
 ghost use Rattle.std.specs.Prelude.{◌≤◌, ◌<◌, length};
 ghost use Rattle.tsn_model.specs.Network.{stream_count, hop_count};
 
-use crate::mark::{Look, look_of};
+use crate::mark::{MarkStyle, look_of};
 use crate::picture::Sheet;
 use crate::scale::{LEFT, PAGE};
 use crate::words::{
@@ -34,7 +34,7 @@ pub struct Line {
 struct Framed {
     line: Line,
     stream: usize,
-    look: Look,
+    look: MarkStyle,
 }
 
 /// The bar of a frame: where it begins, and how wide it is, in tenths of a pixel.
@@ -73,7 +73,7 @@ fn write_bars(
     let link = sheet.lists[line.number].link();
     for stream in 0..sheet.timing.streams() {
         let look = look_of(sheet, stream, link);
-        if is_marked == (look == Look::Outlined) {
+        if is_marked == (look == MarkStyle::Outlined) {
             let framed = Framed { line, stream, look };
             write_frames(text, sheet, framed)?;
         }
@@ -206,7 +206,7 @@ fn write_bar_shape(text: &mut String, sheet: Sheet<'_>, bar: Bar) -> Result<(), 
         "</title><rect x=\"{x}\" y=\"{y}\" width=\"{wide}\" height=\"{high}\" fill=\""
     )?;
     write_colour(text, framed.stream)?;
-    if wide < NARROW && framed.look != Look::Outlined {
+    if wide < NARROW && framed.look != MarkStyle::Outlined {
         write_outline(text, framed.stream)?;
     }
     text.push_str(framed.look.shade())
@@ -231,8 +231,8 @@ fn write_bar_name(text: &mut String, sheet: Sheet<'_>, bar: Bar) -> Result<(), A
     let middle = bar.x + bar.wide / 2;
     let stream = bar.framed.stream;
     let letters = match bar.framed.look {
-        Look::Pale => "#000000",
-        Look::Plain | Look::Outlined => letters_on(stream),
+        MarkStyle::Pale => "#000000",
+        MarkStyle::Plain | MarkStyle::Outlined => letters_on(stream),
     };
     let y = bar.framed.line.y + sheet.scale.row_height() / 2 + sheet.scale.font() / 3;
     write!(

@@ -13,7 +13,7 @@ use Rattle.tsn_cert.specs.Plan.{plan_in}
 use Rattle.tsn_cert.specs.declared.certificate.Certificate.{Certificate}
 use Rattle.tsn_cert.specs.Certificate.{certificate_in}
 use Rattle.tsn_argue.specs.Certified.{Certifies, certificate_verdict}
-use Rattle.tsn_chart.specs.declared.picture.View.{View}
+use Rattle.tsn_chart.specs.declared.picture.Drawing.{Drawing}
 use Rattle.tsn_cli.specs.declared.showing.Showing.{Showing}
 use Rattle.tsn_cli.specs.declared.showing.Showing.TheVariants.{Verdict, Words, Picture}
 use Rattle.tsn_cli.specs.declared.table.Table.TheVariants.{Chart}
@@ -33,7 +33,7 @@ ShowsText output = (text : List ℕ) × IsLine 0 text output
 abbrev pub ShowsAccepted : Showing → NamedNetwork → Plan → Certificate → Output → Type 0
 ShowsAccepted Verdict problem plan certificate output = IsOutcome (accepted (certificate_verdict certificate plan) plan) output
 ShowsAccepted Words problem plan certificate output = ShowsText output
-ShowsAccepted (Picture view) problem plan certificate output = ShowsPlan (Chart view) problem plan output ⊎ RejectsPlan problem.network plan output
+ShowsAccepted (Picture drawing) problem plan certificate output = ShowsPlan (Chart drawing) problem plan output ⊎ RejectsPlan problem.network plan output
 
 -- the answer to a certificate file for this plan; where the certificate is refused it is that of `check`
 abbrev pub JudgesShown : Showing → NamedNetwork → Plan → List ℕ → Output → Type 0
@@ -55,8 +55,8 @@ CertAnswers showing _ output = ⊥
 abbrev pub ExplainAnswers : Command
 ExplainAnswers = CertAnswers Words
 
-abbrev pub MarkedChartAnswers : View → Command
-MarkedChartAnswers view = CertAnswers (Picture view)
+abbrev pub MarkedChartAnswers : Drawing → Command
+MarkedChartAnswers drawing = CertAnswers (Picture drawing)
 
 -- what becomes of a run that has taken this network and this plan, and has the source of a certificate left
 pub record GoesOnOver (showing : Showing) (problem : NamedNetwork) (stated : Plan) (cert : SourceRun) (outcome : Result Shown ReadFault) : Type 0 where

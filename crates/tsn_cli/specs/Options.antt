@@ -5,9 +5,9 @@ use Rattle.tsn_words.specs.declared.words.ReplayWords.{ReplayWords}
 use Rattle.tsn_words.specs.declared.words.ChartWords.{ChartWords}
 use Rattle.tsn_cli.specs.declared.table.GatesOptions.{GatesOptions}
 use Rattle.tsn_cli.specs.declared.table.ReplayOptions.{ReplayOptions}
-use Rattle.tsn_chart.specs.declared.picture.View.{View}
-use Rattle.tsn_chart.specs.declared.shown.Shown.{Shown}
-use Rattle.tsn_chart.specs.declared.shown.Shown.TheVariants as shown
+use Rattle.tsn_chart.specs.declared.picture.Drawing.{Drawing}
+use Rattle.tsn_chart.specs.declared.choice.LinkChoice.{LinkChoice}
+use Rattle.tsn_chart.specs.declared.choice.LinkChoice.TheVariants as shown
 
 -- how gate lists are made and printed
 abbrev pub gates_options : GatesWords → GatesOptions
@@ -18,10 +18,10 @@ abbrev pub replay_options : ReplayWords → ReplayOptions
 replay_options words = record { cycles = words.cycles; greedy = words.greedy; format = words.format; merge = words.merge }
 
 -- which links are drawn: the one that is named, and else all in use or some, as is asked for
-abbrev pub shown_of : Option ℕ → Bool → Shown
+abbrev pub shown_of : Option ℕ → Bool → LinkChoice
 shown_of (Some link) all = shown.Link link
 shown_of None all = if all then shown.All else shown.Auto
 
 -- what is drawn: up to the end that is asked for, those links
-abbrev pub IsViewOf : ChartWords → View → Type 0
-IsViewOf words view = (view.until ≡ words.until) × (view.shown ≡ shown_of words.link words.all)
+abbrev pub IsDrawingOf : ChartWords → Drawing → Type 0
+IsDrawingOf words drawing = (drawing.until ≡ words.until) × (drawing.shown ≡ shown_of words.link words.all)

@@ -21,7 +21,7 @@ use Rattle.tsn_gate.specs.Feeding.{background_for}
 use Rattle.tsn_gate.specs.Rows as replay
 use Rattle.tsn_gate.specs.Rows.{AreRows}
 use Rattle.tsn_gate.specs.Csv.{csv_text}
-use Rattle.tsn_chart.specs.declared.picture.View.{View}
+use Rattle.tsn_chart.specs.declared.picture.Drawing.{Drawing}
 use Rattle.tsn_chart.specs.declared.stream.StreamShare.{StreamShare}
 use Rattle.tsn_chart.specs.declared.link.LinkShare.{LinkShare}
 use Rattle.tsn_chart.specs.Shares.{stream_shares, AreSharesOfLinks}
@@ -79,14 +79,14 @@ ShowsShares format problem offsets output =
 abbrev pub ShowsTable : Table → NamedNetwork → List ℕ → Output → Type 0
 ShowsTable (Gates options) problem offsets output = ShowsLists options problem offsets output
 ShowsTable (Replay options) problem offsets output = ShowsReplay options problem offsets output
-ShowsTable (Chart view) problem offsets output = ShowsPicture output
+ShowsTable (Chart drawing) problem offsets output = ShowsPicture output
 ShowsTable (Streams format) problem offsets output = ShowsShares format problem offsets output
 
 -- a replay has 1 to 16 cycles
 abbrev pub CanShow : Table → Type 0
 CanShow (Gates options) = Unit {0}
 CanShow (Replay options) = (1 ≤ options.cycles) × (options.cycles ≤ 16)
-CanShow (Chart view) = Unit {0}
+CanShow (Chart drawing) = Unit {0}
 CanShow (Streams format) = Unit {0}
 
 -- the plan is a valid schedule with its flowspan, and its table is shown
@@ -116,8 +116,8 @@ GatesAnswers options = TableAnswers (Gates options)
 abbrev pub ReplayAnswers : ReplayOptions → Command
 ReplayAnswers options = TableAnswers (Replay options)
 
-abbrev pub ChartAnswers : View → Command
-ChartAnswers view = TableAnswers (Chart view)
+abbrev pub ChartAnswers : Drawing → Command
+ChartAnswers drawing = TableAnswers (Chart drawing)
 
 abbrev pub StreamsAnswers : StreamsFormat → Command
 StreamsAnswers format = TableAnswers (Streams format)

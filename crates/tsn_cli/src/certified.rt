@@ -17,7 +17,7 @@ use crate::tables;
 use std::alloc::Global;
 use tsn_argue::{Silent, judge_argument};
 use tsn_cert::{Certificate, Plan};
-use tsn_chart::View;
+use tsn_chart::Drawing;
 use tsn_check::{CheckFault, Verdict, check};
 use tsn_codec::certificate_from_json;
 use tsn_device::device::{ReadFault, Source, read_all};
@@ -180,7 +180,7 @@ fn shown(
     match showing {
         Showing::Verdict => Ok(Shown::Said(acceptance(alloc, verdict, claim.plan)?)),
         Showing::Words => words(alloc, claim, certificate),
-        Showing::Picture(view) => marked_picture(alloc, claim, certificate, view),
+        Showing::Picture(drawing) => marked_picture(alloc, claim, certificate, drawing),
     }
 }
 
@@ -197,13 +197,13 @@ fn marked_picture(
     alloc: Global,
     claim: Claim<'_>,
     certificate: &Certificate,
-    view: View,
+    drawing: Drawing,
 ) -> Result<Shown, NoMemory>
-    ensures { IfOk result (λ a. ShowsPlan (Chart view) claim.entry.problem.now claim.entry.plan.now (shown_output (Ok a))
+    ensures { IfOk result (λ a. ShowsPlan (Chart drawing) claim.entry.problem.now claim.entry.plan.now (shown_output (Ok a))
         ⊎ RejectsPlan claim.entry.problem.now.network claim.entry.plan.now (shown_output (Ok a))) }
 {
     let marked = marked_frames(alloc, claim.problem, claim.plan, certificate)?;
-    let answer = tables::judgement(alloc, claim, Table::Chart(view), &marked);
+    let answer = tables::judgement(alloc, claim, Table::Chart(drawing), &marked);
     drop(marked);
     answer
 }

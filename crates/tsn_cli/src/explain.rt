@@ -6,7 +6,7 @@ ghost use Rattle.tsn_cli.specs.Explain.{ExplainAnswers, MarkedChartAnswers};
 use crate::certified::certified_shown;
 use crate::showing::{Showing, show};
 use std::alloc::Global;
-use tsn_chart::View;
+use tsn_chart::Drawing;
 use tsn_device::device::{Sink, Source};
 
 /// Reads a network file, a plan file and a certificate file of format 1, 2 or 3, each judged before the next is read, and writes in
@@ -44,7 +44,7 @@ pub fn marked_chart_run<N: Source, P: Source, C: Source, W: Sink>(
     network: &mut N,
     plan: &mut P,
     cert: &mut C,
-    view: View,
+    drawing: Drawing,
     sink: &mut W,
 ) -> u8
     requires network_reads { N.failed network.old < 2 ^ 64 - 1 }
@@ -52,7 +52,7 @@ pub fn marked_chart_run<N: Source, P: Source, C: Source, W: Sink>(
     requires cert_reads { C.failed cert.old < 2 ^ 64 - 1 }
     requires writes { W.failed sink.old < 2 ^ 64 - 1 }
 
-    ensures { RunsOver (MarkedChartAnswers view)
+    ensures { RunsOver (MarkedChartAnswers drawing)
         (source_over N.given N.failed N.is_at_end network.old network.new
         ∷ source_over P.given P.failed P.is_at_end plan.old plan.new
         ∷ source_over C.given C.failed C.is_at_end cert.old cert.new ∷ [])
@@ -60,6 +60,6 @@ pub fn marked_chart_run<N: Source, P: Source, C: Source, W: Sink>(
 {
     show(
         sink,
-        &certified_shown(alloc, network, plan, cert, Showing::Picture(view)),
+        &certified_shown(alloc, network, plan, cert, Showing::Picture(drawing)),
     )
 }

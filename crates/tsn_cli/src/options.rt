@@ -1,9 +1,9 @@
 //! The options by which a plan is shown, of the words of the command.
 ghost use Rattle.std.specs.Prelude.{◌≡◌};
-ghost use Rattle.tsn_cli.specs.Options.{gates_options, replay_options, IsViewOf};
+ghost use Rattle.tsn_cli.specs.Options.{gates_options, replay_options, IsDrawingOf};
 
 use crate::table::{GatesOptions, ReplayOptions};
-use tsn_chart::{Shown, View};
+use tsn_chart::{Drawing, LinkChoice};
 use tsn_gate::DeviceLimits;
 use tsn_words::{ChartWords, GatesWords, ReplayWords};
 
@@ -41,15 +41,15 @@ pub fn replay_options(words: ReplayWords<'_>) -> ReplayOptions
 }
 
 /// What is drawn: one link where the words name it, and else all links in use where the words ask for them.
-pub fn view_of(words: ChartWords<'_>) -> View
-    ensures { IsViewOf words.entry result }
+pub fn drawing_of(words: ChartWords<'_>) -> Drawing
+    ensures { IsDrawingOf words.entry result }
 {
     let shown = match words.link {
-        Some(link) => Shown::Link(link),
-        None if words.all => Shown::All,
-        None => Shown::Auto,
+        Some(link) => LinkChoice::Link(link),
+        None if words.all => LinkChoice::All,
+        None => LinkChoice::Auto,
     };
-    View {
+    Drawing {
         until: words.until as u64,
         shown,
     }

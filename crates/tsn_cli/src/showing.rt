@@ -4,7 +4,7 @@ ghost use Rattle.tsn_reason.specs.Run.{sink_over};
 ghost use Rattle.tsn_reason.specs.Outcome.{IsWrittenAs};
 ghost use Rattle.tsn_cli.specs.Shown.{IsShownBy};
 
-use tsn_chart::View;
+use tsn_chart::Drawing;
 use tsn_device::device::{ReadFault, Sink};
 use tsn_reason::Answer;
 use tsn_reason::run::{DONE, finish, respond};
@@ -17,7 +17,7 @@ pub enum Showing {
     /// What the certificate shows, in words.
     Words,
     /// A picture of the plan, in which the frames are marked that the certificate is about.
-    Picture(View),
+    Picture(Drawing),
 }
 
 /// What is shown: a text that was asked for, with remarks on it for standard error, a line each, of which nothing is claimed; or an

@@ -12,7 +12,7 @@ ghost use Rattle.tsn_given.specs.Runs.{OverCert, OverNetwork, OverPlan, RunsTold
 
 use crate::certified::certified_shown;
 use crate::check::said;
-use crate::options::view_of;
+use crate::options::drawing_of;
 use crate::showing::{Showing, Shown, show};
 use crate::table::Table;
 use crate::tables::table_shown;
@@ -139,7 +139,7 @@ pub fn picture<'a, G: Given<'a>, W: Made>(
         (sink_over W.taken W.failed output result.output) result.status }
 {
     let ChartWords { network, plan, .. } = words;
-    let view = view_of(words);
+    let drawing = drawing_of(words);
     match words.cert {
         Some(cert) => {
             let words = ExplainWords {
@@ -147,9 +147,9 @@ pub fn picture<'a, G: Given<'a>, W: Made>(
                 plan,
                 cert,
             };
-            certified(alloc, given, output, words, Showing::Picture(view))
+            certified(alloc, given, output, words, Showing::Picture(drawing))
         }
-        None => table(alloc, given, output, network, plan, Table::Chart(view)),
+        None => table(alloc, given, output, network, plan, Table::Chart(drawing)),
     }
 }
 

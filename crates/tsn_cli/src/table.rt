@@ -1,6 +1,6 @@
 //! What a plan is shown by.
 
-use tsn_chart::View;
+use tsn_chart::Drawing;
 use tsn_gate::DeviceLimits;
 use tsn_words::{GatesFormat, ReplayFormat, StreamsFormat};
 
@@ -31,7 +31,7 @@ pub enum Table {
     /// A replay.
     Replay(ReplayOptions),
     /// A picture of it.
-    Chart(View),
+    Chart(Drawing),
     /// What each stream and each link gets.
     Streams(StreamsFormat),
 }

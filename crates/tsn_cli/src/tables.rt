@@ -17,7 +17,7 @@ use crate::table::{GatesOptions, ReplayOptions, Table};
 use crate::untaken::untaken;
 use std::alloc::Global;
 use tsn_cert::Plan;
-use tsn_chart::{Shares, View, marked_chart, plan_shares, to_csv, to_json, to_text};
+use tsn_chart::{Drawing, Shares, marked_chart, plan_shares, to_csv, to_json, to_text};
 use tsn_check::{CheckFault, check_plan};
 use tsn_device::device::{ReadFault, Sink, Source};
 use tsn_gate::{Background, ReplayFault, ReplayTable, gate_lists, lists_by, replay_rows, text_in};
@@ -84,19 +84,22 @@ pub fn chart_run<N: Source, P: Source, W: Sink>(
     alloc: Global,
     network: &mut N,
     plan: &mut P,
-    view: View,
+    drawing: Drawing,
     sink: &mut W,
 ) -> u8
     requires network_reads { N.failed network.old < 2 ^ 64 - 1 }
     requires plan_reads { P.failed plan.old < 2 ^ 64 - 1 }
     requires writes { W.failed sink.old < 2 ^ 64 - 1 }
 
-    ensures { RunsOver (ChartAnswers view)
+    ensures { RunsOver (ChartAnswers drawing)
         (source_over N.given N.failed N.is_at_end network.old network.new
         ∷ source_over P.given P.failed P.is_at_end plan.old plan.new ∷ [])
         (sink_over W.taken W.failed sink.old sink.new ∷ []) result }
 {
-    show(sink, &table_shown(alloc, network, plan, Table::Chart(view)))
+    show(
+        sink,
+        &table_shown(alloc, network, plan, Table::Chart(drawing)),
+    )
 }
 
 /// Reads a network file and a plan file, the first judged before the second is read, and writes, in a format, what each stream
@@ -230,7 +233,7 @@ fn table_of(
     match table {
         Table::Gates(options) => lists(alloc, problem, valid, options),
         Table::Replay(options) => replay_table(alloc, problem, valid, options),
-        Table::Chart(view) => picture(alloc, problem, valid, view, marked),
+        Table::Chart(drawing) => picture(alloc, problem, valid, drawing, marked),
         Table::Streams(format) => shares_table(alloc, problem, valid, format),
     }
 }
@@ -303,14 +306,14 @@ fn picture(
     alloc: Global,
     problem: &Problem,
     valid: &Valid,
-    view: View,
+    drawing: Drawing,
     marked: &[(usize, usize)],
 ) -> Result<Shown, NoMemory>
     requires valid { IsValid problem.now.network valid.now }
     ensures { IfOk result (λ a. ShowsPicture (shown_output (Ok a))) }
 {
     let lists = gate_lists(alloc, problem, valid)?;
-    let text = marked_chart(alloc, problem, valid, &lists, view, marked)?;
+    let text = marked_chart(alloc, problem, valid, &lists, drawing, marked)?;
     Ok(Shown::Text(text, None))
 }
 

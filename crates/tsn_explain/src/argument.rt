@@ -1,9 +1,9 @@
 //! What an argument shows, in words.
 use crate::busy::push_links;
 use crate::needs::{Part, part_of};
-use crate::network::Network;
+use crate::network::TimedNetwork;
 use crate::number::sum;
-use crate::told::Teller;
+use crate::told::Narrator;
 use crate::words::{push_count, push_stream, push_time};
 use std::alloc::{AllocError, Global};
 use tsn_argue::hear_argument;
@@ -18,7 +18,7 @@ const MOST_TOLD: usize = 12;
 pub fn push_argument(
     alloc: Global,
     text: &mut TextBuilder,
-    network: Network<'_>,
+    network: TimedNetwork<'_>,
     plan: &Plan,
     argument: &Argument,
 ) -> Result<(), AllocError> {
@@ -41,7 +41,7 @@ pub fn push_argument(
 }
 
 /// Writes why there is no schedule, where no step is needed.
-fn push_at_once(text: &mut TextBuilder, network: Network<'_>) {
+fn push_at_once(text: &mut TextBuilder, network: TimedNetwork<'_>) {
     if let Some(stream) = network.roomless() {
         text.push_str("No step is needed: ");
         push_no_room(text, network, stream, network.times(stream).release);
@@ -50,7 +50,7 @@ fn push_at_once(text: &mut TextBuilder, network: Network<'_>) {
 }
 
 /// Writes that a stream that can't start before an offset isn't done in time.
-pub fn push_no_room(text: &mut TextBuilder, network: Network<'_>, stream: usize, offset: i64) {
+pub fn push_no_room(text: &mut TextBuilder, network: TimedNetwork<'_>, stream: usize, offset: i64) {
     let times = network.times(stream);
     push_stream(text, network, stream);
     push_time(text, " can't start before ", offset);
@@ -86,12 +86,12 @@ fn push_counts(text: &mut TextBuilder, argument: &Argument, part: &Part) {
 fn push_steps(
     alloc: Global,
     text: &mut TextBuilder,
-    network: Network<'_>,
+    network: TimedNetwork<'_>,
     plan: &Plan,
     argument: &Argument,
     part: &Part,
 ) -> Result<(), AllocError> {
-    let mut teller = Teller::new(alloc, text, network, argument, part);
+    let mut teller = Narrator::new(alloc, text, network, argument, part);
     let heard = hear_argument(alloc, network.problem, plan, argument, &mut teller);
     if let Err(CheckFault::Memory) = heard {
         teller.refuse();

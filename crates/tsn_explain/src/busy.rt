@@ -4,7 +4,7 @@ use crate::load::{Load, least_tail};
 use crate::load_words::push_begin;
 use crate::mention::{Mention, add_step};
 use crate::needs::Part;
-use crate::network::{Network, first_frame};
+use crate::network::{TimedNetwork, first_frame};
 use crate::number::{NONE, at, less, put, signed, sum};
 use crate::words::{push_count, push_time};
 use std::alloc::{AllocError, Global};
@@ -22,7 +22,7 @@ const MOST_STREAMS: usize = 6;
 pub fn push_links(
     alloc: Global,
     text: &mut TextBuilder,
-    network: Network<'_>,
+    network: TimedNetwork<'_>,
     argument: &Argument,
     part: &Part,
 ) -> Result<(), AllocError> {
@@ -54,7 +54,7 @@ pub fn push_links(
 }
 
 // The greatest flowspan in question.
-fn greatest_flowspan(network: Network<'_>, argument: &Argument) -> i64 {
+fn greatest_flowspan(network: TimedNetwork<'_>, argument: &Argument) -> i64 {
     match argument.goal {
         Goal::First => signed(argument.target),
         Goal::Least => less(signed(argument.target), 1),
@@ -65,7 +65,7 @@ fn greatest_flowspan(network: Network<'_>, argument: &Argument) -> i64 {
 #[derive(Drop)]
 struct Busy<'a> {
     alloc: Global,
-    network: Network<'a>,
+    network: TimedNetwork<'a>,
     // By when all is to be done.
     until: i64,
     steps: &'a [Step],
@@ -163,7 +163,7 @@ fn count_once(uses: &mut [usize], last: &mut [usize], place: usize, step: usize)
 }
 
 // What frames come to on a link, from their releases on.
-fn load_of<'a>(network: Network<'_>, link: usize, frames: &'a [Frame]) -> Load<'a> {
+fn load_of<'a>(network: TimedNetwork<'_>, link: usize, frames: &'a [Frame]) -> Load<'a> {
     let mut head = i64::MAX;
     for frame in frames {
         let release = network.times(frame.stream).release;
@@ -179,7 +179,7 @@ fn load_of<'a>(network: Network<'_>, link: usize, frames: &'a [Frame]) -> Load<'
 }
 
 // By when the last of some frames is through on a link, by their latest offsets.
-fn latest_end(network: Network<'_>, link: usize, frames: &[Frame]) -> i64 {
+fn latest_end(network: TimedNetwork<'_>, link: usize, frames: &[Frame]) -> i64 {
     let mut end = i64::MIN;
     for frame in frames {
         let offset = network.times(frame.stream).latest_offset;

@@ -1,7 +1,7 @@
 //! The leaves of a tree of decisions, in words.
 use crate::argument::push_no_room;
 use crate::load_words::{push_begin, push_load, push_past};
-use crate::network::Network;
+use crate::network::TimedNetwork;
 use crate::number::sum;
 use crate::path::{Path, frames_of, load_of};
 use crate::round::push_round;
@@ -14,7 +14,7 @@ use tsn_text::TextBuilder;
 pub fn push_leaf(
     alloc: Global,
     text: &mut TextBuilder,
-    network: Network<'_>,
+    network: TimedNetwork<'_>,
     path: &Path,
     node: &Node,
 ) {
@@ -36,7 +36,7 @@ pub fn push_leaf(
 }
 
 /// Writes the decisions of a path.
-fn push_path(text: &mut TextBuilder, network: Network<'_>, path: &Path) {
+fn push_path(text: &mut TextBuilder, network: TimedNetwork<'_>, path: &Path) {
     let count = path.decided().len();
     if count == 0 {
         return text.push_str("In any order: ");
@@ -54,7 +54,7 @@ fn push_path(text: &mut TextBuilder, network: Network<'_>, path: &Path) {
 fn push_shown(
     alloc: Global,
     text: &mut TextBuilder,
-    network: Network<'_>,
+    network: TimedNetwork<'_>,
     path: &Path,
     leaf: &Leaf,
 ) {
@@ -81,7 +81,7 @@ fn push_shown(
 fn push_bound(
     alloc: Global,
     text: &mut TextBuilder,
-    network: Network<'_>,
+    network: TimedNetwork<'_>,
     path: &Path,
     bound: &LowerBound,
 ) {
@@ -106,7 +106,7 @@ fn push_bound(
 }
 
 /// Writes when a stream arrives that can't start before an offset.
-fn push_late(text: &mut TextBuilder, network: Network<'_>, stream: usize, offset: i64) {
+fn push_late(text: &mut TextBuilder, network: TimedNetwork<'_>, stream: usize, offset: i64) {
     push_stream(text, network, stream);
     push_time(text, " can't start before ", offset);
     push_time(
@@ -121,7 +121,7 @@ fn push_late(text: &mut TextBuilder, network: Network<'_>, stream: usize, offset
 fn push_closed(
     alloc: Global,
     text: &mut TextBuilder,
-    network: Network<'_>,
+    network: TimedNetwork<'_>,
     path: &Path,
     chain: &Chain,
 ) {

@@ -1,5 +1,5 @@
 //! The load of a tree's leaf that comes to the least.
-use crate::network::Network;
+use crate::network::TimedNetwork;
 use crate::path::{Path, frames_of, load_of};
 use std::alloc::{AllocError, Global};
 use tsn_cert::{Entries, Leaf, LowerBound, Node};
@@ -16,7 +16,7 @@ pub fn bound_of(node: &Node) -> Option<(usize, &Entries)> {
 /// The first node whose load bounds the flowspan by the least.
 pub fn least_of(
     alloc: Global,
-    network: Network<'_>,
+    network: TimedNetwork<'_>,
     nodes: &[Node],
 ) -> Result<Option<usize>, AllocError> {
     let mut path = Path::first(alloc);

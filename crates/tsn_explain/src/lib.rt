@@ -23,7 +23,7 @@ mod tree;
 mod words;
 
 use crate::argument::push_argument;
-use crate::network::Network;
+use crate::network::TimedNetwork;
 use crate::number::signed;
 use crate::tree::push_tree;
 use crate::words::push_time;
@@ -44,7 +44,7 @@ pub fn explanation(
     certificate: &Certificate,
 ) -> Result<String, NoMemory> {
     let timing = problem.timing(alloc)?;
-    let network = Network {
+    let network = TimedNetwork {
         problem,
         timing: &timing,
     };
@@ -57,7 +57,7 @@ pub fn explanation(
 fn push_explanation(
     alloc: Global,
     text: &mut TextBuilder,
-    network: Network<'_>,
+    network: TimedNetwork<'_>,
     plan: &Plan,
     certificate: &Certificate,
 ) -> Result<(), AllocError> {
@@ -69,7 +69,7 @@ fn push_explanation(
 }
 
 /// Writes what is shown.
-fn push_claim(text: &mut TextBuilder, network: Network<'_>, plan: &Plan) {
+fn push_claim(text: &mut TextBuilder, network: TimedNetwork<'_>, plan: &Plan) {
     match plan {
         Plan::Schedule { flowspan, .. } => {
             push_time(text, "No schedule is done before ", signed(*flowspan));

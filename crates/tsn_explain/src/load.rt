@@ -1,5 +1,5 @@
 //! Frames that take a link up together.
-use crate::network::Network;
+use crate::network::TimedNetwork;
 use crate::number::{less, sum, time};
 use tsn_argue::View;
 use tsn_model::Frame;
@@ -29,7 +29,7 @@ impl Load<'_> {
 
 /// What frames come to on a link, as a view has it.
 pub fn load_on<'a>(
-    network: Network<'_>,
+    network: TimedNetwork<'_>,
     view: &View<'_>,
     link: usize,
     frames: &'a [Frame],
@@ -44,7 +44,7 @@ pub fn load_on<'a>(
 }
 
 /// The earliest start of one of the frames on a link.
-pub fn head_on(network: Network<'_>, view: &View<'_>, link: usize, frames: &[Frame]) -> i64 {
+pub fn head_on(network: TimedNetwork<'_>, view: &View<'_>, link: usize, frames: &[Frame]) -> i64 {
     let mut least = i64::MAX;
     for frame in frames {
         let offset = time(view.least(frame.stream));
@@ -54,7 +54,7 @@ pub fn head_on(network: Network<'_>, view: &View<'_>, link: usize, frames: &[Fra
 }
 
 /// The latest end of one of the frames' occupancy of a link.
-pub fn end_on(network: Network<'_>, view: &View<'_>, link: usize, frames: &[Frame]) -> i64 {
+pub fn end_on(network: TimedNetwork<'_>, view: &View<'_>, link: usize, frames: &[Frame]) -> i64 {
     let mut greatest = i64::MIN;
     for frame in frames {
         let offset = time(view.greatest(frame.stream));
@@ -64,7 +64,7 @@ pub fn end_on(network: Network<'_>, view: &View<'_>, link: usize, frames: &[Fram
 }
 
 /// The least time between the frames' occupancy of a link and their streams' arrival.
-pub fn least_tail(network: Network<'_>, link: usize, frames: &[Frame]) -> i64 {
+pub fn least_tail(network: TimedNetwork<'_>, link: usize, frames: &[Frame]) -> i64 {
     let mut least = i64::MAX;
     for frame in frames {
         let arrival = network.times(frame.stream).arrival;

@@ -1,6 +1,6 @@
 //! Frames that take a link up together, in words.
 use crate::load::Load;
-use crate::network::Network;
+use crate::network::TimedNetwork;
 use crate::number::less;
 use crate::words::{push_frames, push_link, push_time};
 use tsn_text::TextBuilder;
@@ -10,7 +10,7 @@ fn is_one(load: Load<'_>) -> bool {
 }
 
 /// Writes the link, how long the frames take, and from when on.
-pub fn push_begin(text: &mut TextBuilder, network: Network<'_>, load: Load<'_>) {
+pub fn push_begin(text: &mut TextBuilder, network: TimedNetwork<'_>, load: Load<'_>) {
     push_link(text, network, load.link);
     text.push_str(", ");
     push_frames(text, network, load.frames);
@@ -57,7 +57,7 @@ pub fn push_past(text: &mut TextBuilder, load: Load<'_>, cycle: i64) {
 }
 
 /// Writes before when nothing is done because of the frames on a link, from the link on.
-pub fn push_load(text: &mut TextBuilder, network: Network<'_>, load: Load<'_>) {
+pub fn push_load(text: &mut TextBuilder, network: TimedNetwork<'_>, load: Load<'_>) {
     push_begin(text, network, load);
     push_tail(text, load);
     push_time(text, ": so nothing is done before ", load.bound())

@@ -6,7 +6,7 @@ use tsn_timing::{Problem, Timing};
 
 /// A network and its times, in nanoseconds.
 #[derive(Clone, Copy)]
-pub struct Network<'a> {
+pub struct TimedNetwork<'a> {
     pub problem: &'a Problem,
     pub timing: &'a Timing,
 }
@@ -32,7 +32,7 @@ pub struct Times {
     pub span: i64,
 }
 
-impl Network<'_> {
+impl TimedNetwork<'_> {
     fn visit(self, stream: usize, link: usize) -> Visit {
         let timing = self.timing;
         match self.hop(stream, link) {

@@ -1,6 +1,6 @@
 //! The way through a tree of decisions, and what its chains come to.
 use crate::load::{Load, least_tail};
-use crate::network::{Network, order_of, turned};
+use crate::network::{TimedNetwork, order_of, turned};
 use crate::number::sum;
 use std::alloc::{AllocError, Global};
 use tsn_cert::{Chain, Entries, Node, Order};
@@ -103,7 +103,7 @@ impl Path {
     }
 
     /// What the weights of a chain add up to.
-    pub fn weight(&self, network: Network<'_>, chain: &Chain) -> i64 {
+    pub fn weight(&self, network: TimedNetwork<'_>, chain: &Chain) -> i64 {
         let mut weight = 0;
         for number in 0..chain.len() {
             if let Some(order) = self.order(chain.at(number)) {
@@ -114,7 +114,7 @@ impl Path {
     }
 
     /// The least offset of a stream, by a chain to it.
-    pub fn offset(&self, network: Network<'_>, stream: usize, chain: &Chain) -> i64 {
+    pub fn offset(&self, network: TimedNetwork<'_>, stream: usize, chain: &Chain) -> i64 {
         let mut first = stream;
         if chain.len() > 0 {
             if let Some(order) = self.order(chain.at(0)) {
@@ -125,7 +125,7 @@ impl Path {
     }
 
     /// The earliest start of one of the entries' frames on a link.
-    pub fn head(&self, network: Network<'_>, link: usize, entries: &Entries) -> i64 {
+    pub fn head(&self, network: TimedNetwork<'_>, link: usize, entries: &Entries) -> i64 {
         let mut least = i64::MAX;
         for (frame, chain) in entries.list() {
             let offset = self.offset(network, frame.stream, chain);
@@ -146,7 +146,7 @@ pub fn frames_of(alloc: Global, entries: &Entries) -> Result<Vec<Frame>, AllocEr
 
 /// What the entries of a leaf come to on a link; the frames are theirs.
 pub fn load_of<'a>(
-    network: Network<'_>,
+    network: TimedNetwork<'_>,
     path: &Path,
     link: usize,
     entries: &Entries,

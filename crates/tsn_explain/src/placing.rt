@@ -1,6 +1,6 @@
 //! Frames that go last or first of some on a link, in words.
 use crate::load::{end_on, head_on};
-use crate::network::Network;
+use crate::network::TimedNetwork;
 use crate::number::sum;
 use crate::words::{push_frames, push_link, push_time};
 use std::alloc::{AllocError, Global};
@@ -13,7 +13,7 @@ use tsn_text::{ListBuilder, TextBuilder};
 pub fn push_placing(
     alloc: Global,
     text: &mut TextBuilder,
-    network: Network<'_>,
+    network: TimedNetwork<'_>,
     view: &View<'_>,
     placing: &Placing,
     is_last: bool,
@@ -86,7 +86,7 @@ fn with_frame(alloc: Global, others: &[Frame], frame: Frame) -> Result<Vec<Frame
 }
 
 // Writes that another frame would go last or first.
-fn push_other_end(text: &mut TextBuilder, network: Network<'_>, others: &[Frame], end: &str) {
+fn push_other_end(text: &mut TextBuilder, network: TimedNetwork<'_>, others: &[Frame], end: &str) {
     text.push_str(". If ");
     if others.len() > 1 {
         text.push_str("one of ");

@@ -4,7 +4,7 @@ ghost use Rattle.std.specs.Prelude.{None};
 use crate::load::{end_on, load_on};
 use crate::load_words::{push_begin, push_load, push_too_late};
 use crate::needs::{Halves, Part};
-use crate::network::{Network, order_of, turned};
+use crate::network::{TimedNetwork, order_of, turned};
 use crate::number::{NONE, at, next, signed, sum, time};
 use crate::placing::push_placing;
 use crate::round::push_round;
@@ -17,10 +17,10 @@ use tsn_text::{ListBuilder, TextBuilder};
 
 /// Writes the steps of a part as it hears them: what is supposed, the moves that are of the part, and what follows.
 #[derive(Drop)]
-pub struct Teller<'a> {
+pub struct Narrator<'a> {
     alloc: Global,
     text: &'a mut TextBuilder,
-    network: Network<'a>,
+    network: TimedNetwork<'a>,
     argument: &'a Argument,
     part: &'a Part,
     // The step that each clause is of.
@@ -35,7 +35,7 @@ pub struct Teller<'a> {
     said: i64,
 }
 
-impl Listener for Teller<'_> {
+impl Listener for Narrator<'_> {
     ghost heard = { λ _. None };
 
     fn begin(&mut self, ground: &View<'_>, step: &Step) {
@@ -66,16 +66,16 @@ impl Listener for Teller<'_> {
     }
 }
 
-impl<'a> Teller<'a> {
+impl<'a> Narrator<'a> {
     /// Before the first step.
     pub fn new(
         alloc: Global,
         text: &'a mut TextBuilder,
-        network: Network<'a>,
+        network: TimedNetwork<'a>,
         argument: &'a Argument,
         part: &'a Part,
-    ) -> Teller<'a> {
-        Teller {
+    ) -> Narrator<'a> {
+        Narrator {
             alloc,
             text,
             network,
@@ -97,7 +97,7 @@ impl<'a> Teller<'a> {
 
     /// Whether there was memory for all of it.
     pub fn finish(self) -> Result<(), AllocError> {
-        let Teller {
+        let Narrator {
             clauses,
             limited,
             ..

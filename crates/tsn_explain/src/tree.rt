@@ -4,7 +4,7 @@ use crate::leaf::push_leaf;
 use crate::least::{bound_of, least_of};
 use crate::load_words::push_load;
 use crate::marked::MOST_TOLD;
-use crate::network::Network;
+use crate::network::TimedNetwork;
 use crate::number::{at, put};
 use crate::path::{Path, frames_of, load_of};
 use crate::words::{push_count, push_link};
@@ -19,7 +19,7 @@ const MOST_LINKS: usize = 5;
 pub fn push_tree(
     alloc: Global,
     text: &mut TextBuilder,
-    network: Network<'_>,
+    network: TimedNetwork<'_>,
     cert: &Cert,
 ) -> Result<(), AllocError> {
     if cert.nodes.list().len() <= MOST_TOLD {
@@ -33,14 +33,14 @@ pub fn push_tree(
     Ok(())
 }
 
-fn has_schedule(network: Network<'_>, cert: &Cert) -> bool {
+fn has_schedule(network: TimedNetwork<'_>, cert: &Cert) -> bool {
     cert.target <= network.timing.cycle()
 }
 
 fn push_leaves(
     alloc: Global,
     text: &mut TextBuilder,
-    network: Network<'_>,
+    network: TimedNetwork<'_>,
     nodes: &[Node],
 ) -> Result<(), AllocError> {
     let mut path = Path::first(alloc);
@@ -80,7 +80,7 @@ fn kind_of(node: &Node) -> usize {
 fn push_counts(
     alloc: Global,
     text: &mut TextBuilder,
-    network: Network<'_>,
+    network: TimedNetwork<'_>,
     nodes: &[Node],
 ) -> Result<(), AllocError> {
     let mut kinds = vec![in alloc; 0; KINDS.len()]?;
@@ -120,7 +120,7 @@ fn push_kinds(text: &mut TextBuilder, kinds: &[usize]) {
 fn push_links(
     alloc: Global,
     text: &mut TextBuilder,
-    network: Network<'_>,
+    network: TimedNetwork<'_>,
     nodes: &[Node],
 ) -> Result<(), AllocError> {
     let mut links = vec![in alloc; 0; network.problem.links()]?;
@@ -147,7 +147,7 @@ fn push_links(
 fn push_least(
     alloc: Global,
     text: &mut TextBuilder,
-    network: Network<'_>,
+    network: TimedNetwork<'_>,
     nodes: &[Node],
 ) -> Result<(), AllocError> {
     let Some(number) = least_of(alloc, network, nodes)? else {

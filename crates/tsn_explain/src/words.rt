@@ -1,5 +1,5 @@
 //! How streams, frames, links and orders are called, and how times are written. What isn't there is called by its number.
-use crate::network::{Network, later_of};
+use crate::network::{TimedNetwork, later_of};
 use crate::number::{less, signed};
 use tsn_cert::Order;
 use tsn_model::{Frame, Link};
@@ -9,13 +9,13 @@ use tsn_text::TextBuilder;
 const MOST_NAMED: usize = 12;
 
 /// Writes 'stream' and a stream's name.
-pub fn push_stream(text: &mut TextBuilder, network: Network<'_>, stream: usize) {
+pub fn push_stream(text: &mut TextBuilder, network: TimedNetwork<'_>, stream: usize) {
     text.push_str("stream ");
     push_name(text, network, stream)
 }
 
 /// Writes a stream's name.
-fn push_name(text: &mut TextBuilder, network: Network<'_>, stream: usize) {
+fn push_name(text: &mut TextBuilder, network: TimedNetwork<'_>, stream: usize) {
     if stream < network.problem.streams() {
         text.push_str(network.problem.stream_name(stream))
     } else {
@@ -24,7 +24,7 @@ fn push_name(text: &mut TextBuilder, network: Network<'_>, stream: usize) {
 }
 
 /// Writes the name of a frame's stream, and by how much it is later than the stream's first one.
-fn push_frame(text: &mut TextBuilder, network: Network<'_>, frame: Frame) {
+fn push_frame(text: &mut TextBuilder, network: TimedNetwork<'_>, frame: Frame) {
     push_name(text, network, frame.stream);
     if frame.shift > 0 {
         push_time(text, " (", signed(frame.shift));
@@ -33,7 +33,7 @@ fn push_frame(text: &mut TextBuilder, network: Network<'_>, frame: Frame) {
 }
 
 /// Writes the names of frames.
-fn push_names(text: &mut TextBuilder, network: Network<'_>, frames: &[Frame]) {
+fn push_names(text: &mut TextBuilder, network: TimedNetwork<'_>, frames: &[Frame]) {
     let count = frames.len();
     for (place, frame) in frames.iter().enumerate() {
         if place == MOST_NAMED {
@@ -50,7 +50,7 @@ fn push_names(text: &mut TextBuilder, network: Network<'_>, frames: &[Frame]) {
 }
 
 /// Writes 'the frame of' or 'the frames of' streams, and their names.
-pub fn push_frames(text: &mut TextBuilder, network: Network<'_>, frames: &[Frame]) {
+pub fn push_frames(text: &mut TextBuilder, network: TimedNetwork<'_>, frames: &[Frame]) {
     if frames.len() == 1 {
         text.push_str("the frame of ");
     } else {
@@ -60,7 +60,7 @@ pub fn push_frames(text: &mut TextBuilder, network: Network<'_>, frames: &[Frame
 }
 
 /// Writes a directed link by its number, and the nodes that it joins.
-pub fn push_link(text: &mut TextBuilder, network: Network<'_>, number: usize) {
+pub fn push_link(text: &mut TextBuilder, network: TimedNetwork<'_>, number: usize) {
     text.push_str("link ");
     text.push_count(number);
     push_ends(text, network, number, ", ", "")
@@ -69,7 +69,7 @@ pub fn push_link(text: &mut TextBuilder, network: Network<'_>, number: usize) {
 /// Writes the nodes that a link joins, between two texts.
 fn push_ends(
     text: &mut TextBuilder,
-    network: Network<'_>,
+    network: TimedNetwork<'_>,
     number: usize,
     before: &str,
     behind: &str,
@@ -92,7 +92,7 @@ fn push_ends(
 }
 
 /// Writes that one stream goes before another one on a link.
-pub fn push_order(text: &mut TextBuilder, network: Network<'_>, order: Order) {
+pub fn push_order(text: &mut TextBuilder, network: TimedNetwork<'_>, order: Order) {
     push_stream(text, network, order.first);
     text.push_str(" goes before ");
     push_stream(text, network, order.second);

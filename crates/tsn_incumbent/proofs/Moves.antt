@@ -14,28 +14,28 @@ use Rattle.atomic_table.proofs.Lists.{set_else, set_here}
 use Rattle.tsn_model.specs.Network.{Network}
 use Rattle.tsn_incumbent.specs.Flowspans.{IsIncumbent, no_flowspan}
 use Rattle.tsn_timing.specs.Solution.{Solution, IsSolved}
-use Rattle.tsn_incumbent.specs.declared.view.Standing.{Standing}
-use Rattle.tsn_incumbent.specs.declared.view.View.{View}
+use Rattle.tsn_incumbent.specs.declared.standing.Standing.{Standing}
+use Rattle.tsn_incumbent.specs.declared.standing.SeatState.{SeatState}
 use Rattle.tsn_incumbent.specs.Standings.{least, fresh, fresh_from, observed, posted, times, IsAtMostKnown, least_posted}
 use Rattle.tsn_incumbent.specs.Running.{opening, spent, knowing, others_of, alone_of, joined, Stands, Fair, Running, Observed, Posted, Closed}
 use Rattle.tsn_incumbent.proofs.Lists.{there, all_at, sum_apart, least_apart, least_le, least_push, least_at_most, least-filter_both, sum_by-merged, least-merged, All-merged}
 
 -- what a view has posted, at least, and how often it has a number
-abbrev lows : Network → View → ℕ
+abbrev lows : Network → SeatState → ℕ
 lows network v = least_posted network v.standings
 
-abbrev counts : ℕ → View → ℕ
+abbrev counts : ℕ → SeatState → ℕ
 counts number v = times number v.standings
 
 -- the word may only fall, for all views
-lower_all : (network : Network) (word word' : ℕ) (views : List View) → word' ≤ word → All (λ v. All (Stands network word) v.standings) views → All (λ v. All (Stands network word') v.standings) views
+lower_all : (network : Network) (word word' : ℕ) (views : List SeatState) → word' ≤ word → All (λ v. All (Stands network word) v.standings) views → All (λ v. All (Stands network word') v.standings) views
 lower_all network word word' views low all =
     All-weaker (λ v. All (Stands network word) v.standings) (λ v. All (Stands network word') v.standings)
     (λ v stand. All-weaker (Stands network word) (Stands network word') (λ p s. (omega (arith, s.0), s.1)) v.standings stand)
     views all
 
 -- A seat's view becomes another, which has the same numbers and whose least posted falls as the word does
-pub changes : (network : Network) (tellers word x : ℕ) (views : List View) (id : ℕ) (v w : View)
+pub changes : (network : Network) (tellers word x : ℕ) (views : List SeatState) (id : ℕ) (v w : SeatState)
     → Fair network tellers word views → get_elem? views id ≡ some v → IsIncumbent network (min word x)
     → ((number : ℕ) → counts number w ≡ counts number v) → lows network w ≡ min (lows network v) x → All (Stands network (min word x)) w.standings
     → Fair network tellers (min word x) (set views id w)
@@ -48,14 +48,14 @@ changes network tellers word x views id v w fair at good same falls stand =
     }
 
 -- what a seat has seen and posted is at least the word
-pub finds : (network : Network) (tellers word : ℕ) (views : List View) (id : ℕ) (v : View) → Fair network tellers word views → get_elem? views id ≡ some v → IsAtMostKnown word v.standings
+pub finds : (network : Network) (tellers word : ℕ) (views : List SeatState) (id : ℕ) (v : SeatState) → Fair network tellers word views → get_elem? views id ≡ some v → IsAtMostKnown word v.standings
 finds network tellers word views id v fair at k d low =
     let stand = all_at (λ u. All (Stands network word) u.standings) views id v fair.stand at k d low in
     let apart = least_apart (lows network) (no_flowspan network) views id v at in
     let posts = least_at_most (λ (p : Standing). p.posted) (no_flowspan network) v.standings k d low in
     (stand.0, omega (arith, fair.lowest, apart.1, posts))
 
-word_le : (network : Network) (tellers word : ℕ) (views : List View) → Fair network tellers word views → word ≤ no_flowspan network
+word_le : (network : Network) (tellers word : ℕ) (views : List SeatState) → Fair network tellers word views → word ≤ no_flowspan network
 word_le network tellers word views fair = omega (arith, fair.lowest, least_le (lows network) (no_flowspan network) views)
 
 -- the standings after a load
@@ -97,7 +97,7 @@ written : (words : List ℕ) (n : ℕ) → length words ≡ 1 → (length (set w
 written [] n one = absurd (omega arith)
 written (x ∷ xs) n one = (omega arith, refl)
 
-pub observes : (network : Network) (tellers slots id : ℕ) (me : Me (Unit {0}) View) → me.0.timing ≡ network → Allows (Running network tellers) slots id me 0 (λ n. n) (Observed me)
+pub observes : (network : Network) (tellers slots id : ℕ) (me : Me (Unit {0}) SeatState) → me.0.timing ≡ network → Allows (Running network tellers) slots id me 0 (λ n. n) (Observed me)
 observes network tellers slots id me same s running homes at fits =
     let word = slice_index s.words 0 in
     let fair = running.1 in
@@ -113,7 +113,7 @@ observes network tellers slots id me same s running homes at fits =
 pub may_post : (network : Network) (solution : Solution) (n : ℕ) → IsSolved network solution → n ≡ solution.flowspan → IsIncumbent network n
 may_post network solution n solved is = inr (record { offsets = solution.offsets; valid = solved.0; spans = solved.1 ∙ sym is })
 
-pub posts : (network : Network) (tellers slots id flowspan : ℕ) (me : Me (Unit {0}) View) → me.0.timing ≡ network → 0 < length me.0.standings → IsIncumbent network flowspan → Allows (Running network tellers) slots id me 0 (λ n. min n flowspan) (Posted flowspan me)
+pub posts : (network : Network) (tellers slots id flowspan : ℕ) (me : Me (Unit {0}) SeatState) → me.0.timing ≡ network → 0 < length me.0.standings → IsIncumbent network flowspan → Allows (Running network tellers) slots id me 0 (λ n. min n flowspan) (Posted flowspan me)
 posts network tellers slots id flowspan me same some_there good s running homes at fits =
     let word = slice_index s.words 0 in
     let fair = running.1 in
@@ -124,11 +124,11 @@ posts network tellers slots id flowspan me same some_there good s running homes 
     (w, keeps, tt, (wrote.0, subst (λ n. Fair network tellers n (set s.views id w)) (sym wrote.1) next), (refl, (subst (λ n. IsIncumbent n word) (sym same) fair.incumbent, finds network tellers word s.views id me.0 fair at)))
 
 -- a seat is cut in two, which share its standings
-pub cuts : (network : Network) (tellers number id : ℕ) (v : View) → Splits {S = Unit {0}} (Running network tellers) id v (others_of number v) (alone_of number v)
+pub cuts : (network : Network) (tellers number id : ℕ) (v : SeatState) → Splits {S = Unit {0}} (Running network tellers) id v (others_of number v) (alone_of number v)
 cuts network tellers number id v s running at =
     let word = slice_index s.words 0 in
     let fair = running.1 in
-    let P : View → Type 0 = λ u. All (Stands network word) u.standings in
+    let P : SeatState → Type 0 = λ u. All (Stands network word) u.standings in
     let left = others_of number v in
     let right = alone_of number v in
     let stand = all_at P s.views id v fair.stand at in
@@ -146,11 +146,12 @@ cuts network tellers number id v s running at =
       },
     )
 
-pub merges : (network : Network) (tellers id : ℕ) (v : View) (other : ℕ) (u : View) → Joins {S = Unit {0}} (Running network tellers) id v other u (joined v u) spent
+pub merges : (network : Network) (tellers id : ℕ) (v : SeatState) (other : ℕ) (u : SeatState)
+    → Joins {S = Unit {0}} (Running network tellers) id v other u (joined v u) spent
 merges network tellers id v other u s running at different there_too =
     let word = slice_index s.words 0 in
     let fair = running.1 in
-    let P : View → Type 0 = λ x. All (Stands network word) x.standings in
+    let P : SeatState → Type 0 = λ x. All (Stands network word) x.standings in
     let w = joined v u in
     let c = no_flowspan network in
     let at_u : get_elem? s.views other ≡ some u = sym (set_else s.views id other w different) ∙ there_too in
@@ -176,7 +177,7 @@ merges network tellers id v other u s running at different there_too =
       },
     )
   where
-    least_of_one : (views : List View) (i : ℕ) (x : View) → get_elem? views i ≡ some x → least (lows network) (no_flowspan network) views ≤ lows network x
+    least_of_one : (views : List SeatState) (i : ℕ) (x : SeatState) → get_elem? views i ≡ some x → least (lows network) (no_flowspan network) views ≤ lows network x
     least_of_one views i x e = let h = least_apart (lows network) (no_flowspan network) views i x e in omega (arith, h.1)
 
 -- the table at the start
@@ -202,7 +203,7 @@ pub opens : (network : Network) (tellers : ℕ) → Fair network tellers (no_flo
 opens network tellers = record {
   lowest = omega (arith, from_lows network 0 tellers);
   incumbent = inl refl;
-  stand = All-cons (λ (v : View). All (Stands network (no_flowspan network)) v.standings) (opening network tellers) [] (from_stand network 0 tellers) (All-nil (λ (v : View). All (Stands network (no_flowspan network)) v.standings));
+  stand = All-cons (λ (v : SeatState). All (Stands network (no_flowspan network)) v.standings) (opening network tellers) [] (from_stand network 0 tellers) (All-nil (λ (v : SeatState). All (Stands network (no_flowspan network)) v.standings));
   dealt = λ k. omega (arith, sum_by-cons (counts k) (opening network tellers) []) ∙ let from : times k (opening network tellers).standings ≡ cond (leb 0 k && ltb k (0 + tellers)) 1 0 = from_counts network 0 tellers k in all_from k tellers _ from;
 }
 
@@ -210,7 +211,7 @@ itself : (number rest : ℕ) → cond (eqb number number) 1 0 + rest ≡ 0 → �
 itself number rest e = grind (arith, nat_tests)
 
 -- where each number stands nowhere, nothing was posted
-none_posted : (network : Network) (views : List View) → ((k : ℕ) → sum_by (counts k) views ≡ 0) → least (lows network) (no_flowspan network) views ≡ no_flowspan network
+none_posted : (network : Network) (views : List SeatState) → ((k : ℕ) → sum_by (counts k) views ≡ 0) → least (lows network) (no_flowspan network) views ≡ no_flowspan network
 none_posted network [] none = refl
 none_posted network (v ∷ vs) none =
     let empty = nobody v.standings (λ k. omega (arith, none k, sum_by-cons (counts k) v vs)) in
@@ -225,7 +226,7 @@ none_posted network (v ∷ vs) none =
 rest_none : (k mine others tellers : ℕ) → mine + others ≡ cond (ltb k tellers) 1 0 → (k < tellers → mine ≡ 1) → others ≡ 0
 rest_none k mine others tellers all here = grind (arith, nat_tests)
 
-pub closes : (network : Network) (tellers slots id : ℕ) (me : Me (Unit {0}) View) → me.0.timing ≡ network → me.0.tellers ≡ tellers → Allows (Running network tellers) slots id me 0 (λ n. n) (Closed me)
+pub closes : (network : Network) (tellers slots id : ℕ) (me : Me (Unit {0}) SeatState) → me.0.timing ≡ network → me.0.tellers ≡ tellers → Allows (Running network tellers) slots id me 0 (λ n. n) (Closed me)
 closes network tellers slots id me same count s running homes at fits =
     let word = slice_index s.words 0 in
     let fair = running.1 in

@@ -8,7 +8,7 @@ use Rattle.tsn_model.specs.Certificate.{beyond}
 use Rattle.tsn_model.specs.Search.{tally_of, settled_by, pruned_bounds, solved_bounds, least_or_none}
 use Rattle.tsn_incumbent.specs.Flowspans.{no_flowspan}
 use Rattle.tsn_incumbent.specs.Standings.{Seated, fresh, fresh_from, times, alone, without}
-use Rattle.tsn_incumbent.specs.declared.view.Standing.{Standing}
+use Rattle.tsn_incumbent.specs.declared.standing.Standing.{Standing}
 use Rattle.atomic_table.specs.Seated.{TableId}
 use Rattle.tsn_incumbent.specs.Halves.{Half, half, halves_from}
 use Rattle.tsn_model.specs.declared.Tally.{Tally}

@@ -12,7 +12,7 @@ use Rattle.tsn_model.proofs.Lists.{All-unmap}
 use Rattle.tsn_model.proofs.Schedules.{flowspan-le-cycle}
 use Rattle.tsn_model.proofs.Kept.{least_attained}
 use Rattle.tsn_model.specs.declared.Tally.{Tally}
-use Rattle.tsn_incumbent.specs.declared.view.Standing.{Standing}
+use Rattle.tsn_incumbent.specs.declared.standing.Standing.{Standing}
 use Rattle.tsn_book.specs.Book.{IsLawful}
 use Rattle.tsn_book.specs.Below.{settlements_by}
 use Rattle.tsn_incumbent.specs.Names.{Names, progress_of}

@@ -4,7 +4,7 @@ use Rattle.tsn_model.specs.Network.{Network}
 use Rattle.tsn_model.specs.Certificate.{beyond}
 use Rattle.tsn_model.specs.Search.{Settlement, tally_of}
 use Rattle.tsn_model.specs.Core as core
-use Rattle.tsn_incumbent.specs.declared.view.Standing.{Standing}
+use Rattle.tsn_incumbent.specs.declared.standing.Standing.{Standing}
 use Rattle.tsn_incumbent.specs.Teller.{Known}
 
 -- the tellers stand in the order of their numbers

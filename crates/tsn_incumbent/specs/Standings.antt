@@ -3,7 +3,7 @@ use Rattle.std.specs.Prelude.{◌≡◌, ℕ, zero, suc, ◌+◌, ◌<◌, ◌�
 use Rattle.atomic_table.specs.Seated.{TableId}
 use Rattle.tsn_model.specs.Network.{Network}
 use Rattle.tsn_incumbent.specs.Flowspans.{no_flowspan}
-use Rattle.tsn_incumbent.specs.declared.view.Standing.{Standing}
+use Rattle.tsn_incumbent.specs.declared.standing.Standing.{Standing}
 
 -- the least of c and of f of each element
 abbrev pub least : {X : Type 0} → (X → ℕ) → ℕ → List X → ℕ

@@ -14,7 +14,7 @@ use Rattle.tsn_incumbent.specs.Flowspans.{no_flowspan}
 use Rattle.tsn_incumbent.specs.Standings.{Seated, fresh, fresh_from}
 use Rattle.tsn_model.specs.declared.Tally.{Tally}
 use Rattle.tsn_incumbent.specs.Halves.{Half, half}
-use Rattle.tsn_incumbent.specs.declared.view.Standing.{Standing}
+use Rattle.tsn_incumbent.specs.declared.standing.Standing.{Standing}
 use Rattle.tsn_incumbent.specs.Names.{Names}
 
 -- what a teller has seen and posted, and its share: how many events it settled, the least bound that it pruned by, and the least flowspan that it solved

@@ -4,7 +4,7 @@ ghost use Rattle.tsn_model.specs.Search.{tally_as};
 ghost use Rattle.tsn_incumbent.specs.Flowspans.{no_flowspan};
 ghost use Rattle.tsn_incumbent.specs.Halves.{half, halves_from, rest_from};
 
-use crate::share::{Agree, Deals, Pairs, Part, Parts, Sets, Share, Tallied};
+use crate::share::{Agree, Deals, Divides, Pairs, Part, Sets, Share, Tallied};
 use atomic_table::{Badge, Seat, Table};
 use std::alloc::{AllocError, Global};
 use std::marker::{Brand, Model};
@@ -92,7 +92,7 @@ impl Halves {
         ensures halves { result ≡ (half self.now rest.old.me.0.number false rest.old.me.0.tally, half self.now rest.old.me.0.number true rest.old.me.0.tally) }
     {
         let mut first = self.table.shared.split_seat::<Deals>(rest);
-        let second = self.table.shared.split_seat::<Parts>(&mut first);
+        let second = self.table.shared.split_seat::<Divides>(&mut first);
         (
             Half {
                 badge: first.into_badge(),
@@ -147,7 +147,7 @@ impl Halves {
             .shared
             .join_seat::<Pairs>(&mut pair, other.into_seat());
         self.table.shared.load::<Sets<T>>(&mut pair, 0);
-        let other = self.table.shared.split_seat::<Parts>(&mut pair);
+        let other = self.table.shared.split_seat::<Divides>(&mut pair);
         first.badge = pair.into_badge();
         second.badge = other.into_badge();
     }

@@ -5,8 +5,8 @@ ghost use Rattle.tsn_incumbent.specs.Flowspans.{IsIncumbent, no_flowspan};
 ghost use Rattle.tsn_model.specs.Search.{least_or_none};
 ghost use Rattle.tsn_incumbent.specs.Standings.{fresh_from, observed, posted, times, alone, without, merged, IsAtMostKnown, Race, Seated, HoldsAll};
 
-use crate::view::{
-    Closes, Course, LeastPosted, Numbered, Observes, Posts, TakesOut, Together, View,
+use crate::standing::{
+    Closes, Course, LeastPosted, Numbered, Observes, Posts, SeatState, TakesOut, Together,
 };
 use atomic_table::Table;
 use std::alloc::Global;
@@ -18,7 +18,7 @@ use tsn_timing::{Solved, Timing};
 /// One word, which falls to the least flowspan posted. Contracts see which word it is.
 #[derive(Drop)]
 pub struct Incumbent {
-    table: Table<(), View, Course, LeastPosted, Global>,
+    table: Table<(), SeatState, Course, LeastPosted, Global>,
 }
 
 impl Model for Incumbent {
@@ -35,7 +35,7 @@ impl Model for Incumbent {
 /// The right to step as some of the tellers. Contracts see what these have seen and posted.
 #[derive(Drop)]
 pub struct Seat {
-    seat: atomic_table::Seat<(), View>,
+    seat: atomic_table::Seat<(), SeatState>,
 }
 
 impl Model for Seat {

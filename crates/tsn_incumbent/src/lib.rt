@@ -11,9 +11,9 @@ pub mod parts;
 mod share;
 pub mod shared;
 pub mod single;
+mod standing;
 pub mod steps;
 pub mod teller;
-mod view;
 
 pub use desk::Counts;
 pub use gathering::{gather, gather_unordered};

@@ -44,9 +44,9 @@ impl Split<Share> for Deals {
 }
 
 /// Cuts a pair into its halves.
-pub struct Parts;
+pub struct Divides;
 
-impl Split<Share> for Parts {
+impl Split<Share> for Divides {
     ghost use Rattle.tsn_incumbent.specs.Halves.{first_of, second_of};
 
     ghost left = { first_of };

@@ -1,7 +1,7 @@
 //! The order of the questions: a first schedule, then the flowspan, then stream after stream in list order. A stream whose question
 //! takes too long is left, and come back to with what is left of the budget. Times are in nanoseconds.
 use crate::first::first_schedule;
-use crate::learning::{Budget, Hear, News};
+use crate::learning::{Budget, CourseNews, Hear};
 use crate::table::table_of;
 use crate::turn::Turn;
 use std::alloc::{AllocError, Global};
@@ -417,7 +417,7 @@ impl Course {
     }
 
     fn tell<H: Hear>(&self, hear: &H, stream: Option<usize>) {
-        hear.hear(News {
+        hear.hear(CourseNews {
             flowspan: if self.best.is_empty() {
                 None
             } else {

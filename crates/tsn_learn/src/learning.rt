@@ -25,9 +25,9 @@ pub struct Budget {
 
 /// What is known of a network.
 #[derive(Drop)]
-pub enum Answer {
+pub enum LearnAnswer {
     /// The first of the optimal schedules, with the argument that it is.
-    First(Plan),
+    First(LearnedPlan),
     /// There is no valid schedule, with the argument that there is none; no argument where it has too many steps.
     None {
         argument: Option<Argument>,
@@ -40,7 +40,7 @@ pub enum Answer {
 
 /// A schedule with its argument: the offsets and the flowspan in nanoseconds.
 #[derive(Drop)]
-pub struct Plan {
+pub struct LearnedPlan {
     pub offsets: Vec<u64>,
     pub flowspan: u64,
     pub argument: Argument,
@@ -63,7 +63,7 @@ pub struct BestSoFar {
 
 /// How far a search has got.
 #[derive(Clone, Copy)]
-pub struct News {
+pub struct CourseNews {
     /// The least flowspan that was found so far, in nanoseconds.
     pub flowspan: Option<u64>,
     /// No flowspan is less, in nanoseconds.
@@ -79,7 +79,7 @@ pub struct News {
 /// Who is told.
 pub trait Hear {
     /// Tells how far it has got.
-    fn hear(&self, news: News);
+    fn hear(&self, news: CourseNews);
 }
 
 /// Searches for the first of the optimal schedules, from one that is known on where there is one, in bounded work, and the same one at
@@ -90,7 +90,7 @@ pub fn learn<H: Hear>(
     known: Option<&[u64]>,
     budget: Budget,
     hear: &H,
-) -> Result<Answer, NoMemory> {
+) -> Result<LearnAnswer, NoMemory> {
     let mut course = course_of(alloc, timing, known, budget)?;
     let answered = course.answer(alloc, timing, budget, hear);
     drop(course);
@@ -115,7 +115,7 @@ impl Course {
         timing: &Timing,
         budget: Budget,
         hear: &H,
-    ) -> Result<Answer, AllocError> {
+    ) -> Result<LearnAnswer, AllocError> {
         match self.decide(hear)? {
             State::Empty => self.answer_none(alloc, budget),
             State::Open => self.answer_open(alloc, timing, budget),
@@ -170,13 +170,13 @@ impl Course {
         timing: &Timing,
         again: Option<Argument>,
         budget: Budget,
-    ) -> Result<Answer, AllocError> {
+    ) -> Result<LearnAnswer, AllocError> {
         let own = self.argue_first(alloc)?;
         let offsets = unsigned_list(alloc, &self.best)?;
         let conflicts = self.search.pace.conflicts;
         match shorter(own, again) {
             Some(argument) if argument.steps.list().len() <= budget.steps => {
-                Ok(Answer::First(Plan {
+                Ok(LearnAnswer::First(LearnedPlan {
                     offsets,
                     flowspan: self.flowspan.unsigned_abs(),
                     argument,
@@ -187,14 +187,14 @@ impl Course {
         }
     }
 
-    fn answer_none(&mut self, alloc: Global, budget: Budget) -> Result<Answer, AllocError> {
+    fn answer_none(&mut self, alloc: Global, budget: Budget) -> Result<LearnAnswer, AllocError> {
         let aim = Aim {
             goal: Goal::None,
             plan: &[],
             flowspan: sum(self.search.known.table.most, 1),
         };
         let argument = argue(alloc, &mut self.search, aim)?;
-        Ok(Answer::None {
+        Ok(LearnAnswer::None {
             argument: within(argument, budget),
             conflicts: self.search.pace.conflicts,
         })
@@ -205,14 +205,14 @@ impl Course {
         alloc: Global,
         timing: &Timing,
         budget: Budget,
-    ) -> Result<Answer, AllocError> {
+    ) -> Result<LearnAnswer, AllocError> {
         let offsets = unsigned_list(alloc, &self.best)?;
         let bound = self.bound();
         let mut argument = None;
         if timing.is_valid(&offsets) && bound >= self.flowspan.unsigned_abs() {
             argument = self.argue_least(alloc)?;
         }
-        Ok(Answer::GaveUp(BestSoFar {
+        Ok(LearnAnswer::GaveUp(BestSoFar {
             schedule: if timing.is_valid(&offsets) {
                 Some(offsets)
             } else {

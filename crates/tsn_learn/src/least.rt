@@ -1,6 +1,6 @@
 //! Shows that no schedule has a lesser flowspan than one that is known. Times are in nanoseconds.
 use crate::course::search_of;
-use crate::learning::{Budget, Hear, News, argue, within};
+use crate::learning::{Budget, CourseNews, Hear, argue, within};
 use crate::writing::Aim;
 use std::alloc::{AllocError, Global};
 use tsn_cert::{Argument, Goal};
@@ -91,9 +91,9 @@ fn ask_on<H: Hear>(
     Ok(Answered::Unknown)
 }
 
-fn news(search: &Search, flowspan: i64) -> News {
+fn news(search: &Search, flowspan: i64) -> CourseNews {
     let streams = search.known.table.streams();
-    News {
+    CourseNews {
         flowspan: Some(flowspan.unsigned_abs()),
         bound: search.known.low(streams).unsigned_abs(),
         stream: None,

@@ -14,5 +14,5 @@ mod turn;
 mod view;
 mod writing;
 
-pub use learning::{Answer, BestSoFar, Budget, Hear, News, Plan, learn};
+pub use learning::{BestSoFar, Budget, CourseNews, Hear, LearnAnswer, LearnedPlan, learn};
 pub use least::{LeastAnswer, show_least};

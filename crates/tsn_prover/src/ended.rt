@@ -5,7 +5,7 @@ ghost use Rattle.tsn_reason.specs.Stop.{stop_text};
 use std::alloc::Global;
 use std::io::Eprint;
 use std::time::Clock;
-use tsn_branch::Progress;
+use tsn_branch::ProgressWriter;
 use tsn_given::Made;
 use tsn_given::reason::write_line;
 use tsn_reason::Stop;
@@ -47,16 +47,16 @@ pub fn progress_of<C: Clock + Eprint>(
     console: &C,
     workers: usize,
     is_asked: bool,
-) -> Option<Progress<'_, C>> {
+) -> Option<ProgressWriter<'_, C>> {
     if is_asked {
-        Some(Progress::new(console, workers))
+        Some(ProgressWriter::new(console, workers))
     } else {
         None
     }
 }
 
 /// Tells how far it has got in the end.
-pub fn end_progress<C: Clock + Eprint>(progress: Option<Progress<'_, C>>) {
+pub fn end_progress<C: Clock + Eprint>(progress: Option<ProgressWriter<'_, C>>) {
     if let Some(progress) = progress {
         progress.end();
     }

@@ -1,7 +1,7 @@
 //! The commands over the files of a folder, from their words on.
 
 use crate::console::NoConsole;
-use crate::devices::{Devices, FolderDevices, Outcome};
+use crate::devices::{Devices, FolderDevices, RunResult};
 use crate::folder::Folder;
 use std::alloc::{AllocError, Global};
 use std::sync::Wait;
@@ -15,7 +15,7 @@ pub fn run<R: AllocGlobal + Threads + Wait + Sync>(
     rt: &R,
     words: &[&str],
     folder: &mut Folder,
-) -> Result<Outcome, AllocError> {
+) -> Result<RunResult, AllocError> {
     let outcome = run_over(rt, words, folder, Devices::Good)?;
     match words_from(rt.alloc(), words) {
         Ok(Words::Plan(words)) => keep_both(folder, words.plan, words.cert, &outcome)?,
@@ -32,7 +32,7 @@ pub fn run_over<R: AllocGlobal + Threads + Wait + Sync>(
     words: &[&str],
     folder: &Folder,
     devices: Devices,
-) -> Result<Outcome, AllocError> {
+) -> Result<RunResult, AllocError> {
     let alloc = rt.alloc();
     match words_from(alloc, words) {
         Ok(words) => {
@@ -46,8 +46,8 @@ pub fn run_over<R: AllocGlobal + Threads + Wait + Sync>(
     }
 }
 
-fn refused(alloc: Global, told: String) -> Outcome {
-    Outcome {
+fn refused(alloc: Global, told: String) -> RunResult {
+    RunResult {
         status: WORDS,
         output: Vec::new(alloc),
         plan: Vec::new(alloc),
@@ -56,8 +56,8 @@ fn refused(alloc: Global, told: String) -> Outcome {
     }
 }
 
-fn asked(alloc: Global, text: String) -> Outcome {
-    Outcome {
+fn asked(alloc: Global, text: String) -> RunResult {
+    RunResult {
         status: DONE,
         output: text.into_bytes(),
         plan: Vec::new(alloc),
@@ -71,7 +71,7 @@ fn keep_both(
     folder: &mut Folder,
     plan: Option<&str>,
     cert: Option<&str>,
-    outcome: &Outcome,
+    outcome: &RunResult,
 ) -> Result<(), AllocError> {
     keep(folder, plan, &outcome.plan)?;
     keep(folder, cert, &outcome.cert)

@@ -57,7 +57,7 @@ impl Devices {
 
 /// What a command came to.
 #[derive(Drop, PartialEq, Eq)]
-pub struct Outcome {
+pub struct RunResult {
     pub status: u8,
     pub output: Vec<u8>,
     /// What was written of the plan and the certificate.
@@ -174,8 +174,8 @@ impl<'a> FolderDevices<'a> {
     }
 
     /// What a command came to that ended with this status.
-    pub fn into_outcome(self, status: u8) -> Outcome {
-        Outcome {
+    pub fn into_outcome(self, status: u8) -> RunResult {
+        RunResult {
             status,
             output: self.output,
             plan: self.plan,

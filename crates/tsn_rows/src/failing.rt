@@ -1,7 +1,7 @@
 //! Commands whose devices fail: each read and each write once, in turn.
 
 use crate::command::run_over;
-use crate::devices::{Device, Devices, Outcome};
+use crate::devices::{Device, Devices, RunResult};
 use crate::folder::Folder;
 use anyhow::{Result, ensure};
 use std::sync::Wait;
@@ -36,7 +36,7 @@ fn fail_calls<R: AllocGlobal + Threads + Wait + Sync>(
     words: &[&str],
     folder: &Folder,
     device: Device,
-    whole: &Outcome,
+    whole: &RunResult,
 ) -> Result<u64> {
     for good_calls in 0..u64::MAX {
         let found = run_over(rt, words, folder, Devices::Failing(device, good_calls))?;
@@ -60,7 +60,7 @@ fn fail_calls<R: AllocGlobal + Threads + Wait + Sync>(
 }
 
 /// Whether what was written is whole before the device that failed, ends where that did, and nothing stands behind it.
-fn is_cut(device: Device, good_calls: u64, whole: &Outcome, found: &Outcome) -> bool {
+fn is_cut(device: Device, good_calls: u64, whole: &RunResult, found: &RunResult) -> bool {
     let (plan, cert, output) = match device {
         Device::PlanFile => (good_calls, 0, 0),
         Device::CertFile => (u64::MAX, good_calls, 0),

@@ -1,7 +1,7 @@
 //! A table's lines, followed one after another.
 
 use crate::command;
-use crate::devices::{Devices, Outcome};
+use crate::devices::{Devices, RunResult};
 use crate::failing::fail_each;
 use crate::folder::Folder;
 use crate::text::{changed, expanded, words_of};
@@ -52,7 +52,7 @@ pub struct Session<'a, R> {
     is_right: bool,
     folder: Folder,
     /// What the last command came to, until a line compares it.
-    outcome: Option<Outcome>,
+    outcome: Option<RunResult>,
     /// Of rows of one line: their words, and the file in which they differ, with its text.
     words: &'a str,
     varied: &'a str,

@@ -6,7 +6,7 @@ use Rattle.tsn_model.specs.Network.{Network}
 use Rattle.tsn_model.specs.Certificate.{beyond}
 use Rattle.tsn_model.specs.Core.{IsSound, IsQuiet}
 use Rattle.tsn_model.specs.Search.{Settlement, tally_of, best_bound, open_paths}
-use Rattle.tsn_incumbent.specs.declared.view.Standing.{Standing}
+use Rattle.tsn_incumbent.specs.declared.standing.Standing.{Standing}
 use Rattle.tsn_incumbent.specs.Standings.{Ended, Race}
 use Rattle.tsn_book.specs.Book.{Progress}
 use Rattle.tsn_incumbent.specs.Names.{Names, IsBookOf}

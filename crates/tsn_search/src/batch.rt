@@ -10,7 +10,7 @@ ghost use Rattle.tsn_search.specs.Search.{AreTablesOf};
 use crate::context::Context;
 use crate::news::{known, splits_among};
 use crate::settler::Settler;
-use crate::{BATCH, Batch, Below, BestSoFar};
+use crate::{BATCH, Batch, Below, SeenBest};
 use std::sync::Wait;
 use tsn_book::BookFault;
 use tsn_branch::supervisor::{News, Supervisor};
@@ -60,7 +60,7 @@ pub fn settle_next<K: Named, S: Supervisor>(
     }
     let best = settler.best.lent(below.untied);
     below.untied = false;
-    let incumbent = BestSoFar { seen, best };
+    let incumbent = SeenBest { seen, best };
     let Ok(batch) = below.collect(setting.alloc, tables, incumbent, most) else {
         return Advance::Ends;
     };

@@ -13,7 +13,7 @@ ghost use Rattle.tsn_node.specs.Outcome.{IsUnsolved};
 ghost use Rattle.tsn_search.specs.Below.{StandsAt, IsBelow, IsBatch, IsProved, HoldsSchedule, IsScheduleOf};
 
 use crate::bag::Bag;
-use crate::best::BestSoFar;
+use crate::best::SeenBest;
 use std::alloc::Global;
 use tsn_book::{Book, Looks};
 use tsn_branch::{Aim, Descent, Tables, fits};
@@ -50,13 +50,13 @@ pub struct Batch {
 
 /// What was found at one node.
 #[derive(Drop)]
-pub struct Found {
+pub struct NodeResult {
     pub(crate) look: Look,
     pub(crate) solved: Option<Solved>,
     pub(crate) more: bool,
 }
 
-impl Found {
+impl NodeResult {
     // Whether a batch ends with it.
     fn is_last(&self) -> bool
         ensures { result ≡ false → (self.now.solved ≡ None) × (self.now.more ≡ true) }
@@ -199,7 +199,7 @@ impl Below {
         &mut self,
         alloc: Global,
         tables: Tables<'_>,
-        incumbent: BestSoFar<'_>,
+        incumbent: SeenBest<'_>,
         most: usize,
     ) -> Result<Batch, NoMemory>
         requires best { IfSome (option_copied incumbent.best) (IsSolved tables.timing.now) }
@@ -312,7 +312,7 @@ fn look_on(
     descent: &mut Descent,
     floor: usize,
     aim: Aim<'_>,
-) -> Result<Found, NoMemory>
+) -> Result<NodeResult, NoMemory>
     requires best { IfSome (option_copied aim.best) (IsSolved tables.timing.now) }
     requires stands { StandsAt tables.timing.now tables.conflicts.now.triples descent.old.path descent.old }
     ensures proof { IfOk result (λ found. IsProved tables.entry.timing.now descent.old.path (outcome_of found.look)) }
@@ -331,7 +331,7 @@ fn look_on(
     };
     match split_of(&look) {
         Some(triple) => match descent.down(triple) {
-            Ok(()) => Ok(Found {
+            Ok(()) => Ok(NodeResult {
                 look,
                 solved,
                 more: true,
@@ -344,7 +344,7 @@ fn look_on(
         },
         None => {
             let more = descent.next_under(floor);
-            Ok(Found { look, solved, more })
+            Ok(NodeResult { look, solved, more })
         }
     }
 }

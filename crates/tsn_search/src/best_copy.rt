@@ -11,14 +11,14 @@ use tsn_timing::Solved;
 
 /// A copy of the best schedule so far, as it was when the worker last asked for it.
 #[derive(Drop)]
-pub struct Best<K: Named> {
+pub struct BestCopy<K: Named> {
     solved: Option<Solved>,
     // How many schedules had been found then, if it ever asked.
     found: Option<usize>,
     names: PhantomData<K>,
 }
 
-impl<K: Named> Model for Best<K> {
+impl<K: Named> Model for BestCopy<K> {
     ghost use Rattle.std.specs.Prelude.{IfSome};
     ghost use Rattle.tsn_timing.specs.Solution.{IsSolved};
 
@@ -29,10 +29,10 @@ impl<K: Named> Model for Best<K> {
     ghost invariant = { λ best. IfSome best.solved (IsSolved K.names.race.network) };
 }
 
-impl<K: Named> Best<K> {
+impl<K: Named> BestCopy<K> {
     /// None, and never asked for.
-    pub fn none() -> Best<K> {
-        Best {
+    pub fn none() -> BestCopy<K> {
+        BestCopy {
             solved: None,
             found: None,
             names: PhantomData,

@@ -22,6 +22,6 @@ mod worker;
 
 pub use bag::Bag;
 pub use below::{BATCH, Batch, Below};
-pub use best::BestSoFar;
+pub use best::SeenBest;
 pub use deque::DequeBag;
 pub use open_nodes::OpenNodes;

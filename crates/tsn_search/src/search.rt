@@ -10,7 +10,7 @@ ghost use Rattle.tsn_book.specs.Below.{path_after};
 
 use crate::bag::Bag;
 use crate::below::{BATCH, Batch, Below, beyond, node_along};
-use crate::best::BestSoFar;
+use crate::best::SeenBest;
 use crate::news::{is_split, known, splits_among};
 use crate::open_nodes::OpenNodes;
 use tsn_book::{Book, BookFault, Event, EventRefusal};
@@ -210,7 +210,7 @@ fn settle_batch<S: Supervisor>(
     if count >= course.until {
         return Ok(false);
     }
-    let incumbent = BestSoFar {
+    let incumbent = SeenBest {
         seen: book.best(),
         best: book.kept(),
     };

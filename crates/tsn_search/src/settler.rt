@@ -1,7 +1,7 @@
 //! One who settles nodes: the caller, or a worker.
 ghost use Rattle.std.specs.Prelude.{◌≡◌};
 
-use crate::best_copy::Best;
+use crate::best_copy::BestCopy;
 use tsn_incumbent::{Named, Teller};
 
 /// A teller, with the number by which the supervisor knows it, and its copy of the best schedule.
@@ -9,7 +9,7 @@ use tsn_incumbent::{Named, Teller};
 pub struct Settler<K: Named> {
     pub(crate) number: usize,
     pub(crate) teller: Teller<K>,
-    pub(crate) best: Best<K>,
+    pub(crate) best: BestCopy<K>,
 }
 
 impl<K: Named> Settler<K> {
@@ -20,7 +20,7 @@ impl<K: Named> Settler<K> {
         Settler {
             number,
             teller,
-            best: Best::none(),
+            best: BestCopy::none(),
         }
     }
 

@@ -63,7 +63,7 @@ pub struct Clauses {
 
 /// What a clause that may not hold comes to.
 #[derive(Clone, Copy)]
-pub enum Found {
+pub enum WatchOutcome {
     /// It holds, or isn't watched here any longer but goes on being watched elsewhere.
     Kept,
     Left,
@@ -178,30 +178,30 @@ impl Clauses {
         number: u32,
         contradicted: Literal,
         values: &[i64],
-    ) -> Result<Found, AllocError> {
+    ) -> Result<WatchOutcome, AllocError> {
         let clause = self.clause(number);
         if clause.is_gone {
-            return Ok(Found::Left);
+            return Ok(WatchOutcome::Left);
         }
         let second = clause.start.wrapping_add(1);
         if is_same(literal_at(&self.literals, clause.start), contradicted) {
             exchange(&mut self.literals, clause.start, second);
         }
         if !is_same(literal_at(&self.literals, second), contradicted) {
-            return Ok(Found::Left);
+            return Ok(WatchOutcome::Left);
         }
         let first = literal_at(&self.literals, clause.start);
         if is_true(values, first) {
-            return Ok(Found::Kept);
+            return Ok(WatchOutcome::Kept);
         }
         match self.open_literal(clause, values) {
             Some(place) => {
                 let other = literal_at(&self.literals, place);
                 exchange(&mut self.literals, second, place);
                 self.watch(other, number)?;
-                Ok(Found::Left)
+                Ok(WatchOutcome::Left)
             }
-            None => Ok(Found::Last(first)),
+            None => Ok(WatchOutcome::Last(first)),
         }
     }
 

@@ -32,7 +32,7 @@ const NO_STANDING: Standing = Standing {
 pub struct Line {
     // Times without a break, one after another: the first ones are in use, up to the place of the last one. The very first is before
     // all times.
-    blocks: Vec<Block>,
+    blocks: Vec<BusyTime>,
     last: usize,
     // How long it's busy.
     work: i64,
@@ -40,7 +40,7 @@ pub struct Line {
 
 // A time without a break.
 #[derive(Clone, Copy)]
-struct Block {
+struct BusyTime {
     begin: i64,
     end: i64,
 }
@@ -60,7 +60,7 @@ struct Back {
     over: i64,
 }
 
-const LONG_AGO: Block = Block {
+const LONG_AGO: BusyTime = BusyTime {
     begin: -4 * FAR,
     end: -4 * FAR,
 };
@@ -109,7 +109,7 @@ impl Line {
         }
         self.last = next(self.last);
         let end = sum(head, work);
-        self.put(self.last, Block { begin: head, end });
+        self.put(self.last, BusyTime { begin: head, end });
     }
 
     // Takes a frame in that begins before the last block does.
@@ -120,7 +120,7 @@ impl Line {
         if head <= own.end {
             own.end = sum(own.end, work);
         } else {
-            own = Block {
+            own = BusyTime {
                 begin: head,
                 end: sum(head, work),
             };
@@ -144,7 +144,7 @@ impl Line {
     }
 
     // Joins a block with those from a place on that it overlaps: what was before its end goes behind that. The place behind those.
-    fn join(&self, from: usize, own: &mut Block) -> usize {
+    fn join(&self, from: usize, own: &mut BusyTime) -> usize {
         for place in from..next(self.last) {
             let block = self.block(place);
             if block.begin > own.end {
@@ -174,11 +174,11 @@ impl Line {
         }
     }
 
-    fn block(&self, place: usize) -> Block {
+    fn block(&self, place: usize) -> BusyTime {
         item_at(&self.blocks, place, LONG_AGO)
     }
 
-    fn put(&mut self, place: usize, block: Block) {
+    fn put(&mut self, place: usize, block: BusyTime) {
         put_item(&mut self.blocks, place, block);
     }
 

@@ -1,5 +1,5 @@
 //! What follows from the bounds that changed.
-use crate::clauses::Found;
+use crate::clauses::WatchOutcome;
 use crate::literal::Literal;
 use crate::number::{less, next, push, sum};
 use crate::reason::Why;
@@ -83,9 +83,9 @@ impl Search {
                     .clauses
                     .look(watch.clause, contradicted, &self.known.trail.values)?
                 {
-                    Found::Kept => true,
-                    Found::Left => false,
-                    Found::Last(literal) => {
+                    WatchOutcome::Kept => true,
+                    WatchOutcome::Left => false,
+                    WatchOutcome::Last(literal) => {
                         goes_on = self.assert(literal, watch.clause)?;
                         true
                     }

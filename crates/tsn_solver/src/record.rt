@@ -7,7 +7,7 @@ use std::alloc::{AllocError, Global};
 
 // Where a clause begins in each list.
 #[derive(Clone, Copy)]
-struct Shown {
+struct ClauseStart {
     literals: usize,
     deeds: usize,
     grounds: usize,
@@ -16,7 +16,7 @@ struct Shown {
 /// What was shown, one clause after another.
 #[derive(Drop)]
 pub struct Record {
-    list: Vec<Shown>,
+    list: Vec<ClauseStart>,
     literals: Vec<Literal>,
     deeds: Vec<Deed>,
     // Changes before the first decision that are needed.
@@ -150,13 +150,13 @@ impl Record {
         }
     }
 
-    fn begin(&self, number: usize) -> Shown {
+    fn begin(&self, number: usize) -> ClauseStart {
         item_at(&self.list, number, self.end())
     }
 
     // Where the next clause begins.
-    fn end(&self) -> Shown {
-        Shown {
+    fn end(&self) -> ClauseStart {
+        ClauseStart {
             literals: self.literals.len(),
             deeds: self.deeds.len(),
             grounds: self.grounds.len(),

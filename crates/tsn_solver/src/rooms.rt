@@ -15,7 +15,7 @@ use std::alloc::{AllocError, Global};
 
 /// That a frame goes last of some, and its least head by that.
 #[derive(Clone, Copy)]
-pub struct Found {
+pub struct LastFrame {
     pub placing: Placing,
     pub head: i64,
 }
@@ -45,7 +45,7 @@ const NO_REST: Rest = Rest { length: 0, left: 0 };
 /// The links, and what is found of the one that is looked at.
 #[derive(Drop)]
 pub struct Rooms {
-    pub found: Vec<Found>,
+    pub found: Vec<LastFrame>,
     /// How many frames were looked at.
     pub looked: usize,
     rooms: Vec<Room>,
@@ -56,12 +56,12 @@ pub struct Rooms {
     // How many of them were looked at.
     passed: usize,
     is_waiting: Vec<bool>,
-    view: View,
+    sweep: LinkSweep,
 }
 
 // A look at a group of a link from one side.
 #[derive(Drop)]
-struct View {
+struct LinkSweep {
     line: Line,
     // How many frames begin before those taken in are done.
     late: usize,
@@ -97,7 +97,7 @@ impl Rooms {
             waiting: Vec::new(alloc),
             passed: 0,
             is_waiting: Vec::new(alloc),
-            view: View::none(alloc),
+            sweep: LinkSweep::none(alloc),
         }
     }
 
@@ -111,7 +111,7 @@ impl Rooms {
         }
         self.is_waiting.resize(table.links.len(), false)?;
         let most = self.most_frames();
-        self.view.size(most)
+        self.sweep.size(most)
     }
 
     fn add_room(&mut self, alloc: Global, shared: &Shared) -> Result<(), AllocError> {
@@ -221,7 +221,7 @@ impl Rooms {
     /// Looks at the link in hand from one side, from side 0 first.
     pub fn look(&mut self, link: usize, side: u32) -> Result<Option<Overload>, AllocError> {
         self.found.clear();
-        self.view.places.clear();
+        self.sweep.places.clear();
         self.looked = 0;
         let Some(room) = self.rooms.get_mut(link) else {
             return Ok(None);
@@ -249,28 +249,30 @@ impl Rooms {
             let rows = room.rows(side);
             let heads = row_of(&rows.heads, from, count);
             let ends = row_of(&rows.ends, from, count);
-            let overload = self.view.search(heads, ends, from, sight, &mut self.found)?;
+            let overload = self
+                .sweep
+                .search(heads, ends, from, sight, &mut self.found)?;
             if overload.is_some() {
                 return Ok(overload);
             }
-            room.note_ease(number, self.view.ease);
+            room.note_ease(number, self.sweep.ease);
         }
         Ok(None)
     }
 
     /// The others of a placing that was found, by their places on the link.
     pub fn others_of(&self, placing: Placing) -> &[u16] {
-        places_of(&self.view.places, placing.others)
+        places_of(&self.sweep.places, placing.others)
     }
 
     /// The frames that don't fit, by their places on the link.
     pub fn crowd(&self) -> &[u16] {
-        &self.view.crowd
+        &self.sweep.crowd
     }
 
     /// Leaves a frame of the crowd out, by its number there.
     pub fn leave_out(&mut self, number: usize) {
-        let crowd = &mut self.view.crowd;
+        let crowd = &mut self.sweep.crowd;
         if let Some(last) = crowd.pop() {
             if number < crowd.len() {
                 crowd[number] = last;
@@ -301,9 +303,9 @@ fn row_of(row: &[Standing], from: usize, count: usize) -> &[Standing] {
     }
 }
 
-impl View {
-    fn none(alloc: Global) -> View {
-        View {
+impl LinkSweep {
+    fn none(alloc: Global) -> LinkSweep {
+        LinkSweep {
             line: Line::none(alloc),
             late: 0,
             rest_ranks: Ranks::none(alloc),
@@ -332,7 +334,7 @@ impl View {
         ends: &[Standing],
         first: usize,
         sight: Sight,
-        found: &mut Vec<Found>,
+        found: &mut Vec<LastFrame>,
     ) -> Result<Option<Overload>, AllocError> {
         self.line.clear();
         self.late = 0;
@@ -409,7 +411,7 @@ impl View {
         &mut self,
         heads: &[Standing],
         sight: Sight,
-        found: &mut Vec<Found>,
+        found: &mut Vec<LastFrame>,
     ) -> Result<(), AllocError> {
         let mut latest = -FAR;
         let mut window = 0usize;
@@ -443,7 +445,7 @@ impl View {
         sight: Sight,
         own: &Standing,
         from: usize,
-    ) -> Result<Found, AllocError> {
+    ) -> Result<LastFrame, AllocError> {
         let part = at(&self.source, from);
         let start = self.places.len();
         let mut idle: usize = 0;
@@ -471,7 +473,7 @@ impl View {
             end: sight.end,
             kept: NONE,
         };
-        Ok(Found {
+        Ok(LastFrame {
             placing,
             head: at(&self.done, from),
         })

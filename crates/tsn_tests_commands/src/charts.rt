@@ -7,7 +7,7 @@ use std::alloc::Global;
 use std::process::Abort;
 use std::str::from_utf8;
 use std::test::Fail;
-use tsn_chart::{Shown, View};
+use tsn_chart::{Drawing, LinkChoice};
 use tsn_cli::chart_run;
 use tsn_networks::TWO_STREAMS;
 use tsn_reason::memory::{MemorySink, MemorySource, NEVER};
@@ -20,11 +20,11 @@ fn chart_to<R: Abort>(rt: &R, alloc: Global, until: u64) -> Vec<u8>
     let mut network = MemorySource::new(TWO_STREAMS.as_bytes(), 4096, NEVER);
     let mut plan = MemorySource::new(PLAN.as_bytes(), 4096, NEVER);
     let mut sink = MemorySink::new(alloc, 4096, NEVER);
-    let view = View {
+    let drawing = Drawing {
         until,
-        shown: Shown::All,
+        shown: LinkChoice::All,
     };
-    let status = chart_run(alloc, &mut network, &mut plan, view, &mut sink);
+    let status = chart_run(alloc, &mut network, &mut plan, drawing, &mut sink);
     assert_eq!(rt; status, 0);
     sink.bytes
 }

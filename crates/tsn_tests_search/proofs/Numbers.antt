@@ -2,7 +2,7 @@
 use Rattle.std.proofs.Common.{◌≡◌, ℕ, ◌+◌, ◌<◌, cond, eqb, List, [], ◌∷◌, ◌++◌, length, length-append, get_or, refl, ap, ◌∙◌, arith}
 use Rattle.std.proofs.lemmas.Bool.Decides.{nat_tests}
 use Rattle.std.proofs.lemmas.List.Sums.{sum_by-cons}
-use Rattle.tsn_incumbent.specs.declared.view.Standing.{Standing}
+use Rattle.tsn_incumbent.specs.declared.standing.Standing.{Standing}
 use Rattle.tsn_incumbent.specs.Standings.{observed, posted, times, merged}
 use Rattle.tsn_incumbent.proofs.Lists.{sum_by-merged}
 use Rattle.tsn_tests_search.specs.Numbers.{numbers_of}

@@ -8,7 +8,7 @@ use std::io::{Eprint, Error, ErrorKind};
 use std::process::Abort;
 use std::test::*;
 use std::time::{Clock, Duration};
-use tsn_branch::Progress;
+use tsn_branch::ProgressWriter;
 use tsn_worker::{LearnedNews, News, Phase, Supervisor};
 
 /// A clock, and a standard error that is kept.
@@ -78,7 +78,7 @@ fn news(nodes: usize, splits: usize, flowspan: Option<u64>) -> News {
 #[test]
 fn a_line_is_told_about_once_a_second(rt: HostRuntime) {
     let console = Console::new(rt.alloc());
-    let progress = Progress::new(&console, 1);
+    let progress = ProgressWriter::new(&console, 1);
     progress.hear(0, news(200, 100, None));
     progress.hear(1, news(100, 50, Some(2_924)));
     console.expect(&rt, "");
@@ -93,7 +93,7 @@ fn a_line_is_told_about_once_a_second(rt: HostRuntime) {
 #[test]
 fn a_line_waits_for_the_next_second(rt: HostRuntime) {
     let console = Console::new(rt.alloc());
-    let progress = Progress::new(&console, 1);
+    let progress = ProgressWriter::new(&console, 1);
     for _ in 0..4 {
         progress.hear(0, news(256, 128, None));
     }
@@ -107,7 +107,7 @@ fn a_line_waits_for_the_next_second(rt: HostRuntime) {
 #[test]
 fn the_end_is_told(rt: HostRuntime) {
     let console = Console::new(rt.alloc());
-    let progress = Progress::new(&console, 1);
+    let progress = ProgressWriter::new(&console, 1);
     progress.hear(0, news(3, 1, Some(2_924)));
     progress.end();
     console.expect(
@@ -131,7 +131,7 @@ fn learned(conflicts: u64, stream: Option<usize>) -> LearnedNews {
 #[test]
 fn what_is_learned_is_told(rt: HostRuntime) {
     let console = Console::new(rt.alloc());
-    let progress = Progress::new(&console, 1);
+    let progress = ProgressWriter::new(&console, 1);
     progress.hear_bound(2_900);
     progress.begin(Phase::Learning);
     progress.hear_learned(learned(3, None));
@@ -149,7 +149,7 @@ fn what_is_learned_is_told(rt: HostRuntime) {
 #[test]
 fn a_phase_counts_for_itself(rt: HostRuntime) {
     let console = Console::new(rt.alloc());
-    let progress = Progress::new(&console, 2);
+    let progress = ProgressWriter::new(&console, 2);
     progress.hear(0, news(200, 100, Some(3_000)));
     progress.begin(Phase::Along);
     progress.hear(0, news(256, 130, None));
@@ -162,7 +162,7 @@ fn a_phase_counts_for_itself(rt: HostRuntime) {
 #[test]
 fn nothing_is_told_where_no_node_was_settled(rt: HostRuntime) {
     let console = Console::new(rt.alloc());
-    let progress = Progress::new(&console, 1);
+    let progress = ProgressWriter::new(&console, 1);
     progress.end();
     console.expect(&rt, "");
 }

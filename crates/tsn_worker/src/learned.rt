@@ -13,7 +13,7 @@ use tsn_argue::check_argument;
 use tsn_branch::{Phase, Setting, Supervisor};
 use tsn_cert::{Argument, Offsets, Plan};
 use tsn_check::{CheckFault, Verdict};
-use tsn_learn::{Answer, BestSoFar, learn};
+use tsn_learn::{BestSoFar, LearnAnswer, learn};
 use tsn_model::NoMemory;
 use tsn_timing::{Problem, Timing};
 
@@ -76,8 +76,8 @@ fn learned_by<S: Supervisor>(
     };
     let budget = budget_of(question.limit);
     match learn(alloc, question.timing, known.offsets(), budget, &hearer) {
-        Ok(Answer::First(found)) => {
-            let tsn_learn::Plan {
+        Ok(LearnAnswer::First(found)) => {
+            let tsn_learn::LearnedPlan {
                 offsets,
                 flowspan,
                 argument,
@@ -90,7 +90,7 @@ fn learned_by<S: Supervisor>(
             judged(alloc, question, plan, argument, known)
         }
         Ok(
-            Answer::None {
+            LearnAnswer::None {
                 argument,
                 conflicts: _,
             },
@@ -98,7 +98,7 @@ fn learned_by<S: Supervisor>(
             Some(argument) => judged(alloc, question, Plan::None, argument, known),
             None => Learned::Open(known),
         },
-        Ok(Answer::GaveUp(best)) => match given_up(alloc, question, best, known) {
+        Ok(LearnAnswer::GaveUp(best)) => match given_up(alloc, question, best, known) {
             Ok(known) => Learned::Open(known),
             Err(known) => Learned::Open(known),
         },

@@ -1,7 +1,7 @@
 use Rattle.tsn_cli.proofs.shown.picture.Goals as goal
 
 pub returns-in-Some : goal.returns-in-Some
-returns-in-Some g c = rw c.in-Some.is (c.view_of-view.result, (c.view_of-view.ensures, c.certified.ensures))
+returns-in-Some g c = rw c.in-Some.is (c.drawing_of-drawing.result, (c.drawing_of-drawing.ensures, c.certified.ensures))
 
 pub returns-in-None : goal.returns-in-None
-returns-in-None g c = rw c.in-None.is (c.view_of-view.result, (c.view_of-view.ensures, c.table.ensures))
+returns-in-None g c = rw c.in-None.is (c.drawing_of-drawing.result, (c.drawing_of-drawing.ensures, c.table.ensures))

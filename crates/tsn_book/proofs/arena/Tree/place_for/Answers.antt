@@ -4,7 +4,7 @@ use Rattle.tsn_model.specs.Schedule.{IsConflict}
 use Rattle.tsn_model.specs.Replies.{SplitsNone, SplitsAgain}
 use Rattle.tsn_node.specs.Outcome.{outcome_of}
 use Rattle.tsn_node.specs.Right.{SplitsUndecided}
-use Rattle.tsn_book.specs.Arena.{path_at, paths_of, history_of, IsOpenPlace, IsStop}
+use Rattle.tsn_book.specs.Arena.{path_at, paths_of, history_of, IsOpenPlace, IsPathEnd}
 use Rattle.tsn_book.specs.Book.{IsFault, IsMet}
 use Rattle.tsn_book.proofs.Asking.{open_stop, undecided, right_from, splits_nothing}
 use Rattle.tsn_book.proofs.arena.Tree.place_for.Goals as goal
@@ -20,7 +20,7 @@ returns-in_err-place c =
 pub returns-then-not-is_conflict : goal.returns-then-not-is_conflict
 returns-then-not-is_conflict c =
     let self = c.args.self.now in
-    let ends : IsStop self.places.origins self.places.statuses self.events.items c.args.event.now.node c.find-stop.result = search rules in
+    let ends : IsPathEnd self.places.origins self.places.statuses self.events.items c.args.event.now.node c.find-stop.result = search rules in
     let none : IsConflict self.network c.in-Split.triple → ⊥ = search rules in (
       open_stop c.requires.tree c.args.event.now.node c.find-stop.result _ c.in_ok-place.ensures.0 ends,
       c.in_ok-place.ensures.1,
@@ -31,7 +31,7 @@ pub returns-then-decides : goal.returns-then-decides
 returns-then-decides c =
     let self = c.args.self.now in
     let path = c.args.event.now.node in
-    let ends : IsStop self.places.origins self.places.statuses self.events.items path c.find-stop.result = search rules in
+    let ends : IsPathEnd self.places.origins self.places.statuses self.events.items path c.find-stop.result = search rules in
     let conflict : IsConflict self.network c.in-Split.triple = search rules in
     let again : Any (λ decision. decision.triple ≡ c.in-Split.triple) path = search rules in (
       open_stop c.requires.tree path c.find-stop.result _ c.in_ok-place.ensures.0 ends,
@@ -44,9 +44,9 @@ returns-else-decides c =
     let self = c.args.self.now in
     let history = history_of self.places.origins self.events.items in
     let path = c.args.event.now.node in
-    let ends : IsStop self.places.origins self.places.statuses self.events.items path c.find-stop.result = search rules in
+    let ends : IsPathEnd self.places.origins self.places.statuses self.events.items path c.find-stop.result = search rules in
     let at : IsOpenPlace self.places.statuses c.in_ok-place.place × (path_at (paths_of self.places.origins) c.in_ok-place.place ≡ path) =
-    subst (IsStop self.places.origins self.places.statuses self.events.items path) c.in_ok-place.ensures.0 ends in
+    subst (IsPathEnd self.places.origins self.places.statuses self.events.items path) c.in_ok-place.ensures.0 ends in
     let conflict : IsConflict self.network c.in-Split.triple = search rules in
     let none : Any (λ decision. decision.triple ≡ c.in-Split.triple) path → ⊥ = search rules in
     let splits : SplitsUndecided self.network path (outcome_of c.args.event.now.look) =
@@ -66,9 +66,9 @@ returns-in_default c =
     let self = c.args.self.now in
     let history = history_of self.places.origins self.events.items in
     let path = c.args.event.now.node in
-    let ends : IsStop self.places.origins self.places.statuses self.events.items path c.find-stop.result = search rules in
+    let ends : IsPathEnd self.places.origins self.places.statuses self.events.items path c.find-stop.result = search rules in
     let at : IsOpenPlace self.places.statuses c.in_ok-place.place × (path_at (paths_of self.places.origins) c.in_ok-place.place ≡ path) =
-    subst (IsStop self.places.origins self.places.statuses self.events.items path) c.in_ok-place.ensures.0 ends in
+    subst (IsPathEnd self.places.origins self.places.statuses self.events.items path) c.in_ok-place.ensures.0 ends in
     let splits : SplitsUndecided self.network path (outcome_of c.args.event.now.look) =
     splits_nothing self.network path c.args.event.now.look c.in_default.not-Split in (
       at.0,

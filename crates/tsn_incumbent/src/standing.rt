@@ -16,7 +16,7 @@ pub struct Standing {
 }
 
 /// What a seat knows: the standings that it holds. No value of it is made.
-pub struct View {
+pub struct SeatState {
     pub timing: Timing,
     pub tellers: usize,
     pub standings: LinkedList<Standing>,
@@ -28,7 +28,7 @@ pub type Course = (Snapshot<Timing>, usize);
 /// The word is the least number posted.
 pub struct LeastPosted;
 
-impl TableRule<(), View, Course> for LeastPosted {
+impl TableRule<(), SeatState, Course> for LeastPosted {
     ghost use Rattle.tsn_incumbent.specs.Running.{Running, opening};
 
     ghost holds = { λ about. Running about.0.value about.1 };
@@ -39,7 +39,7 @@ impl TableRule<(), View, Course> for LeastPosted {
 /// A load by a seat's least number.
 pub struct Observes;
 
-impl Play<(), View> for Observes {
+impl Play<(), SeatState> for Observes {
     ghost use Rattle.tsn_incumbent.specs.Running.{Observed};
 
     ghost then = { λ _. Observed };
@@ -48,7 +48,7 @@ impl Play<(), View> for Observes {
 /// A fetch-min by a seat's least number.
 pub struct Posts;
 
-impl Play<(), View> for Posts {
+impl Play<(), SeatState> for Posts {
     ghost use Rattle.tsn_incumbent.specs.Running.{Posted};
 
     ghost then = { λ step. Posted step.first };
@@ -57,7 +57,7 @@ impl Play<(), View> for Posts {
 /// A load by a seat that holds all numbers.
 pub struct Closes;
 
-impl Play<(), View> for Closes {
+impl Play<(), SeatState> for Closes {
     ghost use Rattle.tsn_incumbent.specs.Running.{Closed};
 
     ghost then = { λ _. Closed };
@@ -77,7 +77,7 @@ pub struct TakesOut<N: Numbered> {
     number: PhantomData<N>,
 }
 
-impl<N: Numbered> Split<View> for TakesOut<N> {
+impl<N: Numbered> Split<SeatState> for TakesOut<N> {
     ghost use Rattle.tsn_incumbent.specs.Running.{others_of, alone_of};
 
     ghost left = { others_of N.number };
@@ -88,7 +88,7 @@ impl<N: Numbered> Split<View> for TakesOut<N> {
 /// Puts the numbers of two seats together.
 pub struct Together;
 
-impl Join<View> for Together {
+impl Join<SeatState> for Together {
     ghost use Rattle.tsn_incumbent.specs.Running.{joined, spent};
 
     ghost both = { joined };
