@@ -4,7 +4,6 @@
 
 mod certified;
 mod check;
-mod explain;
 pub mod options;
 mod showing;
 pub mod shown;
@@ -15,9 +14,8 @@ mod valid;
 
 pub use certified::certified_shown;
 pub use check::check_run;
-pub use explain::{explain_run, marked_chart_run};
 pub use showing::{Showing, Shown, show};
 pub use table::{GatesOptions, ReplayOptions, Table};
-pub use tables::{chart_run, gates_run, replay_run, streams_run, table_shown};
+pub use tables::{gates_run, replay_run, table_shown};
 pub use tsn_words::{GatesFormat, ReplayFormat, StreamsFormat};
 pub use valid::{valid_answer, valid_run};

@@ -10,7 +10,7 @@ ghost use Rattle.tsn_cli.specs.Shown.{shown_output};
 ghost use Rattle.tsn_gate.specs.declared.trace.Row.{Row};
 ghost use Rattle.tsn_chart.specs.declared.link.LinkShare.{LinkShare};
 ghost use Rattle.tsn_chart.specs.declared.stream.StreamShare.{StreamShare};
-ghost use Rattle.tsn_cli.specs.Tables.{CanShow, ChartAnswers, GatesAnswers, RejectsPlan, ReplayAnswers, ShowsLists, ShowsPicture, ShowsPlan, ShowsReplay, ShowsShares, ShowsTable, StreamsAnswers, TableAnswers, rows_text, shares_text};
+ghost use Rattle.tsn_cli.specs.Tables.{CanShow, GatesAnswers, RejectsPlan, ReplayAnswers, ShowsLists, ShowsPicture, ShowsPlan, ShowsReplay, ShowsShares, ShowsTable, TableAnswers, rows_text, shares_text};
 
 use crate::showing::{Shown, show};
 use crate::table::{GatesOptions, ReplayOptions, Table};
@@ -74,55 +74,6 @@ pub fn replay_run<N: Source, P: Source, W: Sink>(
     show(
         sink,
         &table_shown(alloc, network, plan, Table::Replay(options)),
-    )
-}
-
-/// Reads a network file and a plan file, the first judged before the second is read, and writes a picture of the plan
-/// (SVG) from the cycle's start to an instant in nanoseconds, but no further than the cycle; or a line on what is refused.
-/// The answer is the status.
-pub fn chart_run<N: Source, P: Source, W: Sink>(
-    alloc: Global,
-    network: &mut N,
-    plan: &mut P,
-    drawing: Drawing,
-    sink: &mut W,
-) -> u8
-    requires network_reads { N.failed network.old < 2 ^ 64 - 1 }
-    requires plan_reads { P.failed plan.old < 2 ^ 64 - 1 }
-    requires writes { W.failed sink.old < 2 ^ 64 - 1 }
-
-    ensures { RunsOver (ChartAnswers drawing)
-        (source_over N.given N.failed N.is_at_end network.old network.new
-        ∷ source_over P.given P.failed P.is_at_end plan.old plan.new ∷ [])
-        (sink_over W.taken W.failed sink.old sink.new ∷ []) result }
-{
-    show(
-        sink,
-        &table_shown(alloc, network, plan, Table::Chart(drawing)),
-    )
-}
-
-/// Reads a network file and a plan file, the first judged before the second is read, and writes, in a format, what each stream
-/// and each link in use gets by the plan; or a line on what is refused. The answer is the status.
-pub fn streams_run<N: Source, P: Source, W: Sink>(
-    alloc: Global,
-    network: &mut N,
-    plan: &mut P,
-    format: StreamsFormat,
-    sink: &mut W,
-) -> u8
-    requires network_reads { N.failed network.old < 2 ^ 64 - 1 }
-    requires plan_reads { P.failed plan.old < 2 ^ 64 - 1 }
-    requires writes { W.failed sink.old < 2 ^ 64 - 1 }
-
-    ensures { RunsOver (StreamsAnswers format)
-        (source_over N.given N.failed N.is_at_end network.old network.new
-        ∷ source_over P.given P.failed P.is_at_end plan.old plan.new ∷ [])
-        (sink_over W.taken W.failed sink.old sink.new ∷ []) result }
-{
-    show(
-        sink,
-        &table_shown(alloc, network, plan, Table::Streams(format)),
     )
 }
 

@@ -8,7 +8,7 @@ use std::process::Abort;
 use std::str::from_utf8;
 use std::test::Fail;
 use tsn_chart::{Drawing, LinkChoice};
-use tsn_cli::chart_run;
+use tsn_cli::{Table, show, table_shown};
 use tsn_networks::TWO_STREAMS;
 use tsn_reason::memory::{MemorySink, MemorySource, NEVER};
 
@@ -24,7 +24,9 @@ fn chart_to<R: Abort>(rt: &R, alloc: Global, until: u64) -> Vec<u8>
         until,
         shown: LinkChoice::All,
     };
-    let status = chart_run(alloc, &mut network, &mut plan, drawing, &mut sink);
+    let shown = table_shown(alloc, &mut network, &mut plan, Table::Chart(drawing));
+    let status = show(&mut sink, &shown);
+    drop(shown);
     assert_eq!(rt; status, 0);
     sink.bytes
 }
