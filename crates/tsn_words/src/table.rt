@@ -101,12 +101,12 @@ const PLAN: [Argument; 8] = [
     Argument {
         name: "workers",
         takes: Takes::Number(1, MAX_WORKERS as u64, "1..16"),
-        help: "How many workers plan, 1 if not given",
+        help: "How many workers search at the same time; 1 if not given",
     },
     Argument {
         name: "steps",
         takes: STEPS,
-        help: "The most nodes to settle, and conflicts of the search that learns and steps of an argument, 1000000 if not given",
+        help: "Stop after this many nodes or conflicts, and write no argument of more steps; 1000000 if not given",
     },
     TO_PLAN,
     TO_CERT,
@@ -114,7 +114,7 @@ const PLAN: [Argument; 8] = [
     Argument {
         name: "search",
         takes: Takes::Word("SEARCH"),
-        help: "How to search: auto if not given, file or learn",
+        help: "How to search: file (in the order of the file), learn (conflict-driven), or auto (one after the other) if not given",
     },
     JSON,
 ];
@@ -127,7 +127,7 @@ const PROVE: [Argument; 7] = [
     Argument {
         name: "steps",
         takes: STEPS,
-        help: "The most conflicts of the search, and steps of the argument, 1000000 if not given",
+        help: "Stop after this many conflicts, and write no argument of more steps; 1000000 if not given",
     },
     TO_PLAN,
     TO_CERT,
@@ -143,18 +143,18 @@ const GATES: [Argument; 6] = [
     Argument {
         name: "format",
         takes: FORMAT,
-        help: "How they are printed: table if not given, taprio or json",
+        help: "How they are printed: taprio, json, or table if not given",
     },
     MERGE,
     Argument {
         name: "most",
         takes: Takes::Number(1, MAX_ENTRIES as u64, "1..1000000"),
-        help: "The most entries that a device takes, 30 if not given",
+        help: "The most entries that a device takes; 30 if not given",
     },
     Argument {
         name: "least",
         takes: TIME,
-        help: "The shortest entry that a device takes, in nanoseconds, 60 octets' time on its link if not given",
+        help: "The shortest entry that a device takes, in nanoseconds; 60 octets' time on its link if not given",
     },
 ];
 
@@ -164,7 +164,7 @@ const REPLAY: [Argument; 6] = [
     Argument {
         name: "cycles",
         takes: Takes::Number(1, MAX_CYCLES as u64, "1..16"),
-        help: "How many cycles to replay, 1 if not given",
+        help: "How many cycles to replay; 1 if not given",
     },
     Argument {
         name: "greedy",
@@ -174,7 +174,7 @@ const REPLAY: [Argument; 6] = [
     Argument {
         name: "format",
         takes: FORMAT,
-        help: "How it is printed: table if not given, or csv",
+        help: "How it is printed: csv, or table if not given",
     },
     MERGE,
 ];
@@ -185,12 +185,12 @@ const CHART: [Argument; 6] = [
     Argument {
         name: "until",
         takes: Takes::Number(1, MAX_UNTIL as u64, "1..1000000000"),
-        help: "Where the chart ends, in nanoseconds, at the cycle's end if not given",
+        help: "Where the chart ends, in nanoseconds; at the cycle's end if not given",
     },
     Argument {
         name: "all",
         takes: Takes::Nothing,
-        help: "Show all links in use; where they are more than 32, only those of several streams are shown if not given",
+        help: "Show all links in use; without it, if they are more than 32, only those that several streams share",
     },
     Argument {
         name: "link",
@@ -210,7 +210,7 @@ const STREAMS: [Argument; 3] = [
     Argument {
         name: "format",
         takes: FORMAT,
-        help: "How it is printed: table if not given, json or csv",
+        help: "How it is printed: json, csv, or table if not given",
     },
 ];
 
@@ -248,7 +248,7 @@ const TO_CERT: Argument = Argument {
 const PROGRESS: Argument = Argument {
     name: "progress",
     takes: Takes::Nothing,
-    help: "Tell on standard error, about once a second, how far the plan has got",
+    help: "Tell on standard error, about once a second, how far the search has got",
 };
 
 const JSON: Argument = Argument {
@@ -260,7 +260,7 @@ const JSON: Argument = Argument {
 const MERGE: Argument = Argument {
     name: "merge",
     takes: TIME,
-    help: "How long entries are to last, in nanoseconds; the lists as the plan asks for them if not given",
+    help: "Make lists whose entries last at least this long, in nanoseconds; the plan's own lists if not given",
 };
 
 const FILE: Takes = Takes::Word("FILE");
