@@ -26,7 +26,7 @@ LEARNS = ("tsn_solver", "tsn_learn")
 # What stands around the counts of functions in each page, and which counts these are.
 COUNTS = {
     PAGE: (r"Some ([\d,]+) of ([\d,]+) functions have no contract", ("without", "all")),
-    PAGES[1]: (r"Some ([\d,]+) functions have a contract\. Some ([\d,]+), of which ([\d,]+) are the search that learns", ("with", "without", "learns")),
+    PAGES[1]: (r"Some ([\d,]+) functions have a contract\. Some ([\d,]+), of which ([\d,]+) are the conflict-driven search", ("with", "without", "learns")),
 }
 
 
@@ -89,7 +89,7 @@ def contracts(crate):
 
 
 def counts(crates):
-    """How many functions there are, and how many of them have a contract, or none, or are of the search that learns without one."""
+    """How many functions there are, and how many of them have a contract, or none, or are of the conflict-driven search without one."""
     found = {crate: contracts(crate) for crate in crates}
     every, proved = sum(map(len, found.values())), sum(map(sum, found.values()))
     return {"all": every, "with": proved, "without": every - proved, "learns": sum(found[it].count(False) for it in LEARNS)}

@@ -1,5 +1,5 @@
 #!/usr/bin/env python3
-"""The pace of the search that learns: processor seconds of `plan --search learn` till it met so many conflicts, or was done before.
+"""The pace of the conflict-driven search: processor seconds of `plan --search learn` till it met so many conflicts, or was done before.
 
 Usage: bench/pace.py FOLDER [--conflicts N] [--bin PROGRAM] [--beside PROGRAM] [--runs N] [--only REGEX]
 

@@ -5,9 +5,9 @@ refused.py [N]   N, 1 unless given: only each Nth call is refused.
 
 A small library (bench/refused/refuse.c, which needs a C compiler) stands before the allocator of the built program. Each run
 has to end with status 7 and the line `no memory`, or whole, where the call that was refused could be done without. Then the same
-with all calls refused from each one on; and `plan` with 4 workers and by the search that learns, each call alone, on the star of
+with all calls refused from each one on; and `plan` with 4 workers and by the conflict-driven search, each call alone, on the star of
 ten and on networks on which that search learns: no memory, or the optimum with a certificate that is accepted. A run is stopped
-only where the limit is too little for the order of the file, when the search that learns or the check of its argument had no
+only where the limit is too little for the order of the file, when the conflict-driven search or the check of its argument had no
 memory; its plan is then a valid schedule. Of a plan whose tree is written in pieces the last calls alone are refused, when some of
 these are written. No run leaves an unfinished file. What is told at the end has how many calls were refused in all.
 """

@@ -25,8 +25,8 @@ fn main(rt: HostRuntime) -> ExitCode {
     ExitCode::from(status)
 }
 
-/// Stands for the first standard stream that is closed, if one is. What reads from it or writes to it fails, as it does where
-/// the stream is closed.
+// Stands for the first standard stream that is closed, if one is. What reads from it or writes to it fails, as it does where
+// the stream is closed.
 fn stand_in(rt: &HostRuntime) -> Option<File> {
     let file = fs::open(rt, "/dev/null")
         .or_else(|_| fs::open(rt, "/"))
@@ -42,7 +42,7 @@ fn stand_in(rt: &HostRuntime) -> Option<File> {
     }
 }
 
-/// Reads the words, runs the command that they ask for, and says the status.
+// Reads the words, runs the command that they ask for, and says the status.
 fn run<R: Env + Files + Input + Print + Eprint + Clock + AllocGlobal + Threads + Wait + Sync>(
     rt: &R,
 ) -> io::Result<u8> {
@@ -60,8 +60,8 @@ fn run<R: Env + Files + Input + Print + Eprint + Clock + AllocGlobal + Threads +
     }
 }
 
-/// Runs a command over the files that its words name, standard input and standard output, and says the status. Where a file is
-/// refused, or a device fails, a line is told on why. Words that name a file twice are refused.
+// Runs a command over the files that its words name, standard input and standard output, and says the status. Where a file is
+// refused, or a device fails, a line is told on why. Words that name a file twice are refused.
 fn run_command<'a, R: Files + Input + Print + Eprint + Clock + Threads + Wait + Sync>(
     rt: &'a R,
     alloc: Global,

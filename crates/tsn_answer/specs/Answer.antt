@@ -145,13 +145,13 @@ HasNoneOpen (found.Stopped book known) = Unit {0}
 
 -- ---- what was asked for
 
--- by such a method, with so many nodes at most, the search that learns may answer: never in the order of the file alone
+-- by such a method, with so many nodes at most, the conflict-driven search may answer: never in the order of the file alone
 abbrev pub MayArgue : Method → ℕ → Type 0
 MayArgue method.Auto limit = FILE_ORDER_LIMIT < limit
 MayArgue method.FileOrder limit = ⊥
 MayArgue method.Learn limit = Unit {0}
 
--- the certificate is a tree, whose count is of settled nodes; or an argument, where the search that learns may answer
+-- the certificate is a tree, whose count is of settled nodes; or an argument, where the conflict-driven search may answer
 abbrev pub IsCertificateBy : Effort → Certificate → Type 0
 IsCertificateBy effort (Tree cert) = Unit {0}
 IsCertificateBy effort (Argued argument) = MayArgue effort.method effort.limit

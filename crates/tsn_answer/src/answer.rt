@@ -6,8 +6,8 @@ use tsn_cert::{Certificate, Plan};
 /// What a planner found.
 #[derive(Drop)]
 pub enum Answer {
-    /// The first in list order of the schedules of least flowspan, the certificate that shows it, and how many nodes were
-    /// settled, or how many steps the certificate has.
+    /// The lexicographically least of the schedules of least flowspan, the certificate that shows it, and how many nodes
+    /// were settled, or how many steps the certificate has.
     Optimal(Plan, Certificate, usize),
     /// There is no schedule; the certificate that shows it, and how many nodes were settled, or how many steps it has.
     NoSchedule(Certificate, usize),

@@ -8,7 +8,7 @@ pub const MAX_LIMIT: usize = 1_000_000_000;
 /// The most workers that a run may have.
 pub const MAX_WORKERS: usize = 16;
 
-/// How many nodes are settled in the order of the file, at most, before a search by itself turns to the one that learns.
+/// How many nodes are settled in the order of the file, at most, before `auto` turns to the conflict-driven search.
 pub const FILE_ORDER_LIMIT: usize = 100_000;
 
 /// How much is to be done: by 1 to 16 workers, with at most so many nodes settled, 1 to 1,000,000,000.

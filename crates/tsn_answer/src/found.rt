@@ -110,7 +110,6 @@ fn certify(alloc: Global, book: Book) -> Result<Answer, NoMemory>
     }
 }
 
-// The answer that has a plan with an argument for it.
 fn argued(plan: Plan, argument: Argument) -> Answer
     ensures optimum { (network : Network) (limit : ℕ) → IsArgued network limit plan argument → FindsOptimum network result }
     ensures shown { (network : Network) (limit : ℕ) → IsArgued network limit plan argument → IsAnswerShown network limit result }
@@ -122,7 +121,6 @@ fn argued(plan: Plan, argument: Argument) -> Answer
     answer_for(plan, Certificate::Argument(argument), count)
 }
 
-// The answer that has a plan with its certificate.
 fn answer_for(plan: Plan, certificate: Certificate, count: usize) -> Answer
     ensures answer { result ≡ answer_for plan certificate count }
     ensures method { (effort : Effort) → IsCertificateBy effort certificate → IsAnswerBy effort result }
@@ -137,7 +135,6 @@ fn answer_for(plan: Plan, certificate: Certificate, count: usize) -> Answer
     }
 }
 
-// The plan of a schedule.
 fn schedule_of(alloc: Global, solved: &Solved) -> Result<Plan, NoMemory>
     ensures { IfOk result (λ plan. plan ≡ Schedule solved.now.flowspan solved.now.offsets) }
 {

@@ -1,18 +1,18 @@
-//! How the search that learns is watched, and how much it may do.
+//! How the conflict-driven search is watched, and how much it may do.
 ghost use Rattle.std.specs.Prelude.{◌≡◌, ◌*◌, ◌-◌, ◌^◌, min, max};
 ghost use Rattle.tsn_answer.specs.declared.hearer.TheConstants.{LEAST_WORK, WORK};
 
 use tsn_branch::{LearnedNews, Supervisor};
 use tsn_learn::{Budget, CourseNews, Hear};
 
-/// How often the search that learns may look at arcs, clauses and streams of links for each node that a run may settle: with a
+/// How often the conflict-driven search may look at arcs, clauses and streams of links for each node that a run may settle: with a
 /// million nodes it takes about a minute.
 pub const WORK: u64 = 5_000;
 
 /// How often it may do so at the least.
 pub const LEAST_WORK: u64 = 100_000_000;
 
-/// Hands what a search that learns tells to a supervisor: of so many streams, with so many conflicts at most.
+/// Hands what a conflict-driven search tells to a supervisor: of so many streams, with so many conflicts at most.
 #[derive(Clone, Copy)]
 pub struct Hearer<'a, S> {
     pub supervisor: &'a S,

@@ -1,5 +1,5 @@
-//! What a planner is asked, what it knows while it searches, and what it answers; and the proof of a plan, whoever made it, by the search
-//! that learns, with how that search is watched and how much it may do.
+//! What a planner is asked, what it knows while it searches, and what it answers; and the proof of a plan, whoever made it, by the
+//! conflict-driven search, with how that search is watched and how much it may do.
 #![tactic(auto)]
 
 pub mod answer;

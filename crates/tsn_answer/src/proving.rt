@@ -79,7 +79,7 @@ fn tell_plan<S: Supervisor>(plan: &Plan, supervisor: &S) {
     }
 }
 
-/// What is to be shown of a plan, by how many steps at most, and what no valid schedule undercuts, in nanoseconds, at most the cycle.
+// What is to be shown of a plan, by how many steps at most, and what no valid schedule undercuts, in nanoseconds, at most the cycle.
 #[derive(Clone, Copy)]
 struct Task<'a> {
     problem: &'a Problem,
@@ -237,7 +237,6 @@ fn is_shown(alloc: Global, task: Task<'_>, argument: &Argument) -> Result<bool, 
     }
 }
 
-// The schedule, where it undercuts the plan.
 fn undercut(task: Task<'_>, timing: &Timing, offsets: Vec<u64>, conflicts: u64) -> Proof
     requires timing { timing.now ≡ task.problem.now.network }
     requires right { IsPlanRight task.problem.now.network task.plan.now }

@@ -83,7 +83,6 @@ impl Tree {
         }
     }
 
-    // What ends a walk at a place.
     fn stop_at(&self, place: usize) -> PathEnd
         requires tree { IsArena self.now }
         requires place { place < length self.now.places.origins }
@@ -206,7 +205,7 @@ impl Tree {
         closed.try_reserve(2)
     }
 
-    /// Settles an open place as the split that waits first.
+    // Settles an open place as the split that waits first.
     fn split(&mut self, closed: &mut Vec<bool>, place: usize, teller: usize, triple: Triple)
         requires tree { IsArena self.old }
         requires closed { AreClosed self.old.places.statuses closed.old.items }
@@ -228,7 +227,7 @@ impl Tree {
         self.events.settle_next(teller, place);
     }
 
-    /// Settles an open place as the leaf that waits first.
+    // Settles an open place as the leaf that waits first.
     fn close(&mut self, closed: &mut Vec<bool>, place: usize, teller: usize)
         requires tree { IsArena self.old }
         requires closed { AreClosed self.old.places.statuses closed.old.items }
@@ -505,7 +504,6 @@ pub fn split_of(look: &Look) -> Option<Triple>
     }
 }
 
-/// Whether the path decides the triple.
 fn decides(path: &[Decision], triple: Triple) -> bool
     ensures { IsTrue result ↔ Any (λ decision. decision.triple ≡ triple) path.now }
 {

@@ -103,7 +103,7 @@ impl Book {
         }
     }
 
-    // The first reason why what was found at a place isn't settled where there is no memory for it.
+    /// The first reason why what was found at a place isn't settled where there is no memory for it.
     pub(crate) fn fault_at(&self, place: usize, path: &[Decision], look: &Look) -> BookFault
         requires place { place < length (made_paths self.now.history) }
         requires proof { HasProof self.now.network (path_made self.now.history place) (outcome_of look.now) }
@@ -122,7 +122,7 @@ impl Book {
         }
     }
 
-    // The open place at the end of a path, or why nothing is settled there.
+    /// The open place at the end of a path, or why nothing is settled there.
     pub(crate) fn open_place(&self, path: &[Decision]) -> Result<usize, BookFault>
         ensures { let book = self.now in MatchResult result (IsPlaceOf book.history path.now)
             (λ fault. (outcome : Outcome) → IsFault book.network book.limit book.history (record { path = path.now; outcome = outcome }) fault) }
@@ -213,7 +213,7 @@ impl Book {
         }
     }
 
-    // What the network says of times.
+    /// What the network says of times.
     pub fn timing(&self) -> &Timing
         ensures { result.now ≡ self.now.network }
     {
@@ -229,7 +229,7 @@ impl Book {
         self.ledger.bounds.best
     }
 
-    /// The schedule that is first in list order of the solved leaves of least flowspan.
+    /// The lexicographically least schedule of the solved leaves of least flowspan.
     pub fn kept(&self) -> Option<&Solved>
         ensures kept { MatchOption result (kept_of self.now.network self.now.history ≡ None)
             (λ solved. kept_of self.now.network self.now.history ≡ Some solved.now.offsets) }
@@ -267,14 +267,14 @@ impl Book {
     }
 }
 
-/// Of the one place of a new tree, that it isn't closed.
+// Of the one place of a new tree, that it isn't closed.
 fn one_open(alloc: Global) -> Result<Vec<bool>, AllocError>
     ensures { IfOk result (λ closed. closed.items ≡ false ∷ []) }
 {
     Ok(vec![in alloc; false]?)
 }
 
-/// The tallies of tellers that have settled nothing.
+// The tallies of tellers that have settled nothing.
 fn tallies_of(alloc: Global, tellers: usize, past_cycle: u64) -> Result<Vec<Tally>, AllocError>
     ensures { IfOk result (λ tallies. tallies.items ≡ replicate tellers (tally_as 0 past_cycle past_cycle)) }
 {
@@ -289,7 +289,7 @@ fn tallies_of(alloc: Global, tellers: usize, past_cycle: u64) -> Result<Vec<Tall
     Ok(tallies)
 }
 
-/// Whether a solved leaf of that teller and flowspan was settled.
+// Whether a solved leaf of that teller and flowspan was settled.
 fn any_solved(events: &Log, teller: usize, flowspan: u64) -> bool
     ensures { IsTrue result ↔ Any (IsSolvedBy teller flowspan) events.now.items }
 {
@@ -301,7 +301,7 @@ fn any_solved(events: &Log, teller: usize, flowspan: u64) -> bool
     false
 }
 
-/// Whether what was settled is a solved leaf of that teller and flowspan.
+// Whether what was settled is a solved leaf of that teller and flowspan.
 fn is_solved_by(settled: &Settled, teller: usize, flowspan: u64) -> bool
     ensures { IsTrue result ↔ IsSolvedBy teller flowspan settled.now }
 {

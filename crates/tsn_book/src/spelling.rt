@@ -55,7 +55,7 @@ impl Model for Spelling {
 }
 
 impl Spelling {
-    // The nodes of events in an order.
+    /// The nodes of events in an order.
     pub(crate) fn of(
         network: Timing,
         events: Log,
@@ -126,7 +126,6 @@ impl Spelling {
         })
     }
 
-    // The nodes that are left.
     fn rest(&mut self) -> Result<Vec<Node>, NoMemory>
         ensures { IfOk result (λ nodes. map tree_node nodes.items ≡ self.old.nodes) }
     {
@@ -138,7 +137,7 @@ impl Spelling {
     }
 }
 
-// The numbers of the events of a tree in which nothing is open, in the order of their paths.
+/// The numbers of the events of a tree in which nothing is open, in the order of their paths.
 pub(crate) fn order_of(alloc: Global, tree: &Tree) -> Result<Vec<usize>, AllocError>
     requires tree { IsArena tree.now }
     requires finished { open_paths (settled_in tree.now) ≡ [] }
@@ -184,7 +183,6 @@ fn take_node(
     node_from(alloc, network, events.take(event), plan)
 }
 
-// The node of what a look found.
 fn node_from(
     alloc: Global,
     network: &Timing,
@@ -234,7 +232,6 @@ fn node_from(
     }
 }
 
-// The tie of a bound.
 fn tie_from(alloc: Global, bound: LowerBound, chains: &Forest) -> Result<Node, NoMemory>
     ensures { IfOk result (λ node. tree_node node ≡ tie_node (bound_leaf bound) chains.now) }
 {

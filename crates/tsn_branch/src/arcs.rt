@@ -25,7 +25,6 @@ pub fn fits(conflicts: &Conflicts, node: &Node) -> bool
         .all(|decision| is_on_conflict(conflicts, decision))
 }
 
-/// Whether the decision's triple is one of the conflicts.
 fn is_on_conflict(conflicts: &Conflicts, decision: &Decision) -> bool
     ensures { IsTrue result ↔ Contains conflicts.now.triples decision.now.triple }
 {

@@ -9,7 +9,7 @@ use std::alloc::Global;
 use tsn_node::NoMemory;
 use tsn_node::outcome::Look;
 
-/// How often a greater bound is sought, at most: more often than a network has links and streams.
+// How often a greater bound is sought, at most: more often than a network has links and streams.
 const ROUNDS: usize = 1_000_000;
 
 /// What no valid schedule's flowspan is below, in nanoseconds: the latest arrival of a stream that starts at its release, or,

@@ -60,8 +60,8 @@ pub fn tie_chains(
     Ok(Some(chains_to(alloc, least, count)?))
 }
 
-/// How many streams go up to the first at which the offsets differ from the best ones, or else all. None where the offsets
-/// come before those.
+// How many streams go up to the first at which the offsets differ from the best ones, or else all. None where the offsets
+// come before those.
 fn compared(offsets: &[u64], best: &[u64]) -> Option<usize>
     requires some { 1 ≤ length offsets.now }
     requires count { length best.now ≡ length offsets.now }

@@ -1,7 +1,7 @@
 //! The best that is known of a plan.
 use std::sync::atomic::{AtomicU64, Ordering};
 
-/// What stands for no number of nanoseconds.
+// What stands for no number of nanoseconds.
 const NONE: u64 = u64::MAX;
 
 /// The least flowspan of a schedule that was heard of, and what no schedule's flowspan is below.

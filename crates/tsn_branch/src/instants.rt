@@ -48,7 +48,7 @@ pub fn ends_after(timing: &Timing, offsets: &[u64], raised: &[usize], last: usiz
     Ends::Within { last, end }
 }
 
-/// The first stream that isn't done within its period, or arrives after its latest instant. The offsets may be of any size.
+// The first stream that isn't done within its period, or arrives after its latest instant. The offsets may be of any size.
 fn first_overrun(timing: &Timing, offsets: &[u64]) -> Option<usize>
     requires { length offsets.now ≡ stream_count timing.now }
     ensures { MatchOption result (AllFit timing.now offsets.now) (IsFirstOverrun timing.now offsets.now) }
@@ -61,7 +61,7 @@ fn first_overrun(timing: &Timing, offsets: &[u64]) -> Option<usize>
     None
 }
 
-/// The first stream that arrives last, and when, in nanoseconds.
+// The first stream that arrives last, and when, in nanoseconds.
 fn last_arrival(timing: &Timing, offsets: &[u64]) -> (usize, u64)
     requires count { length offsets.now ≡ stream_count timing.now }
     requires small { All (λ offset. offset ≤ 1_000_000_000) offsets.now }
@@ -81,7 +81,7 @@ fn last_arrival(timing: &Timing, offsets: &[u64]) -> (usize, u64)
     (last, end)
 }
 
-/// The same where only these streams may not be done in time.
+// The same where only these streams may not be done in time.
 fn first_overrun_among(timing: &Timing, offsets: &[u64], raised: &[usize]) -> Option<usize>
     requires count { length offsets.now ≡ stream_count timing.now }
     requires raised { All (λ stream. stream < stream_count timing.now) raised.now }
@@ -97,7 +97,7 @@ fn first_overrun_among(timing: &Timing, offsets: &[u64], raised: &[usize]) -> Op
     first
 }
 
-/// Whether a stream, put at its offset, isn't done within its period, or arrives after its latest instant.
+// Whether a stream, put at its offset, isn't done within its period, or arrives after its latest instant.
 #[tactic(auto, unfolding(tsn_model::specs::Schedule::latest_offset))]
 fn overruns(timing: &Timing, offsets: &[u64], stream: usize) -> bool
     requires stream { stream < stream_count timing.now }
@@ -109,7 +109,7 @@ fn overruns(timing: &Timing, offsets: &[u64], stream: usize) -> bool
     offset > 1_000_000_000 || offset as i64 > greatest
 }
 
-/// The lesser of two streams, of which the first may be missing.
+// The lesser of two streams, of which the first may be missing.
 fn lesser(first: Option<usize>, stream: usize) -> usize
     ensures { result ≡ option_map_or (λ other. min other stream) first stream }
 {
@@ -119,8 +119,8 @@ fn lesser(first: Option<usize>, stream: usize) -> usize
     }
 }
 
-/// The first stream that arrives last, and when, in nanoseconds, after these streams were raised; before that it was `last`,
-/// at the instant `end`.
+// The first stream that arrives last, and when, in nanoseconds, after these streams were raised; before that it was `last`,
+// at the instant `end`.
 fn last_arrival_among(
     timing: &Timing,
     offsets: &[u64],
@@ -146,7 +146,7 @@ fn last_arrival_among(
     (last, end)
 }
 
-/// Whether a stream's arrival makes it the first that arrives last, in place of `last` at the instant `end`.
+// Whether a stream's arrival makes it the first that arrives last, in place of `last` at the instant `end`.
 fn is_later(arrival: u64, stream: usize, end: u64, last: usize) -> bool
     ensures { IsTrue result ↔ (end < arrival) ⊎ ((arrival ≡ end) × (stream < last)) }
 {

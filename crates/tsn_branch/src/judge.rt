@@ -31,7 +31,7 @@ use tsn_model::{Frame, NoMemory};
 use tsn_node::outcome::Look;
 use tsn_timing::{Solved, Timing};
 
-/// What is known of the least offsets of a node from those of the node above.
+// What is known of the least offsets of a node from those of the node above.
 #[derive(Clone, Copy)]
 struct Inherited<'a> {
     /// When the streams are done by them.
@@ -41,7 +41,7 @@ struct Inherited<'a> {
     start: usize,
 }
 
-/// How far the least offsets of a node reach.
+// How far the least offsets of a node reach.
 #[derive(Clone, Copy)]
 struct Reach {
     /// The first stream that arrives last.
@@ -138,7 +138,7 @@ pub fn judge_raised(
     judge_known(alloc, tables, least, known, aim)
 }
 
-/// What the least offsets of a path come to, of which this is known.
+// What the least offsets of a path come to, of which this is known.
 fn judge_known(
     alloc: Global,
     tables: Tables<'_>,
@@ -199,7 +199,7 @@ fn judge_known(
     Ok(Judgement::Closed(look))
 }
 
-/// The least offsets of a path as its schedule, where no streams overlap.
+// The least offsets of a path as its schedule, where no streams overlap.
 fn solved(alloc: Global, timing: &Timing, least: &Least, last: usize) -> Result<Look, NoMemory>
     requires formed { IsWellFormed timing.now }
     requires some_path { (path : List Decision) × Solves (releases_of timing.now) (arcs_of timing.now path) least.now }
@@ -222,7 +222,7 @@ fn solved(alloc: Global, timing: &Timing, least: &Least, last: usize) -> Result<
     })
 }
 
-/// The flowspan from which on a node may be tied with the best schedule; where there is none, the target.
+// The flowspan from which on a node may be tied with the best schedule; where there is none, the target.
 fn tie_limit(aim: Aim<'_>) -> u64
     ensures { MatchOption (option_copied aim.entry.best) (result ≡ aim.entry.target) (λ solution. result ≡ solution.flowspan) }
 {
@@ -232,8 +232,8 @@ fn tie_limit(aim: Aim<'_>) -> u64
     }
 }
 
-/// The node as a tie with the best schedule: by the least offsets, which don't come before it, the flowspan or else the load of a
-/// link is at least its flowspan.
+// The node as a tie with the best schedule: by the least offsets, which don't come before it, the flowspan or else the load of a
+// link is at least its flowspan.
 fn find_tie(
     alloc: Global,
     tables: Tables<'_>,
@@ -255,7 +255,7 @@ fn find_tie(
     }
 }
 
-/// The node as a tie with this schedule, where the first link that is loaded for its flowspan is found.
+// The node as a tie with this schedule, where the first link that is loaded for its flowspan is found.
 fn judge_tie(
     alloc: Global,
     tables: Tables<'_>,
@@ -300,7 +300,7 @@ fn judge_tie(
     }))
 }
 
-/// The look at a node where a link is loaded.
+// The look at a node where a link is loaded.
 fn judge_load(
     alloc: Global,
     tables: Tables<'_>,
@@ -327,7 +327,7 @@ fn judge_load(
     }
 }
 
-/// The shared link of this index, and its streams with the chains that show their least offsets.
+// The shared link of this index, and its streams with the chains that show their least offsets.
 fn entries_at(
     alloc: Global,
     tables: Tables<'_>,

@@ -56,7 +56,7 @@ use tsn_timing::{Solved, Timing};
 ///    long that the flowspan is at least the target: pruned with that bound. Of the first such link, the first frames of all
 ///    streams in order show it.
 /// 5. Of the best schedule so far, if there is one: by these the flowspan, or else the load of a shared link, is at least that of
-///    the best schedule, and they don't come before it in list order: tied with that bound, by the first stream that arrives
+///    the best schedule, and they aren't lexicographically less than it: tied with that bound, by the first stream that arrives
 ///    then, or else by the first frames on the first such link. The chains go to the first stream at which the two lists differ,
 ///    or else to the last.
 /// 6. By these no two streams' frames overlap on a link: solved, with that flowspan and the chains of all streams.

@@ -84,7 +84,7 @@ impl Loads {
     }
 }
 
-/// Adds the table of the next link if it is shared.
+// Adds the table of the next link if it is shared.
 fn push_shared(
     alloc: Global,
     tables: &mut Vec<LinkTable>,
@@ -102,7 +102,7 @@ fn push_shared(
     Ok(tables.push(table)?)
 }
 
-/// The table of a link that any number of streams use.
+// The table of a link that any number of streams use.
 fn table_of(alloc: Global, timing: &Timing, link: usize) -> Result<LinkTable, AllocError>
     requires { link < length timing.now.links }
     ensures { IfOk result (λ table. link_in table ≡ shared_link timing.now link) }
@@ -129,7 +129,7 @@ impl LinkTable {
         }
     }
 
-    /// Takes the next stream in, if it uses the link.
+    // Takes the next stream in, if it uses the link.
     fn take(&mut self, timing: &Timing, stream: usize) -> Result<(), AllocError>
         requires stream { stream < stream_count timing.now }
         requires few { stream < 128 }
@@ -188,8 +188,8 @@ pub fn head(users: &[User], offsets: &[u64]) -> u64
     least
 }
 
-/// Whether one of the link's streams starts there so early that the link isn't loaded. Most links have one, so that few heads
-/// are worked out.
+// Whether one of the link's streams starts there so early that the link isn't loaded. Most links have one, so that few heads
+// are worked out.
 fn is_calm(table: &LinkTable, offsets: &[u64], cycle: u64, target: u64) -> bool
     requires users { All (IsEarly (length offsets.now)) table.now.users.items }
     requires small { All (λ offset. offset ≤ 1_000_000_000) offsets.now }
@@ -266,7 +266,7 @@ pub fn find_loads(
     }
 }
 
-/// Whether a link that is loaded for a lesser target is so for this one.
+// Whether a link that is loaded for a lesser target is so for this one.
 fn reaches(found: FirstLoad, target: u64) -> bool
     ensures { IsTrue result ↔ Reaches target found }
 {

@@ -6,10 +6,10 @@ use std::io::Eprint;
 use std::sync::atomic::{AtomicBool, AtomicU64, Ordering};
 use std::time::{Clock, Instant};
 
-/// How many nodes are settled between two looks at the clock.
+// How many nodes are settled between two looks at the clock.
 const STRIDE: u64 = 256;
 
-/// How many milliseconds pass between two lines.
+// How many milliseconds pass between two lines.
 const PERIOD: u64 = 1000;
 
 /// A supervisor that holds nobody. About once a second it writes a line to standard error. As long as nodes are settled it has how many
@@ -21,7 +21,7 @@ const PERIOD: u64 = 1000;
 #[derive(Drop)]
 pub struct ProgressWriter<'a, R: Clock + Eprint> {
     rt: &'a R,
-    /// Whether one worker searches, who goes on with the nodes that were open before the search that learns.
+    /// Whether one worker searches, who goes on with the nodes that were open before the conflict-driven search.
     is_alone: bool,
     start: Option<Instant>,
     known: Heard,
@@ -167,7 +167,7 @@ impl<'a, R: Clock + Eprint> Supervisor for ProgressWriter<'a, R> {
     }
 }
 
-/// Whether the nodes of the phase are counted anew.
+// Whether the nodes of the phase are counted anew.
 fn is_anew(phase: Phase, is_alone: bool) -> bool {
     match phase {
         Phase::File => true,
@@ -176,7 +176,7 @@ fn is_anew(phase: Phase, is_alone: bool) -> bool {
     }
 }
 
-/// What the search that learns is to show, as it is written.
+// What the conflict-driven search is to show, as it is written.
 #[derive(Clone, Copy)]
 enum Sought {
     None,
@@ -205,7 +205,7 @@ impl fmt::Display for Sought {
     }
 }
 
-/// The least flowspan known and what none is below, in nanoseconds, as they are written.
+// The least flowspan known and what none is below, in nanoseconds, as they are written.
 #[derive(Clone, Copy)]
 struct Best {
     flowspan: Option<u64>,
@@ -232,7 +232,7 @@ impl fmt::Display for Best {
     }
 }
 
-/// How many nodes are open: the root is to begin with, a split opens two and closes one, and any other closes one.
+// How many nodes are open: the root is to begin with, a split opens two and closes one, and any other closes one.
 fn open_after(settled: u64, splits: u64) -> u64 {
     splits
         .saturating_mul(2)
@@ -240,7 +240,7 @@ fn open_after(settled: u64, splits: u64) -> u64 {
         .saturating_sub(settled)
 }
 
-/// How many a second.
+// How many a second.
 fn rate_of(count: u64, milliseconds: u64) -> u64 {
     count.saturating_mul(1000) / milliseconds.max(1)
 }

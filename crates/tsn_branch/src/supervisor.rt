@@ -13,7 +13,7 @@ pub trait Supervisor {
     /// Hears that a phase begins.
     fn begin(&self, _phase: Phase) {}
 
-    /// Hears how far the search that learns has got.
+    /// Hears how far the conflict-driven search has got.
     fn hear_learned(&self, _news: LearnedNews) {}
 
     /// Whether the worker of this number starts. It is asked before the worker's first round; a worker that doesn't start does
@@ -33,9 +33,9 @@ pub trait Supervisor {
 pub enum Phase {
     /// The search in the order of the file.
     File,
-    /// The search that learns.
+    /// The conflict-driven search.
     Learning,
-    /// The search in the order of the file, along the best schedule known, where the search that learns gave up.
+    /// The search in the order of the file, along the best schedule known, where the conflict-driven search gave up.
     Along,
 }
 
@@ -103,7 +103,7 @@ pub struct News {
     pub flowspan: Option<u64>,
 }
 
-/// How far the search that learns has got.
+/// How far the conflict-driven search has got.
 #[derive(Clone, Copy)]
 pub struct LearnedNews {
     /// The least flowspan that it found, in nanoseconds, if any.

@@ -21,7 +21,7 @@ pub fn measure<R: Clock + Files + Print + Eprint + AllocGlobal>(
     }
 }
 
-/// Measures that part of the search; false where there is no such part.
+// Measures that part of the search; false where there is no such part.
 fn part_of<R: Clock + Files + Print + Eprint + AllocGlobal>(
     rt: &R,
     part: &str,

@@ -32,7 +32,7 @@ use tsn_model::NoMemory;
 use tsn_net::read_problem;
 use tsn_timing::Timing;
 
-/// Memory was wanting twice, or where nothing was called yet.
+// Memory was wanting twice, or where nothing was called yet.
 const MEMORY: u8 = 7;
 
 fn main(rt: HostRuntime) -> ExitCode {
@@ -43,7 +43,7 @@ fn main(rt: HostRuntime) -> ExitCode {
     }
 }
 
-/// Makes the calls where there are no words, and measures what the words ask for.
+// Makes the calls where there are no words, and measures what the words ask for.
 fn run<R: Env + Clock + Files + Print + Eprint + AllocGlobal>(rt: &R) -> io::Result<ExitCode> {
     let words: Vec<String> = env::args(rt)?.collect(rt.alloc())?;
     match words.as_slice() {
@@ -64,7 +64,7 @@ fn call_networks<R: Print + AllocGlobal>(rt: &R) -> Result<(), NoMemory> {
     call_all(rt, "star of ten", networks::STAR_OF_TEN)
 }
 
-/// Makes the calls over a network.
+// Makes the calls over a network.
 fn call_all<R: Print + AllocGlobal>(rt: &R, name: &str, text: &str) -> Result<(), NoMemory> {
     let timing = timing_of(rt.alloc(), text)?;
     call_over(rt, name, &timing)

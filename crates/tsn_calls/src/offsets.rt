@@ -59,7 +59,7 @@ fn solve_once<R: Print + AllocGlobal>(rt: &R, net: &Net, arcs: &[Arc]) -> Result
     Ok(())
 }
 
-/// Solves the others, and adds the last arc to that.
+// Solves the others, and adds the last arc to that.
 fn solve_with<R: Print + AllocGlobal>(
     rt: &R,
     net: &Net,

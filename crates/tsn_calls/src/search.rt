@@ -27,7 +27,7 @@ pub fn call<R: Print + AllocGlobal>(
     }
 }
 
-/// The calls with the children of the root, which is split on that triple.
+// The calls with the children of the root, which is split on that triple.
 fn call_below<R: Print + AllocGlobal>(
     rt: &R,
     timing: &Timing,

@@ -79,7 +79,7 @@ fn settle_all<R: Print + AllocGlobal>(
     )
 }
 
-/// Settles what a look finds at a node.
+// Settles what a look finds at a node.
 fn settle_at<R: Print + AllocGlobal>(
     rt: &R,
     timing: &Timing,
@@ -129,7 +129,7 @@ fn settle_again(book: &mut Book, event: Event) -> Result<(), NoMemory>
     }
 }
 
-/// Settles an event, and gives it back where there was no memory.
+// Settles an event, and gives it back where there was no memory.
 fn settle_once(book: &mut Book, event: Event) -> Option<Event>
     requires proof { HasProof book.old.network event.node (outcome_of event.look) }
     requires tellers { 0 < book.old.tellers }

@@ -13,7 +13,7 @@ use tsn_model::NoMemory;
 use tsn_node::{Node, Side, Triple};
 use tsn_timing::Timing;
 
-/// A node that a teller settles.
+// A node that a teller settles.
 #[derive(Drop)]
 struct Settlement {
     teller: usize,
@@ -76,7 +76,7 @@ fn take_steps<R: Print + AllocGlobal>(
     Err(NoMemory)
 }
 
-/// Takes the steps: whether there was memory for them.
+// Takes the steps: whether there was memory for them.
 fn take_once(
     alloc: Global,
     timing: &Timing,
@@ -155,7 +155,7 @@ fn add_children(
     add_at(alloc, timing, shared, steps, right)
 }
 
-/// Adds that a teller settles what a look finds at a node.
+// Adds that a teller settles what a look finds at a node.
 fn add_at(
     alloc: Global,
     timing: &Timing,

@@ -1,3 +1,4 @@
+//! Arguments: certificates of format 3.
 ghost use Rattle.std.specs.Prelude.{◌≡◌, true};
 ghost use Rattle.tsn_cert.specs.Argument.{argument_fits};
 ghost use Rattle.tsn_cert.specs.ArgumentLaws.{ArgumentIsReadAgain};

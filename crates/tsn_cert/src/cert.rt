@@ -1,3 +1,4 @@
+//! Trees: certificates of formats 1 and 2, and their nodes.
 ghost use Rattle.std.specs.Prelude.{◌≡◌, map, not};
 ghost use Rattle.std.specs.List.{list_all};
 ghost use Rattle.tsn_cert.specs.Node.{tree_node};
@@ -97,7 +98,7 @@ impl Nodes {
         self.list.as_slice()
     }
 
-    /// Gives the list back.
+    /// Gives the nodes back.
     pub fn into_list(self) -> Vec<Node>
         ensures { map tree_node result.items ≡ self }
     {

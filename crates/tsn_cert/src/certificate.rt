@@ -1,3 +1,4 @@
+//! Certificates of either kind.
 use crate::argument::Argument;
 use crate::cert::Cert;
 

@@ -1,3 +1,4 @@
+//! Chains: decisions of a path, each by its depth.
 ghost use Rattle.std.specs.Prelude.{◌≡◌, ◌≤◌, ◌<◌, length, slice_index_or, All, IfOk, IsTrue};
 ghost use Rattle.tsn_cert.specs.Json.{all_within};
 ghost use Rattle.tsn_cert.specs.Cert.{max_number};
@@ -13,10 +14,10 @@ pub const MAX_CHAIN: usize = 128;
 /// The greatest number of a node in a file.
 pub const MAX_NUMBER: usize = 4_294_967_295;
 
-/// The greatest depth that two bytes hold.
+// The greatest depth that two bytes hold.
 const MAX_NARROW: usize = 65_535;
 
-/// Depths: two bytes for each, where that is enough for all, since certificates of millions of chains are held at once.
+// Depths: two bytes for each, where that is enough for all, since certificates of millions of chains are held at once.
 #[derive(Drop)]
 enum Depths {
     Narrow(SmallVec<u16, 8>),

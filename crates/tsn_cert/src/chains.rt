@@ -1,3 +1,4 @@
+//! The chains of a tie.
 ghost use Rattle.std.specs.Prelude.{◌≡◌, ◌≤◌, length};
 
 use crate::chain::Chain;
@@ -41,7 +42,7 @@ impl Chains {
         self.list.as_slice()
     }
 
-    /// Gives the list back.
+    /// Gives the chains back.
     pub fn into_list(self) -> Vec<Chain>
         ensures { result.items ≡ self }
     {

@@ -1,3 +1,4 @@
+//! The frames of a leaf that is about a link, each with the chain to its stream.
 ghost use Rattle.std.specs.Prelude.{◌≡◌, ◌≤◌, length, map};
 ghost use Rattle.tsn_cert.specs.Entry.{tree_entry};
 
@@ -45,7 +46,7 @@ impl Entries {
         self.list.as_slice()
     }
 
-    /// Gives the list back.
+    /// Gives the entries back.
     pub fn into_list(self) -> Vec<(Frame, Chain)>
         ensures { map tree_entry result.items ≡ self }
     {

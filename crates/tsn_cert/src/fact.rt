@@ -1,3 +1,4 @@
+//! What an argument says of a schedule: facts, and clauses of which one fact holds.
 ghost use Rattle.std.specs.Prelude.{◌≡◌};
 
 use crate::order::Order;
@@ -48,7 +49,7 @@ impl Clause {
         self.list.as_slice()
     }
 
-    /// Gives the list back.
+    /// Gives the facts back.
     pub fn into_list(self) -> Vec<Fact>
         ensures { result.items ≡ self }
     {

@@ -1,3 +1,4 @@
+//! Why a plan file or a certificate file is refused.
 ghost use Rattle.std.specs.Prelude.{◌≡◌};
 ghost use Rattle.tsn_cert.specs.Fault.{number_of};
 

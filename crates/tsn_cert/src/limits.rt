@@ -8,7 +8,7 @@ use tsn_model::Frame;
 /// The greatest size of a lag in a file, in nanoseconds.
 pub const MAX_LAG: u64 = 999_999_999;
 
-/// The greatest shift in a file, in nanoseconds.
+// The greatest shift in a file, in nanoseconds.
 const MAX_SHIFT: u64 = 4_294_967_295;
 
 /// Whether the size of the lag is within its limit.

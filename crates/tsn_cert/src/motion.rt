@@ -1,3 +1,4 @@
+//! Moves: the rules by which an argument goes on.
 ghost use Rattle.std.specs.Prelude.{◌≡◌};
 
 use crate::order::{Order, Orders};
@@ -68,7 +69,7 @@ impl Moves {
         self.list.as_slice()
     }
 
-    /// Gives the list back.
+    /// Gives the moves back.
     pub fn into_list(self) -> Vec<Move>
         ensures { result.items ≡ self }
     {

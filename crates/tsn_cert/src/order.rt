@@ -1,3 +1,4 @@
+//! Which of two frames goes first on a link, and lists of such orders.
 ghost use Rattle.std.specs.Prelude.{◌≡◌, ◌≤◌, length};
 ghost use Rattle.tsn_cert.specs.Meaning.{decision_of};
 
@@ -83,7 +84,7 @@ impl Orders {
         self.list.as_slice()
     }
 
-    /// Gives the list back.
+    /// Gives the orders back.
     pub fn into_list(self) -> Vec<Order>
         ensures { result.items ≡ self }
     {

@@ -1,3 +1,4 @@
+//! Plans: a flowspan with its offsets, or that there is no schedule.
 ghost use Rattle.std.specs.Prelude.{◌≡◌};
 
 use std::marker::Model;
@@ -34,7 +35,7 @@ impl Offsets {
         self.list.as_slice()
     }
 
-    /// Gives the list back.
+    /// Gives the offsets back.
     pub fn into_list(self) -> Vec<u64>
         ensures { result.items ≡ self }
     {

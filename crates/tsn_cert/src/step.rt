@@ -1,3 +1,4 @@
+//! The steps of an argument, and the frames of a move.
 ghost use Rattle.std.specs.Prelude.{◌≡◌, ◌≤◌, length};
 
 use crate::fact::Clause;
@@ -44,7 +45,7 @@ impl Frames {
         self.list.as_slice()
     }
 
-    /// Gives the list back.
+    /// Gives the frames back.
     pub fn into_list(self) -> Vec<Frame>
         ensures { result.items ≡ self }
     {
@@ -90,7 +91,7 @@ impl Steps {
         self.list.as_slice()
     }
 
-    /// Gives the list back.
+    /// Gives the steps back.
     pub fn into_list(self) -> Vec<Step>
         ensures { result.items ≡ self }
     {

@@ -12,7 +12,7 @@ use tsn_gate::list::names;
 use tsn_text::write_quoted;
 use tsn_timing::Problem;
 
-/// The names of the fields that each record has.
+// The names of the fields that each record has.
 const HEADER: &str =
     "stream,offset,latency,arrival,to_latest,to_cycle,link,from,to,scheduled,guard,open,longest_open";
 
@@ -64,7 +64,7 @@ pub fn header(alloc: Global, problem: &Problem) -> Result<String, AllocError>
     Ok(text)
 }
 
-/// Ends a stream's record: with its period and its frames in it, where some stream sends several a cycle.
+// Ends a stream's record: with its period and its frames in it, where some stream sends several a cycle.
 #[tactic(auto, unfolding(crate::specs::Csv::stream_end))]
 fn end_stream(text: &mut String, problem: &Problem, share: &StreamShare) -> Result<(), AllocError>
     ensures { OnOk result (string_bytes text.new ≡ string_bytes text.old ++ stream_end problem.now.network share.now) }
@@ -78,7 +78,7 @@ fn end_stream(text: &mut String, problem: &Problem, share: &StreamShare) -> Resu
     }
 }
 
-/// Ends a link's record: with how many windows it has, where some stream sends several frames a cycle.
+// Ends a link's record: with how many windows it has, where some stream sends several frames a cycle.
 #[tactic(auto, unfolding(crate::specs::Csv::link_end))]
 fn end_link(text: &mut String, problem: &Problem, share: &LinkShare) -> Result<(), AllocError>
     ensures { OnOk result (string_bytes text.new ≡ string_bytes text.old ++ link_end problem.now.network share.now) }

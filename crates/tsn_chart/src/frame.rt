@@ -8,13 +8,13 @@ use crate::words::write_microseconds;
 use std::alloc::AllocError;
 use std::fmt::Write;
 
-/// The most marks of the axis.
+// The most marks of the axis.
 const MOST_MARKS: u64 = 12;
 
-/// Half of the width of the flowspan's label, at most: 24 letters.
+// Half of the width of the flowspan's label, at most: 24 letters.
 const HALF_LABEL: u64 = 900;
 
-/// The steps of the axis but for the longest, in nanoseconds.
+// The steps of the axis but for the longest, in nanoseconds.
 const STEPS: [u64; 24] = [
     1, 2, 5, 10, 20, 50, 100, 200, 500, 1000, 2000, 5000, 10_000, 20_000, 50_000, 100_000, 200_000,
     500_000, 1_000_000, 2_000_000, 5_000_000, 10_000_000, 20_000_000, 50_000_000,
@@ -41,7 +41,7 @@ pub fn write_head(text: &mut String, sheet: Sheet<'_>, height: u64) -> Result<()
     write_title(text, sheet)
 }
 
-/// Writes the title: how many streams there are, their flowspan, the cycle, and how many links are shown.
+// Writes the title: how many streams there are, their flowspan, the cycle, and how many links are shown.
 fn write_title(text: &mut String, sheet: Sheet<'_>) -> Result<(), AllocError> {
     let streams = sheet.timing.streams();
     let noun = if streams == 1 { "stream" } else { "streams" };
@@ -61,7 +61,7 @@ fn write_title(text: &mut String, sheet: Sheet<'_>) -> Result<(), AllocError> {
     text.push_str("</text>\n")
 }
 
-/// Writes why no link has a row.
+// Writes why no link has a row.
 fn write_why_empty(text: &mut String, sheet: Sheet<'_>) -> Result<(), AllocError> {
     match sheet.shown {
         LinkChoice::Link(link) if link < sheet.problem.links() => {
@@ -72,7 +72,7 @@ fn write_why_empty(text: &mut String, sheet: Sheet<'_>) -> Result<(), AllocError
     }
 }
 
-/// When the stream that finishes last has arrived.
+// When the stream that finishes last has arrived.
 fn flowspan(sheet: Sheet<'_>) -> u64 {
     let mut last: u64 = 0;
     for stream in 0..sheet.timing.streams() {
@@ -106,7 +106,7 @@ pub fn write_background(text: &mut String, sheet: Sheet<'_>) -> Result<(), Alloc
     )
 }
 
-/// Writes a sample of a bar that is marked, and what that means.
+// Writes a sample of a bar that is marked, and what that means.
 fn write_marked_sample(text: &mut String) -> Result<(), AllocError> {
     write!(
         text,
@@ -114,7 +114,7 @@ fn write_marked_sample(text: &mut String) -> Result<(), AllocError> {
     )
 }
 
-/// Writes a sample of a shade and what it means.
+// Writes a sample of a shade and what it means.
 fn write_sample(
     text: &mut String,
     x: u64,
@@ -148,7 +148,7 @@ pub fn write_axis(text: &mut String, scale: Scale) -> Result<(), AllocError> {
     )
 }
 
-/// Writes a mark of the axis.
+// Writes a mark of the axis.
 fn write_mark(text: &mut String, scale: Scale, instant: u64) -> Result<(), AllocError> {
     let x = scale.x(instant);
     let bottom = scale.bottom();
@@ -160,7 +160,7 @@ fn write_mark(text: &mut String, scale: Scale, instant: u64) -> Result<(), Alloc
     text.push_str("</text>\n")
 }
 
-/// The least step, in nanoseconds, of which no more than the most marks are needed to reach an instant.
+// The least step, in nanoseconds, of which no more than the most marks are needed to reach an instant.
 fn step_of(until: u64) -> u64 {
     for step in STEPS {
         if step.saturating_mul(MOST_MARKS) >= until {

@@ -13,7 +13,7 @@ pub fn sends_several(network: &PlainNetwork) -> bool
     frame_count(network) > network.streams() as u64
 }
 
-/// How many frames all streams send in a cycle.
+// How many frames all streams send in a cycle.
 fn frame_count(network: &PlainNetwork) -> u64
     ensures { result ≡ frame_count network.now }
 {
@@ -39,7 +39,7 @@ pub fn windows_on(network: &PlainNetwork, link: usize) -> u64
     windows
 }
 
-/// How many frames of a stream occupy a link in a cycle.
+// How many frames of a stream occupy a link in a cycle.
 #[tactic(auto, unfolding(crate::specs::Shares::frames_on))]
 fn frames_on(network: &PlainNetwork, link: usize, stream: usize) -> u64
     requires { stream < stream_count network.now }
@@ -52,7 +52,7 @@ fn frames_on(network: &PlainNetwork, link: usize, stream: usize) -> u64
     }
 }
 
-/// How many frames a stream sends in a cycle.
+// How many frames a stream sends in a cycle.
 fn frames_of(network: &PlainNetwork, stream: usize) -> u64
     requires { stream < stream_count network.now }
     ensures { result ≡ turns_of network.now stream * burst_of network.now stream }

@@ -42,7 +42,6 @@ impl Format for Json {
     }
 }
 
-/// The object of a stream.
 fn stream_value(alloc: Global, problem: &Problem, share: &StreamShare) -> Result<Value, AllocError>
     requires { share.now.stream < length problem.now.stream_names }
     ensures { IfOk result (λ value. view value ≡ stream_value problem.now share.now) }
@@ -54,7 +53,7 @@ fn stream_value(alloc: Global, problem: &Problem, share: &StreamShare) -> Result
     })
 }
 
-/// The object of a stream, with its period and its frames in it.
+// The object of a stream, with its period and its frames in it.
 fn several_value(alloc: Global, problem: &Problem, share: &StreamShare) -> Result<Value, AllocError>
     requires { share.now.stream < length problem.now.stream_names }
     ensures { IfOk result (λ value. view value ≡ several_value problem.now share.now) }
@@ -66,7 +65,6 @@ fn several_value(alloc: Global, problem: &Problem, share: &StreamShare) -> Resul
     })
 }
 
-/// The object of a link.
 fn link_value(alloc: Global, problem: &Problem, share: &LinkShare) -> Result<Value, AllocError>
     requires { share.now.link < length problem.now.network.links }
     ensures { IfOk result (λ value. view value ≡ link_value problem.now share.now) }
@@ -80,7 +78,6 @@ fn link_value(alloc: Global, problem: &Problem, share: &LinkShare) -> Result<Val
     })
 }
 
-/// The object of a link, with how many windows it has.
 fn windows_value(alloc: Global, problem: &Problem, share: &LinkShare) -> Result<Value, AllocError>
     requires { share.now.link < length problem.now.network.links }
     ensures { IfOk result (λ value. view value ≡ windows_value problem.now share.now) }
@@ -94,7 +91,6 @@ fn windows_value(alloc: Global, problem: &Problem, share: &LinkShare) -> Result<
     })
 }
 
-/// Writes the line of a value.
 fn write_line(text: &mut String, value: &Value) -> Result<(), AllocError>
     requires { has_float (view value.now) ≡ false }
     ensures { OnOk result (string_bytes text.new ≡ string_bytes text.old ++ line_text (view value.now)) }

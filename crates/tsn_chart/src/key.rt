@@ -7,25 +7,25 @@ use crate::words::{letters_in, write_colour, write_name};
 use std::alloc::AllocError;
 use std::fmt::Write;
 
-/// How many streams stand beside each other.
+// How many streams stand beside each other.
 const COLUMNS: usize = 2;
 
-/// How wide a column is.
+// How wide a column is.
 const COLUMN: u64 = 6900;
 
-/// How high a line is.
+// How high a line is.
 const LINE: u64 = 170;
 
-/// How high letters are.
+// How high letters are.
 const FONT: u64 = 110;
 
-/// Where the numbers of a column end, counted from its left edge: octets, offset, arrival and latest instant.
+// Where the numbers of a column end, counted from its left edge: octets, offset, arrival and latest instant.
 const ENDS: [u64; 4] = [3100, 4200, 5350, 6500];
 
-/// What the numbers are.
+// What the numbers are.
 const HEADS: [&str; 4] = ["octets", "offset ns", "arrives ns", "latest ns"];
 
-/// How many lines the table has below its head.
+// How many lines the table has below its head.
 fn lines_of(streams: usize) -> usize
     requires { streams ≤ 128 }
     ensures some { 1 ≤ result }
@@ -54,7 +54,7 @@ pub fn write_key(text: &mut String, sheet: Sheet<'_>) -> Result<(), AllocError> 
     Ok(())
 }
 
-/// Writes the head of a column.
+// Writes the head of a column.
 fn write_head(text: &mut String, sheet: Sheet<'_>, column: usize) -> Result<(), AllocError>
     requires { column ≤ 128 }
 {
@@ -75,7 +75,7 @@ fn write_head(text: &mut String, sheet: Sheet<'_>, column: usize) -> Result<(), 
     Ok(())
 }
 
-/// Writes a stream's colour, its name and its numbers.
+// Writes a stream's colour, its name and its numbers.
 fn write_stream(text: &mut String, sheet: Sheet<'_>, stream: usize) -> Result<(), AllocError>
     requires { stream < stream_count sheet.timing.now }
 {
@@ -99,7 +99,7 @@ fn write_stream(text: &mut String, sheet: Sheet<'_>, stream: usize) -> Result<()
     write_numbers(text, sheet, stream, x, line)
 }
 
-/// Writes the numbers of a stream.
+// Writes the numbers of a stream.
 fn write_numbers(
     text: &mut String,
     sheet: Sheet<'_>,

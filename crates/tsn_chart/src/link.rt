@@ -9,10 +9,10 @@ use tsn_gate::{GateEntry, GateList};
 use tsn_model::NoMemory;
 use tsn_timing::Timing;
 
-/// The gate of the scheduled class (7) alone open.
+// The gate of the scheduled class (7) alone open.
 const SCHEDULED: u8 = 0x80;
 
-/// All gates closed.
+// All gates closed.
 const CLOSED: u8 = 0x00;
 
 /// What a link gets in each cycle of its gate control list, in nanoseconds.
@@ -62,7 +62,6 @@ pub fn link_shares(
     Ok(shares_of(alloc, timing, lists)?)
 }
 
-/// What the link of each list gets.
 fn shares_of(
     alloc: Global,
     timing: &Timing,
@@ -77,14 +76,14 @@ fn shares_of(
     Ok(shares)
 }
 
-/// How long the gates are as the octet says.
+// How long the gates are as the octet says.
 fn time_of(list: &GateList, octet: u8) -> u64
     ensures { result ≡ time_of octet list.now.entries }
 {
     time_in_all(list.entries(), octet)
 }
 
-/// How long the entries show the octet.
+// How long the entries show the octet.
 #[tactic(auto, unfolding(crate::specs::Shares::time_of))]
 fn time_in_all(entries: &[GateEntry], octet: u8) -> u64
     requires { time_of octet entries.now ≤ 1_000_000_000 }
@@ -93,7 +92,7 @@ fn time_in_all(entries: &[GateEntry], octet: u8) -> u64
     entries.iter().map(|entry| time_in(*entry, octet)).sum()
 }
 
-/// How long an entry shows the octet.
+// How long an entry shows the octet.
 fn time_in(entry: GateEntry, octet: u8) -> u64
     ensures { result ≡ time_in octet entry }
 {

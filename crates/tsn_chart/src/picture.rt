@@ -132,7 +132,7 @@ pub fn marked_chart(
     Ok(draw(alloc, sheet)?)
 }
 
-/// The text of the picture.
+// The text of the picture.
 fn draw(alloc: Global, sheet: Sheet<'_>) -> Result<String, AllocError> {
     let height = sheet.scale.bottom() + key_height(sheet.timing.streams());
     let mut text = String::new(alloc);
@@ -146,7 +146,7 @@ fn draw(alloc: Global, sheet: Sheet<'_>) -> Result<String, AllocError> {
     Ok(text)
 }
 
-/// Writes the rows of the lists that are shown.
+// Writes the rows of the lists that are shown.
 fn write_rows(text: &mut String, sheet: Sheet<'_>) -> Result<(), AllocError> {
     let mut row: usize = 0;
     for number in 0..sheet.lists.len() {

@@ -8,7 +8,7 @@ use tsn_gate::{GateEntry, GateList};
 /// The gates of the background classes (0 to 6) alone open.
 pub const BACKGROUND: u8 = 0x7F;
 
-/// How long the gates have been open up to some entry's end, and the longest time up to there, in nanoseconds.
+// How long the gates have been open up to some entry's end, and the longest time up to there, in nanoseconds.
 #[derive(Clone, Copy)]
 struct Run {
     current: u64,
@@ -31,7 +31,7 @@ pub fn longest_open(list: &GateList) -> u64
     twice.longest.min(cycle)
 }
 
-/// The entries once more.
+// The entries once more.
 fn go_through(begun: Run, entries: &[GateEntry]) -> Run
     requires { begun.current + cycle_of entries.now < 2 ^ 64 }
     ensures { result ≡ fold go_on begun entries.now }
@@ -43,7 +43,6 @@ fn go_through(begun: Run, entries: &[GateEntry]) -> Run
     run
 }
 
-/// One entry more.
 fn go_on(run: Run, entry: GateEntry) -> Run
     requires { run.current + entry.interval < 2 ^ 64 }
     ensures { result ≡ go_on run entry }

@@ -12,13 +12,13 @@ use std::alloc::AllocError;
 use std::fmt::Write;
 use tsn_gate::{GateEntry, GateList};
 
-/// A bar that is narrower has an outline, in tenths of a pixel.
+// A bar that is narrower has an outline, in tenths of a pixel.
 const NARROW: u64 = 6;
 
-/// The narrowest bar: an element of no width isn't drawn.
+// The narrowest bar: an element of no width isn't drawn.
 const NARROWEST: u64 = 1;
 
-/// The gate of the scheduled class alone open.
+// The gate of the scheduled class alone open.
 const SCHEDULED: u8 = 0x80;
 
 /// A row: the number of its list, and its upper edge.
@@ -29,7 +29,7 @@ pub struct Line {
     ghost low: { y ≤ 400000 },
 }
 
-/// A stream's frames in a row, and how they are drawn.
+// A stream's frames in a row, and how they are drawn.
 #[derive(Clone, Copy)]
 struct Framed {
     line: Line,
@@ -37,7 +37,7 @@ struct Framed {
     look: MarkStyle,
 }
 
-/// The bar of a frame: where it begins, and how wide it is, in tenths of a pixel.
+// The bar of a frame: where it begins, and how wide it is, in tenths of a pixel.
 #[derive(Clone, Copy)]
 struct Bar {
     framed: Framed,
@@ -61,7 +61,7 @@ pub fn write_row(text: &mut String, sheet: Sheet<'_>, line: Line) -> Result<(), 
     )
 }
 
-/// Writes the bars of the frames that are marked, or of the others.
+// Writes the bars of the frames that are marked, or of the others.
 fn write_bars(
     text: &mut String,
     sheet: Sheet<'_>,
@@ -81,7 +81,7 @@ fn write_bars(
     Ok(())
 }
 
-/// Writes the names of the nodes that the row's link joins.
+// Writes the names of the nodes that the row's link joins.
 fn write_label(text: &mut String, sheet: Sheet<'_>, line: Line) -> Result<(), AllocError>
     requires { line.number < length sheet.lists.now }
 {
@@ -104,7 +104,7 @@ fn write_label(text: &mut String, sheet: Sheet<'_>, line: Line) -> Result<(), Al
     text.push_str("</title></text>\n")
 }
 
-/// Writes the shades of a row's gates.
+// Writes the shades of a row's gates.
 fn write_gates(text: &mut String, sheet: Sheet<'_>, line: Line) -> Result<(), AllocError>
     requires { line.number < length sheet.lists.now }
 {
@@ -119,7 +119,7 @@ fn write_gates(text: &mut String, sheet: Sheet<'_>, line: Line) -> Result<(), Al
     Ok(())
 }
 
-/// Writes the shade of an entry that begins at an instant.
+// Writes the shade of an entry that begins at an instant.
 fn write_gate(
     text: &mut String,
     sheet: Sheet<'_>,
@@ -140,7 +140,7 @@ fn write_gate(
     )
 }
 
-/// How gates are shaded.
+// How gates are shaded.
 fn shade_of(octet: u8) -> &'static str {
     match octet {
         0 => "url(#guard)",
@@ -150,7 +150,7 @@ fn shade_of(octet: u8) -> &'static str {
     }
 }
 
-/// Writes the bars of a stream's frames on a row's link.
+// Writes the bars of a stream's frames on a row's link.
 fn write_frames(text: &mut String, sheet: Sheet<'_>, framed: Framed) -> Result<(), AllocError>
     requires line { framed.line.number < length sheet.lists.now }
     requires stream { framed.stream < stream_count sheet.timing.now }
@@ -166,7 +166,7 @@ fn write_frames(text: &mut String, sheet: Sheet<'_>, framed: Framed) -> Result<(
     Ok(())
 }
 
-/// Writes the bar of a stream's frame of a shift on a hop, unless it is past the picture.
+// Writes the bar of a stream's frame of a shift on a hop, unless it is past the picture.
 fn write_bar(
     text: &mut String,
     sheet: Sheet<'_>,
@@ -195,7 +195,7 @@ fn write_bar(
     text.push_str("</g>\n")
 }
 
-/// Writes the rest of a bar's title, and its shape.
+// Writes the rest of a bar's title, and its shape.
 fn write_bar_shape(text: &mut String, sheet: Sheet<'_>, bar: Bar) -> Result<(), AllocError> {
     let Bar { framed, x, wide } = bar;
     let y = framed.line.y + 20;
@@ -212,13 +212,13 @@ fn write_bar_shape(text: &mut String, sheet: Sheet<'_>, bar: Bar) -> Result<(), 
     text.push_str(framed.look.shade())
 }
 
-/// Writes an outline in a stream's colour, by which a narrow bar is seen.
+// Writes an outline in a stream's colour, by which a narrow bar is seen.
 fn write_outline(text: &mut String, stream: usize) -> Result<(), AllocError> {
     text.push_str("\" stroke-width=\"6\" stroke=\"")?;
     write_colour(text, stream)
 }
 
-/// Writes a stream's name into its bar, where there is room for some of it.
+// Writes a stream's name into its bar, where there is room for some of it.
 fn write_bar_name(text: &mut String, sheet: Sheet<'_>, bar: Bar) -> Result<(), AllocError>
     requires stream { bar.framed.stream < stream_count sheet.timing.now }
     requires x { bar.x ≤ 14_000 }

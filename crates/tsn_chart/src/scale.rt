@@ -13,7 +13,7 @@ pub const PAGE: u64 = LEFT + WIDTH + 400;
 /// The upper edge of the first row.
 pub const TOP: u64 = 960;
 
-/// The most rows that are drawn.
+// The most rows that are drawn.
 const MOST_ROWS: usize = 1024;
 
 /// How instants and rows are placed.

@@ -35,7 +35,6 @@ pub fn plan_shares(alloc: Global, problem: &Problem, valid: &Valid) -> Result<Sh
     Ok(Shares { streams, links })
 }
 
-/// What the streams get.
 fn of_streams(alloc: Global, problem: &Problem, valid: &Valid) -> Result<Vec<StreamShare>, NoMemory>
     requires { IsValid problem.now.network valid.now }
     ensures value { IfOk result (λ shares. shares.items ≡ stream_shares problem.now.network valid.now) }
@@ -49,7 +48,6 @@ fn of_streams(alloc: Global, problem: &Problem, valid: &Valid) -> Result<Vec<Str
     shares
 }
 
-/// What the links get.
 fn of_links(alloc: Global, problem: &Problem, valid: &Valid) -> Result<Vec<LinkShare>, NoMemory>
     requires { IsValid problem.now.network valid.now }
     ensures value { IfOk result (λ shares. AreSharesOfLinks problem.now.network valid.now shares.items) }

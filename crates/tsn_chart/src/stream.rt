@@ -69,7 +69,6 @@ pub fn stream_shares(
     Ok(shares_of(alloc, timing, valid)?)
 }
 
-/// What each stream gets.
 fn shares_of(alloc: Global, timing: &Timing, valid: &Valid) -> Result<Vec<StreamShare>, AllocError>
     requires { IsValid timing.now valid.now }
     ensures { IfOk result (λ shares. shares.items ≡ stream_shares timing.now valid.now) }

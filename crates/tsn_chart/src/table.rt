@@ -47,7 +47,7 @@ impl Format for Table {
     }
 }
 
-/// Ends a stream's line: with its period and its frames in it, where some stream sends several a cycle.
+// Ends a stream's line: with its period and its frames in it, where some stream sends several a cycle.
 #[tactic(auto, unfolding(crate::specs::Table::stream_end))]
 fn end_stream(text: &mut String, problem: &Problem, share: &StreamShare) -> Result<(), AllocError>
     ensures { OnOk result (string_bytes text.new ≡ string_bytes text.old ++ stream_end problem.now.network share.now) }
@@ -61,7 +61,7 @@ fn end_stream(text: &mut String, problem: &Problem, share: &StreamShare) -> Resu
     }
 }
 
-/// Ends a link's line: with how many windows it has, where some stream sends several frames a cycle.
+// Ends a link's line: with how many windows it has, where some stream sends several frames a cycle.
 #[tactic(auto, unfolding(crate::specs::Table::link_end))]
 fn end_link(text: &mut String, problem: &Problem, share: &LinkShare) -> Result<(), AllocError>
     ensures { OnOk result (string_bytes text.new ≡ string_bytes text.old ++ link_end problem.now.network share.now) }

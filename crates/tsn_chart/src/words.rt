@@ -3,7 +3,7 @@
 use std::alloc::AllocError;
 use std::fmt::Write;
 
-/// How wide a letter is, in hundredths of the letters' height: those of names are all of one width.
+// How wide a letter is, in hundredths of the letters' height: those of names are all of one width.
 const LETTER: u64 = 62;
 
 /// How many letters of that height have room.
@@ -41,7 +41,7 @@ pub fn write_whole(text: &mut String, name: &str) -> Result<(), AllocError> {
     Ok(())
 }
 
-/// Whether a name has more letters than that.
+// Whether a name has more letters than that.
 fn has_more(name: &str, most: usize) -> bool {
     let mut room = most;
     for _ in name.chars() {
@@ -53,7 +53,7 @@ fn has_more(name: &str, most: usize) -> bool {
     false
 }
 
-/// Writes a character so that XML may hold it.
+// Writes a character so that XML may hold it.
 fn write_character(text: &mut String, character: char) -> Result<(), AllocError> {
     match character {
         '&' => text.push_str("&amp;"),
@@ -101,12 +101,12 @@ pub(crate) fn letters_on(stream: usize) -> &'static str {
     }
 }
 
-/// The hue of a stream, in degrees.
+// The hue of a stream, in degrees.
 fn hue_of(stream: usize) -> usize {
     stream % 360 * 137 % 360
 }
 
-/// Whether a hue is so bright that dark letters are read better on it: from orange over green to cyan.
+// Whether a hue is so bright that dark letters are read better on it: from orange over green to cyan.
 fn is_bright(hue: usize) -> bool {
     (30..200).contains(&hue)
 }

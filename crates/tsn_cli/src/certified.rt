@@ -64,7 +64,7 @@ pub fn certified_shown<N: Source, P: Source, C: Source>(
     }
 }
 
-/// What the run answers on a network and a plan, to what it reads after that.
+// What the run answers on a network and a plan, to what it reads after that.
 fn answer_on<C: Source>(
     alloc: Global,
     claim: Claim<'_>,
@@ -83,7 +83,7 @@ fn answer_on<C: Source>(
     Ok(answer_to_cert(alloc, claim, file, showing)?)
 }
 
-/// What the run answers to a certificate file.
+// What the run answers to a certificate file.
 fn answer_to_cert(
     alloc: Global,
     claim: Claim<'_>,
@@ -106,7 +106,7 @@ fn answer_to_cert(
     }
 }
 
-/// What is said of a plan and its certificate, of the file of this name.
+// What is said of a plan and its certificate, of the file of this name.
 fn judgement(
     alloc: Global,
     claim: Claim<'_>,
@@ -125,14 +125,14 @@ fn judgement(
     }
 }
 
-/// The first fault of a plan or its certificate, and why, in words.
+// The first fault of a plan or its certificate, and why, in words.
 #[derive(Drop)]
 struct Unshown {
     fault: CheckFault,
     reason: Option<String>,
 }
 
-/// What the certificate, of the file of this name, shows of the plan; else the first fault.
+// What the certificate, of the file of this name, shows of the plan; else the first fault.
 fn judged(
     alloc: Global,
     claim: Claim<'_>,
@@ -165,7 +165,7 @@ fn judged(
     }
 }
 
-/// What is shown of a plan whose certificate is accepted with this verdict.
+// What is shown of a plan whose certificate is accepted with this verdict.
 fn shown(
     alloc: Global,
     claim: Claim<'_>,
@@ -184,7 +184,6 @@ fn shown(
     }
 }
 
-/// What an accepted certificate shows, in words.
 fn words(alloc: Global, claim: Claim<'_>, certificate: &Certificate) -> Result<Shown, NoMemory>
     ensures { IfOk result (λ a. ShowsText (shown_output (Ok a))) }
 {
@@ -192,7 +191,7 @@ fn words(alloc: Global, claim: Claim<'_>, certificate: &Certificate) -> Result<S
     Ok(Shown::Text(text, None))
 }
 
-/// The picture of a plan, in which the frames are marked that its certificate is about; a plan without a schedule has none.
+// The picture of a plan, in which the frames are marked that its certificate is about; a plan without a schedule has none.
 fn marked_picture(
     alloc: Global,
     claim: Claim<'_>,

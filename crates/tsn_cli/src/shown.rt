@@ -153,7 +153,7 @@ pub fn picture<'a, G: Given<'a>, W: Made>(
     }
 }
 
-/// Writes what is shown, and tells remarks on it, or why it is refused or can't be written.
+// Writes what is shown, and tells remarks on it, or why it is refused or can't be written.
 fn tell_shown<'a, G: Given<'a>, W: Made>(
     alloc: Global,
     given: &mut G,
@@ -173,7 +173,7 @@ fn tell_shown<'a, G: Given<'a>, W: Made>(
     Ran { status, output }
 }
 
-/// Tells why what was to be shown is refused, or the remarks on what was shown.
+// Tells why what was to be shown is refused, or the remarks on what was shown.
 fn tell_words<'a, G: Given<'a>>(given: &mut G, status: u8, shown: Result<Shown, ReadFault>) {
     match shown {
         Ok(Shown::Text(text, remarks)) => {

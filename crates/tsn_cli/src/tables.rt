@@ -100,7 +100,7 @@ pub fn table_shown<N: Source, P: Source>(
     }
 }
 
-/// What the run answers to a network and a plan of the file of this name.
+// What the run answers to a network and a plan of the file of this name.
 fn answer_to(
     alloc: Global,
     problem: Problem,
@@ -150,7 +150,6 @@ pub(crate) fn judgement(
     }
 }
 
-/// What is said of a plan with this fault.
 fn rejected(
     alloc: Global,
     claim: Claim<'_>,
@@ -169,7 +168,6 @@ fn rejected(
     Ok(Shown::Said(rejection(alloc, fault, reason)?))
 }
 
-/// The table of a valid schedule.
 fn table_of(
     alloc: Global,
     problem: &Problem,
@@ -189,7 +187,7 @@ fn table_of(
     }
 }
 
-/// The table of a replay by a schedule's gate lists.
+// The table of a replay by a schedule's gate lists.
 fn replay_table(
     alloc: Global,
     problem: &Problem,
@@ -213,7 +211,6 @@ fn replay_table(
     Ok(Shown::Text(text, None))
 }
 
-/// The rows of a replay.
 fn rows_text(
     alloc: Global,
     problem: &Problem,
@@ -229,14 +226,14 @@ fn rows_text(
     }
 }
 
-/// A schedule's lists are replayed unless memory is wanting.
+// A schedule's lists are replayed unless memory is wanting.
 fn want_of_memory(_fault: ReplayFault) -> NoMemory
     requires { _fault ≡ ReplayFault.Memory }
 {
     NoMemory
 }
 
-/// A schedule's gate lists.
+// A schedule's gate lists.
 fn lists(
     alloc: Global,
     problem: &Problem,
@@ -252,7 +249,7 @@ fn lists(
     Ok(Shown::Text(text, remarks))
 }
 
-/// The picture of a valid schedule, in which some frames may be marked.
+// The picture of a valid schedule, in which some frames may be marked.
 fn picture(
     alloc: Global,
     problem: &Problem,
@@ -268,7 +265,7 @@ fn picture(
     Ok(Shown::Text(text, None))
 }
 
-/// What each stream and each link gets by a valid schedule.
+// What each stream and each link gets by a valid schedule.
 fn shares_table(
     alloc: Global,
     problem: &Problem,
@@ -285,7 +282,6 @@ fn shares_table(
     Ok(Shown::Text(text, None))
 }
 
-/// The text of the shares.
 fn shares_text(
     alloc: Global,
     problem: &Problem,

@@ -46,7 +46,7 @@ pub fn valid_answer<S: Source>(
     }
 }
 
-/// What the run answers on a network of the file of this name.
+// What the run answers on a network of the file of this name.
 fn answer_to(
     alloc: Global,
     problem: Problem,
@@ -61,7 +61,6 @@ fn answer_to(
     answer
 }
 
-/// What the run answers on a network.
 fn answer_on(
     alloc: Global,
     problem: &Problem,
@@ -82,7 +81,6 @@ fn answer_on(
     answer
 }
 
-/// What is said of the offsets.
 fn judgement(alloc: Global, schedule: Schedule<'_>, name: &str) -> Result<Answer, NoMemory>
     ensures { IfOk result (λ a. Accepts schedule.entry.timing.now schedule.entry.offsets.now (output_of (Ok a))
         ⊎ Rejects schedule.entry.timing.now schedule.entry.offsets.now (output_of (Ok a))) }

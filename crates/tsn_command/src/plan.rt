@@ -1,4 +1,4 @@
-//! `plan`: finds the schedule of least flowspan that is first in list order.
+//! `plan`: finds the lexicographically least of the schedules of least flowspan.
 ghost use Rattle.std.specs.Prelude.{◌≡◌, ◌≤◌, ◌<◌, ◌-◌, ◌^◌, ◌↔◌, [], ◌∷◌, IfOk, IfSome, IsTrue, Ok, OnErr, is_some};
 ghost use Rattle.tsn_reason.specs.Run.{EndsOver, IsOutput, Output, RunsOver, failed_in, readings_of, reads_of, sink_over, source_over, taken_in};
 ghost use Rattle.tsn_reason.specs.Said.{line_of, status_of, stop_of};
@@ -109,14 +109,14 @@ pub fn plan_answer<R: Threads + Wait + Sync, N: Source, S: Supervisor + Sync, P:
     write_files(alloc, plan, cert, output)
 }
 
-/// How much is to be done, and whether a certificate is wanted.
+// How much is to be done, and whether a certificate is wanted.
 #[derive(Clone, Copy)]
 struct Task {
     effort: Effort,
     wanted: bool,
 }
 
-/// Plans what a network file states, and says what is printed of it.
+// Plans what a network file states, and says what is printed of it.
 fn found<R: Threads + Wait + Sync, N: Source, S: Supervisor + Sync>(
     rt: &R,
     alloc: Global,

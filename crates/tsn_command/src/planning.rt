@@ -54,7 +54,7 @@ pub fn plan<'a, T: Threads + Wait + Sync, C: Clock + Eprint + Sync, G: Given<'a>
     }
 }
 
-/// Plans a network to these files, and writes the line, or a line of JSON in its place.
+// Plans a network to these files, and writes the line, or a line of JSON in its place.
 fn plan_to<'a, T: Threads + Wait + Sync, C: Clock + Eprint + Sync, G: Given<'a>, W: Made>(
     rt: &T,
     console: &C,

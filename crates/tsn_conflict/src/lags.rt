@@ -25,7 +25,7 @@ pub fn lags_of(
     Ok(lags)
 }
 
-/// Puts in by how much each frame of the right stream comes after a shift of the left one's, where the two may meet.
+// Puts in by how much each frame of the right stream comes after a shift of the left one's, where the two may meet.
 fn put_after(
     lags: &mut Vec<i64>,
     timing: &Timing,
@@ -50,7 +50,7 @@ fn put_after(
     Ok(())
 }
 
-/// Puts a number among ascending ones, unless it is there.
+// Puts a number among ascending ones, unless it is there.
 fn put_in(lags: &mut Vec<i64>, lag: i64) -> Result<(), AllocError>
     ensures { IfOk result (λ _. lags.new.items ≡ put_in lags.old.items lag) }
 {
@@ -61,7 +61,7 @@ fn put_in(lags: &mut Vec<i64>, lag: i64) -> Result<(), AllocError>
     Ok(())
 }
 
-/// How many numbers come before the first that isn't less than that one.
+// How many numbers come before the first that isn't less than that one.
 fn place_of(lags: &[i64], lag: i64) -> usize
     ensures inside { result ≤ length lags.now }
     ensures less { (k : ℕ) → k < result → slice_index_or lags.now k (pos 0) <ℤ lag }

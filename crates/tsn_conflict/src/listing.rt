@@ -26,7 +26,7 @@ pub fn triples_of(alloc: Global, timing: &Timing, rows: &[Row]) -> Result<Vec<Tr
     Ok(triples)
 }
 
-/// Adds the conflicts of a stream with the later ones.
+// Adds the conflicts of a stream with the later ones.
 fn push_left(
     alloc: Global,
     triples: &mut Vec<Triple>,
@@ -49,7 +49,7 @@ fn push_left(
     Ok(())
 }
 
-/// Adds the conflicts of two streams, of which the left one uses these links.
+// Adds the conflicts of two streams, of which the left one uses these links.
 fn push_pair(
     alloc: Global,
     triples: &mut Vec<Triple>,
@@ -78,7 +78,7 @@ fn push_pair(
     Ok(())
 }
 
-/// Adds a triple for each lag of two streams on a link.
+// Adds a triple for each lag of two streams on a link.
 fn push_lags(
     triples: &mut Vec<Triple>,
     lags: &[i64],

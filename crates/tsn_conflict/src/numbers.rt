@@ -12,14 +12,13 @@ pub struct Numbers {
     pub numbers: Vec<usize>,
 }
 
-/// Whether a stream is on either side of a triple.
+// Whether a stream is on either side of a triple.
 fn has_stream(triple: Triple, stream: usize) -> bool
     ensures { result ≡ has_stream stream triple }
 {
     triple.left == stream || triple.right == stream
 }
 
-/// The numbers of the triples that have a stream.
 fn numbers_with(alloc: Global, triples: &[Triple], stream: usize) -> Result<Numbers, AllocError>
     ensures { IfOk result (λ list. list.numbers.items ≡ numbers_with triples.now stream) }
 {

@@ -17,7 +17,7 @@ pub struct Pair {
     pub below: i32,
 }
 
-/// What the overlap of a triple's frames needs.
+// What the overlap of a triple's frames needs.
 fn pair_of(rows: &[Row], triple: Triple) -> Pair
     requires { IsInUses (uses_in rows.now) triple }
     ensures { result ≡ pair_in (uses_in rows.now) triple }

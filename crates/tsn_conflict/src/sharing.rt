@@ -121,7 +121,7 @@ impl Conflicts {
         self.meets(offsets, number)
     }
 
-    /// The arc of a frame of stream `first` before one of stream `second`, that is later by the lag, on a link that both use.
+    // The arc of a frame of stream `first` before one of stream `second`, that is later by the lag, on a link that both use.
     fn arc_between(&self, first: usize, second: usize, link: usize, lag: i64) -> Arc
         requires first { (network : Network) → AreConflictsOf network self.now → UsesLink network first link }
         requires second { (network : Network) → AreConflictsOf network self.now → UsesLink network second link }
@@ -142,7 +142,7 @@ impl Conflicts {
         }
     }
 
-    /// The least number below `end` whose triple has a raised stream and overlaps; `end` where there is none.
+    // The least number below `end` whose triple has a raised stream and overlaps; `end` where there is none.
     fn raised_meeting(&self, offsets: &[u64], raised: &[usize], end: usize) -> usize
         requires count { length offsets.now ≡ length self.now.uses }
         requires small { All (λ offset. offset ≤ 1_000_000_000) offsets.now }
@@ -159,7 +159,7 @@ impl Conflicts {
         least
     }
 
-    /// The least number below `end` whose triple has the stream and overlaps; `end` where there is none.
+    // The least number below `end` whose triple has the stream and overlaps; `end` where there is none.
     fn meeting_with(&self, offsets: &[u64], stream: usize, end: usize) -> usize
         requires count { length offsets.now ≡ length self.now.uses }
         requires small { All (λ offset. offset ≤ 1_000_000_000) offsets.now }
@@ -180,7 +180,7 @@ impl Conflicts {
         end
     }
 
-    /// The least number from `start` on whose triple overlaps.
+    // The least number from `start` on whose triple overlaps.
     fn meeting_from(&self, offsets: &[u64], start: usize) -> Option<usize>
         requires count { length offsets.now ≡ length self.now.uses }
         requires small { All (λ offset. offset ≤ 1_000_000_000) offsets.now }
@@ -195,7 +195,7 @@ impl Conflicts {
         None
     }
 
-    /// Whether the frames of the triple of a number overlap on its link.
+    // Whether the frames of the triple of a number overlap on its link.
     fn meets(&self, offsets: &[u64], number: usize) -> bool
         requires count { length offsets.now ≡ length self.now.uses }
         requires small { All (λ offset. offset ≤ 1_000_000_000) offsets.now }
@@ -207,7 +207,7 @@ impl Conflicts {
         i64::from(pair.above) < gap && gap < i64::from(pair.below)
     }
 
-    /// What the overlap of the triple of a number needs.
+    // What the overlap of the triple of a number needs.
     fn pair_at(&self, number: usize) -> Pair
         requires { number < length self.now.triples }
         ensures value { result ≡ pair_in self.now.uses (triple_at self.now.triples number) }
@@ -216,7 +216,6 @@ impl Conflicts {
         self.pairs[number]
     }
 
-    /// The numbers of the triples that have a stream.
     fn numbers_with(&self, stream: usize) -> &[usize]
         requires { stream < length self.now.uses }
         ensures { result.now ≡ numbers_with self.now.triples stream }
@@ -224,7 +223,6 @@ impl Conflicts {
         &self.numbers[stream].numbers
     }
 
-    /// When a stream is on a link that it uses.
     fn use_on(&self, stream: usize, link: usize) -> Use
         requires { (network : Network) → AreConflictsOf network self.now → UsesLink network stream link }
         ensures counted { stream < length self.now.uses }

@@ -22,7 +22,6 @@ pub struct Row {
     pub uses: Vec<Use>,
 }
 
-/// A stream's use of a link.
 fn use_of(timing: &Timing, stream: usize, link: usize) -> Use
     requires { stream < stream_count timing.now }
     ensures { result ≡ use_at timing.now stream link }
@@ -39,7 +38,6 @@ fn use_of(timing: &Timing, stream: usize, link: usize) -> Use
     }
 }
 
-/// A stream's use of each link.
 fn row_of(alloc: Global, timing: &Timing, stream: usize) -> Result<Row, AllocError>
     requires { stream < stream_count timing.now }
     ensures { IfOk result (λ row. row.uses.items ≡ map (use_at timing.now stream) (range_with_len 0 (length timing.now.links))) }

@@ -40,7 +40,7 @@ pub enum Reply {
     NotAllowed,
 }
 
-/// The least word that a teller has seen, and the least flowspan that it has posted, in nanoseconds.
+// The least word that a teller has seen, and the least flowspan that it has posted, in nanoseconds.
 #[derive(Clone, Copy)]
 struct Account {
     seen: u64,
@@ -58,21 +58,18 @@ impl Model for Account {
 }
 
 impl Account {
-    // What was seen.
     fn seen(self) -> u64
         ensures { result ≡ self.seen }
     {
         self.seen
     }
 
-    // What was posted.
     fn posted(self) -> u64
         ensures { result ≡ self.posted }
     {
         self.posted
     }
 
-    // The same, with a word seen.
     fn observes(self, word: u64) -> Account
         ensures { result ≡ record { seen = min self.seen word; posted = self.posted } }
     {
@@ -82,7 +79,6 @@ impl Account {
         }
     }
 
-    // The same, with a flowspan posted.
     fn posts(self, flowspan: u64) -> Account
         ensures { result ≡ record { seen = min self.seen flowspan; posted = min self.posted flowspan } }
     {
@@ -259,7 +255,6 @@ impl Core {
             && is_above_seen(self.book.timing(), self.tellers[teller].seen(), look)
     }
 
-    // A teller settles an event.
     fn settle(&mut self, teller: usize, event: Event) -> Result<Reply, NoMemory>
         requires proof { HasProof self.old.network event.node (outcome_of event.look) }
         ensures reply { IfOk result (λ reply. IsReply self.old.network self.old.limit self.old.state (settle teller (event_of event)) reply self.new.state) }
@@ -284,7 +279,6 @@ impl Core {
     }
 }
 
-/// Tellers that have seen and posted nothing.
 fn unknowing(alloc: Global, tellers: usize, past_cycle: u64) -> Result<Vec<Account>, AllocError>
     ensures { IfOk result (λ known. known.items ≡ replicate tellers (record { seen = past_cycle; posted = past_cycle })) }
 {
@@ -298,7 +292,7 @@ fn unknowing(alloc: Global, tellers: usize, past_cycle: u64) -> Result<Vec<Accou
     Ok(known)
 }
 
-/// Whether a pruned leaf's bound is worse than what its teller has seen, as each one above the cycle is.
+// Whether a pruned leaf's bound is worse than what its teller has seen, as each one above the cycle is.
 #[tactic(auto, unfolding(tsn_model::specs::Certificate::beyond))]
 fn is_above_seen(timing: &Timing, seen: u64, look: &Look) -> bool
     ensures { IsTrue result ↔ IsAboveSeen timing.now seen (outcome_of look.now) }
@@ -312,7 +306,7 @@ fn is_above_seen(timing: &Timing, seen: u64, look: &Look) -> bool
     }
 }
 
-/// The answer to a settling that the book refused.
+// The answer to a settling that the book refused.
 fn refused(fault: BookFault) -> Result<Reply, NoMemory>
     ensures { MatchResult result (λ reply. (reply ≡ Reply.Refused fault) × (fault ≢ BookFault.Memory)) (λ _. fault ≡ BookFault.Memory) }
 {
@@ -322,7 +316,7 @@ fn refused(fault: BookFault) -> Result<Reply, NoMemory>
     }
 }
 
-/// Whether each teller has posted as little as each flowspan that it solved.
+// Whether each teller has posted as little as each flowspan that it solved.
 fn has_posted_all(book: &Book, tellers: &[Account]) -> bool
     requires { length tellers.now ≤ book.now.tellers }
     ensures { IsTrue result ↔ HasPostedAll book.now.network book.now.history tellers.now }

@@ -10,18 +10,18 @@ use std::path::{Path, PathBuf};
 use std::rt::Files;
 use std::{fs, io};
 
-/// The most links that a path leads through.
+// The most links that a path leads through.
 const MOST_LINKS: usize = 40;
 
-/// The longest name of a file that the name of an unfinished one is made of, in bytes.
+// The longest name of a file that the name of an unfinished one is made of, in bytes.
 const LONGEST_NAME: usize = 200;
 
-/// The numbers of unfinished files, which all have as many digits.
+// The numbers of unfinished files, which all have as many digits.
 const FIRST_NUMBER: u32 = 10;
 
 const PAST_NUMBERS: u32 = 100;
 
-/// What a new file has of the old one that it replaces.
+// What a new file has of the old one that it replaces.
 #[derive(Clone, Copy)]
 struct Old {
     mode: u32,
@@ -62,7 +62,7 @@ pub fn place_of<R: Files>(rt: &R, alloc: Global, path: &str) -> io::Result<Optio
     }
 }
 
-/// A file that is there is replaced, unless its path leads to it by other ways than links.
+// A file that is there is replaced, unless its path leads to it by other ways than links.
 fn place_of_file<R: Files>(
     rt: &R,
     alloc: Global,
@@ -85,12 +85,12 @@ fn place_of_file<R: Files>(
     }
 }
 
-/// Whether both are of one file.
+// Whether both are of one file.
 fn is_one(left: &Metadata, right: &Metadata) -> bool {
     left.dev() == right.dev() && left.ino() == right.ino()
 }
 
-/// The path that links lead to from this one, whether a file is there or not.
+// The path that links lead to from this one, whether a file is there or not.
 fn follow<R: Files>(rt: &R, alloc: Global, path: &str) -> io::Result<PathBuf> {
     let mut path = PathBuf::from_str(alloc, path)?;
     for _ in 0..MOST_LINKS {
@@ -102,7 +102,7 @@ fn follow<R: Files>(rt: &R, alloc: Global, path: &str) -> io::Result<PathBuf> {
     Err(Error::from(ErrorKind::FilesystemLoop))
 }
 
-/// The path that a link names.
+// The path that a link names.
 fn step<R: Files>(rt: &R, alloc: Global, link: Path<'_>) -> io::Result<PathBuf> {
     let named = rt.read_link(alloc, link.as_str())?;
     match link.parent() {
@@ -111,7 +111,7 @@ fn step<R: Files>(rt: &R, alloc: Global, link: Path<'_>) -> io::Result<PathBuf> 
     }
 }
 
-/// A file that is to replace another, after it was tried whether it can be made.
+// A file that is to replace another, after it was tried whether it can be made.
 fn tried<R: Files>(
     rt: &R,
     alloc: Global,
@@ -132,7 +132,7 @@ fn tried<R: Files>(
     Ok(replacement)
 }
 
-/// The path of an unfinished file, but for its number: the target's own, unless its name is so long that it has no room for more.
+// The path of an unfinished file, but for its number: the target's own, unless its name is so long that it has no room for more.
 fn stem_of(alloc: Global, target: Path<'_>) -> Result<String, AllocError> {
     let name = target.file_name().unwrap_or("");
     let base = match target.parent() {
@@ -160,14 +160,14 @@ impl Replacement {
         Err(Error::from(ErrorKind::AlreadyExists))
     }
 
-    /// Gives the unfinished file its number. It takes no memory but the first time.
+    // Gives the unfinished file its number. It takes no memory but the first time.
     fn name(&mut self, number: u32) -> Result<(), AllocError> {
         self.path.clear();
         self.path.push_str(self.stem.as_str())?;
         write!(self.path, "{number}")
     }
 
-    /// Makes the file. Until it has the old one's permissions nobody else may read it.
+    // Makes the file. Until it has the old one's permissions nobody else may read it.
     fn made<R: Files>(&self, rt: &R) -> io::Result<R::File> {
         let mode = if self.old.is_some() { 0o600 } else { 0o666 };
         OpenOptions::new()
@@ -177,7 +177,7 @@ impl Replacement {
             .open(rt, self.path.as_str())
     }
 
-    /// Gives the file the old one's permissions, and its owner and group where the system allows that.
+    // Gives the file the old one's permissions, and its owner and group where the system allows that.
     fn alike<R: Files>(&self, rt: &R, file: R::File) -> io::Result<R::File> {
         if let Some(old) = self.old {
             let _ = chown(rt, self.path.as_str(), Some(old.owner), Some(old.group));
@@ -233,7 +233,7 @@ pub fn are_one_file<R: Files>(
     }
 }
 
-/// Whether two paths at which there is no file lead to the same name in one folder.
+// Whether two paths at which there is no file lead to the same name in one folder.
 fn will_be_one_file<R: Files>(
     rt: &R,
     alloc: Global,
@@ -250,7 +250,7 @@ fn will_be_one_file<R: Files>(
     )
 }
 
-/// The path that links lead to from this one, or the path itself where they can't be followed.
+// The path that links lead to from this one, or the path itself where they can't be followed.
 fn followed<R: Files>(rt: &R, alloc: Global, path: &str) -> Result<PathBuf, AllocError> {
     match follow(rt, alloc, path) {
         Err(error) if error.kind() == ErrorKind::OutOfMemory => Err(AllocError),

@@ -80,7 +80,7 @@ impl<'a, W: Write + Drop> Sink for WriterSink<'a, W> {
     }
 }
 
-/// A file that is wanted. It is made when it is first written to.
+// A file that is wanted. It is made when it is first written to.
 #[derive(Drop)]
 struct Wanted<'a, F> {
     path: &'a str,
@@ -89,7 +89,6 @@ struct Wanted<'a, F> {
     file: Option<F>,
 }
 
-/// Writes to a wanted file.
 fn write_wanted<R: Files>(
     rt: &R,
     wanted: &mut Wanted<'_, R::File>,
@@ -123,7 +122,7 @@ fn make_wanted<R: Files>(
     }
 }
 
-/// Puts a wanted file, of which nothing more is written, into its place.
+// Puts a wanted file, of which nothing more is written, into its place.
 fn put_wanted<R: Files>(rt: &R, wanted: &mut Wanted<'_, R::File>) -> io::Result<()>
     ensures file { wanted.new.file ≡ wanted.old.file }
     ensures path { wanted.new.path ≡ wanted.old.path }
@@ -134,7 +133,7 @@ fn put_wanted<R: Files>(rt: &R, wanted: &mut Wanted<'_, R::File>) -> io::Result<
     }
 }
 
-/// Removes what is unfinished of a wanted file.
+// Removes what is unfinished of a wanted file.
 fn discard_wanted<R: Files>(rt: &R, wanted: &mut Wanted<'_, R::File>)
     ensures file { wanted.new.file ≡ wanted.old.file }
     ensures path { wanted.new.path ≡ wanted.old.path }
@@ -188,7 +187,7 @@ impl<'a, R: Files> FileSink<'a, R> {
         })
     }
 
-    /// Why the last write that failed did so, if one failed.
+    /// Why the last write to the wanted file that failed did so, if one failed.
     pub fn failure(&self) -> Option<Failure<'a>>
         ensures some { IsSome result ↔ 0 < self.now.failures }
         ensures action { IfSome result (λ failure. failure.action ≡ Action.Write) }
@@ -219,7 +218,7 @@ impl<'a, R: Files> FileSink<'a, R> {
     }
 }
 
-/// A file that is wanted at a path, where it can be made.
+// A file that is wanted at a path, where it can be made.
 fn wanted_at<'a, R: Files>(
     rt: &R,
     alloc: Global,

@@ -1,3 +1,4 @@
+//! What each stream was raised to, and by which arc.
 ghost use Rattle.std.specs.Prelude.{◌≡◌, ◌++◌, ◌<◌, ◌≤◌, [], ◌∷◌, All, IfOk, MatchOption, length, slice_set};
 ghost use Rattle.tsn_model.specs.Arcs.{Holds};
 ghost use Rattle.tsn_diff.specs.Limits.{IsArcAmong};
@@ -49,7 +50,7 @@ impl Labels {
         progress
     }
 
-    /// Raises the last stream of an arc that is not met.
+    // Raises the last stream of an arc that is not met.
     fn correct(&mut self, arcs: &[Arc], index: usize) -> Progress
         requires arcs { All (IsArcAmong (length self.old.offsets.items)) arcs.now }
         requires index { index < length arcs.now }
@@ -99,7 +100,6 @@ impl Labels {
         });
     }
 
-    /// Whether the chain of `stream` passes the stream `through`.
     fn passes(&self, mut stream: usize, through: usize) -> bool
         requires steps { HasSteps (labelling_of self.now) }
         requires stream { stream < length self.now.last.items }

@@ -1,3 +1,4 @@
+//! Arcs by the stream where each begins.
 ghost use Rattle.std.specs.Prelude.{◌≡◌, ◌++◌, ◌-◌, ◌<◌, List, [], ◌∷◌, IfOk, OnOk, OnErr, length, take, slice_index};
 ghost use Rattle.tsn_model.specs.declared.Arc.{Arc};
 ghost use Rattle.tsn_diff.specs.Listing.{IsListing};

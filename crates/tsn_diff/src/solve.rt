@@ -1,3 +1,4 @@
+//! Least offsets from a list of arcs.
 ghost use Rattle.std.specs.Prelude.{◌≡◌, ◌++◌, ◌≤◌, ◌<◌, [], ◌∷◌, All, IfOk, IsTrue, ◌↔◌, length, map, replicate};
 ghost use Rattle.std.specs.List.{range_with_len};
 ghost use Rattle.tsn_diff.specs.Limits.{IsArcAmong};
@@ -139,7 +140,7 @@ impl Net {
         })
     }
 
-    /// The same releases once more.
+    // The same releases once more.
     fn copied(&self, alloc: Global) -> Result<Net, AllocError>
         ensures { IfOk result (λ net. net ≡ self.now) }
     {
@@ -152,7 +153,7 @@ impl Net {
 }
 
 impl Releases {
-    /// Labels that no arc has raised yet.
+    // Labels that no arc has raised yet.
     fn labels(&self, alloc: Global) -> Result<Labels, AllocError>
         ensures offsets { IfOk result (λ labels. labels.offsets.items ≡ releases_of self.now) }
         ensures last { IfOk result
@@ -223,7 +224,7 @@ pub(crate) fn is_among(arc: &Arc, streams: usize) -> bool
     arc.from < streams && arc.to < streams && -MAX_WEIGHT <= arc.weight && arc.weight <= MAX_WEIGHT
 }
 
-/// The arcs with one more put last.
+// The arcs with one more put last.
 fn arcs_and(alloc: Global, arcs: &[Arc], arc: Arc) -> Result<Vec<Arc>, AllocError>
     ensures { IfOk result (λ all. all.items ≡ arcs.now ++ arc ∷ []) }
 {
@@ -233,7 +234,7 @@ fn arcs_and(alloc: Global, arcs: &[Arc], arc: Arc) -> Result<Vec<Arc>, AllocErro
     Ok(all)
 }
 
-/// Corrects the labels round by round until every arc is met or a chain closes.
+// Corrects the labels round by round until every arc is met or a chain closes.
 fn settle(
     alloc: Global,
     net: Net,

@@ -1,3 +1,4 @@
+//! What one more arc raises, and how that is taken back.
 ghost use Rattle.std.specs.Prelude.{◌≡◌, [], ℕ, ◌<◌, ◌≤◌, IfOk, OnOk, OnErr, IfSome, length, true, false};
 ghost use Rattle.tsn_model.specs.Arcs.{Holds};
 ghost use Rattle.tsn_diff.specs.Labels.{labelling_of};
@@ -27,7 +28,8 @@ pub enum Stage {
     Settled,
 }
 
-/// What is kept of the raises: how to take them back, and, while one more arc is taken into account, the streams whose arcs wait to be looked at.
+/// What is kept of the raises: how to take them back, and, while one more arc is taken into account, the streams whose arcs wait to
+/// be looked at.
 #[derive(Drop)]
 pub struct Wave {
     pub trail: Trail,
@@ -49,7 +51,7 @@ impl Wave {
         }
     }
 
-    /// Raises the last stream of an arc to the offset that the arc asks for. True: the arc closes a chain, and nothing is raised.
+    // Raises the last stream of an arc to the offset that the arc asks for. True: the arc closes a chain, and nothing is raised.
     fn raise(
         &mut self,
         labels: &mut Labels,
@@ -80,7 +82,7 @@ impl Wave {
         Ok(false)
     }
 
-    /// Puts a stream that is about to be raised into the queue, unless it waits, and notes its label, unless that was done.
+    // Puts a stream that is about to be raised into the queue, unless it waits, and notes its label, unless that was done.
     fn enter(&mut self, labels: &Labels, stage: Stage, stream: usize) -> Result<(), AllocError>
         requires count { length labels.now.last.items ≡ length labels.now.offsets.items }
         requires stream { stream < length labels.now.offsets.items }
@@ -104,7 +106,7 @@ impl Wave {
         }
     }
 
-    /// Raises the last streams of the arcs that leave a stream. `Some`: the arc that closes a chain.
+    // Raises the last streams of the arcs that leave a stream. `Some`: the arc that closes a chain.
     fn relax(
         &mut self,
         labels: &mut Labels,
@@ -174,7 +176,6 @@ impl Wave {
     }
 }
 
-/// Fixes the streams on the chain of a stream.
 fn fix_chain(labels: &Labels, stages: &mut [Stage], mut stream: usize)
     requires steps { HasSteps (labelling_of labels.now) }
     requires chains { (stream : ℕ) → Rooted labels.now.last.items stream }

@@ -1,3 +1,4 @@
+//! Arcs on a stack, with the least offsets at any time.
 ghost use Rattle.std.specs.Prelude.{◌≡◌, ◌++◌, ◌<◌, List, [], ◌∷◌, All, IfOk, IfNone, IfSome, IsTrue, ◌↔◌, OnErr, OnSome, length};
 ghost use Rattle.tsn_model.specs.declared.Arc.{Arc};
 ghost use Rattle.tsn_diff.specs.Limits.{IsArcAmong};
@@ -131,7 +132,7 @@ impl ArcStack {
     }
 }
 
-/// Raises the labels for one more arc and lists it, or gives the closed chain that it closes.
+// Raises the labels for one more arc and lists it, or gives the closed chain that it closes.
 fn put_in(
     labels: &mut Labels,
     arcs: &mut Vec<Arc>,

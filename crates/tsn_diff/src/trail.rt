@@ -1,3 +1,4 @@
+//! The labels that streams had before they were raised.
 ghost use Rattle.std.specs.Prelude.{◌≡◌, ◌≤◌, ◌<◌, OnOk, OnErr, length, take, drop, ◌++◌, ◌∷◌, []};
 ghost use Rattle.tsn_diff.specs.Labels.{labelling_of};
 ghost use Rattle.tsn_diff.specs.Trail.{IsTrail, former_of, put_back_all};

@@ -11,7 +11,7 @@ use tsn_cert::{Argument, Goal, Plan};
 use tsn_check::CheckFault;
 use tsn_text::TextBuilder;
 
-/// The most steps that are told one by one.
+// The most steps that are told one by one.
 const MOST_TOLD: usize = 12;
 
 /// Writes why the argument's target is right.
@@ -40,7 +40,7 @@ pub fn push_argument(
     Ok(())
 }
 
-/// Writes why there is no schedule, where no step is needed.
+// Writes why there is no schedule, where no step is needed.
 fn push_at_once(text: &mut TextBuilder, network: TimedNetwork<'_>) {
     if let Some(stream) = network.roomless() {
         text.push_str("No step is needed: ");
@@ -69,7 +69,7 @@ pub fn push_no_room(text: &mut TextBuilder, network: TimedNetwork<'_>, stream: u
     }
 }
 
-/// Writes how many steps there are, and how many of them are told.
+// Writes how many steps there are, and how many of them are told.
 fn push_counts(text: &mut TextBuilder, argument: &Argument, part: &Part) {
     let count = argument.steps.list().len();
     let told = part.steps.len();
@@ -99,7 +99,7 @@ fn push_steps(
     teller.finish()
 }
 
-/// Writes which steps show that the plan is the first of its flowspan.
+// Writes which steps show that the plan is the first of its flowspan.
 fn push_order(text: &mut TextBuilder, first: usize, count: usize) {
     text.push_str("Of the schedules of this flowspan the plan is the first in list order: ");
     if first >= count {

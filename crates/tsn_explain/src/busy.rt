@@ -12,10 +12,10 @@ use tsn_cert::{Argument, Goal, Step};
 use tsn_model::Frame;
 use tsn_text::{ListBuilder, TextBuilder};
 
-/// How many links are told.
+// How many links are told.
 const MOST_LINKS: usize = 5;
 
-/// How many streams are told of a link.
+// How many streams are told of a link.
 const MOST_STREAMS: usize = 6;
 
 /// Writes the links that most steps of a part use: how many steps, and the streams that are named most there.

@@ -35,7 +35,7 @@ pub fn push_leaf(
     }
 }
 
-/// Writes the decisions of a path.
+// Writes the decisions of a path.
 fn push_path(text: &mut TextBuilder, network: TimedNetwork<'_>, path: &Path) {
     let count = path.decided().len();
     if count == 0 {
@@ -105,7 +105,7 @@ fn push_bound(
     }
 }
 
-/// Writes when a stream arrives that can't start before an offset.
+// Writes when a stream arrives that can't start before an offset.
 fn push_late(text: &mut TextBuilder, network: TimedNetwork<'_>, stream: usize, offset: i64) {
     push_stream(text, network, stream);
     push_time(text, " can't start before ", offset);
@@ -117,7 +117,7 @@ fn push_late(text: &mut TextBuilder, network: TimedNetwork<'_>, stream: usize, o
     text.push_str(" or later")
 }
 
-/// Writes that the orders of a closed chain can't all hold.
+// Writes that the orders of a closed chain can't all hold.
 fn push_closed(
     alloc: Global,
     text: &mut TextBuilder,

@@ -68,7 +68,7 @@ fn push_explanation(
     }
 }
 
-/// Writes what is shown.
+// Writes what is shown.
 fn push_claim(text: &mut TextBuilder, network: TimedNetwork<'_>, plan: &Plan) {
     match plan {
         Plan::Schedule { flowspan, .. } => {

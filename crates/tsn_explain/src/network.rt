@@ -11,7 +11,7 @@ pub struct TimedNetwork<'a> {
     pub timing: &'a Timing,
 }
 
-/// When a stream's first frame starts on a link, counted from its offset, and how long a frame occupies it.
+// When a stream's first frame starts on a link, counted from its offset, and how long a frame occupies it.
 #[derive(Clone, Copy)]
 struct Visit {
     start: i64,

@@ -38,7 +38,7 @@ impl Path {
         path
     }
 
-    /// Whether there was memory for all of it.
+    /// Whether there was memory for the whole path.
     pub fn finish(self) -> Result<(), AllocError> {
         let Path { list } = self;
         drop(list.finish()?);

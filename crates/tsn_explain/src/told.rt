@@ -95,7 +95,7 @@ impl<'a> Narrator<'a> {
         self.text.refuse();
     }
 
-    /// Whether there was memory for all of it.
+    /// Ends the telling, and says whether there was memory for all that it notes.
     pub fn finish(self) -> Result<(), AllocError> {
         let Narrator {
             clauses,

@@ -12,7 +12,7 @@ use std::alloc::{AllocError, Global};
 use tsn_cert::{Cert, Format, Leaf, LowerBound, Node};
 use tsn_text::TextBuilder;
 
-/// How many links are told.
+// How many links are told.
 const MOST_LINKS: usize = 5;
 
 /// Writes why the target of a tree is right.
@@ -51,7 +51,7 @@ fn push_leaves(
     path.finish()
 }
 
-/// All leaves, and the kinds of which there may be some, in the order in which they are told.
+// All leaves, and the kinds of which there may be some, in the order in which they are told.
 const KINDS: [&str; 7] = [
     " ways to order frames are ruled out",
     " by a frame that arrives too late",
@@ -62,7 +62,7 @@ const KINDS: [&str; 7] = [
     " by the list order",
 ];
 
-/// Which kind a leaf is of; a branch counts as none.
+// Which kind a leaf is of; a branch counts as none.
 fn kind_of(node: &Node) -> usize {
     match node {
         Node::Branch(_) => KINDS.len(),
@@ -75,8 +75,8 @@ fn kind_of(node: &Node) -> usize {
     }
 }
 
-/// Writes how many leaves there are, and how many of each kind; then how many the load of each link rules out, and the load that comes
-/// to the least.
+// Writes how many leaves there are, and how many of each kind; then how many the load of each link rules out, and the load that comes
+// to the least.
 fn push_counts(
     alloc: Global,
     text: &mut TextBuilder,

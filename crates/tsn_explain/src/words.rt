@@ -5,7 +5,7 @@ use tsn_cert::Order;
 use tsn_model::{Frame, Link};
 use tsn_text::TextBuilder;
 
-/// The most names that are told of a set of frames.
+// The most names that are told of a set of frames.
 const MOST_NAMED: usize = 12;
 
 /// Writes 'stream' and a stream's name.
@@ -14,7 +14,7 @@ pub fn push_stream(text: &mut TextBuilder, network: TimedNetwork<'_>, stream: us
     push_name(text, network, stream)
 }
 
-/// Writes a stream's name.
+// Writes a stream's name.
 fn push_name(text: &mut TextBuilder, network: TimedNetwork<'_>, stream: usize) {
     if stream < network.problem.streams() {
         text.push_str(network.problem.stream_name(stream))
@@ -23,7 +23,7 @@ fn push_name(text: &mut TextBuilder, network: TimedNetwork<'_>, stream: usize) {
     }
 }
 
-/// Writes the name of a frame's stream, and by how much it is later than the stream's first one.
+// Writes the name of a frame's stream, and by how much it is later than the stream's first one.
 fn push_frame(text: &mut TextBuilder, network: TimedNetwork<'_>, frame: Frame) {
     push_name(text, network, frame.stream);
     if frame.shift > 0 {
@@ -32,7 +32,7 @@ fn push_frame(text: &mut TextBuilder, network: TimedNetwork<'_>, frame: Frame) {
     }
 }
 
-/// Writes the names of frames.
+// Writes the names of frames.
 fn push_names(text: &mut TextBuilder, network: TimedNetwork<'_>, frames: &[Frame]) {
     let count = frames.len();
     for (place, frame) in frames.iter().enumerate() {
@@ -66,7 +66,7 @@ pub fn push_link(text: &mut TextBuilder, network: TimedNetwork<'_>, number: usiz
     push_ends(text, network, number, ", ", "")
 }
 
-/// Writes the nodes that a link joins, between two texts.
+// Writes the nodes that a link joins, between two texts.
 fn push_ends(
     text: &mut TextBuilder,
     network: TimedNetwork<'_>,
@@ -103,7 +103,7 @@ pub fn push_order(text: &mut TextBuilder, network: TimedNetwork<'_>, order: Orde
     push_ends(text, network, link, " (", ")")
 }
 
-/// Writes which of a stream's frames it is, by how much it comes after another one.
+// Writes which of a stream's frames it is, by how much it comes after another one.
 fn push_later(text: &mut TextBuilder, later: i64) {
     if later != 0 {
         push_time(text, "'s frame ", later.max(less(0, later)));

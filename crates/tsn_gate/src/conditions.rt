@@ -13,7 +13,7 @@ use crate::replay_fault::ReplayFault;
 use tsn_model::bounds::{MAX_OCTETS, MIN_OCTETS};
 use tsn_model::plain::PlainNetwork;
 
-/// The most background frames of a list.
+// The most background frames of a list.
 const MOST_FRAMES: usize = 10_000;
 
 /// The first cause for which the cycles can't be replayed, but for memory.
@@ -37,7 +37,7 @@ pub fn first_fault(
     None
 }
 
-/// Whether each list has its own link, and each link that is used or waited on its list.
+// Whether each list has its own link, and each link that is used or waited on its list.
 fn names_links(network: &PlainNetwork, lists: &[GateList], background: &Background) -> bool
     ensures { IsTrue result ↔ NamesLinks network.now lists.now (background_of background.now) }
 {
@@ -50,21 +50,19 @@ fn names_links(network: &PlainNetwork, lists: &[GateList], background: &Backgrou
     all_waited_listed(lists, background.frames())
 }
 
-/// Whether each list is of one of so many links.
 fn all_exist(lists: &[GateList], links: usize) -> bool
     ensures { IsTrue result ↔ All (λ (list : LinkGates). list.link < links) lists.now }
 {
     lists.iter().all(|list| list.link() < links)
 }
 
-/// Whether a list is of the link.
 fn is_listed(lists: &[GateList], link: usize) -> bool
     ensures { IsTrue result ↔ IsListed lists.now link }
 {
     lists.iter().any(|list| list.link() == link)
 }
 
-/// Whether no two lists are of one link.
+// Whether no two lists are of one link.
 fn are_distinct(lists: &[GateList]) -> bool
     ensures { IsTrue result ↔ AllPairs (λ (a b : LinkGates). a.link ≢ b.link) lists.now }
 {
@@ -76,7 +74,7 @@ fn are_distinct(lists: &[GateList]) -> bool
     true
 }
 
-/// Whether each link that a stream uses has a list.
+// Whether each link that a stream uses has a list.
 fn all_used_listed(network: &PlainNetwork, lists: &[GateList]) -> bool
     ensures { IsTrue result ↔ ((i : ℕ) → i < stream_count network.now → HasListedRoute network.now lists.now i) }
 {
@@ -88,7 +86,7 @@ fn all_used_listed(network: &PlainNetwork, lists: &[GateList]) -> bool
     true
 }
 
-/// Whether each link of a stream's route has a list.
+// Whether each link of a stream's route has a list.
 fn is_route_listed(network: &PlainNetwork, lists: &[GateList], stream: usize) -> bool
     requires { stream < stream_count network.now }
     ensures { IsTrue result ↔ HasListedRoute network.now lists.now stream }
@@ -101,7 +99,6 @@ fn is_route_listed(network: &PlainNetwork, lists: &[GateList], stream: usize) ->
     true
 }
 
-/// Whether each background frame's link has a list.
 fn all_waited_listed(lists: &[GateList], frames: &[BackgroundFrame]) -> bool
     ensures { IsTrue result ↔ All (λ (frame : FrameValue). IsListed lists.now frame.link) frames.now }
 {
@@ -113,7 +110,7 @@ fn all_waited_listed(lists: &[GateList], frames: &[BackgroundFrame]) -> bool
     true
 }
 
-/// Whether each list lasts the cycle, and the background frames are within their limits.
+// Whether each list lasts the cycle, and the background frames are within their limits.
 fn keeps_limits(
     network: &PlainNetwork,
     lists: &[GateList],
@@ -129,14 +126,13 @@ fn keeps_limits(
     all_last(lists, cycle) && frames.len() <= MOST_FRAMES && all_within(frames, end)
 }
 
-/// Whether each list lasts that long.
 fn all_last(lists: &[GateList], cycle: u64) -> bool
     ensures { IsTrue result ↔ All (λ (list : LinkGates). cycle_of list.entries ≡ cycle) lists.now }
 {
     lists.iter().all(|list| list.cycle() == cycle)
 }
 
-/// Whether each background frame has 64 to 1522 octets, and waits from an instant before the end on.
+// Whether each background frame has 64 to 1522 octets, and waits from an instant before the end on.
 fn all_within(frames: &[BackgroundFrame], end: u64) -> bool
     ensures { IsTrue result ↔ All (IsWithin end) frames.now }
 {

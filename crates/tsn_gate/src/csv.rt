@@ -20,7 +20,7 @@ pub fn write_record(text: &mut String, problem: &Problem, row: &Row) -> Result<(
     write_numbers(text, row)
 }
 
-/// Writes the numbers of a row, each after a comma.
+// Writes the numbers of a row, each after a comma.
 #[tactic(auto, unfolding(crate::specs::Csv::numbers_text))]
 fn write_numbers(text: &mut String, row: &Row) -> Result<(), AllocError>
     ensures { OnOk result (string_bytes text.new ≡ string_bytes text.old ++ numbers_text row.now) }

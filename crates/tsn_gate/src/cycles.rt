@@ -90,7 +90,7 @@ pub fn replay_rows(
     Ok(trace.into_table())
 }
 
-/// A replay, in which the starts of background frames are kept or not.
+// A replay, in which the starts of background frames are kept or not.
 fn replayed(
     alloc: Global,
     problem: &Problem,
@@ -132,7 +132,6 @@ fn replayed(
     Ok(Trace::new(starts, ReplayTable::new(rows)))
 }
 
-/// The gates of the lists.
 fn openings_of(alloc: Global, lists: &[GateList]) -> Result<Vec<Openings>, AllocError>
     ensures { IfOk result (λ gates. gates.items ≡ lists.now) }
 {

@@ -46,7 +46,7 @@ pub fn closed_lines(alloc: Global, lists: &[GateList]) -> Result<String, NoMemor
     Ok(text)
 }
 
-/// Writes that a list leaves others no time, where it doesn't.
+// Writes that a list leaves others no time, where it doesn't.
 #[tactic(auto, unfolding(crate::specs::Device::closed_text))]
 fn write_closed(text: &mut String, list: &GateList) -> Result<(), AllocError>
     ensures { OnOk result (string_bytes text.new ≡ string_bytes text.old ++ closed_text list.now) }
@@ -59,14 +59,14 @@ fn write_closed(text: &mut String, list: &GateList) -> Result<(), AllocError>
     }
 }
 
-/// Whether the background's gates are open in an entry.
+// Whether the background's gates are open in an entry.
 fn has_background(entries: &[GateEntry]) -> bool
     ensures { result ≡ has_background entries.now }
 {
     entries.iter().any(|entry| entry.octet == BACKGROUND)
 }
 
-/// Writes what a device doesn't take of a list.
+// Writes what a device doesn't take of a list.
 fn write_lines(
     text: &mut String,
     problem: &Problem,
@@ -79,7 +79,7 @@ fn write_lines(
     write_short(text, list, least_on(problem, limits.least, list.link()))
 }
 
-/// The shortest entry that a device takes on a link, in nanoseconds.
+// The shortest entry that a device takes on a link, in nanoseconds.
 fn least_on(problem: &Problem, least: Option<u64>, link: usize) -> u64
     ensures { result ≡ least_on problem.now.network least link }
 {
@@ -89,7 +89,7 @@ fn least_on(problem: &Problem, least: Option<u64>, link: usize) -> u64
     }
 }
 
-/// Writes that a list has too many entries, where it has.
+// Writes that a list has too many entries, where it has.
 #[tactic(auto, unfolding(crate::specs::Device::long_text))]
 fn write_long(text: &mut String, list: &GateList, most: usize) -> Result<(), AllocError>
     ensures { OnOk result (string_bytes text.new ≡ string_bytes text.old ++ long_text most list.now) }
@@ -103,7 +103,7 @@ fn write_long(text: &mut String, list: &GateList, most: usize) -> Result<(), All
     }
 }
 
-/// Writes that a list has an entry that is too short, where it has.
+// Writes that a list has an entry that is too short, where it has.
 #[tactic(auto, unfolding(crate::specs::Device::short_text))]
 fn write_short(text: &mut String, list: &GateList, least: u64) -> Result<(), AllocError>
     ensures { OnOk result (string_bytes text.new ≡ string_bytes text.old ++ short_text least list.now) }
@@ -116,7 +116,6 @@ fn write_short(text: &mut String, list: &GateList, least: u64) -> Result<(), All
     }
 }
 
-/// Whether an entry is shorter than that.
 fn is_short(entries: &[GateEntry], least: u64) -> bool
     ensures { result ≡ is_short least entries.now }
 {

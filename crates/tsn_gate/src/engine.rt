@@ -71,7 +71,7 @@ impl Replay<'_> {
         Ok(state.starts)
     }
 
-    /// The state before any start.
+    // The state before any start.
     fn begin(&self, alloc: Global) -> Result<State, AllocError>
         requires { IsSetting (setting_of self.now) }
         ensures { IfOk result (IsState (setting_of self.now)) }
@@ -92,7 +92,6 @@ impl Replay<'_> {
         Ok(state)
     }
 
-    /// All ports, anew.
     fn renew_all(&self, state: &mut State)
         requires setting { IsSetting (setting_of self.now) }
         requires state { IsUnderWay (setting_of self.now) state.old }
@@ -104,7 +103,6 @@ impl Replay<'_> {
         }
     }
 
-    /// The port of the list of that number, anew.
     fn renew_port(&self, state: &mut State, number: usize)
         requires setting { IsSetting (setting_of self.now) }
         requires state { IsUnderWay (setting_of self.now) state.old }
@@ -116,7 +114,6 @@ impl Replay<'_> {
         state.ports.set(number, port);
     }
 
-    /// The port of a list, now.
     fn port(&self, state: &State, list: &Openings) -> Port
         requires setting { IsSetting (setting_of self.now) }
         requires state { IsUnderWay (setting_of self.now) state.now }
@@ -140,7 +137,7 @@ impl Replay<'_> {
         )
     }
 
-    /// What starts first of all starts.
+    // What starts first of all starts.
     fn step(&self, state: &mut State, number: usize) -> Result<(), AllocError>
         requires setting { IsSetting (setting_of self.now) }
         requires state { IsState (setting_of self.now) state.old }
@@ -157,7 +154,7 @@ impl Replay<'_> {
         }
     }
 
-    /// A scheduled frame starts on the link of a list.
+    // A scheduled frame starts on the link of a list.
     fn start(
         &self,
         state: &mut State,
@@ -185,7 +182,7 @@ impl Replay<'_> {
         Ok(())
     }
 
-    /// The port of a list, and that of the link on which a frame waits now, anew.
+    // The port of a list, and that of the link on which a frame waits now, anew.
     fn renew(&self, state: &mut State, number: usize, moved: &Frame)
         requires setting { IsSetting (setting_of self.now) }
         requires state { IsUnderWay (setting_of self.now) state.old }
@@ -205,7 +202,6 @@ impl Replay<'_> {
         }
     }
 
-    /// The number of the list of the link on which a frame waits.
     fn list_of(&self, state: &State, frame: &Frame) -> Option<usize>
         requires setting { IsSetting (setting_of self.now) }
         requires state { IsUnderWay (setting_of self.now) state.now }
@@ -222,7 +218,7 @@ impl Replay<'_> {
         }
     }
 
-    /// The background frame that waits starts on the link of a list.
+    // The background frame that waits starts on the link of a list.
     fn send(&self, state: &mut State, number: usize, port: Port) -> Result<(), AllocError>
         requires setting { IsSetting (setting_of self.now) }
         requires state { IsState (setting_of self.now) state.old }
@@ -249,7 +245,7 @@ impl Replay<'_> {
         Ok(())
     }
 
-    /// The background frame that waits on the link of a list, when it starts at the port's instant.
+    // The background frame that waits on the link of a list, when it starts at the port's instant.
     fn sending(&self, state: &State, number: usize, port: Port) -> Sending
         requires setting { IsSetting (setting_of self.now) }
         requires state { IsState (setting_of self.now) state.now }
@@ -270,7 +266,7 @@ impl Replay<'_> {
         }
     }
 
-    /// Keeps the start of a background frame, if such starts are kept.
+    // Keeps the start of a background frame, if such starts are kept.
     fn note(&self, starts: &mut Starts, waiting: Waiting, time: u64) -> Result<(), AllocError>
         ensures { IfOk result (λ _. starts.new ≡ noted self.now.keeps starts.old
             (record { link = waiting.link; time = time; octets = waiting.octets; number = waiting.number })) }
@@ -283,7 +279,6 @@ impl Replay<'_> {
     }
 }
 
-/// By link the number of its list.
 fn numbers_by_link(
     alloc: Global,
     gates: &[Openings],
@@ -301,7 +296,7 @@ fn numbers_by_link(
     Ok(numbers)
 }
 
-/// How long an octet takes on a link.
+// How long an octet takes on a link.
 fn rate(network: &PlainNetwork, link: usize) -> u64
     requires { link < length network.now.links }
     ensures value { result ≡ (link_at network.now link).octet_time }

@@ -20,7 +20,7 @@ pub enum GateFault {
 }
 
 impl GateFault {
-    /// The number by which the fault is told: 1 to 3, in the order above.
+    /// The number by which a fault of gate lists is told: 1 to 3, in the order above.
     pub fn number(self) -> u8
         ensures { result ≡ number_of self }
     {

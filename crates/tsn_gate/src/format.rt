@@ -35,7 +35,6 @@ pub fn text_in(
     }
 }
 
-/// The tables of gate lists.
 fn gate_tables(alloc: Global, problem: &Problem, lists: &[GateList]) -> Result<String, NoMemory>
     requires { All (λ list. list.link < length problem.now.network.links) lists.now }
     ensures { IfOk result (λ text. string_bytes text ≡ flat_map (table_text problem.now) lists.now) }
@@ -47,7 +46,6 @@ fn gate_tables(alloc: Global, problem: &Problem, lists: &[GateList]) -> Result<S
     Ok(text)
 }
 
-/// The lines of JSON of gate lists.
 fn gate_lines(alloc: Global, problem: &Problem, lists: &[GateList]) -> Result<String, NoMemory>
     requires { All (λ list. list.link < length problem.now.network.links) lists.now }
     ensures { IfOk result (λ text. string_bytes text ≡ flat_map (json_text problem.now) lists.now) }

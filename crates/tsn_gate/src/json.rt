@@ -25,7 +25,6 @@ pub fn json_line(alloc: Global, problem: &Problem, list: &GateList) -> Result<St
     Ok(line(alloc, &value)?)
 }
 
-/// The object of a list.
 fn list_value(alloc: Global, problem: &Problem, list: &GateList) -> Result<Value, AllocError>
     requires { list.now.link < length problem.now.network.links }
     ensures { IfOk result (λ value. view value ≡ list_value problem.now list.now) }
@@ -39,7 +38,6 @@ fn list_value(alloc: Global, problem: &Problem, list: &GateList) -> Result<Value
     json!(in alloc; {"cycle": cycle, "entries": entries, "from": from, "link": link, "to": to})
 }
 
-/// The array of the entries.
 fn entry_values(alloc: Global, entries: &[GateEntry]) -> Result<Value, AllocError>
     ensures { IfOk result (λ value. view value ≡ array (items_of (map entry_value entries.now))) }
 {
@@ -50,7 +48,7 @@ fn entry_values(alloc: Global, entries: &[GateEntry]) -> Result<Value, AllocErro
     Ok(Value::Array(values))
 }
 
-/// The octet and the interval of an entry.
+// The octet and the interval of an entry.
 fn entry_value(alloc: Global, entry: GateEntry) -> Result<Value, AllocError>
     ensures { IfOk result (λ value. view value ≡ entry_value entry) }
 {
@@ -59,7 +57,6 @@ fn entry_value(alloc: Global, entry: GateEntry) -> Result<Value, AllocError>
     json!(in alloc; [octet, interval])
 }
 
-/// The line of a value.
 fn line(alloc: Global, value: &Value) -> Result<String, AllocError>
     ensures { IfOk result (λ text. has_float (view value.now) ≡ false → string_bytes text ≡ line_text (view value.now)) }
 {

@@ -32,7 +32,7 @@ pub fn times_kept(
     Ok(kept)
 }
 
-/// Adds what is kept of an entry that begins at `start`, if anything is, and returns from when on the next time can begin.
+// Adds what is kept of an entry that begins at `start`, if anything is, and returns from when on the next time can begin.
 fn keep(
     kept: &mut Vec<Window>,
     entry: GateEntry,
@@ -57,7 +57,7 @@ fn keep(
     Ok(time.start + 2 * least)
 }
 
-/// What can be kept of a time of the background.
+// What can be kept of a time of the background.
 fn room(time: Window, least: u64, from: u64, cycle: u64) -> Window
     requires { time.end ≤ cycle }
     ensures start { result.start ≡ earliest least from time }
@@ -77,7 +77,7 @@ fn room(time: Window, least: u64, from: u64, cycle: u64) -> Window
     Window { start, end }
 }
 
-/// Whether a time lasts so long.
+// Whether a time lasts so long.
 fn holds(time: Window, least: u64) -> bool
     ensures { result ≡ nat_le (time.start + least) time.end }
 {

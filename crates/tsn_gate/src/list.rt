@@ -13,7 +13,7 @@ use std::marker::Model;
 use tsn_model::{GateEntry, NoMemory};
 use tsn_timing::Problem;
 
-/// The longest cycle, in nanoseconds.
+// The longest cycle, in nanoseconds.
 const LONGEST_CYCLE: u64 = 1_000_000_000;
 
 /// The gate control list of a directed link: its entries, in order, which repeat after the last one's end. There is some
@@ -66,7 +66,7 @@ impl GateList {
         GateList { link, entries }
     }
 
-    /// The directed link.
+    /// The directed link whose gates it is about.
     pub fn link(&self) -> usize
         ensures { result ≡ self.now.link }
     {
@@ -143,7 +143,7 @@ pub fn names(problem: &Problem, link: usize) -> (&str, &str)
     (from, to)
 }
 
-/// The first line of a list's table.
+// The first line of a list's table.
 #[tactic(auto, unfolding(crate::specs::Table::head_text))]
 fn head(
     alloc: Global,
@@ -157,7 +157,6 @@ fn head(
     format!(in alloc; "link {link} {from} {to} {count}\n")
 }
 
-/// Writes the line of an entry.
 #[tactic(auto, using(std::proofs::lemmas::Fmt::hex_byte), unfolding(crate::specs::Table::entry_text))]
 fn write_entry(text: &mut String, entry: GateEntry) -> Result<(), AllocError>
     ensures { OnOk result (string_bytes text.new ≡ string_bytes text.old ++ entry_text entry) }
@@ -167,7 +166,7 @@ fn write_entry(text: &mut String, entry: GateEntry) -> Result<(), AllocError>
     write!(text, "{octet:02X} {interval}\n")
 }
 
-/// How long the entries last.
+// How long the entries last.
 #[tactic(auto, unfolding(tsn_model::specs::Gates::cycle_of))]
 fn total(entries: &[GateEntry]) -> u64
     requires { cycle_of entries.now ≤ LONGEST_CYCLE }
@@ -176,14 +175,14 @@ fn total(entries: &[GateEntry]) -> u64
     entries.iter().map(|entry| entry.interval).sum()
 }
 
-/// Whether each entry lasts at least 1 ns.
+// Whether each entry lasts at least 1 ns.
 fn all_positive(entries: &[GateEntry]) -> bool
     ensures { IsTrue result ↔ AllPositive entries.now }
 {
     entries.iter().all(|entry| entry.interval >= 1)
 }
 
-/// Whether the entries last no longer than the longest cycle.
+// Whether the entries last no longer than the longest cycle.
 fn is_short(entries: &[GateEntry]) -> bool
     ensures { IsTrue result ↔ (cycle_of entries.now ≤ LONGEST_CYCLE) }
 {

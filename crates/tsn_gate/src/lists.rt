@@ -36,7 +36,7 @@ pub fn gate_lists(
     Ok(lists_of(alloc, &timing, valid.offsets())?)
 }
 
-/// The lists of all links that a stream uses.
+// The lists of all links that a stream uses.
 fn lists_of(alloc: Global, timing: &Timing, offsets: &[u64]) -> Result<Vec<GateList>, AllocError>
     requires { IsValid timing.now offsets.now }
     ensures lists { IfOk result (λ lists. AreWantedLists timing.now offsets.now lists.items) }
@@ -53,7 +53,7 @@ fn lists_of(alloc: Global, timing: &Timing, offsets: &[u64]) -> Result<Vec<GateL
     Ok(lists)
 }
 
-/// The list of one link, if a stream uses it.
+// The list of one link, if a stream uses it.
 fn list_of(
     alloc: Global,
     timing: &Timing,
@@ -75,7 +75,7 @@ fn list_of(
     Ok(Some(GateList::of(link, entries)))
 }
 
-/// How long before a window no background frame may start, in nanoseconds.
+// How long before a window no background frame may start, in nanoseconds.
 #[tactic(auto, unfolding(tsn_model::specs::Gates::guard_of))]
 fn guard(timing: &Timing, link: usize) -> u64
     requires link { link < length timing.now.links }

@@ -62,7 +62,6 @@ pub fn merged_lists(
     Ok(merge_all(alloc, &wanted, least)?)
 }
 
-/// The lists, merged.
 fn merge_all(alloc: Global, lists: &[GateList], least: u64) -> Result<Vec<GateList>, AllocError>
     ensures { IfOk result (λ merged. AreMerged least lists.now merged.items) }
 {
@@ -73,7 +72,6 @@ fn merge_all(alloc: Global, lists: &[GateList], least: u64) -> Result<Vec<GateLi
     Ok(merged)
 }
 
-/// The list, merged.
 fn merge(alloc: Global, list: &GateList, least: u64) -> Result<GateList, AllocError>
     ensures { IfOk result (IsMerged least list.now) }
 {
@@ -87,7 +85,7 @@ fn merge(alloc: Global, list: &GateList, least: u64) -> Result<GateList, AllocEr
     Ok(GateList::of(list.link(), new))
 }
 
-/// The entries of a list that doesn't stay as it is.
+// The entries of a list that doesn't stay as it is.
 fn changed(
     alloc: Global,
     entries: &[GateEntry],
@@ -104,7 +102,6 @@ fn changed(
     widened(alloc, entries, &kept, least, cycle)
 }
 
-/// Whether each entry lasts so long.
 fn all_last(entries: &[GateEntry], least: u64) -> bool
     ensures { IsTrue result ↔ AllLast least entries.now }
 {

@@ -29,7 +29,7 @@ impl Model for Openings {
     ghost invariant = { λ g. IsGateList g.entries.items × (g.cycle ≡ cycle_of g.entries.items) × AreEnds g.entries.items g.ends.items };
 }
 
-/// The gates of a link, from an instant until they change.
+// The gates of a link, from an instant until they change.
 #[derive(Drop)]
 struct Span {
     octet: u8,
@@ -139,14 +139,12 @@ fn ends_of(alloc: Global, entries: &[GateEntry]) -> Result<Vec<u64>, AllocError>
     Ok(ends)
 }
 
-// Whether the octet opens the scheduled class.
 fn opens_scheduled(octet: u8) -> bool
     ensures { IsTrue result ↔ OpensScheduled octet }
 {
     octet & 0x80 != 0
 }
 
-// Whether the octet opens some background class.
 fn opens_background(octet: u8) -> bool
     ensures { IsTrue result ↔ OpensBackground octet }
 {

@@ -99,7 +99,7 @@ impl Port {
     }
 }
 
-/// When the first frame of the list's queue can start, from that instant on.
+// When the first frame of the list's queue can start, from that instant on.
 fn scheduled_on(queue: LinkQueue<'_>, first: Option<usize>, from: u64, end: u64) -> u64
     requires first { IsHead queue.network.now queue.frames.now queue.list.now.link first }
     requires streams { All (λ (frame : Frame). frame.stream < stream_count queue.network.now) queue.frames.now }
@@ -114,7 +114,7 @@ fn scheduled_on(queue: LinkQueue<'_>, first: Option<usize>, from: u64, end: u64)
     }
 }
 
-/// When the background frame that waits can start, from that instant on.
+// When the background frame that waits can start, from that instant on.
 fn background_on(list: &Openings, waiting: Option<Waiting>, from: u64, end: u64) -> u64
     requires wanted { (frame : Waiting) → waiting ≡ Some frame → frame.wanted ≤ latest_instant }
     requires from { from ≤ latest_instant }
@@ -127,7 +127,7 @@ fn background_on(list: &Openings, waiting: Option<Waiting>, from: u64, end: u64)
     }
 }
 
-/// When a frame can start on the list's link, from that instant on.
+// When a frame can start on the list's link, from that instant on.
 fn start_of(network: &PlainNetwork, frame: &Frame, list: &Openings, from: u64, end: u64) -> u64
     requires stream { frame.now.stream < stream_count network.now }
     requires waits { Waits network.now list.now.link frame.now }

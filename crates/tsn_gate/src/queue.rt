@@ -48,7 +48,7 @@ pub fn frames_of(
     Ok(frames)
 }
 
-/// Adds a stream's frames of a cycle, the first of which is ready at that instant.
+// Adds a stream's frames of a cycle, the first of which is ready at that instant.
 fn push_cycle(
     frames: &mut Vec<Frame>,
     network: &PlainNetwork,
@@ -94,7 +94,7 @@ pub fn advance(network: &PlainNetwork, frame: &Frame, time: u64) -> Frame
     }
 }
 
-/// Whether one frame is before another in a queue.
+// Whether one frame is before another in a queue.
 fn precedes(a: &Frame, b: &Frame) -> bool
     ensures yes { IsTrue result → Precedes a.now b.now }
     ensures no { Precedes b.now a.now ⊎ IsTrue result }
@@ -102,7 +102,7 @@ fn precedes(a: &Frame, b: &Frame) -> bool
     a.ready < b.ready || a.ready == b.ready && a.stream < b.stream
 }
 
-/// Of the frames from a number on to another one the first that is on the hop. None is on a later hop than one before it.
+// Of the frames from a number on to another one the first that is on the hop. None is on a later hop than one before it.
 fn first_on(frames: &[Frame], from: usize, to: usize, hop: usize) -> Option<usize>
     requires order { from ≤ to }
     requires within { to ≤ length frames.now }
@@ -117,7 +117,7 @@ fn first_on(frames: &[Frame], from: usize, to: usize, hop: usize) -> Option<usiz
     }
 }
 
-/// Of a stream's frames the one that is first in the link's queue.
+// Of a stream's frames the one that is first in the link's queue.
 fn first_of(
     network: &PlainNetwork,
     frames: &[Frame],

@@ -23,7 +23,7 @@ pub enum ReplayFault {
 }
 
 impl ReplayFault {
-    /// The number by which the fault is told: 1 to 3, in the order above.
+    /// The number by which a fault of a replay is told: 1 to 3, in the order above.
     pub fn number(self) -> u8
         ensures { result ≡ number_of self }
     {

@@ -13,8 +13,8 @@ use crate::trace::Row;
 use std::alloc::{AllocError, Global};
 use tsn_timing::Timing;
 
-/// When the frames of so many cycles start: as the timing and the offsets plan it, and in the replay, by cycle, stream, shift and
-/// hop. By stream it tells where the first of its frames stands among those of a cycle, and behind them how many these are.
+// When the frames of so many cycles start: as the timing and the offsets plan it, and in the replay, by cycle, stream, shift and
+// hop. By stream it tells where the first of its frames stands among those of a cycle, and behind them how many these are.
 #[derive(Clone, Copy)]
 struct StartTimes<'a> {
     timing: &'a Timing,
@@ -52,7 +52,6 @@ pub fn rows_of(
     rows_by(alloc, times)
 }
 
-/// The rows of all cycles.
 fn rows_by(alloc: Global, times: StartTimes<'_>) -> Result<Vec<Row>, AllocError>
     requires { AreTimes times.timing.now times.offsets.now times.firsts.now times.table.now times.cycles }
     ensures { IfOk result (λ rows. rows.items ≡ map (row_of times.entry.timing.now times.entry.offsets.now times.entry.table.now) (passages_of times.entry.timing.now times.entry.cycles)) }
@@ -64,7 +63,6 @@ fn rows_by(alloc: Global, times: StartTimes<'_>) -> Result<Vec<Row>, AllocError>
     Ok(rows)
 }
 
-/// Adds the rows of a cycle.
 fn push_cycle(rows: &mut Vec<Row>, times: StartTimes<'_>, cycle: usize) -> Result<(), AllocError>
     requires times { AreTimes times.timing.now times.offsets.now times.firsts.now times.table.now times.cycles }
     requires cycle { cycle < times.cycles }
@@ -76,7 +74,6 @@ fn push_cycle(rows: &mut Vec<Row>, times: StartTimes<'_>, cycle: usize) -> Resul
     Ok(())
 }
 
-/// Adds the rows of a stream in a cycle.
 fn push_stream(
     rows: &mut Vec<Row>,
     times: StartTimes<'_>,
@@ -94,7 +91,6 @@ fn push_stream(
     Ok(())
 }
 
-/// Adds the rows of a frame.
 fn push_frame(
     rows: &mut Vec<Row>,
     times: StartTimes<'_>,
@@ -114,7 +110,6 @@ fn push_frame(
     Ok(())
 }
 
-/// The row of a passage.
 #[tactic(auto, unfolding(crate::specs::Rows::row_of, tsn_model::specs::Bridge::planned))]
 fn row(times: StartTimes<'_>, cycle: usize, stream: usize, shift: u64, hop: usize) -> Row
     requires times { AreTimes times.timing.now times.offsets.now times.firsts.now times.table.now times.cycles }
@@ -138,7 +133,7 @@ fn row(times: StartTimes<'_>, cycle: usize, stream: usize, shift: u64, hop: usiz
     }
 }
 
-/// The starts by cycle, stream, shift and hop, sixteen cells for each frame in each cycle.
+// The starts by cycle, stream, shift and hop, sixteen cells for each frame in each cycle.
 fn table_of(
     alloc: Global,
     timing: &Timing,
@@ -172,7 +167,7 @@ fn table_of(
     Ok(table)
 }
 
-/// Where a passage stands in the table.
+// Where a passage stands in the table.
 #[tactic(auto, unfolding(crate::specs::Rows::cell_of))]
 fn cell(
     timing: &Timing,
@@ -198,7 +193,7 @@ fn cell(
     (cycle * frames + index) * 16 + hop
 }
 
-/// Where a shift stands among those of its stream.
+// Where a shift stands among those of its stream.
 fn place_of(timing: &Timing, stream: usize, shift: u64) -> usize
     requires spaced { AreSpaced timing.now }
     requires stream { stream < stream_count timing.now }
@@ -211,7 +206,7 @@ fn place_of(timing: &Timing, stream: usize, shift: u64) -> usize
         .partition_point(|other| *other < shift)
 }
 
-/// By stream where the first of its frames stands among those of a cycle, and behind them how many these are.
+// By stream where the first of its frames stands among those of a cycle, and behind them how many these are.
 fn firsts_of(alloc: Global, timing: &Timing) -> Result<Vec<usize>, AllocError>
     ensures { IfOk result (λ firsts. AreFirsts timing.now firsts.items) }
 {

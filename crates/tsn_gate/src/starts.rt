@@ -85,7 +85,7 @@ impl Started {
 impl Sent {
     ghost use Rattle.std.specs.Prelude.{◌≡◌};
 
-    /// The directed link.
+    /// The directed link on which it starts.
     pub fn link(&self) -> usize
         ensures { result ≡ self.now.link }
     {

@@ -69,14 +69,13 @@ impl ReplayTable {
     }
 }
 
-/// How many rows are late.
 fn late_count(rows: &[Row]) -> usize
     ensures { result ≡ length (filter is_late rows.now) }
 {
     rows.iter().filter(|row| row.is_late()).count()
 }
 
-/// Writes the line of a row.
+// Writes the line of a row.
 #[tactic(auto, unfolding(crate::specs::Rows::row_text))]
 fn write_row(text: &mut String, problem: &Problem, row: &Row) -> Result<(), AllocError>
     requires { row.now.stream < length problem.now.stream_names }
@@ -92,7 +91,7 @@ fn write_row(text: &mut String, problem: &Problem, row: &Row) -> Result<(), Allo
     }
 }
 
-/// Writes the last line.
+// Writes the last line.
 #[tactic(auto, unfolding(crate::specs::Rows::late_text))]
 fn write_late(text: &mut String, count: usize) -> Result<(), AllocError>
     ensures { OnOk result (string_bytes text.new ≡ string_bytes text.old ++ late_text count) }

@@ -9,23 +9,23 @@ use std::fmt::Write;
 use tsn_model::{GateEntry, NoMemory};
 use tsn_timing::Problem;
 
-/// The first lines of a script, with its variables.
+// The first lines of a script, with its variables.
 const FIRST_LINES: &str =
     "#!/bin/sh\n# Each list is set on the device that its variable names, and none where that is empty.\n# BASE_TIME: when the first cycle begins, in nanoseconds of the clock CLOCKID.\n# FLAGS: empty where the kernel runs the lists, 0x2 where the device does, 0x1 for launch times, with TXTIME_DELAY.\n# MOST, LEAST: the most entries and the least nanoseconds of one that a device takes; LEAST empty: as long as 60 octets on its link.\n# DRY=1: print the commands and run none. FORCE=1: set lists that are refused for MOST or LEAST, too.\nset -eu\nCLOCKID=${CLOCKID:-CLOCK_TAI}\nBASE_TIME=${BASE_TIME:-0}\nFLAGS=${FLAGS:-}\nTXTIME_DELAY=${TXTIME_DELAY:-0}\nDRY=${DRY:-}\nFORCE=${FORCE:-}\n";
 
-/// The lines behind the variables of the devices: what the variables make.
+// The lines behind the variables of the devices: what the variables make.
 const SETTING_LINES: &str =
     "\ncase $FLAGS in\n'') CLOCK=\"clockid $CLOCKID\" ;;\n0x1 | 1) CLOCK=\"flags $FLAGS txtime-delay $TXTIME_DELAY clockid $CLOCKID\" ;;\n*) CLOCK=\"flags $FLAGS\" ;;\nesac\n\n# Ends the script where a variable is no number.\nnumber() {\n    case $2 in\n    '' | *[!0123456789]* | ???????????????????*)\n        echo \"$1 is no number of at most 18 digits: $2\" >&2\n        exit 1\n        ;;\n    esac\n}\nnumber MOST \"$MOST\"\nnumber LEAST \"${LEAST:-0}\"\n";
 
-/// The lines before the lists: what is done with each list.
+// The lines before the lists: what is done with each list.
 const MIDDLE_LINES: &str =
     "REFUSED=\n\n# Tells what a device doesn't take of its list: more than MOST entries, or one shorter than LEAST nanoseconds.\njudge() {\n    least=${LEAST:-$1}\n    device=$2\n    shift 2\n    entries=0\n    shortest=$least\n    while [ $# -gt 0 ]; do\n        if [ \"$1\" = sched-entry ]; then\n            entries=$((entries + 1))\n            [ \"$4\" -ge \"$shortest\" ] || shortest=$4\n            shift 3\n        fi\n        shift\n    done\n    if [ \"$entries\" -gt \"$MOST\" ]; then\n        echo \"$device: $entries entries, more than $MOST\" >&2\n        REFUSED=1\n    fi\n    if [ \"$shortest\" -lt \"$least\" ]; then\n        echo \"$device: an entry of $shortest ns, shorter than $least\" >&2\n        REFUSED=1\n    fi\n}\n\n# Sets a list on its device.\nput() {\n    device=$2\n    shift 2\n    if [ -n \"$DRY\" ]; then\n        echo tc qdisc replace dev \"$device\" \"$@\"\n    else\n        tc qdisc replace dev \"$device\" \"$@\"\n    fi\n}\n\neach_list() {\n    :\n";
 
-/// The last lines: each list is judged before any is set.
+// The last lines: each list is judged before any is set.
 const LAST_LINES: &str =
     "}\n\neach_list judge\nif [ -n \"$REFUSED\" ] && [ -z \"$FORCE\" ]; then\n    echo \"No list is set; FORCE=1 sets them all.\" >&2\n    exit 1\nfi\neach_list put\n";
 
-/// The last line of a link's list.
+// The last line of a link's list.
 const LAST_LINE: &str = "    $CLOCK\n";
 
 /// What a device takes of a gate control list.
@@ -44,7 +44,7 @@ pub const LINUX: DeviceLimits = DeviceLimits {
     least: None,
 };
 
-/// How many octets have to fit into an entry, for Linux.
+// How many octets have to fit into an entry, for Linux.
 const SHORTEST_OCTETS: u64 = 60;
 
 /// The script of `to_taprio_within` for what Linux takes.
@@ -59,12 +59,12 @@ pub fn to_taprio(alloc: Global, problem: &Problem, lists: &[GateList]) -> Result
     to_taprio_within(alloc, problem, lists, LINUX)
 }
 
-/// The lists as a shell script, with a command of `tc` for each that sets it on a device of eight queues, one for each
-/// traffic class. The device of link 4 is in the variable `DEV_4`, the clock in `CLOCKID` and the instant at which the first
-/// cycle begins in `BASE_TIME`; the caller's environment may set them, and `FLAGS`, `TXTIME_DELAY`, `DRY`, `FORCE`, `MOST` and
+/// The lists as a shell script, with a command of `tc` for each that sets it on a device of eight queues, one for each traffic
+/// class. The device of link 4 is in the variable `DEV_4`, the clock in `CLOCKID` and the instant at which the first cycle
+/// begins in `BASE_TIME`; the caller's environment may set them, and `FLAGS`, `TXTIME_DELAY`, `DRY`, `FORCE`, `MOST` and
 /// `LEAST`, whose meaning the script says. It sets no list where a device's has more entries than the limits allow, or a
-/// shorter one, unless `FORCE` is set, nor where `MOST` or `LEAST` is no number. A comment on each link names the nodes that it joins: in it a byte of no printable
-/// ASCII character, or of a backslash, stands as `\x` and its two hexadecimal digits.
+/// shorter one, unless `FORCE` is set, nor where `MOST` or `LEAST` is no number. A comment on each link names the nodes that
+/// it joins: in it a byte of no printable ASCII character, or of a backslash, stands as `\x` and its two hexadecimal digits.
 ///
 /// # Errors
 ///
@@ -84,7 +84,7 @@ pub fn to_taprio_within(
     Ok(text)
 }
 
-/// Writes the variables of what a device takes, and those of the devices.
+// Writes the variables of what a device takes, and those of the devices.
 fn write_variables(
     text: &mut String,
     problem: &Problem,
@@ -98,7 +98,7 @@ fn write_variables(
     write_devices(text, problem, lists)
 }
 
-/// Writes what is done with each list, and the lists' commands.
+// Writes what is done with each list, and the lists' commands.
 fn write_commands(
     text: &mut String,
     problem: &Problem,
@@ -113,7 +113,7 @@ fn write_commands(
     write_last(text)
 }
 
-/// A script's first lines.
+// A script's first lines.
 #[tactic(auto, unfolding(crate::specs::Taprio::first_lines))]
 fn first_text(alloc: Global) -> Result<String, AllocError>
     ensures { IfOk result (λ text. string_bytes text ≡ first_lines) }
@@ -121,7 +121,7 @@ fn first_text(alloc: Global) -> Result<String, AllocError>
     String::from_str(alloc, FIRST_LINES)
 }
 
-/// Writes the lines behind the variables.
+// Writes the lines behind the variables.
 #[tactic(auto, unfolding(crate::specs::Taprio::setting_lines))]
 fn write_setting(text: &mut String) -> Result<(), AllocError>
     ensures { OnOk result (string_bytes text.new ≡ string_bytes text.old ++ setting_lines) }
@@ -129,7 +129,7 @@ fn write_setting(text: &mut String) -> Result<(), AllocError>
     text.push_str(SETTING_LINES)
 }
 
-/// Writes the lines before the lists.
+// Writes the lines before the lists.
 #[tactic(auto, unfolding(crate::specs::Taprio::middle_lines))]
 fn write_middle(text: &mut String) -> Result<(), AllocError>
     ensures { OnOk result (string_bytes text.new ≡ string_bytes text.old ++ middle_lines) }
@@ -137,7 +137,7 @@ fn write_middle(text: &mut String) -> Result<(), AllocError>
     text.push_str(MIDDLE_LINES)
 }
 
-/// Writes the lines behind the lists.
+// Writes the lines behind the lists.
 #[tactic(auto, unfolding(crate::specs::Taprio::last_lines))]
 fn write_last(text: &mut String) -> Result<(), AllocError>
     ensures { OnOk result (string_bytes text.new ≡ string_bytes text.old ++ last_lines) }
@@ -145,7 +145,7 @@ fn write_last(text: &mut String) -> Result<(), AllocError>
     text.push_str(LAST_LINES)
 }
 
-/// Writes the variables of what a device takes.
+// Writes the variables of what a device takes.
 #[tactic(auto, unfolding(crate::specs::Taprio::limits_text))]
 fn write_limits(text: &mut String, limits: DeviceLimits) -> Result<(), AllocError>
     ensures { OnOk result (string_bytes text.new ≡ string_bytes text.old ++ limits_text limits.most limits.least) }
@@ -157,7 +157,7 @@ fn write_limits(text: &mut String, limits: DeviceLimits) -> Result<(), AllocErro
     }
 }
 
-/// Writes the variables of the devices.
+// Writes the variables of the devices.
 fn write_devices(text: &mut String, problem: &Problem, lists: &[GateList]) -> Result<(), AllocError>
     requires { All (λ list. list.link < length problem.now.network.links) lists.now }
     ensures { OnOk result (string_bytes text.new ≡ string_bytes text.old ++ flat_map (device_text problem.now) lists.now) }
@@ -169,7 +169,6 @@ fn write_devices(text: &mut String, problem: &Problem, lists: &[GateList]) -> Re
     Ok(())
 }
 
-/// Writes the parts of all lists.
 fn write_parts(text: &mut String, problem: &Problem, lists: &[GateList]) -> Result<(), AllocError>
     requires { All (λ list. list.link < length problem.now.network.links) lists.now }
     ensures { OnOk result (string_bytes text.new ≡ string_bytes text.old ++ flat_map (part_text problem.now) lists.now) }
@@ -180,7 +179,6 @@ fn write_parts(text: &mut String, problem: &Problem, lists: &[GateList]) -> Resu
     Ok(())
 }
 
-/// Writes the part of a list.
 fn write_part(text: &mut String, problem: &Problem, list: &GateList) -> Result<(), AllocError>
     requires { list.now.link < length problem.now.network.links }
     ensures { OnOk result (string_bytes text.new ≡ string_bytes text.old ++ part_text problem.now list.now) }
@@ -190,7 +188,6 @@ fn write_part(text: &mut String, problem: &Problem, list: &GateList) -> Result<(
     write_command(text, problem, list)
 }
 
-/// Writes the command of a list.
 #[tactic(auto, unfolding(crate::specs::Taprio::command_text))]
 fn write_command(text: &mut String, problem: &Problem, list: &GateList) -> Result<(), AllocError>
     ensures { OnOk result (string_bytes text.new ≡ string_bytes text.old ++ command_text problem.now.network list.now) }
@@ -213,7 +210,7 @@ pub(crate) fn shortest_entry(problem: &Problem, link: usize) -> u64
     SHORTEST_OCTETS * problem.link(link).octet_time
 }
 
-/// Writes the lines of the entries.
+// Writes the lines of the entries.
 fn write_steps(text: &mut String, entries: &[GateEntry]) -> Result<(), AllocError>
     ensures { OnOk result (string_bytes text.new ≡ string_bytes text.old ++ flat_map step_text entries.now) }
 {
@@ -223,7 +220,6 @@ fn write_steps(text: &mut String, entries: &[GateEntry]) -> Result<(), AllocErro
     Ok(())
 }
 
-/// Writes the comment on a link.
 fn write_link(text: &mut String, problem: &Problem, link: usize) -> Result<(), AllocError>
     requires { link < length problem.now.network.links }
     ensures { OnOk result (string_bytes text.new ≡ string_bytes text.old ++ link_comment problem.now link) }
@@ -232,7 +228,7 @@ fn write_link(text: &mut String, problem: &Problem, link: usize) -> Result<(), A
     write_comment(text, link, from, to)
 }
 
-/// Writes a comment with a link's number and the names of its ends.
+// Writes a comment with a link's number and the names of its ends.
 #[tactic(auto, unfolding(crate::specs::Taprio::comment_text))]
 fn write_comment(text: &mut String, link: usize, from: &str, to: &str) -> Result<(), AllocError>
     ensures { OnOk result (string_bytes text.new ≡ string_bytes text.old ++ comment_text link from.now to.now) }
@@ -244,7 +240,7 @@ fn write_comment(text: &mut String, link: usize, from: &str, to: &str) -> Result
     text.push_str("\n")
 }
 
-/// Writes a name so that a comment may hold it.
+// Writes a name so that a comment may hold it.
 fn write_escaped(text: &mut String, name: &str) -> Result<(), AllocError>
     ensures { OnOk result (string_bytes text.new ≡ string_bytes text.old ++ escaped name.now) }
 {
@@ -254,7 +250,7 @@ fn write_escaped(text: &mut String, name: &str) -> Result<(), AllocError>
     Ok(())
 }
 
-/// Writes a byte of a name.
+// Writes a byte of a name.
 #[tactic(auto, using(std::proofs::lemmas::Fmt::hex_byte), unfolding(crate::specs::Taprio::escaped_byte))]
 fn write_escaped_byte(text: &mut String, byte: u8) -> Result<(), AllocError>
     ensures { OnOk result (string_bytes text.new ≡ string_bytes text.old ++ escaped_byte byte) }
@@ -266,14 +262,14 @@ fn write_escaped_byte(text: &mut String, byte: u8) -> Result<(), AllocError>
     }
 }
 
-/// Whether a byte is a printable ASCII character but the backslash.
+// Whether a byte is a printable ASCII character but the backslash.
 fn is_plain(byte: u8) -> bool
     ensures { result ≡ is_plain byte }
 {
     32 <= byte && byte < 127 && byte != b'\\'
 }
 
-/// Writes the variable of a link's device.
+// Writes the variable of a link's device.
 #[tactic(auto, unfolding(crate::specs::Taprio::variable_text))]
 fn write_variable(text: &mut String, link: usize) -> Result<(), AllocError>
     ensures { OnOk result (string_bytes text.new ≡ string_bytes text.old ++ variable_text link) }
@@ -281,7 +277,7 @@ fn write_variable(text: &mut String, link: usize) -> Result<(), AllocError>
     write!(text, "DEV_{link}=${{DEV_{link}:-}}\n")
 }
 
-/// Writes the head of a link's command.
+// Writes the head of a link's command.
 #[tactic(auto, unfolding(crate::specs::Taprio::opening_text))]
 fn write_opening(
     text: &mut String,
@@ -297,7 +293,6 @@ fn write_opening(
     )
 }
 
-/// Writes the line of an entry.
 #[tactic(auto, using(std::proofs::lemmas::Fmt::hex_byte), unfolding(crate::specs::Taprio::step_text))]
 fn write_step(text: &mut String, entry: GateEntry) -> Result<(), AllocError>
     ensures { OnOk result (string_bytes text.new ≡ string_bytes text.old ++ step_text entry) }

@@ -73,7 +73,7 @@ impl Timeline {
     }
 }
 
-/// Adds an entry, or lengthens the last one where that shows the same octet.
+// Adds an entry, or lengthens the last one where that shows the same octet.
 fn append(entries: &mut Vec<GateEntry>, entry: GateEntry) -> Result<(), AllocError>
     requires lasts { 1 ≤ entry.interval }
     requires fits { cycle_of entries.old.items + entry.interval < 2 ^ 64 }

@@ -83,7 +83,7 @@ impl PortQueue {
     }
 }
 
-/// The least power of two that is at least so many.
+// The least power of two that is at least so many.
 fn leaves_for(count: usize) -> usize
     requires { count ≤ most_ports }
     ensures some { 1 ≤ result }
@@ -97,7 +97,7 @@ fn leaves_for(count: usize) -> usize
     leaves
 }
 
-/// Makes the nodes above a leaf anew.
+// Makes the nodes above a leaf anew.
 fn carry(times: &mut [u64], leaves: usize, leaf: usize)
     requires few { leaves ≤ 2 * most_ports }
     requires count { length times.old ≡ 2 * leaves }
@@ -115,7 +115,7 @@ fn carry(times: &mut [u64], leaves: usize, leaf: usize)
     }
 }
 
-/// The first leaf that holds the least instant.
+// The first leaf that holds the least instant.
 fn first_leaf(times: &[u64], leaves: usize) -> usize
     requires some { 1 ≤ leaves }
     requires few { leaves ≤ 2 * most_ports }

@@ -81,8 +81,7 @@ impl Trace {
         self.starts.background()
     }
 
-    /// The rows as a table: a line for each with the stream's name, the cycle, the hop, the planned and the actual start,
-    /// `-` where there is none; and a last line with the number of rows that are late.
+    /// The rows as `ReplayTable::to_text` writes them.
     pub fn to_text(&self, alloc: Global, problem: &Problem) -> Result<String, NoMemory>
         requires { All (λ (row : Row). row.stream < length problem.now.stream_names) self.now.rows }
         ensures { IfOk result (λ text. string_bytes text ≡ table_text problem.now self.now.rows) }
@@ -90,8 +89,7 @@ impl Trace {
         self.table.to_text(alloc, problem)
     }
 
-    /// The rows as comma-separated values (RFC 4180): a line with the columns' names, and one for each row with the stream's
-    /// name in quotes, the cycle, the hop, the planned and the actual start, which is empty where there is none.
+    /// The rows as `ReplayTable::to_csv` writes them.
     pub fn to_csv(&self, alloc: Global, problem: &Problem) -> Result<String, NoMemory>
         requires { All (λ (row : Row). row.stream < length problem.now.stream_names) self.now.rows }
         ensures { IfOk result (λ text. string_bytes text ≡ csv_text problem.now self.now.rows) }

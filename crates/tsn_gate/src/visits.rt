@@ -27,7 +27,7 @@ pub fn visits_of(alloc: Global, network: &PlainNetwork) -> Result<Vec<Vec<Visit>
     Ok(visits)
 }
 
-/// The hops on a link, by stream.
+// The hops on a link, by stream.
 fn visits_on(alloc: Global, network: &PlainNetwork, link: usize) -> Result<Vec<Visit>, AllocError>
     ensures { IfOk result (λ visits. AreVisits network.now link visits.items) }
 {
@@ -50,7 +50,7 @@ fn visits_on(alloc: Global, network: &PlainNetwork, link: usize) -> Result<Vec<V
     Ok(visits)
 }
 
-/// How many frames a stream sends in a cycle.
+// How many frames a stream sends in a cycle.
 fn frame_count(network: &PlainNetwork, stream: usize) -> usize
     requires { stream < stream_count network.now }
     ensures { result ≡ length (shifts network.now stream) }

@@ -48,15 +48,15 @@ pub fn widened(
     Ok(timeline.entries)
 }
 
-/// Whether a guard may stay closed before the time of that number: it comes after the background's time, over the cycle's
-/// end where it is the first.
+// Whether a guard may stay closed before the time of that number: it comes after the background's time, over the cycle's
+// end where it is the first.
 fn may_close(index: usize, round: bool) -> bool
     ensures { IsTrue result ↔ ((1 ≤ index) ⊎ IsTrue round) }
 {
     index >= 1 || round
 }
 
-/// Whether what is before the first time comes after the last one: no window opens from there up to the cycle's end.
+// Whether what is before the first time comes after the last one: no window opens from there up to the cycle's end.
 fn goes_round(entries: &[GateEntry], kept: &[Window], least: u64, cycle: u64) -> bool
     requires whole { cycle ≡ cycle_of entries.now }
     requires short { cycle ≤ 1_000_000_000 }
@@ -68,7 +68,7 @@ fn goes_round(entries: &[GateEntry], kept: &[Window], least: u64, cycle: u64) ->
     first_window(entries, last, cycle) == cycle
 }
 
-/// When the last time ends; 0 where there is none.
+// When the last time ends; 0 where there is none.
 fn last_end(kept: &[Window]) -> u64
     ensures none { length kept.now ≡ 0 → result ≡ 0 }
     ensures last { (d : Window) → 0 < length kept.now → result ≡ (slice_index_or kept.now (length kept.now - 1) d).end }
@@ -79,7 +79,7 @@ fn last_end(kept: &[Window]) -> u64
     }
 }
 
-/// Until when a time of the background is kept: at most until `least` nanoseconds before the next one.
+// Until when a time of the background is kept: at most until `least` nanoseconds before the next one.
 fn kept_until(kept: &[Window], index: usize, least: u64) -> u64
     requires { index < length kept.now }
     ensures last { (d : Window) → length kept.now ≤ index + 1 → result ≡ (slice_index_or kept.now index d).end }
@@ -93,7 +93,7 @@ fn kept_until(kept: &[Window], index: usize, least: u64) -> u64
     }
 }
 
-/// Fills the time up to `until`, before the next time of the background.
+// Fills the time up to `until`, before the next time of the background.
 fn fill(
     timeline: &mut Timeline,
     entries: &[GateEntry],
@@ -115,8 +115,8 @@ fn fill(
     Ok(())
 }
 
-/// From when on the scheduled class is open between `from` and `until`: a guard before it stays closed where it may, lasts
-/// `least` nanoseconds, and leaves as many to the windows behind it.
+// From when on the scheduled class is open between `from` and `until`: a guard before it stays closed where it may, lasts
+// `least` nanoseconds, and leaves as many to the windows behind it.
 fn opening(entries: &[GateEntry], from: u64, until: u64, least: u64, closes: bool) -> u64
     requires order { from ≤ until }
     requires whole { until ≤ cycle_of entries.now }
@@ -132,21 +132,21 @@ fn opening(entries: &[GateEntry], from: u64, until: u64, least: u64, closes: boo
     }
 }
 
-/// Whether a guard stays closed: where it may, and lasts long enough.
+// Whether a guard stays closed: where it may, and lasts long enough.
 fn stays(closes: bool, long: bool) -> bool
     ensures { IsTrue result ↔ (IsTrue closes × IsTrue long) }
 {
     closes && long
 }
 
-/// Whether it is so long from one instant to the other.
+// Whether it is so long from one instant to the other.
 fn is_long(from: u64, last: u64, least: u64) -> bool
     ensures { IsTrue result ↔ ((from ≤ last) × (least ≤ last - from)) }
 {
     from <= last && last - from >= least
 }
 
-/// Until when it may stay closed, where the first window opens at `first` or none does.
+// Until when it may stay closed, where the first window opens at `first` or none does.
 fn last_closed(first: u64, until: u64, least: u64) -> u64
     ensures none { first ≡ until → result ≡ until }
     ensures some { (first ≡ until → ⊥) → result ≡ min first (until - least) }
@@ -158,7 +158,7 @@ fn last_closed(first: u64, until: u64, least: u64) -> u64
     }
 }
 
-/// The first instant from `from` on at which a window is open; `until` where that comes first.
+// The first instant from `from` on at which a window is open; `until` where that comes first.
 fn first_window(entries: &[GateEntry], from: u64, until: u64) -> u64
     requires order { from ≤ until }
     requires whole { until ≤ cycle_of entries.now }
@@ -180,7 +180,7 @@ fn first_window(entries: &[GateEntry], from: u64, until: u64) -> u64
     until
 }
 
-/// Whether an entry is a window that is open in the time that is looked at: it ends after its start, and begins before its end.
+// Whether an entry is a window that is open in the time that is looked at: it ends after its start, and begins before its end.
 fn is_window(entry: GateEntry, ends_after: bool, begins_before: bool) -> bool
     ensures { IsTrue result ↔ ((entry.octet ≡ scheduled_octet) × IsTrue ends_after × IsTrue begins_before) }
 {

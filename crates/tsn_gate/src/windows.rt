@@ -34,7 +34,6 @@ pub fn windows_on(
     Ok(windows)
 }
 
-/// The windows of a link, by stream.
 fn stream_windows(
     alloc: Global,
     timing: &Timing,
@@ -56,7 +55,7 @@ fn stream_windows(
     Ok(windows)
 }
 
-/// Adds a window for each shift, that of a frame so much later.
+// Adds a window for each shift, that of a frame so much later.
 fn push_windows(windows: &mut Vec<Window>, first: Window, shifts: &[u64]) -> Result<(), AllocError>
     requires order { first.start ≤ first.end }
     requires fits { All (λ shift. first.end + shift < 2 ^ 64) shifts.now }
@@ -71,7 +70,7 @@ fn push_windows(windows: &mut Vec<Window>, first: Window, shifts: &[u64]) -> Res
     Ok(())
 }
 
-/// The window on the link of a frame that a stream starts at its offset, if it uses the link.
+// The window on the link of a frame that a stream starts at its offset, if it uses the link.
 fn frame_window(timing: &Timing, offsets: &[u64], link: usize, stream: usize) -> Option<Window>
     requires link { link < length timing.now.links }
     requires stream { stream < stream_count timing.now }

@@ -7,7 +7,7 @@ use std::rt::Files;
 use tsn_device::are_one_file;
 use tsn_words::{PlanWords, ProveWords, Words};
 
-/// A file that a run reads or writes: the option and the word that name it, and its path.
+// A file that a run reads or writes: the option and the word that name it, and its path.
 #[derive(Clone, Copy)]
 struct Named<'a> {
     option: &'a str,
@@ -22,7 +22,7 @@ impl fmt::Display for Named<'_> {
     }
 }
 
-/// The files that a run reads and those that it writes.
+// The files that a run reads and those that it writes.
 #[derive(Clone, Copy)]
 struct NamedFiles<'a> {
     network: Named<'a>,
@@ -44,7 +44,7 @@ pub fn doubled_in<R: Files>(
     }
 }
 
-/// Those of `plan`.
+// Those of `plan`.
 fn plan_files<'a>(words: &PlanWords<'a>) -> NamedFiles<'a> {
     NamedFiles {
         network: network_of(words.network),
@@ -54,7 +54,7 @@ fn plan_files<'a>(words: &PlanWords<'a>) -> NamedFiles<'a> {
     }
 }
 
-/// Those of `prove`.
+// Those of `prove`.
 fn prove_files<'a>(words: &ProveWords<'a>) -> NamedFiles<'a> {
     NamedFiles {
         network: network_of(words.network),
@@ -64,8 +64,8 @@ fn prove_files<'a>(words: &ProveWords<'a>) -> NamedFiles<'a> {
     }
 }
 
-/// Why the words are refused, where a file that is to be written is named twice: as plan and certificate, or as one of these and
-/// as a file that is read, or where standard output goes.
+// Why the words are refused, where a file that is to be written is named twice: as plan and certificate, or as one of these and
+// as a file that is read, or where standard output goes.
 fn doubled<R: Files>(
     rt: &R,
     alloc: Global,
@@ -86,7 +86,7 @@ fn refusal(alloc: Global, left: Named<'_>, right: Named<'_>) -> Result<String, A
     )
 }
 
-/// The files that have to differ.
+// The files that have to differ.
 fn pairs<'a>(
     alloc: Global,
     files: NamedFiles<'a>,

@@ -47,7 +47,7 @@ pub fn reason_in(answer: Result<Answer, ReadFault>) -> Option<String> {
     }
 }
 
-/// Writes the line, and tells why it can't be written, or else the reason.
+// Writes the line, and tells why it can't be written, or else the reason.
 fn tell_in_line<'a, G: Given<'a>, W: Made>(
     alloc: Global,
     given: &mut G,
@@ -64,7 +64,7 @@ fn tell_in_line<'a, G: Given<'a>, W: Made>(
     Ran { status, output }
 }
 
-/// Writes an outcome as a line of JSON; that memory was refused is said as ever.
+// Writes an outcome as a line of JSON; that memory was refused is said as ever.
 fn tell_as_json<'a, G: Given<'a>, W: Made>(
     alloc: Global,
     given: &mut G,
@@ -93,7 +93,7 @@ fn tell_as_json<'a, G: Given<'a>, W: Made>(
     }
 }
 
-/// Says that memory was refused.
+/// Writes that memory was refused, as a command does.
 pub fn say_no_memory<W: Made>(output: W) -> Ran<W>
     requires { W.failed output ≡ 0 }
     ensures { Says MEMORY (codes "no memory\n") (sink_over W.taken W.failed output result.output) result.status }
@@ -101,7 +101,7 @@ pub fn say_no_memory<W: Made>(output: W) -> Ran<W>
     say(output, MEMORY, NO_MEMORY_LINE)
 }
 
-/// The line of JSON.
+// The line of JSON.
 fn object_of(alloc: Global, outcome: Outcome, reason: &Option<String>) -> Result<String, NoMemory>
     ensures { IfOk result (λ text. IsObjectOf outcome (string_bytes text)) }
 {
@@ -112,7 +112,7 @@ fn object_of(alloc: Global, outcome: Outcome, reason: &Option<String>) -> Result
     format_told(alloc, outcome, reason)
 }
 
-/// Writes an object that tells how a run ended. Where that can't be written, this is told on standard error, and else the reason.
+// Writes an object that tells how a run ended. Where that can't be written, this is told on standard error, and else the reason.
 fn end_told<'a, G: Given<'a>, W: Made>(
     alloc: Global,
     given: &mut G,

@@ -28,7 +28,7 @@ pub fn refuse<E: Eprint>(told: &E, text: &str) -> u8 {
     WORDS
 }
 
-/// Says that memory was refused.
+/// Writes to standard output that memory was refused, before any command runs, and says the status.
 pub fn no_memory<P: Print>(output: &P) -> u8 {
     let mut sink = WriterSink::new(STANDARD_OUTPUT, io::writer(output));
     finish(&mut sink, MEMORY, NO_MEMORY_LINE)

@@ -27,7 +27,6 @@ pub fn format_told(
     Ok(line(alloc, &value)?)
 }
 
-/// The line of a value.
 fn line(alloc: Global, value: &Value) -> Result<String, AllocError>
     ensures { IfOk result (λ text. has_float (view value.now) ≡ false → string_bytes text ≡ line_text (view value.now)) }
 {
@@ -36,7 +35,7 @@ fn line(alloc: Global, value: &Value) -> Result<String, AllocError>
     Ok(text)
 }
 
-/// The values of an object that are texts.
+// The values of an object that are texts.
 #[derive(Drop)]
 struct Texts {
     code: Value,
@@ -45,7 +44,6 @@ struct Texts {
     reason: Value,
 }
 
-/// The object of an outcome.
 fn value_of(alloc: Global, outcome: Outcome, reason: Option<&str>) -> Result<Value, NoMemory>
     ensures { IfOk result (λ value. view value ≡ told_value outcome (option_map (λ text. text.now) reason.entry)) }
 {
@@ -62,7 +60,6 @@ fn value_of(alloc: Global, outcome: Outcome, reason: Option<&str>) -> Result<Val
     Ok(object(alloc, outcome, texts)?)
 }
 
-/// The object of an outcome with these texts.
 fn object(alloc: Global, outcome: Outcome, texts: Texts) -> Result<Value, AllocError>
     ensures { IfOk result (λ value. view value ≡ told_object outcome (view texts.code) (view texts.line) (view texts.place) (view texts.reason)) }
 {
@@ -86,7 +83,7 @@ fn object(alloc: Global, outcome: Outcome, texts: Texts) -> Result<Value, AllocE
     })
 }
 
-/// A count, as a number of 64 bits.
+// A count, as a number of 64 bits.
 fn count_of(count: Option<usize>) -> Option<u64>
     ensures { result ≡ count }
 {
@@ -96,7 +93,7 @@ fn count_of(count: Option<usize>) -> Option<u64>
     }
 }
 
-/// The line of an outcome without its end, or null where nothing is said.
+// The line of an outcome without its end, or null where nothing is said.
 #[tactic(auto, using(crate::proofs::Objects::line_not_empty))]
 fn said_or_null(alloc: Global, outcome: Outcome) -> Result<Value, AllocError>
     ensures { IfOk result (λ value. view value ≡ line_or_null (said outcome)) }
@@ -108,7 +105,6 @@ fn said_or_null(alloc: Global, outcome: Outcome) -> Result<Value, AllocError>
     Ok(Value::String(line))
 }
 
-/// A text, or null where there is none.
 fn owned_or_null(text: Option<String>) -> Value
     ensures { view result ≡ text_or_null (option_map string_bytes text) }
 {
@@ -118,7 +114,7 @@ fn owned_or_null(text: Option<String>) -> Value
     }
 }
 
-/// A copy of a text, or null where there is none.
+// A copy of a text, or null where there is none.
 fn text_or_null(alloc: Global, text: Option<&str>) -> Result<Value, AllocError>
     ensures { IfOk result (λ value. view value ≡ text_or_null (option_map (λ text. text.now) text.entry)) }
 {

@@ -64,7 +64,7 @@ fn failure_text(alloc: Global, failure: Failure<'_>) -> Result<String, AllocErro
     text.finish()
 }
 
-/// The line on a file of this name that has so many bytes; None where that isn't too many.
+// The line on a file of this name that has so many bytes; None where that isn't too many.
 fn too_long_line(alloc: Global, name: &str, count: usize) -> Option<String>
     ensures { IsSome result → MAX_FILE < count }
 {

@@ -25,7 +25,7 @@ use tsn_book::{Looks, WalkRefusal};
 use tsn_node::{NoMemory, Node};
 use tsn_timing::Solved;
 
-/// How often the lock is tried before a thread sleeps: for some tens of microseconds.
+// How often the lock is tried before a thread sleeps: for some tens of microseconds.
 const TRIES: usize = 500;
 
 /// The shared word, and behind a lock the book with one half of each teller's tally.

@@ -1,5 +1,6 @@
-//! The order of the questions: a first schedule, then the flowspan, then stream after stream in list order. A stream whose question
-//! takes too long is left, and come back to with what is left of the budget. Times are in nanoseconds.
+//! The order of the questions: a first schedule, then the flowspan, then stream after stream as the
+//! file lists them. A stream whose question takes too long is left, and come back to with what is left
+//! of the budget. Times are in nanoseconds.
 use crate::first::first_schedule;
 use crate::learning::{Budget, CourseNews, Hear};
 use crate::table::table_of;
@@ -12,7 +13,7 @@ use tsn_solver::search::Search;
 use tsn_solver::table::{Table, Visit};
 use tsn_timing::Timing;
 
-/// How many conflicts the question by the links is worth.
+// How many conflicts the question by the links is worth.
 const SHARE: u64 = 50;
 
 /// A search for the first of the optimal schedules.

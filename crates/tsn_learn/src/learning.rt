@@ -9,7 +9,7 @@ use tsn_solver::pace::Pace;
 use tsn_solver::search::Search;
 use tsn_timing::Timing;
 
-/// How many more conflicts the second time may take than the first.
+// How many more conflicts the second time may take than the first.
 const MORE: u64 = 1000;
 
 /// How much a search may do.

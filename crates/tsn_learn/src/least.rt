@@ -11,7 +11,7 @@ use tsn_solver::number::{at, less, signed, signed_list, sum, unsigned_list};
 use tsn_solver::search::Search;
 use tsn_timing::Timing;
 
-/// After how many conflicts it is told how far a proof has got.
+// After how many conflicts it is told how far a proof has got.
 const ROUND: u64 = 2000;
 
 /// What is known of a schedule's flowspan.

@@ -1,7 +1,7 @@
 //! How a question is asked next: from which end of what is left, how far from it, and with how many conflicts.
 use tsn_solver::number::{less, sum};
 
-/// How many conflicts the first question after the flowspan is worth, and the others at first.
+// How many conflicts the first question after the flowspan is worth, and the others at first.
 const FLOWSPAN: Worth = Worth {
     first: 50,
     share: 50,
@@ -9,7 +9,7 @@ const FLOWSPAN: Worth = Worth {
     leaps: 128,
 };
 
-/// The same after a stream's offset.
+// The same after a stream's offset.
 const OFFSET: Worth = Worth {
     first: 300,
     share: 1000,
@@ -17,10 +17,10 @@ const OFFSET: Worth = Worth {
     leaps: MOST_PARTS,
 };
 
-/// In how many parts what is left is parted at most.
+// In how many parts what is left is parted at most.
 const MOST_PARTS: i64 = 1 << 20;
 
-/// How much less is asked for at the least, after a schedule was found, than one less than its value, in nanoseconds.
+// How much less is asked for at the least, after a schedule was found, than one less than its value, in nanoseconds.
 const LEAP: i64 = 256;
 
 // How many conflicts the first question is worth, and the others at first; in how many parts what is left is parted at first; and the

@@ -787,7 +787,6 @@ impl Writing<'_> {
         Ok(Some(Frames::of(list)))
     }
 
-    // The frame of a place on a link.
     fn frame_of(&self, link: usize, place: usize) -> Frame {
         let visit = self.known.table.visit(link, place);
         Frame {

@@ -39,7 +39,6 @@ impl<'a> Document<'a> {
     }
 }
 
-/// The text at a key, where there is one.
 fn text_in(table: &toml::Value, key: Key) -> Option<&str> {
     match table.get(key.name()) {
         Some(value) => value.as_str(),
@@ -61,7 +60,7 @@ pub(crate) fn push_amiss(text: &mut TextBuilder, names: Names<'_>, amiss: Amiss<
     push_matter(text, matter, place)
 }
 
-/// Writes the place of a fault: `node S: `, `cable 2, S to C: `, `stream one: `; nothing for the whole file.
+// Writes the place of a fault: `node S: `, `cable 2, S to C: `, `stream one: `; nothing for the whole file.
 fn push_place(text: &mut TextBuilder, names: Names<'_>, place: Place) {
     match place {
         Place::Node(node) => push_named(text, "node", node, names),
@@ -71,7 +70,7 @@ fn push_place(text: &mut TextBuilder, names: Names<'_>, place: Place) {
     }
 }
 
-/// Writes a node or a stream by its name, or by its number where it has none.
+// Writes a node or a stream by its name, or by its number where it has none.
 fn push_named(text: &mut TextBuilder, kind: &str, number: usize, names: Names<'_>) {
     text.push_str(kind);
     text.push(' ');
@@ -82,7 +81,7 @@ fn push_named(text: &mut TextBuilder, kind: &str, number: usize, names: Names<'_
     text.push_str(": ")
 }
 
-/// Writes a cable by its number, and the nodes that it joins, where they are named.
+// Writes a cable by its number, and the nodes that it joins, where they are named.
 fn push_cable(text: &mut TextBuilder, number: usize, names: Names<'_>) {
     text.push_str("cable ");
     text.push_count(number);
@@ -95,7 +94,7 @@ fn push_cable(text: &mut TextBuilder, number: usize, names: Names<'_>) {
     text.push_str(": ")
 }
 
-/// Writes what is the matter at a place.
+// Writes what is the matter at a place.
 fn push_matter(text: &mut TextBuilder, matter: Matter<'_>, place: Place) {
     match matter {
         Matter::MissingKey(key, beside) => push_missing_key(text, key, beside, place),
@@ -161,7 +160,7 @@ fn push_matter(text: &mut TextBuilder, matter: Matter<'_>, place: Place) {
     }
 }
 
-/// What the value at a key has to be.
+// What the value at a key has to be.
 fn kind_wanted(key: Key) -> &'static str {
     match key {
         Key::Node | Key::Link | Key::Stream => "an array of tables",
@@ -172,7 +171,7 @@ fn kind_wanted(key: Key) -> &'static str {
     }
 }
 
-/// Writes which key is missing, and beside it the one that isn't known, if there is one: that may have been meant.
+// Writes which key is missing, and beside it the one that isn't known, if there is one: that may have been meant.
 fn push_missing_key(text: &mut TextBuilder, key: Key, beside: Option<&str>, place: Place) {
     text.push_str("the key ");
     text.push_str(key.name());
@@ -186,7 +185,7 @@ fn push_missing_key(text: &mut TextBuilder, key: Key, beside: Option<&str>, plac
     }
 }
 
-/// Writes which key isn't known, or why a table can't have it.
+// Writes which key isn't known, or why a table can't have it.
 fn push_unknown_key(text: &mut TextBuilder, name: &str, place: Place) {
     match (name, place) {
         ("proc", Place::Node(_)) => text.push_str("a station has no proc"),
@@ -211,7 +210,7 @@ fn push_out_of_range(text: &mut TextBuilder, key: Key, number: i64) {
     text.push_number(key.most())
 }
 
-/// Writes how many there are of something, and how many there may be.
+// Writes how many there are of something, and how many there may be.
 fn push_too_many(text: &mut TextBuilder, what: &str, count: usize, parts: &str, key: Key) {
     text.push_str(what);
     text.push_str(" has ");
@@ -221,7 +220,7 @@ fn push_too_many(text: &mut TextBuilder, what: &str, count: usize, parts: &str, 
     text.push_number(key.most())
 }
 
-/// Writes what a name has to be, where the text is none.
+// Writes what a name has to be, where the text is none.
 fn push_no_name(text: &mut TextBuilder, what: &str, name: &str) {
     text.push_str(what);
     text.push_str(" is ");
@@ -229,7 +228,7 @@ fn push_no_name(text: &mut TextBuilder, what: &str, name: &str) {
     text.push_str(", and a name has 1 to 32 of the characters A to Z, a to z, 0 to 9, _ and -")
 }
 
-/// Writes which node or stream has the name already.
+// Writes which node or stream has the name already.
 fn push_taken_name(text: &mut TextBuilder, number: usize, place: Place) {
     text.push_str(match place {
         Place::Node(_) => "node ",
@@ -239,7 +238,7 @@ fn push_taken_name(text: &mut TextBuilder, number: usize, place: Place) {
     text.push_str(" has this name already")
 }
 
-/// Writes what a route does with a node.
+// Writes what a route does with a node.
 fn push_route(text: &mut TextBuilder, does: &str, name: &str, behind: &str) {
     text.push_str("its route ");
     text.push_str(does);

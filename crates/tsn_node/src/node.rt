@@ -134,7 +134,6 @@ impl Node {
     }
 }
 
-/// The path with one more decision.
 fn longer(alloc: Global, path: &[Decision], decision: Decision) -> Result<Vec<Decision>, AllocError>
     ensures { IfOk result (λ all. all.items ≡ path.now ++ decision ∷ []) }
 {

@@ -20,7 +20,7 @@ use tsn_codec::cert::text::{head_to_json, node_to_json, tail_to_json};
 use tsn_device::device::{Broken, Sink, write_all, write_whole};
 use tsn_model::NoMemory;
 
-/// How many bytes are written at a time, at least, but for the last ones.
+// How many bytes are written at a time, at least, but for the last ones.
 const PIECE: usize = 65_536;
 
 /// Why a certificate wasn't written whole.
@@ -91,7 +91,7 @@ pub(crate) fn write_wanted<C: Sink>(
     write_certificate(alloc, sink, cert)
 }
 
-/// Writes a certificate, and says that it is whole.
+// Writes a certificate, and says that it is whole.
 fn write_certificate<C: Sink>(alloc: Global, sink: &mut C, cert: Written) -> Result<(), CertFault>
     requires { C.failed sink.old < 2 ^ 64 - 1 }
     ensures whole { OnOk result (Appends (C.taken sink.old) (C.taken sink.new) (certificate_text (certificate_of cert))) }
@@ -107,7 +107,7 @@ fn write_certificate<C: Sink>(alloc: Global, sink: &mut C, cert: Written) -> Res
     }
 }
 
-/// Writes an argument, and says that it is whole. Where there is no memory for its text nothing of it is written.
+// Writes an argument, and says that it is whole. Where there is no memory for its text nothing of it is written.
 fn write_argument<C: Sink>(alloc: Global, sink: &mut C, argument: Argument) -> Result<(), CertFault>
     requires { C.failed sink.old < 2 ^ 64 - 1 }
     ensures whole { OnOk result (Appends (C.taken sink.old) (C.taken sink.new) (argument_text argument)) }
@@ -123,7 +123,7 @@ fn write_argument<C: Sink>(alloc: Global, sink: &mut C, argument: Argument) -> R
     Ok(())
 }
 
-/// Writes a tree, and says that it is whole.
+// Writes a tree, and says that it is whole.
 fn write_cert<C: Sink>(alloc: Global, sink: &mut C, cert: Spelling) -> Result<(), CertFault>
     requires { C.failed sink.old < 2 ^ 64 - 1 }
     ensures whole { OnOk result (Appends (C.taken sink.old) (C.taken sink.new) (cert_text cert)) }
@@ -142,7 +142,7 @@ fn write_cert<C: Sink>(alloc: Global, sink: &mut C, cert: Spelling) -> Result<()
     Ok(())
 }
 
-/// Writes the nodes behind a text. The answer is what isn't written yet.
+// Writes the nodes behind a text. The answer is what isn't written yet.
 #[tactic(auto, using(crate::proofs::PieceLemmas::all_given))]
 fn write_nodes<C: Sink>(
     alloc: Global,
@@ -169,7 +169,7 @@ fn write_nodes<C: Sink>(
     Ok(text)
 }
 
-/// Puts a node behind a text, of which what is long enough is written.
+// Puts a node behind a text, of which what is long enough is written.
 fn write_node<C: Sink>(
     alloc: Global,
     sink: &mut C,

@@ -64,7 +64,7 @@ pub fn alone(alloc: Global, answer: Answer) -> PlanOutput
     }
 }
 
-/// What is said of a finished search, with its certificate, where that is wanted.
+// What is said of a finished search, with its certificate, where that is wanted.
 fn finished(alloc: Global, book: Book, wanted: bool) -> Result<PlanOutput, NoMemory>
     requires { (network : Network) × ((limit : ℕ) × IsFinished network limit book) }
     ensures tells { IfOk result (λ output. (network : Network) (effort : Effort) → IsFinished network effort.limit book
@@ -83,7 +83,7 @@ fn finished(alloc: Global, book: Book, wanted: bool) -> Result<PlanOutput, NoMem
     Ok(PlanOutput { answer, plan, cert })
 }
 
-/// The certificate of a finished search, where that is wanted.
+// The certificate of a finished search, where that is wanted.
 fn spelled(book: Book, wanted: bool) -> Result<Option<Written>, NoMemory>
     requires { open_paths book.history ≡ [] }
     ensures { IfOk result (λ cert. IsWanted wanted book (written_in cert)) }
@@ -96,7 +96,7 @@ fn spelled(book: Book, wanted: bool) -> Result<Option<Written>, NoMemory>
     }
 }
 
-/// The answer of a finished search, and the text of its plan.
+// The answer of a finished search, and the text of its plan.
 fn texts_of(alloc: Global, book: &Book) -> Result<(Answer, String), NoMemory>
     ensures outcome { IfOk result (λ texts. texts.0.outcome ≡ found_outcome (plan_kept book.now.network (kept_of book.now.network book.now.history)) (length book.now.history)) }
     ensures not_stopped { IfOk result (λ texts. stop_of texts.0.outcome ≡ None) }
@@ -106,7 +106,6 @@ fn texts_of(alloc: Global, book: &Book) -> Result<(Answer, String), NoMemory>
     texts_for(alloc, &plan, book.count())
 }
 
-/// The answer of a plan that was found, and its text.
 fn texts_for(alloc: Global, plan: &Plan, count: usize) -> Result<(Answer, String), NoMemory>
     ensures outcome { IfOk result (λ texts. texts.0.outcome ≡ found_outcome plan.now count) }
     ensures not_stopped { IfOk result (λ texts. stop_of texts.0.outcome ≡ None) }
@@ -117,7 +116,7 @@ fn texts_for(alloc: Global, plan: &Plan, count: usize) -> Result<(Answer, String
     Ok((answer, text))
 }
 
-/// What is said of a plan that is shown to be optimal, or that there is none.
+// What is said of a plan that is shown to be optimal, or that there is none.
 fn answer_of(alloc: Global, plan: &Plan, count: usize) -> Result<Answer, NoMemory>
     ensures outcome { IfOk result (λ answer. answer.outcome ≡ found_outcome plan.now count) }
     ensures not_stopped { IfOk result (λ answer. stop_of answer.outcome ≡ None) }
@@ -132,7 +131,7 @@ fn answer_of(alloc: Global, plan: &Plan, count: usize) -> Result<Answer, NoMemor
     }
 }
 
-/// What is said of a plan with an argument for it, and the argument, where that is wanted.
+// What is said of a plan with an argument for it, and the argument, where that is wanted.
 fn argued(
     alloc: Global,
     plan: &Plan,
@@ -159,7 +158,6 @@ fn argued(
     })
 }
 
-/// The argument, where it is wanted.
 fn argument_if(argument: Argument, wanted: bool) -> Option<Written>
     ensures { result ≡ (if wanted then Some (Written.Argued argument) else None) }
 {
@@ -171,7 +169,7 @@ fn argument_if(argument: Argument, wanted: bool) -> Option<Written>
     }
 }
 
-/// What is said of a search that was stopped after so many settlements.
+// What is said of a search that was stopped after so many settlements.
 fn stopped(alloc: Global, count: usize, known: &Known) -> Result<PlanOutput, NoMemory>
     ensures output { IfOk result (λ output. printed (Ok output) ≡ stopped_output known.now count) }
     ensures none { IfOk result (λ output. output.cert ≡ None) }
@@ -188,7 +186,6 @@ fn stopped(alloc: Global, count: usize, known: &Known) -> Result<PlanOutput, NoM
     })
 }
 
-/// The text of the best plan, if there is one.
 fn best_text(alloc: Global, best: &Option<Solved>) -> Result<String, NoMemory>
     ensures { IfOk result (λ text. string_bytes text ≡ best_plan_text best.now) }
 {
@@ -204,7 +201,7 @@ fn best_text(alloc: Global, best: &Option<Solved>) -> Result<String, NoMemory>
     text
 }
 
-/// What is told of what a search knows.
+// What is told of what a search knows.
 fn stop_for(known: &Known) -> Stop
     ensures { result ≡ stop_for known.now }
 {

@@ -32,7 +32,7 @@ pub fn write_files<P: Sink, C: Sink>(
     }
 }
 
-/// Writes the texts of the files. The plan is in its place before the certificate is written, and both before the line.
+// Writes the texts of the files. The plan is in its place before the certificate is written, and both before the line.
 fn write_output<P: Sink, C: Sink>(
     alloc: Global,
     plan: &mut P,

@@ -17,7 +17,7 @@ pub fn judge_answer<S: Source>(alloc: Global, source: &mut S) -> Result<Answer, 
     answer_of(alloc, source)
 }
 
-/// The same, before its outcome is told.
+// The same, before its outcome is told.
 fn answer_of<S: Source>(alloc: Global, source: &mut S) -> Result<Answer, ReadFault>
     requires { S.failed source.old < 2 ^ 64 - 1 }
     ensures { ComesOver output_of JudgeAnswers

@@ -29,7 +29,7 @@ pub(crate) fn write_files<C: Sink, P: Sink>(
     }
 }
 
-/// Writes the texts of the files, each to its own.
+// Writes the texts of the files, each to its own.
 fn write_output<C: Sink, P: Sink>(
     cert: &mut C,
     plan: &mut P,

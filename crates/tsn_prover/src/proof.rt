@@ -50,7 +50,7 @@ pub fn prove<'a, C: Clock + Eprint, G: Given<'a>, W: Made>(
     }
 }
 
-/// Proves a plan with these files, and writes the line, or a line of JSON in its place.
+// Proves a plan with these files, and writes the line, or a line of JSON in its place.
 fn prove_to<'a, C: Clock + Eprint, G: Given<'a>, W: Made>(
     console: &C,
     alloc: Global,

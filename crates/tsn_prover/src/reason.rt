@@ -5,7 +5,8 @@ use std::alloc::{AllocError, Global};
 use tsn_reason::Outcome;
 use tsn_text::line_of;
 
-/// The line on a plan of the file of this name that a valid schedule undercuts; None where none does, or where there is no memory for the line.
+/// The line on a plan of the file of this name that a valid schedule undercuts; None where none does, or where there is no memory
+/// for the line.
 pub(crate) fn undercut_line(alloc: Global, name: &str, outcome: Outcome) -> Option<String> {
     match finding_of(outcome) {
         Some(Finding::Undercut(spans)) => undercut_text(alloc, name, spans).ok(),
@@ -15,7 +16,7 @@ pub(crate) fn undercut_line(alloc: Global, name: &str, outcome: Outcome) -> Opti
     }
 }
 
-/// The text on a plan of the file of this name, and on the better one.
+// The text on a plan of the file of this name, and on the better one.
 fn undercut_text(alloc: Global, name: &str, spans: Spans) -> Result<String, AllocError> {
     let Spans { stated, better } = spans;
     let mut text = line_of(alloc, name);

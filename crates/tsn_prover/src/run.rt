@@ -134,7 +134,7 @@ pub fn prove_answer<N: Source, P: Source, S: Supervisor, C: Sink, B: Sink>(
     write_files(cert, better, output)
 }
 
-/// What the run prints.
+// What the run prints.
 fn output_of<N: Source, P: Source, S: Supervisor>(
     alloc: Global,
     network: &mut N,
@@ -160,7 +160,7 @@ fn output_of<N: Source, P: Source, S: Supervisor>(
     }
 }
 
-/// What the run prints to a network and a plan of the file of this name.
+// What the run prints to a network and a plan of the file of this name.
 fn answer_to<S: Supervisor>(
     alloc: Global,
     problem: Problem,
@@ -185,7 +185,6 @@ fn answer_to<S: Supervisor>(
     output
 }
 
-/// What is printed of a plan.
 fn judgement<S: Supervisor>(
     alloc: Global,
     claim: Claim<'_>,
@@ -212,7 +211,7 @@ fn judgement<S: Supervisor>(
     }
 }
 
-/// What is printed of a plan with this fault.
+// What is printed of a plan with this fault.
 fn rejected(
     alloc: Global,
     claim: Claim<'_>,
@@ -232,7 +231,7 @@ fn rejected(
     Ok(alone(alloc, rejection(alloc, fault, reason)?))
 }
 
-/// Whether the plan is a valid schedule with its own flowspan, or that there is none; else its first fault.
+// Whether the plan is a valid schedule with its own flowspan, or that there is none; else its first fault.
 fn judge_claim(alloc: Global, timing: &Timing, plan: &Plan) -> Result<(), CheckFault>
     ensures right { OnOk result (IsPlanRight timing.now plan.now) }
     ensures fault { IfErr result (λ fault. (fault ≡ CheckFault.Memory) ⊎ IsClaimFault timing.now plan.now fault) }
@@ -247,7 +246,6 @@ fn judge_claim(alloc: Global, timing: &Timing, plan: &Plan) -> Result<(), CheckF
     }
 }
 
-/// An output that is a line alone.
 fn alone(alloc: Global, answer: Answer) -> ProofOutput
     requires { finding_of answer.outcome ≡ None }
     ensures line { shown (Ok result) ≡ line_after answer.outcome }
@@ -260,7 +258,7 @@ fn alone(alloc: Global, answer: Answer) -> ProofOutput
     }
 }
 
-/// What is printed of what was found of a plan.
+// What is printed of what was found of a plan.
 fn output_for(alloc: Global, plan: &Plan, proof: Proof) -> Result<ProofOutput, NoMemory>
     ensures output { IfOk result (λ output. shown (Ok output) ≡ output_of plan.now proof) }
     ensures outcome { IfOk result (λ output. output.answer.outcome ≡ outcome_for plan.now proof) }
@@ -280,7 +278,7 @@ fn output_for(alloc: Global, plan: &Plan, proof: Proof) -> Result<ProofOutput, N
     }
 }
 
-/// What is printed of a plan that no valid schedule undercuts.
+// What is printed of a plan that no valid schedule undercuts.
 fn proved(
     alloc: Global,
     plan: &Plan,
@@ -301,7 +299,7 @@ fn proved(
     })
 }
 
-/// What is printed of a plan that a better one undercuts.
+// What is printed of a plan that a better one undercuts.
 fn undercut(
     alloc: Global,
     plan: &Plan,
@@ -323,7 +321,7 @@ fn undercut(
     })
 }
 
-/// What is printed of a plan where the limit was met.
+// What is printed of a plan where the limit was met.
 fn stopped(alloc: Global, plan: &Plan, bound: u64, count: usize) -> Result<ProofOutput, NoMemory>
     ensures output { IfOk result (λ output. shown (Ok output) ≡ output_of plan.now (Stopped bound count)) }
     ensures outcome { IfOk result (λ output. output.answer.outcome ≡ outcome_for plan.now (Stopped bound count)) }
@@ -343,7 +341,7 @@ fn stopped(alloc: Global, plan: &Plan, bound: u64, count: usize) -> Result<Proof
     })
 }
 
-/// The flowspan of a plan in nanoseconds, if it is a schedule.
+// The flowspan of a plan in nanoseconds, if it is a schedule.
 fn span_if_any(plan: &Plan) -> Option<u64>
     ensures { result ≡ span_if_any plan.now }
 {
@@ -353,7 +351,7 @@ fn span_if_any(plan: &Plan) -> Option<u64>
     }
 }
 
-/// The flowspan of a plan in nanoseconds, 0 where it is that there is none.
+// The flowspan of a plan in nanoseconds, 0 where it is that there is none.
 fn span_of(plan: &Plan) -> u64
     ensures { result ≡ span_in plan.now }
 {

@@ -57,7 +57,7 @@ pub fn unwritable<'a, G: Given<'a>, W: Made>(
     )
 }
 
-/// What is answered where a file can't be made, and this of the network alone: that a device failed, where it isn't refused.
+// What is answered where a file can't be made, and this of the network alone: that a device failed, where it isn't refused.
 fn unmade(judged: Result<Answer, ReadFault>) -> Result<Answer, ReadFault>
     ensures { IsUnmadeOutcome (outcome_of judged) (outcome_of result) }
 {

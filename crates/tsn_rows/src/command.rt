@@ -66,7 +66,7 @@ fn asked(alloc: Global, text: String) -> RunResult {
     }
 }
 
-/// Keeps the files of a plan and a certificate.
+// Keeps the files of a plan and a certificate.
 fn keep_both(
     folder: &mut Folder,
     plan: Option<&str>,
@@ -77,7 +77,7 @@ fn keep_both(
     keep(folder, cert, &outcome.cert)
 }
 
-/// Keeps a file that was asked for and is made: it is made when its first byte is written.
+// Keeps a file that was asked for and is made: it is made when its first byte is written.
 fn keep(folder: &mut Folder, name: Option<&str>, bytes: &[u8]) -> Result<(), AllocError> {
     match name {
         Some(name) if !bytes.is_empty() => folder.write(

@@ -10,7 +10,7 @@ use tsn_device::{Action, Failure};
 use tsn_given::{Given, Made, Opened};
 use tsn_reason::memory::{MemorySink, MemorySource, NEVER};
 
-/// The file that stands for standard input, which the network `-` is read from.
+// The file that stands for standard input, which the network `-` is read from.
 const STANDARD_INPUT: &str = "stdin";
 
 /// What a command reads from or writes to, in the order in which it does.
@@ -46,7 +46,7 @@ impl Devices {
         }
     }
 
-    /// After how many good calls a device fails.
+    // After how many good calls a device fails.
     fn good_calls(self, device: Device) -> u64 {
         match self {
             Devices::Failing(failing, good_calls) if failing == device => good_calls,
@@ -135,7 +135,7 @@ impl Made for FolderSink {
     }
 }
 
-/// Why the device of this name failed, if it did.
+// Why the device of this name failed, if it did.
 fn failure_of(name: &str, action: Action, failures: u64) -> Option<Failure<'_>> {
     if failures == 0 {
         return None;
@@ -184,7 +184,7 @@ impl<'a> FolderDevices<'a> {
         }
     }
 
-    /// A source of a file, which fails at its first read where there is none of that name.
+    // A source of a file, which fails at its first read where there is none of that name.
     fn source(&self, word: &'a str, name: &'a str, device: Device) -> FolderSource<'a>
         ensures { IsOpened self.now.folder.now.files.items name.now result.source }
     {
@@ -194,7 +194,7 @@ impl<'a> FolderDevices<'a> {
         FolderSource { name: word, source }
     }
 
-    /// A sink to which nothing was written.
+    // A sink to which nothing was written.
     fn sink(&self, name: &'static str, device: Device) -> FolderSink
         ensures { IsFresh result.sink }
     {
@@ -204,14 +204,14 @@ impl<'a> FolderDevices<'a> {
     }
 }
 
-/// The file that a network's word names.
+// The file that a network's word names.
 fn input_name(word: &str) -> &str
     ensures { result.now ≡ input_name word.now }
 {
     if word == "-" { STANDARD_INPUT } else { word }
 }
 
-/// A source of these bytes; one whose first read fails, where there are none.
+// A source of these bytes; one whose first read fails, where there are none.
 fn source_of(bytes: Option<&[u8]>, piece: usize, good_calls: u64) -> MemorySource<'_>
     requires { 0 < piece }
     ensures holds { Holds (option_map (λ bytes. bytes.now) bytes.entry) result }

@@ -30,7 +30,7 @@ pub fn fail_each<R: AllocGlobal + Threads + Wait + Sync>(
     Ok(failed)
 }
 
-/// Lets each call of a device fail, until a run has fewer calls: how many there are.
+// Lets each call of a device fail, until a run has fewer calls: how many there are.
 fn fail_calls<R: AllocGlobal + Threads + Wait + Sync>(
     rt: &R,
     words: &[&str],
@@ -59,7 +59,7 @@ fn fail_calls<R: AllocGlobal + Threads + Wait + Sync>(
     Ok(u64::MAX)
 }
 
-/// Whether what was written is whole before the device that failed, ends where that did, and nothing stands behind it.
+// Whether what was written is whole before the device that failed, ends where that did, and nothing stands behind it.
 fn is_cut(device: Device, good_calls: u64, whole: &RunResult, found: &RunResult) -> bool {
     let (plan, cert, output) = match device {
         Device::PlanFile => (good_calls, 0, 0),
@@ -72,7 +72,7 @@ fn is_cut(device: Device, good_calls: u64, whole: &RunResult, found: &RunResult)
         && is_beginning(output, &whole.output, &found.output)
 }
 
-/// Whether this is the line on a device that failed.
+// Whether this is the line on a device that failed.
 fn is_told(device: Device, line: &str) -> bool {
     match device {
         Device::PlanFile => line.starts_with("the plan: cannot be written: "),
@@ -82,7 +82,7 @@ fn is_told(device: Device, line: &str) -> bool {
     }
 }
 
-/// Whether these are the first so many bytes, or all where there are fewer.
+// Whether these are the first so many bytes, or all where there are fewer.
 fn is_beginning(count: u64, whole: &[u8], found: &[u8]) -> bool {
     found.len() as u64 == count.min(whole.len() as u64) && whole.starts_with(found)
 }

@@ -4,7 +4,7 @@ ghost use Rattle.tsn_rows.specs.Folder.{bytes_in};
 
 use std::alloc::{AllocError, Global};
 
-/// A file.
+// A file.
 #[derive(Drop)]
 struct File {
     name: String,
@@ -85,7 +85,7 @@ impl Folder {
     }
 }
 
-/// What the first file of this name holds, where there is one.
+// What the first file of this name holds, where there is one.
 fn bytes_of<'a>(files: &'a [File], name: &str) -> Option<&'a [u8]>
     ensures { option_map (λ bytes. bytes.now) result ≡ bytes_in files.now name.now }
 {

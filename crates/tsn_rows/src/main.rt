@@ -32,7 +32,7 @@ fn main(rt: HostRuntime) -> Result<ExitCode> {
     })
 }
 
-/// Runs the rows of each table that the words name.
+// Runs the rows of each table that the words name.
 fn run<R: Env + Files + Print + AllocGlobal + Threads + Wait + Sync>(rt: &R) -> Result<Tally> {
     let names: Vec<String> = env::args(rt)?.collect(rt.alloc())?;
     let mut tally = Tally::default();

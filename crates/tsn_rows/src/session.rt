@@ -29,7 +29,7 @@ impl Tally {
     }
 }
 
-/// What a table is in the midst of.
+// What a table is in the midst of.
 #[derive(Clone, Copy, PartialEq, Eq)]
 enum Part {
     /// Nothing yet.
@@ -93,7 +93,7 @@ impl<'a, R: Files + Print + AllocGlobal + Threads + Wait + Sync> Session<'a, R> 
         Ok(self.tally)
     }
 
-    /// Tells what is wrong with a line. It is a row's, or a row of its own.
+    // Tells what is wrong with a line. It is a row's, or a row of its own.
     fn complain(&mut self, number: u64, line: &str, fault: &Error) -> Result<()> {
         let name = self.name;
         println!(self.rt; "{name}:{number}: {line}\n  {fault}")?;
@@ -127,7 +127,7 @@ impl<'a, R: Files + Print + AllocGlobal + Threads + Wait + Sync> Session<'a, R> 
         }
     }
 
-    /// Begins a row of several lines, or rows of one line each with these words. What went before has to be whole.
+    // Begins a row of several lines, or rows of one line each with these words. What went before has to be whole.
     fn begin(&mut self, part: Part, words: &'a str) -> Result<()> {
         let ended = self.end();
         if ended.is_err() {
@@ -144,7 +144,7 @@ impl<'a, R: Files + Print + AllocGlobal + Threads + Wait + Sync> Session<'a, R> 
         ended
     }
 
-    /// What a command came to has to be compared, and each row has to run one.
+    // What a command came to has to be compared, and each row has to run one.
     fn end(&mut self) -> Result<()> {
         ensure!(
             self.has_run || self.part != Part::Row,
@@ -170,7 +170,7 @@ impl<'a, R: Files + Print + AllocGlobal + Threads + Wait + Sync> Session<'a, R> 
         }
     }
 
-    /// `NAME = CONTENT`: a file that commands may read.
+    // `NAME = CONTENT`: a file that commands may read.
     fn put_file(&mut self, line: &'a str) -> Result<()> {
         let (name, content) = named(line)?;
         ensure!(self.folder.bytes(name).is_none(), "the file is there");
@@ -180,7 +180,7 @@ impl<'a, R: Files + Print + AllocGlobal + Threads + Wait + Sync> Session<'a, R> 
         Ok(())
     }
 
-    /// `NAME = CONTENT`: the file in which the rows differ.
+    // `NAME = CONTENT`: the file in which the rows differ.
     fn vary(&mut self, line: &'a str) -> Result<()> {
         ensure!(self.part == Part::Table, "no table");
         let (name, content) = named(line)?;
@@ -189,7 +189,7 @@ impl<'a, R: Files + Print + AllocGlobal + Threads + Wait + Sync> Session<'a, R> 
         Ok(())
     }
 
-    /// The bytes of a content: its text with its marks, but a picture as it stands.
+    // The bytes of a content: its text with its marks, but a picture as it stands.
     fn bytes_of(&self, content: &str) -> Result<Vec<u8>> {
         let text = self.text_of(content)?;
         if content.ends_with(".svg") {
@@ -198,7 +198,7 @@ impl<'a, R: Files + Print + AllocGlobal + Threads + Wait + Sync> Session<'a, R> 
         expanded(self.rt.alloc(), text.as_str())
     }
 
-    /// The text of a content: `@NAME` is a file of the data, and any other text is a line; changes stand behind it.
+    // The text of a content: `@NAME` is a file of the data, and any other text is a line; changes stand behind it.
     fn text_of(&self, content: &str) -> Result<String> {
         let alloc = self.rt.alloc();
         let (source, changes) = match content.split_once(" | ") {
@@ -215,7 +215,7 @@ impl<'a, R: Files + Print + AllocGlobal + Threads + Wait + Sync> Session<'a, R> 
         }
     }
 
-    /// Runs a command of a row.
+    // Runs a command of a row.
     fn run_command(&mut self, words: &str) -> Result<()> {
         ensure!(self.part == Part::Row, "no row");
         self.end_command()?;
@@ -230,7 +230,7 @@ impl<'a, R: Files + Print + AllocGlobal + Threads + Wait + Sync> Session<'a, R> 
         Ok(())
     }
 
-    /// Lets each read and each write of a command fail once, in turn.
+    // Lets each read and each write of a command fail once, in turn.
     fn run_failing(&mut self, text: &str) -> Result<()> {
         ensure!(self.part == Part::Row, "no row");
         self.end_command()?;
@@ -241,7 +241,7 @@ impl<'a, R: Files + Print + AllocGlobal + Threads + Wait + Sync> Session<'a, R> 
         Ok(())
     }
 
-    /// `STATUS OUTPUT`: how the last command ended, and what it wrote to standard output; `<..>` at its end stands for the rest.
+    // `STATUS OUTPUT`: how the last command ended, and what it wrote to standard output; `<..>` at its end stands for the rest.
     fn compare(&mut self, line: &str) -> Result<()> {
         let Some(outcome) = self.outcome.take() else {
             bail!("no command to compare");
@@ -256,7 +256,7 @@ impl<'a, R: Files + Print + AllocGlobal + Threads + Wait + Sync> Session<'a, R> 
         Ok(())
     }
 
-    /// Whether this is the content, or begins with it where it ends with `<..>`.
+    // Whether this is the content, or begins with it where it ends with `<..>`.
     fn is_said(&self, content: &str, output: &[u8]) -> Result<bool> {
         if let Some(beginning) = content.strip_suffix("<..>") {
             let wanted = expanded(self.rt.alloc(), beginning)?;
@@ -269,14 +269,14 @@ impl<'a, R: Files + Print + AllocGlobal + Threads + Wait + Sync> Session<'a, R> 
         Ok(wanted.as_slice() == output)
     }
 
-    /// Tells what came out.
+    // Tells what came out.
     fn show(&self, bytes: &[u8]) -> Result<()> {
         let text = String::from_utf8_lossy(self.rt.alloc(), bytes)?;
         println!(self.rt; "{text}")?;
         Ok(())
     }
 
-    /// `NAME = CONTENT`, or `NAME` alone: a file that the last command wrote, and what it holds.
+    // `NAME = CONTENT`, or `NAME` alone: a file that the last command wrote, and what it holds.
     fn compare_file(&mut self, line: &'a str) -> Result<()> {
         let (name, content) = match line.split_once(" = ") {
             Some((name, content)) => (name, Some(content)),
@@ -295,7 +295,7 @@ impl<'a, R: Files + Print + AllocGlobal + Threads + Wait + Sync> Session<'a, R> 
         Ok(())
     }
 
-    /// `STATUS OUTPUT`, and changes: what the table's words come to on the varied file with these changes.
+    // `STATUS OUTPUT`, and changes: what the table's words come to on the varied file with these changes.
     fn run_case(&mut self, line: &'a str) -> Result<()> {
         let (end, changes) = cut_changes(line);
         self.run_on(self.varied_bytes(changes)?, end)?;
@@ -303,7 +303,7 @@ impl<'a, R: Files + Print + AllocGlobal + Threads + Wait + Sync> Session<'a, R> 
         Ok(())
     }
 
-    /// The varied file with these changes.
+    // The varied file with these changes.
     fn varied_bytes(&self, changes: Option<&str>) -> Result<Vec<u8>> {
         let alloc = self.rt.alloc();
         let base = self.base.as_str();
@@ -313,7 +313,7 @@ impl<'a, R: Files + Print + AllocGlobal + Threads + Wait + Sync> Session<'a, R> 
         }
     }
 
-    /// `REASON`, and changes: why the table's words refuse the varied file with these changes; `none` where they don't.
+    // `REASON`, and changes: why the table's words refuse the varied file with these changes; `none` where they don't.
     fn compare_reason(&mut self, line: &'a str) -> Result<()> {
         ensure!(self.part == Part::Table, "no table");
         ensure!(!self.varied.is_empty(), "no file that varies");
@@ -332,7 +332,7 @@ impl<'a, R: Files + Print + AllocGlobal + Threads + Wait + Sync> Session<'a, R> 
         Ok(())
     }
 
-    /// Runs the table's words on these bytes of the varied file, and compares how that ends.
+    // Runs the table's words on these bytes of the varied file, and compares how that ends.
     fn run_on(&mut self, bytes: Vec<u8>, end: &str) -> Result<()> {
         ensure!(!self.varied.is_empty(), "no file that varies");
         self.folder.put(self.varied, bytes)?;
@@ -341,8 +341,8 @@ impl<'a, R: Files + Print + AllocGlobal + Threads + Wait + Sync> Session<'a, R> 
         self.end_command()
     }
 
-    /// `STATUS..`: the table's words end with one of these statuses on each beginning of the varied file, and with each of
-    /// them on some.
+    // `STATUS..`: the table's words end with one of these statuses on each beginning of the varied file, and with each of
+    // them on some.
     fn run_beginnings(&mut self, line: &str) -> Result<()> {
         let whole = expanded(self.rt.alloc(), self.base.as_str())?;
         let mut ends = Vec::new(self.rt.alloc());
@@ -369,8 +369,8 @@ impl<'a, R: Files + Print + AllocGlobal + Threads + Wait + Sync> Session<'a, R> 
         Ok(())
     }
 
-    /// `LESS STATUS OUTPUT`: what the table's words come to on each beginning of the varied file that is so many bytes
-    /// shorter, or more.
+    // `LESS STATUS OUTPUT`: what the table's words come to on each beginning of the varied file that is so many bytes
+    // shorter, or more.
     fn run_cuts(&mut self, line: &'a str) -> Result<()> {
         let (less, end) = line.split_once(' ').context("no status")?;
         let less = less.parse::<usize>().context("no number of bytes")?;
@@ -383,7 +383,7 @@ impl<'a, R: Files + Print + AllocGlobal + Threads + Wait + Sync> Session<'a, R> 
         Ok(())
     }
 
-    /// `PART | WORDS`: words that are refused with a text that has this part in it.
+    // `PART | WORDS`: words that are refused with a text that has this part in it.
     fn run_refused(&mut self, line: &'a str) -> Result<()> {
         ensure!(self.part == Part::Table, "no table");
         let (part, words) = line.split_once(" |").context("no words")?;
@@ -401,7 +401,7 @@ impl<'a, R: Files + Print + AllocGlobal + Threads + Wait + Sync> Session<'a, R> 
     }
 }
 
-/// Whether the status is one of these; it is met then.
+// Whether the status is one of these; it is met then.
 fn is_met(ends: &mut [(u8, bool)], status: u8) -> bool {
     for (end, met) in ends {
         if *end == status {
@@ -412,7 +412,7 @@ fn is_met(ends: &mut [(u8, bool)], status: u8) -> bool {
     false
 }
 
-/// The words, lent.
+// The words, lent.
 fn lent(alloc: Global, owned: &[String]) -> Result<Vec<&str>> {
     let mut words = Vec::new(alloc);
     for word in owned {
@@ -421,7 +421,7 @@ fn lent(alloc: Global, owned: &[String]) -> Result<Vec<&str>> {
     Ok(words)
 }
 
-/// A row's line, and the changes behind it, if there are some.
+// A row's line, and the changes behind it, if there are some.
 fn cut_changes(line: &str) -> (&str, Option<&str>) {
     match line.split_once(" | ") {
         Some((row, changes)) => (row, Some(changes)),
@@ -429,7 +429,7 @@ fn cut_changes(line: &str) -> (&str, Option<&str>) {
     }
 }
 
-/// The parts of `NAME = CONTENT`.
+// The parts of `NAME = CONTENT`.
 fn named(line: &str) -> Result<(&str, &str)> {
     line.split_once(" = ").context("no ` = `")
 }

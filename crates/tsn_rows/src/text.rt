@@ -13,7 +13,7 @@ pub fn changed(alloc: Global, text: &str, changes: &str) -> Result<String> {
     Ok(text)
 }
 
-/// The text with another text for `old`, which stands there exactly once.
+// The text with another text for `old`, which stands there exactly once.
 fn replaced(alloc: Global, text: &str, old: &str, new: &str) -> Result<String> {
     ensure!(!old.is_empty(), "a change of nothing");
     let Some((before, behind)) = text.split_once(old) else {
@@ -39,7 +39,7 @@ pub fn expanded(alloc: Global, text: &str) -> Result<Vec<u8>> {
     Ok(bytes)
 }
 
-/// Writes what a mark stands for.
+// Writes what a mark stands for.
 fn push_mark(alloc: Global, bytes: &mut Vec<u8>, mark: &str) -> Result<()> {
     if mark.is_empty() {
         return Ok(());
@@ -53,7 +53,7 @@ fn push_mark(alloc: Global, bytes: &mut Vec<u8>, mark: &str) -> Result<()> {
     Ok(())
 }
 
-/// Writes a text so many times, each time with its number for `#`.
+// Writes a text so many times, each time with its number for `#`.
 fn push_times(
     alloc: Global,
     bytes: &mut Vec<u8>,

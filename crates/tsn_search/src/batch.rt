@@ -76,7 +76,7 @@ pub fn settle_next<K: Named, S: Supervisor>(
     }
 }
 
-/// What is told of a batch.
+// What is told of a batch.
 #[derive(Clone, Copy)]
 struct Summary {
     nodes: usize,

@@ -236,7 +236,7 @@ impl Below {
     }
 }
 
-/// Whether a schedule keeps to a decision to the left.
+// Whether a schedule keeps to a decision to the left.
 fn keeps_left(conflicts: &Conflicts, known: &[u64], last: Option<&Decision>) -> bool {
     match last {
         Some(decision) => goes_left(conflicts, known, decision.triple),
@@ -244,7 +244,7 @@ fn keeps_left(conflicts: &Conflicts, known: &[u64], last: Option<&Decision>) -> 
     }
 }
 
-/// Whether a schedule keeps to the left side of a triple.
+// Whether a schedule keeps to the left side of a triple.
 fn goes_left(conflicts: &Conflicts, known: &[u64], triple: Triple) -> bool {
     if !conflicts.has(triple) {
         return true;
@@ -281,14 +281,14 @@ pub fn node_along(
     Ok(node)
 }
 
-/// Whether a path decides something else than the triple.
+// Whether a path decides something else than the triple.
 fn is_undecided(path: &[Decision], triple: Triple) -> bool
     ensures { IsTrue result ↔ IsUndecided path.now triple }
 {
     path.iter().all(|decision| decision.triple != triple)
 }
 
-/// A way down to a node. None where the node decides what is no conflict, or decisions that contradict one another.
+// A way down to a node. None where the node decides what is no conflict, or decisions that contradict one another.
 fn descent_at(
     alloc: Global,
     timing: &Timing,
@@ -305,7 +305,6 @@ fn descent_at(
     }
 }
 
-/// Looks at a node, and walks on.
 fn look_on(
     alloc: Global,
     tables: Tables<'_>,
@@ -349,7 +348,7 @@ fn look_on(
     }
 }
 
-/// A copy of the schedule of a solved node.
+// A copy of the schedule of a solved node.
 fn schedule_of(look: &Look) -> Result<Option<Solved>, NoMemory>
     ensures { IfOk result (λ schedule. MatchOption schedule (IsUnsolved (outcome_of look.now)) (IsScheduleOf (outcome_of look.now))) }
 {

@@ -7,7 +7,7 @@ use std::alloc::{AllocError, Global};
 use tsn_model::NoMemory;
 use tsn_node::Node;
 
-/// How many nodes a bag has room for at first.
+// How many nodes a bag has room for at first.
 const ROOM: usize = 64;
 
 /// A bag that pops the node pushed last, and steals the one that was pushed first.

@@ -18,7 +18,7 @@ use tsn_branch::supervisor::{News, Supervisor};
 use tsn_branch::{Setting, look};
 use tsn_node::{NoMemory, Node};
 
-/// One who settles nodes in a book: by which number, and until how many are settled in all.
+// One who settles nodes in a book: by which number, and until how many are settled in all.
 #[derive(Drop)]
 struct Course<'a, S> {
     setting: &'a Setting<'a, S>,

@@ -14,10 +14,10 @@ use tsn_branch::supervisor::Supervisor;
 use tsn_incumbent::Named;
 use tsn_node::Node;
 
-/// A worker ends after so many rounds in turn in which it found no node.
+// A worker ends after so many rounds in turn in which it found no node.
 const ROUNDS: usize = 1000;
 
-/// How often a round in which no node was found lets other threads run, while some worker is at work.
+// How often a round in which no node was found lets other threads run, while some worker is at work.
 const PAUSES: usize = 50;
 
 /// A worker: one who settles nodes, with its bag.

@@ -6,7 +6,7 @@ use crate::reason::{Deed, Why};
 use crate::search::Search;
 use std::alloc::{AllocError, Global};
 
-/// How deep it's looked whether a literal is implied, and how many changes are looked at for that.
+// How deep it's looked whether a literal is implied, and how many changes are looked at for that.
 const DEPTH: u32 = 3;
 
 const LOOKS: u32 = 30;

@@ -6,7 +6,7 @@ use crate::search::Search;
 use crate::table::{Pair, place_of, signed_place};
 use std::alloc::AllocError;
 
-/// How many more learned clauses are kept each time that some are forgotten.
+// How many more learned clauses are kept each time that some are forgotten.
 const MORE: usize = 300;
 
 /// What a question came to.

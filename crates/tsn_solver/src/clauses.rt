@@ -100,7 +100,7 @@ impl Clauses {
         item_at(&self.list, number as usize, NO_CLAUSE)
     }
 
-    /// The literals of a clause.
+    /// The literals of a clause, the two watched ones first.
     pub fn literals_of(&self, number: u32) -> &[Literal] {
         let clause = self.clause(number);
         part_of(&self.literals, clause.start, clause.count)

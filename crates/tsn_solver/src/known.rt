@@ -78,7 +78,7 @@ impl Known {
         self.trail.value(self.least(stream))
     }
 
-    /// The bound of the least gap of a pair.
+    /// The number of the bound of a pair's least gap: these come behind the bounds of times.
     pub fn gap(&self, pair: usize) -> u32 {
         self.times.wrapping_add(index(pair.wrapping_mul(2)))
     }

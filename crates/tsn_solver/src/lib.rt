@@ -1,7 +1,7 @@
-//! The search that learns itself: it asks whether there is a schedule in which some literals hold, and learns a clause from each
-//! contradiction. It is made of the numbers of a network, literals over bounds and why a bound was narrowed; of what it knows, the
-//! changes that led to its bounds and its clauses; and of the rules by which it goes on. Nothing is claimed of it but that it is safe
-//! and returns. Each error says that there was no memory.
+//! The conflict-driven search itself (lazy clause generation): it asks whether there is a schedule in which some literals hold, and
+//! learns a clause from each contradiction. It is made of the numbers of a network, literals over bounds and why a bound was
+//! narrowed; of what it knows, the changes that led to its bounds and its clauses; and of the rules by which it goes on. Nothing is
+//! claimed of it but that it is safe and returns. Each error says that there was no memory.
 #![tactic(auto)]
 
 mod analysis;

@@ -9,7 +9,7 @@ use crate::side::{end_literal, head_literal};
 use crate::table::Visit;
 use std::alloc::AllocError;
 
-/// How many frames are left out at most.
+// How many frames are left out at most.
 const LEFT_OUT: usize = 128;
 
 impl Search {

@@ -1,6 +1,6 @@
 //! How much work is left, and when a search begins anew: by the sequence of Luby, Sinclair and Zuckerman 1993.
 
-/// After how many conflicts a search begins anew, at the least.
+// After how many conflicts a search begins anew, at the least.
 const RUN: u64 = 100;
 
 /// How many conflicts and how much work there were, and how much there may be.

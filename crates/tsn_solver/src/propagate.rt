@@ -7,7 +7,7 @@ use crate::search::Search;
 use crate::side::{bound_of, lead};
 use std::alloc::AllocError;
 
-/// How much work it counts as to look at a frame of a link from one side. A link that rests counts as one looked at from both.
+// How much work it counts as to look at a frame of a link from one side. A link that rests counts as one looked at from both.
 const LOOK: usize = 16;
 
 impl Search {

@@ -67,7 +67,7 @@ impl Record {
         Ok(number)
     }
 
-    /// Keeps a placing of these others, and answers its number.
+    /// Keeps a placing of these others with what was shown, and answers its number.
     pub fn keep_placing(&mut self, placing: Placing, others: &[u16]) -> Result<u32, AllocError> {
         let number = index(self.placings.len());
         let start = self.places.len();
@@ -121,7 +121,7 @@ impl Record {
         part_of(&self.rounds, from, to.wrapping_sub(from))
     }
 
-    /// The literals of a clause.
+    /// The literals of a clause that was shown.
     pub fn literals(&self, number: usize) -> &[Literal] {
         let from = self.begin(number).literals;
         let to = self.begin(next(number)).literals;

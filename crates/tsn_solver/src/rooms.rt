@@ -30,7 +30,7 @@ pub struct Overload {
     pub slack: i64,
 }
 
-/// How often a link is called in vain at most after a look that found nothing.
+// How often a link is called in vain at most after a look that found nothing.
 const LONGEST_REST: u32 = 15;
 
 // How many calls a link is left alone for since its last look found nothing, and how many of these are to come.

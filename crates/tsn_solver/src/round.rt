@@ -5,10 +5,10 @@ use crate::reason::{Deed, Why};
 use crate::search::Search;
 use std::alloc::{AllocError, Global};
 
-/// How often an arc raises a bound before a closed chain is looked for.
+// How often an arc raises a bound before a closed chain is looked for.
 const OFTEN: u32 = 8;
 
-/// The most arcs of a closed chain.
+// The most arcs of a closed chain.
 const LONGEST: usize = 128;
 
 // How often arcs raised a bound, in which propagation.

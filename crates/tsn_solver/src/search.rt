@@ -1,5 +1,5 @@
-//! A search that learns: bounds are narrowed by the arcs, the gaps, the sets on links and the clauses, and from each contradiction a
-//! further clause is learned. Times are in nanoseconds.
+//! The run of a conflict-driven search: bounds are narrowed by the arcs, the gaps, the sets on links and the clauses, and from each
+//! contradiction a further clause is learned. Times are in nanoseconds.
 use crate::analysis::Analysis;
 use crate::choice::Choice;
 use crate::known::Known;

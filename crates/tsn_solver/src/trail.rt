@@ -124,7 +124,7 @@ impl Trail {
         }
     }
 
-    /// Keeps a placing of these others, and answers its number.
+    /// Keeps a placing of these others as long as the trail needs it, and answers its number.
     pub fn keep_placing(&mut self, placing: Placing, others: &[u16]) -> Result<u32, AllocError> {
         let number = index(self.placings.len());
         let start = self.places.len();

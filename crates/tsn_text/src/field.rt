@@ -16,7 +16,7 @@ pub fn write_quoted(text: &mut String, field: &str) -> Result<(), AllocError>
     text.push('"')
 }
 
-/// Writes the characters within quotes.
+// Writes the characters within quotes.
 fn write_characters(text: &mut String, field: &str) -> Result<(), AllocError>
     ensures { OnOk result (string_bytes text.new ≡ string_bytes text.old ++ flat_map quoted_character (chars field.now)) }
 {
@@ -26,7 +26,7 @@ fn write_characters(text: &mut String, field: &str) -> Result<(), AllocError>
     Ok(())
 }
 
-/// Writes a character within quotes.
+// Writes a character within quotes.
 fn write_character(text: &mut String, character: char) -> Result<(), AllocError>
     ensures { OnOk result (string_bytes text.new ≡ string_bytes text.old ++ quoted_character character) }
 {

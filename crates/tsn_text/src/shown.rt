@@ -3,7 +3,7 @@
 use crate::text::TextBuilder;
 use std::alloc::Global;
 
-/// The most characters that are shown of a text that is no name.
+// The most characters that are shown of a text that is no name.
 const MOST_SHOWN: usize = 40;
 
 /// A line that begins with a file's name.
@@ -44,7 +44,7 @@ fn push_quoted(text: &mut TextBuilder, words: &str) {
     text.push('"')
 }
 
-/// Writes a character, or a mark for one that doesn't show.
+// Writes a character, or a mark for one that doesn't show.
 fn push_shown(text: &mut TextBuilder, character: char) {
     match character {
         '\0'..='\x1f' | '\x7f'..='\u{9f}' => text.push('?'),

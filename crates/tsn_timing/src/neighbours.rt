@@ -16,7 +16,7 @@ pub struct Occupancy {
 impl Occupancy {
     ghost use Rattle.tsn_timing.specs.Neighbours.{IsBefore};
 
-    /// Whether it is on a lesser link than the other one, or on the same one and ends before that begins.
+    // Whether it is on a lesser link than the other one, or on the same one and ends before that begins.
     fn is_before(&self, other: &Occupancy) -> bool
         ensures { IsTrue result ↔ IsBefore self.now other.now }
     {
@@ -43,7 +43,7 @@ impl Timing {
         each_before_next(&occupancies)
     }
 
-    /// The occupancies of all frames on all links.
+    // The occupancies of all frames on all links.
     fn occupancies(&self, offsets: &[u64]) -> Result<Vec<Occupancy>, AllocError>
         requires count { length offsets.now ≡ stream_count self.now }
         requires small { All (λ offset. offset ≤ self.now.cycle) offsets.now }
@@ -59,7 +59,7 @@ impl Timing {
         Ok(occupancies)
     }
 
-    /// The occupancy of a hop by a frame that the stream starts at its offset.
+    // The occupancy of a hop by a frame that the stream starts at its offset.
     fn first_occupancy(&self, stream: usize, hop: usize, offset: u64) -> Occupancy
         requires stream { stream < stream_count self.now }
         requires hop { hop < hop_count self.now stream }
@@ -82,7 +82,7 @@ impl Timing {
 
 ghost use Rattle.tsn_timing.specs.Neighbours.{IsBefore, later};
 
-/// Adds an occupancy for each shift, so much later than the first.
+// Adds an occupancy for each shift, so much later than the first.
 fn push_later(
     occupancies: &mut Vec<Occupancy>,
     first: Occupancy,
@@ -103,7 +103,7 @@ fn push_later(
     Ok(())
 }
 
-/// Whether each occupancy is before the next one. Then it is before all that follow.
+// Whether each occupancy is before the next one. Then it is before all that follow.
 fn each_before_next(occupancies: &[Occupancy]) -> bool
     requires { All (λ occupancy. occupancy.begin ≤ occupancy.end) occupancies.now }
     ensures { IsTrue result → AllPairs IsBefore occupancies.now }

@@ -26,7 +26,7 @@ impl Timing {
         None
     }
 
-    /// The first triple of this left stream whose frames overlap.
+    // The first triple of this left stream whose frames overlap.
     fn first_overlap_of(&self, left: usize, offsets: &[u64]) -> Option<Triple>
         requires left { left < stream_count self.now }
         requires count { length offsets.now ≡ stream_count self.now }
@@ -41,7 +41,7 @@ impl Timing {
         None
     }
 
-    /// The first triple of two streams whose frames overlap.
+    // The first triple of two streams whose frames overlap.
     fn first_overlap_with(&self, left: usize, right: usize, offsets: &[u64]) -> Option<Triple>
         requires order { left < right }
         requires right { right < stream_count self.now }
@@ -67,7 +67,7 @@ impl Timing {
         first
     }
 
-    /// The least lag by which frames of two streams overlap on the link of a hop of the left one.
+    // The least lag by which frames of two streams overlap on the link of a hop of the left one.
     fn least_overlap(&self, left: usize, hop: usize, right: usize, offsets: &[u64]) -> Option<i64>
         requires order { left < right }
         requires right { right < stream_count self.now }
@@ -95,8 +95,8 @@ impl Timing {
         )
     }
 
-    /// The least number by which a frame of the right stream comes after one of the left stream, above one number and below
-    /// another.
+    // The least number by which a frame of the right stream comes after one of the left stream, above one number and below
+    // another.
     fn least_lag(&self, left: usize, right: usize, above: i64, below: i64) -> Option<i64>
         requires left { left < stream_count self.now }
         requires right { right < stream_count self.now }
@@ -110,8 +110,8 @@ impl Timing {
         if least < below { Some(least) } else { None }
     }
 
-    /// The least number by which a frame of a stream comes after a shift of another one's, above one number and below another,
-    /// which it is where there is none.
+    // The least number by which a frame of a stream comes after a shift of another one's, above one number and below another,
+    // which it is where there is none.
     fn least_after(&self, stream: usize, first: u64, above: i64, below: i64) -> i64
         requires stream { stream < stream_count self.now }
         requires small { first ≤ 2_000_000_000 }
@@ -130,7 +130,7 @@ impl Timing {
     }
 }
 
-/// The triple of the lesser link, if there is a first one.
+// The triple of the lesser link, if there is a first one.
 fn sooner(first: Option<Triple>, triple: Triple) -> Triple
     ensures { MatchOption first (result ≡ triple) (λ other. result ≡ (if nat_lt other.link triple.link then other else triple)) }
 {

@@ -29,7 +29,6 @@ pub struct StreamTable {
     pub span: u64,
 }
 
-/// The hops of a stream.
 fn hops_of(alloc: Global, network: &PlainNetwork, stream: usize) -> Result<Vec<Hop>, AllocError>
     requires { stream < stream_count network.now }
     ensures { IfOk result (λ hops. AreRight (IsHop network.now stream) (hop_count network.now stream) hops.items) }
@@ -46,7 +45,7 @@ fn hops_of(alloc: Global, network: &PlainNetwork, stream: usize) -> Result<Vec<H
     Ok(hops)
 }
 
-/// How long after its offset a stream starts each frame.
+// How long after its offset a stream starts each frame.
 fn shifts_of(alloc: Global, network: &PlainNetwork, stream: usize) -> Result<Vec<u64>, AllocError>
     requires { stream < stream_count network.now }
     ensures value { IfOk result (λ list. list.items ≡ shifts network.now stream) }
@@ -63,7 +62,6 @@ fn shifts_of(alloc: Global, network: &PlainNetwork, stream: usize) -> Result<Vec
     Ok(shifts)
 }
 
-/// The numbers of a stream.
 fn table_of(alloc: Global, network: &PlainNetwork, stream: usize) -> Result<StreamTable, AllocError>
     requires { stream < stream_count network.now }
     ensures { IfOk result (IsTable network.now stream) }

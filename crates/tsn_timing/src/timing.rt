@@ -18,8 +18,9 @@ pub enum Validity {
     Refused(Violation),
 }
 
-/// A network with the times of its streams, in nanoseconds. Directed links and streams are numbered from 0. The readings of the network are those of `plain`, at hand here for callers that ask
-/// for them often.
+/// A network with the times of its streams, in nanoseconds. Directed links and streams are numbered
+/// from 0. The readings of the network are those of `plain`, at hand here for callers that ask for
+/// them often.
 #[derive(Drop)]
 pub struct Timing {
     network: PlainNetwork,
@@ -69,7 +70,7 @@ impl Timing {
         &self.network
     }
 
-    // Where its memory is from.
+    /// Where its memory is from.
     pub(crate) fn allocator(&self) -> Global {
         *self.tables.allocator()
     }
@@ -316,7 +317,7 @@ impl Timing {
         last
     }
 
-    /// The first stream that, put at its offset, isn't done within its period.
+    // The first stream that, put at its offset, isn't done within its period.
     fn first_past_period(&self, offsets: &[u64]) -> Option<usize>
         requires { length offsets.now ≡ stream_count self.now }
         ensures { MatchOption result
@@ -333,7 +334,7 @@ impl Timing {
         None
     }
 
-    /// The first stream that, put at its offset, starts before its release.
+    // The first stream that, put at its offset, starts before its release.
     fn first_early(&self, offsets: &[u64]) -> Option<usize>
         requires { length offsets.now ≡ stream_count self.now }
         ensures { MatchOption result
@@ -348,7 +349,7 @@ impl Timing {
         None
     }
 
-    /// The first stream that, put at its offset, arrives after its latest instant.
+    // The first stream that, put at its offset, arrives after its latest instant.
     fn first_too_late(&self, offsets: &[u64]) -> Option<usize>
         requires count { length offsets.now ≡ stream_count self.now }
         requires small { All (λ offset. offset ≤ self.now.cycle) offsets.now }

@@ -23,7 +23,7 @@ impl Valid {
         Valid { offsets }
     }
 
-    // The same once more.
+    /// The same once more.
     pub(crate) fn copy(&self) -> Result<Valid, AllocError>
         ensures { IfOk result (λ valid. valid ≡ self.now) }
     {

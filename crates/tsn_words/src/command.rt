@@ -20,7 +20,7 @@ use clap::error::ErrorKind;
 use clap::{Arg, ArgAction, ArgMatches, Command, Error};
 use std::alloc::{AllocError, Global};
 
-/// What help says of the program's statuses.
+// What help says of the program's statuses.
 const STATUSES: &str = "\
 Status:
   0  done: the plan is optimal, the offsets are a schedule, the certificate is accepted
@@ -48,7 +48,6 @@ pub fn words_from<'a>(alloc: Global, words: &'a [&'a str]) -> Result<Words<'a>, 
     }
 }
 
-/// The program with the commands of the table.
 fn program<'a>(alloc: Global) -> Result<Command<'a>, AllocError>
     ensures { IfOk result (λ c. app_of c ≡ grammar.tsn) }
 {
@@ -60,7 +59,7 @@ fn program<'a>(alloc: Global) -> Result<Command<'a>, AllocError>
     with_forms(alloc, alone, forms())
 }
 
-/// The table of commands.
+// The table of commands.
 #[tactic(auto, unfolding(crate::specs::Table::with_form))]
 fn forms() -> &'static [Form]
     ensures { fold with_form grammar.alone result.now ≡ grammar.tsn }
@@ -68,7 +67,7 @@ fn forms() -> &'static [Form]
     &FORMS
 }
 
-/// A command with those of some forms below it.
+// A command with those of some forms below it.
 fn with_forms<'a>(
     alloc: Global,
     command: Command<'a>,
@@ -83,7 +82,6 @@ fn with_forms<'a>(
     Ok(command)
 }
 
-/// A command with that of a form below it.
 #[tactic(auto, unfolding(crate::specs::Table::with_form))]
 fn with_form<'a>(alloc: Global, command: Command<'a>, form: Form) -> Result<Command<'a>, AllocError>
     ensures { IfOk result (λ c. app_of c ≡ with_form (app_of command.entry) form) }
@@ -92,7 +90,7 @@ fn with_form<'a>(alloc: Global, command: Command<'a>, form: Form) -> Result<Comm
     command.subcommand(below)
 }
 
-/// The command of a form.
+// The command of a form.
 fn command_by<'a>(alloc: Global, form: Form) -> Result<Command<'a>, AllocError>
     ensures app { IfOk result (λ c. app_of c ≡ app_by form) }
     ensures local { IfOk result (λ c. (fields_of c).has_globals ≡ false) }
@@ -103,7 +101,6 @@ fn command_by<'a>(alloc: Global, form: Form) -> Result<Command<'a>, AllocError>
         .args(arguments)
 }
 
-/// The arguments as `clap` has them.
 fn arguments_by<'a>(alloc: Global, rows: &[Argument]) -> Result<Vec<Arg<'a>>, AllocError>
     ensures rules { IfOk result (λ arguments. map rule_of arguments.items ≡ map rule_by rows.now) }
     ensures local { IfOk result (λ arguments. All (λ a. a.global ≡ false) arguments.items) }
@@ -115,7 +112,6 @@ fn arguments_by<'a>(alloc: Global, rows: &[Argument]) -> Result<Vec<Arg<'a>>, Al
     Ok(arguments)
 }
 
-/// An argument as `clap` has it.
 fn argument_by<'a>(alloc: Global, row: Argument) -> Arg<'a>
     ensures rule { rule_of result ≡ rule_by row }
     ensures local { result.global ≡ false }
@@ -139,7 +135,7 @@ fn argument_by<'a>(alloc: Global, row: Argument) -> Arg<'a>
     }
 }
 
-/// Why `clap` refuses the words.
+// Why `clap` refuses the words.
 fn fault_of(alloc: Global, error: &Error) -> WordsFault
     ensures { IsRefused result → kind_of error.now ≢ ErrorKind.OutOfMemory }
 {
@@ -153,7 +149,6 @@ fn fault_of(alloc: Global, error: &Error) -> WordsFault
     }
 }
 
-/// The command that was met, with its words.
 fn command_of<'a>(alloc: Global, matches: &ArgMatches<'a>) -> Result<Words<'a>, WordsFault>
     requires { IsWhole (subcommand_rows_of matches.now) }
     ensures { IsReadOf (subcommand_rows_of matches.now) result }
@@ -309,7 +304,7 @@ fn streams_words<'a>(alloc: Global, words: &ArgMatches<'a>) -> Result<Words<'a>,
     }))
 }
 
-/// How a plan is searched for, where a word names that, or none does.
+// How a plan is searched for, where a word names that, or none does.
 fn plan_search(word: Option<&str>) -> Option<Method>
     ensures { result ≡ plan_search (option_map (λ word. word.now) word.entry) }
 {
@@ -321,7 +316,6 @@ fn plan_search(word: Option<&str>) -> Option<Method>
     }
 }
 
-/// The format that a word names, if it names one.
 fn gates_format(word: Option<&str>) -> Option<GatesFormat>
     ensures { result ≡ gates_format (option_map (λ word. word.now) word.entry) }
 {
@@ -333,7 +327,6 @@ fn gates_format(word: Option<&str>) -> Option<GatesFormat>
     }
 }
 
-/// The format that a word names, if it names one.
 fn replay_format(word: Option<&str>) -> Option<ReplayFormat>
     ensures { result ≡ replay_format (option_map (λ word. word.now) word.entry) }
 {
@@ -344,7 +337,6 @@ fn replay_format(word: Option<&str>) -> Option<ReplayFormat>
     }
 }
 
-/// The format that a word names, if it names one.
 fn streams_format(word: Option<&str>) -> Option<StreamsFormat>
     ensures { result ≡ streams_format (option_map (λ word. word.now) word.entry) }
 {
@@ -356,7 +348,7 @@ fn streams_format(word: Option<&str>) -> Option<StreamsFormat>
     }
 }
 
-/// Refuses a word that is none of those that an option takes.
+// Refuses a word that is none of those that an option takes.
 fn unknown_word(alloc: Global, option: &str, word: Option<&str>, taken: &str) -> WordsFault {
     let word = word.unwrap_or("");
     let text = format!(in alloc;
@@ -368,14 +360,13 @@ fn unknown_word(alloc: Global, option: &str, word: Option<&str>, taken: &str) ->
     }
 }
 
-/// The word of an argument, if it is given.
+// The word of an argument, if it is given.
 fn word_of<'a>(words: &ArgMatches<'a>, id: &str) -> Option<&'a str>
     ensures { first_of id.now (rows_of (found_of words.now)) ≡ option_map (λ word. word.now) result }
 {
     words.get_str(id)
 }
 
-/// The word of an argument that is given.
 fn text_of<'a>(words: &ArgMatches<'a>, id: &str) -> &'a str
     requires { IsGiven id.now (rows_of (found_of words.now)) }
     ensures { first_of id.now (rows_of (found_of words.now)) ≡ Some result.now }
@@ -386,14 +377,13 @@ fn text_of<'a>(words: &ArgMatches<'a>, id: &str) -> &'a str
     }
 }
 
-/// Whether a flag is set.
 fn flag_of(words: &ArgMatches<'_>, id: &str) -> bool
     ensures { IsFlag (one_of id.now (rows_of (found_of words.now))) result }
 {
     words.get_flag(id)
 }
 
-/// The number of an option, from 1 to `most`; the default where it isn't given.
+// The number of an option, from 1 to `most`; the default where it isn't given.
 fn number_or(words: &ArgMatches<'_>, id: &str, most: usize, default: usize) -> usize
     requires some { 1 ≤ default }
     requires within { default ≤ most }
@@ -411,7 +401,7 @@ fn number_or(words: &ArgMatches<'_>, id: &str, most: usize, default: usize) -> u
     }
 }
 
-/// The number of an option, from 0 to `most`, if it is given.
+// The number of an option, from 0 to `most`, if it is given.
 fn number_if(words: &ArgMatches<'_>, id: &str, most: u64) -> Option<u64>
     requires { IfSome (first_of id.now (rows_of (found_of words.now))) (IsUnsignedIn 0 most) }
     ensures small { ForSome result (λ number. number ≤ most) }
@@ -423,7 +413,7 @@ fn number_if(words: &ArgMatches<'_>, id: &str, most: u64) -> Option<u64>
     }
 }
 
-/// The numbers that words are, from 0 to `MAX_OFFSET`.
+// The numbers that words are, from 0 to `MAX_OFFSET`.
 fn offsets_of(alloc: Global, words: &[&str]) -> Result<Vec<u64>, AllocError>
     requires { All (IsUnsignedIn 0 MAX_OFFSET) (map (λ word. word.now) words.now) }
     ensures small { IfOk result (λ offsets. All (λ offset. offset ≤ MAX_OFFSET) offsets.items) }
@@ -437,7 +427,7 @@ fn offsets_of(alloc: Global, words: &[&str]) -> Result<Vec<u64>, AllocError>
     Ok(offsets)
 }
 
-/// The number that a word is, from 0 to `most`.
+// The number that a word is, from 0 to `most`.
 fn unsigned_of(word: &str, most: u64) -> u64
     requires { IsUnsignedIn 0 most word.now }
     ensures small { result ≤ most }

@@ -4,14 +4,14 @@
 #[derive(Clone, Copy)]
 pub enum Method {
     /// `auto`, which goes where the words name none: in the order of the file, up to 100,000 settled nodes; where that leaves nodes
-    /// open and more may be settled, by the search that learns; where that gives up, in the order of the file again, along the best
+    /// open and more may be settled, by the conflict-driven search; where that gives up, in the order of the file again, along the best
     /// schedule known. One worker goes on in the book that is there, from a limit of 200,000 on; else, and with several workers, it
     /// begins anew, with the whole limit for its own count.
     Auto,
     /// `file`: a node is split on its first violated conflict in the order of the file, and closed by whole links.
     FileOrder,
-    /// `learn`: by the search that learns from each contradiction; where it gives up, in the order of the file, the nodes on the way of
-    /// the best schedule known first. It may have as many conflicts as nodes may be settled, and some work for each.
+    /// `learn`: by the conflict-driven search, which learns from each contradiction; where it gives up, in the order of the file, the nodes
+    /// on the way of the best schedule known first. It may have as many conflicts as nodes may be settled, and some work for each.
     Learn,
 }
 

@@ -125,7 +125,7 @@ pub struct PlanWords<'a> {
     pub network: &'a str,
     /// How many workers plan, 1 to `MAX_WORKERS`.
     pub workers: usize,
-    /// The most nodes that may be settled, and the most conflicts of the search that learns and steps of its argument, 1 to
+    /// The most nodes that may be settled, and the most conflicts of the conflict-driven search and steps of its argument, 1 to
     /// `MAX_STEPS`.
     pub steps: usize,
     /// The file that the plan is written to, if any.

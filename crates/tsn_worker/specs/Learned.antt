@@ -1,4 +1,4 @@
--- What a search that learns comes to, once its argument is checked.
+-- What a conflict-driven search comes to, once its argument is checked.
 --     IsLearned     what is shown of the network, or known of it
 --     bound_in      what no schedule undercuts by that
 --     ShowsLeast    an argument that a plan is optimal

@@ -1,4 +1,4 @@
-//! What the search that learns shows, once its argument is checked.
+//! What the conflict-driven search shows, once its argument is checked.
 ghost use Rattle.std.specs.Prelude.{◌≡◌, ◌≤◌, true, Ok, IfOk, IfErr, IfSome, IsTrue};
 ghost use Rattle.tsn_check.specs.Plans.{IsOptimalPlan, span_in};
 ghost use Rattle.tsn_branch.specs.Bound.{IsLowerBound};
@@ -17,7 +17,7 @@ use tsn_learn::{BestSoFar, LearnAnswer, learn};
 use tsn_model::NoMemory;
 use tsn_timing::{Problem, Timing};
 
-/// What a search that learns comes to.
+/// What a conflict-driven search comes to.
 #[derive(Drop)]
 pub enum Learned {
     /// A plan, and an argument that shows it.
@@ -26,7 +26,7 @@ pub enum Learned {
     Open(Known),
 }
 
-/// What is asked: of what network, and with how many steps at most.
+// What is asked: of what network, and with how many steps at most.
 #[derive(Clone, Copy)]
 struct Question<'a> {
     problem: &'a Problem,
@@ -34,7 +34,7 @@ struct Question<'a> {
     limit: usize,
 }
 
-/// What a search that learns finds, from the schedule on that is known, where there is one: an argument of at most so many steps, which
+/// What a conflict-driven search finds, from the schedule on that is known, where there is one: an argument of at most so many steps, which
 /// is checked. Where memory is wanting nothing is shown. What it has as its best schedule counts where it is valid, and what it has
 /// as a bound where its argument is accepted. The supervisor hears of the bound that this comes to.
 pub fn find_by_learning<S: Supervisor>(
@@ -58,7 +58,7 @@ pub fn find_by_learning<S: Supervisor>(
     learned
 }
 
-// What a search that learns finds, at a supervisor that hears how far it has got.
+// What a conflict-driven search finds, at a supervisor that hears how far it has got.
 fn learned_by<S: Supervisor>(
     alloc: Global,
     question: Question<'_>,

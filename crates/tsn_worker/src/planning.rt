@@ -26,13 +26,13 @@ use tsn_search::{Bag, DequeBag};
 use tsn_timing::Problem;
 use tsn_words::Method;
 
-/// From this limit on one worker goes on in the book that is there, where the search that learns gave up. Below it too few nodes may
-/// be left for the way along the best schedule that is known.
+// From this limit on one worker goes on in the book that is there, where the conflict-driven search gave up. Below it too few nodes may
+// be left for the way along the best schedule that is known.
 const GOES_ON_FROM: usize = 2 * FILE_ORDER_LIMIT;
 
-/// The schedule of least flowspan for the problem that is first in list order, or that there is none, each with a
-/// certificate that shows it; or, where `limit` nodes (1 to 1,000,000,000) were settled and one is still open, the book with the best schedule so far, if any.
-/// The search goes in the order of the file.
+/// The lexicographically least of the problem's schedules of least flowspan, or that there is none, each with a
+/// certificate that shows it; or, where `limit` nodes (1 to 1,000,000,000) were settled and one is still open,
+/// the book with the best schedule so far, if any. The search goes in the order of the file.
 ///
 /// There are 1 to 16 workers. One is the caller, who then starts no thread and waits for nobody but the supervisor. Two or more run in
 /// threads of their own, or one after another where no thread can be made; the caller settles the first nodes before they
@@ -175,7 +175,6 @@ fn known_at_root<S: Supervisor>(setting: &Setting<'_, S>) -> Result<Known, NoMem
     Ok(known)
 }
 
-// What is found by a method.
 fn search_by_method<R: Threads + Wait + Sync, S: Supervisor + Sync>(
     rt: &R,
     problem: &Problem,
@@ -198,7 +197,6 @@ fn search_by_method<R: Threads + Wait + Sync, S: Supervisor + Sync>(
     }
 }
 
-// What is found in the order of the file alone.
 fn search_in_file_order<R: Threads + Wait + Sync, S: Supervisor + Sync>(
     rt: &R,
     setting: &Setting<'_, S>,
@@ -218,7 +216,7 @@ fn search_in_file_order<R: Threads + Wait + Sync, S: Supervisor + Sync>(
     search_with(rt, setting, Phase::File, known, workers, limit)
 }
 
-// What is found in the order of the file, or, where more may be settled than that search may, by the search that learns.
+// What is found in the order of the file, or, where more may be settled than that search may, by the conflict-driven search.
 #[tactic(auto, using(crate::proofs::Teams::alone))]
 fn search_auto<R: Threads + Wait + Sync, S: Supervisor + Sync>(
     rt: &R,
@@ -285,7 +283,7 @@ fn search_beyond<R: Threads + Wait + Sync, S: Supervisor + Sync>(
     }
 }
 
-// What one worker finds in the order of the file, or else by the search that learns.
+// What one worker finds in the order of the file, or else by the conflict-driven search.
 fn search_auto_alone<S: Supervisor>(
     problem: &Problem,
     setting: &Setting<'_, S>,
@@ -309,7 +307,7 @@ fn search_auto_alone<S: Supervisor>(
     search_after(problem, setting, known, limit, book)
 }
 
-// What one worker finds by the search that learns, once a book keeps some schedule; where that gives up it goes on in the same book,
+// What one worker finds by the conflict-driven search, once a book keeps some schedule; where that gives up it goes on in the same book,
 // or begins anew.
 fn search_after<S: Supervisor>(
     problem: &Problem,
@@ -362,7 +360,7 @@ fn go_on<S: Supervisor>(
     search_from(setting, Phase::Along, known, limit, book)
 }
 
-// What is found by the search that learns, or else in the order of the file, along the best schedule that is known.
+// What is found by the conflict-driven search, or else in the order of the file, along the best schedule that is known.
 fn search_learning<R: Threads + Wait + Sync, S: Supervisor + Sync>(
     rt: &R,
     problem: &Problem,

@@ -14,13 +14,13 @@ use tsn_node::outcome::Look;
 use tsn_node::{Decision, NoMemory, Node, Side, Triple};
 use tsn_timing::Timing;
 
-/// How many events are made before they are settled.
+// How many events are made before they are settled.
 const BATCH: usize = 1000;
 
-/// The most events.
+// The most events.
 const MOST: usize = 10_000_000;
 
-/// How often the first open node is asked for.
+// How often the first open node is asked for.
 const ASKED: usize = 100_000;
 
 /// Settles so many splits of a network's search, and then asks for the first open node again and again.
@@ -38,7 +38,7 @@ pub fn measure<R: Clock + Print + Eprint + AllocGlobal>(
     told
 }
 
-/// Measures both on a book, and tells what was found.
+// Measures both on a book, and tells what was found.
 fn tell<R: Clock + Print + Eprint + AllocGlobal>(
     rt: &R,
     book: &mut Book,
@@ -55,7 +55,7 @@ fn tell<R: Clock + Print + Eprint + AllocGlobal>(
     Ok(true)
 }
 
-/// The conflicts of the network, and a book of its search, in which nothing is settled.
+// The conflicts of the network, and a book of its search, in which nothing is settled.
 fn begun(alloc: Global, network: &[u8], events: usize) -> Option<(Conflicts, Book)>
     ensures { IfSome result (λ begun. 0 < begun.1.tellers) }
 {
@@ -80,7 +80,7 @@ fn begun_at(alloc: Global, timing: &Timing, events: usize) -> Option<(Conflicts,
     Some((shared, book))
 }
 
-/// Asks for the first open node again and again, and says how many nanoseconds it took.
+// Asks for the first open node again and again, and says how many nanoseconds it took.
 fn ask<R: Clock + AllocGlobal>(rt: &R, book: &Book) -> io::Result<u128> {
     let begin = Instant::now(rt)?;
     for _ in 0..ASKED {
@@ -89,7 +89,7 @@ fn ask<R: Clock + AllocGlobal>(rt: &R, book: &Book) -> io::Result<u128> {
     Ok(begin.elapsed(rt)?.as_nanos())
 }
 
-/// Settles so many splits, and says how many nanoseconds it took without making them.
+// Settles so many splits, and says how many nanoseconds it took without making them.
 fn settle_all<R: Clock + AllocGlobal>(
     rt: &R,
     book: &mut Book,
@@ -107,7 +107,7 @@ fn settle_all<R: Clock + AllocGlobal>(
     Ok(taken)
 }
 
-/// Settles a batch of splits, from that number on, and says how many nanoseconds it took without making them.
+// Settles a batch of splits, from that number on, and says how many nanoseconds it took without making them.
 fn settle<R: Clock + AllocGlobal>(
     rt: &R,
     book: &mut Book,
@@ -128,7 +128,7 @@ fn settle<R: Clock + AllocGlobal>(
     Ok(begin.elapsed(rt)?.as_nanos())
 }
 
-/// The nodes of a batch from that number on, each with the triple to split it on.
+// The nodes of a batch from that number on, each with the triple to split it on.
 fn nodes(alloc: Global, triples: &[Triple], first: usize) -> Result<Vec<(Node, Triple)>, AllocError>
     requires some { 1 ≤ first }
     requires few { first ≤ MOST + 1 }
@@ -142,7 +142,7 @@ fn nodes(alloc: Global, triples: &[Triple], first: usize) -> Result<Vec<(Node, T
     Ok(batch)
 }
 
-/// The node of this number, with the triple to split it on: the root has number 1, and node n the children 2n and 2n + 1.
+// The node of this number, with the triple to split it on: the root has number 1, and node n the children 2n and 2n + 1.
 fn node_at(
     alloc: Global,
     triples: &[Triple],
@@ -163,7 +163,7 @@ fn node_at(
     Ok(Some((node, *last)))
 }
 
-/// The sides on the way to the node of this number, the last one first.
+// The sides on the way to the node of this number, the last one first.
 fn sides_of(alloc: Global, number: usize) -> Result<Vec<Side>, AllocError>
     requires { 1 ≤ number }
 {
@@ -176,7 +176,7 @@ fn sides_of(alloc: Global, number: usize) -> Result<Vec<Side>, AllocError>
     Ok(sides)
 }
 
-/// The side on which the node of this number stands.
+// The side on which the node of this number stands.
 fn side_of(number: usize) -> Side {
     if number % 2 == 0 {
         Side::Left
@@ -185,7 +185,7 @@ fn side_of(number: usize) -> Side {
     }
 }
 
-/// Goes on to a side of the triple, where the path doesn't decide it.
+// Goes on to a side of the triple, where the path doesn't decide it.
 fn turn(node: &mut Node, triple: Triple, side: Side) -> Result<bool, NoMemory> {
     if !is_undecided(node.path(), triple) {
         return Ok(false);
@@ -194,7 +194,7 @@ fn turn(node: &mut Node, triple: Triple, side: Side) -> Result<bool, NoMemory> {
     Ok(true)
 }
 
-/// Whether the path decides something else than the triple.
+// Whether the path decides something else than the triple.
 fn is_undecided(path: &[Decision], triple: Triple) -> bool
     ensures { IsTrue result → IsUndecided path.now triple }
 {

@@ -7,7 +7,7 @@ use std::time::Instant;
 use tsn_diff::{Feasibility, Net};
 use tsn_model::Arc;
 
-/// How long a frame of 64 octets occupies a link of 1000 Mb/s, in nanoseconds.
+// How long a frame of 64 octets occupies a link of 1000 Mb/s, in nanoseconds.
 const OCCUPANCY: i64 = 672;
 
 /// Asks for the least offsets of so many streams, 2 to 128, so many times.
@@ -40,7 +40,7 @@ pub fn measure<R: Clock + Print + Eprint + AllocGlobal>(
     Ok(true)
 }
 
-/// The arcs by which each stream goes before the next two.
+// The arcs by which each stream goes before the next two.
 fn path_like(alloc: Global, streams: usize) -> Result<Vec<Arc>, AllocError> {
     let mut arcs = Vec::new(alloc);
     for to in 1..streams {

@@ -287,7 +287,6 @@ pub fn expect_shown<R: Abort + AllocGlobal>(
     Ok(())
 }
 
-/// Compares two texts.
 fn expect_same(rt: &impl Abort, found: &str, wanted: &str) {
     assert_eq!(rt; found, wanted);
 }

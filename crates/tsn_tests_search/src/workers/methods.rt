@@ -94,7 +94,7 @@ fn several_workers_learn(rt: HostRuntime) -> Result<(), Fail> {
     expect_plan(&rt, Method::Learn, 2, 2, 2)
 }
 
-/// How many nodes are settled by so many workers where the search that learns has given up: no argument for the star of ten is as short
+/// How many nodes are settled by so many workers where the conflict-driven search has given up: no argument for the star of ten is as short
 /// as the limit.
 const FEW: usize = 5;
 

@@ -154,7 +154,7 @@ pub struct StoppingSupervisor {
 }
 
 impl StoppingSupervisor {
-    /// For so many workers and the caller, who has the number behind them.
+    /// For so many workers, some of which it stops.
     pub fn new(workers: usize, stop: Stop) -> StoppingSupervisor {
         StoppingSupervisor {
             workers,
@@ -327,8 +327,8 @@ impl Supervisor for WaitingSupervisor {
     }
 }
 
-/// A supervisor that notes what it hears of the search that learns: a digit for each time that it is told, 0 where the flowspan is being
-/// shown and else the number of the stream, from 1; and a digit for how many conflicts there were.
+/// A supervisor that notes what it hears of the conflict-driven search: a digit for each time that it is told, 0 where the flowspan is
+/// being shown and else the number of the stream, from 1; and a digit for how many conflicts there were.
 #[derive(Drop)]
 pub struct LearningSupervisor {
     streams: u64,
