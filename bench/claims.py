@@ -1,7 +1,8 @@
 #!/usr/bin/env python3
-"""Checks README.md and docs/proved.md against the sources: that what they quote stands where their links lead, that each crate has its
-row, and that the definitions and files that rows name are there. And that they tell right within a twentieth how many functions have a
-contract: those of the program and of the crates below it that have an `ensures` at their head.
+"""Checks README.md, docs/proved.md and docs/crates.md against the sources: that what they quote stands where their links lead; that each
+crate has its row in the map, the definitions and files that rows name are there, and its picture shows what crates.txt says. And that
+they tell right within a twentieth how many functions have a contract: those of the program and of the crates below it that have an
+`ensures` at their head.
 
 Usage: bench/claims.py [--list [CRATE..] | --mend]. With --list it prints what is promised: each public function that has a contract, by
 crate, with its line, its comment and the clauses of its `ensures`. With --mend it writes the lines of links anew where their words have
@@ -20,7 +21,8 @@ sys.path.insert(0, os.path.join(ROOT, "tools"))
 from lanes import below, minutes, uses
 
 PAGE = os.path.join(ROOT, "docs", "proved.md")
-PAGES = [PAGE, os.path.join(ROOT, "README.md")]
+MAP = os.path.join(ROOT, "docs", "crates.md")
+PAGES = [PAGE, os.path.join(ROOT, "README.md"), MAP]
 LEARNS = ("tsn_solver", "tsn_learn")
 
 # What stands around the counts of functions in each page, and which counts these are.
@@ -119,21 +121,32 @@ def definitions(crate):
 
 
 def rows(text):
-    """The row of each crate in the page on proofs, with its line."""
+    """The row of each crate in the map, with its line."""
     found = {}
     for number, line in enumerate(text.splitlines(), 1):
-        head = re.match(r"\| `(tsn_\w+)`", line)
+        head = re.match(r"\| `(tsn\w*)`", line)
         if head:
-            cells = [it.strip() for it in re.split(r"(?<!\\)\|", line.strip("|"))]
-            for crate in re.findall(r"`(tsn_\w+)`", cells[0]):
-                found[crate] = (number, cells)
+            found[head[1]] = (number, [it.strip() for it in re.split(r"(?<!\\)\|", line.strip("|"))])
     return found
+
+
+def wrong_picture(text, used):
+    """What the map's picture shows otherwise than crates.txt: on which crates one stands, but for those that it reaches by another."""
+    drawn = text.partition("```")[2].partition("```")[0]
+    shown = {it[0]: set(it[1].split(", ")) for it in re.findall(r"(\w+) > (\w+(?:, \w+)*)", drawn)}
+    wrong = []
+    for crate in used:
+        lower = set(used[crate]) - set().union(*(below(it, used) - {it} for it in used[crate]))
+        name, wanted = crate.removeprefix("tsn_"), {it.removeprefix("tsn_") for it in lower}
+        if shown.get(name, set()) != wanted or not re.search(rf"\b{name}\b", drawn):
+            wrong.append(f"docs/crates.md: {name} stands on {', '.join(sorted(wanted)) or 'nothing'}")
+    return wrong
 
 
 def wrong_in_row(crate, cells, words):
     """What a row names that isn't there: a file, or a definition of whatever crate."""
     wrong = []
-    for word in re.findall(r"`([^`]+)`", cells[1] if len(cells) > 1 else ""):
+    for word in re.findall(r"`([^`]+)`", " ".join(cells[1:])):
         if word.endswith((".rt", ".antt")):
             places = [os.path.join("crates", crate, word), os.path.join("crates", word)]
             if not any(os.path.isfile(os.path.join(ROOT, it)) for it in places):
@@ -226,15 +239,12 @@ def main():
     mend = sys.argv[1:] == ["--mend"]
     wrong = [it for page in PAGES for it in wrong_links(page, mend)] + wrong_quotes(PAGE)
     counted = counts([*crates, "tsn"])
-    wrong += [it for page in PAGES for it in wrong_counts(page, counted, mend)]
+    wrong += [it for page in COUNTS for it in wrong_counts(page, counted, mend)]
     words = set().union(*(definitions(it) for it in used))
-    told = rows(read(PAGE))
-    for crate in crates:
-        if crate in told:
-            number, cells = told[crate]
-            wrong += [f"docs/proved.md:{number}: {it}" for it in wrong_in_row(crate, cells, words)]
-        elif listed[crate] or f"`{crate}`" not in read(PAGE):
-            wrong.append(f"docs/proved.md: {crate} isn't named")
+    told = rows(read(MAP))
+    for crate, (number, cells) in told.items():
+        wrong += [f"docs/crates.md:{number}: {it}" for it in wrong_in_row(crate, cells, words)]
+    wrong += [f"docs/crates.md and crates.txt differ in {it}" for it in set(told) ^ set(used)] + wrong_picture(read(MAP), used)
     proved_with = re.search(r'VERSION: &str = "[^"]*proved with ([^"]*)"', read(os.path.join(ROOT, "crates", "tsn_words", "src", "words.rt")))
     if not proved_with or f"\n{proved_with[1]} (the line" not in read(PAGES[1]):
         wrong.append("README.md and tsn_words/src/words.rt name different toolchains")
