@@ -209,22 +209,22 @@ def is_within(piece, lines):
 
 
 def wrong_quotes(path):
-    """Pieces of code blocks of the page on proofs that don't stand so in the file of the link before; a line `..` says that something
-    is left out."""
-    wrong, file, quoted = [], "", None
+    """Pieces of code blocks of a page that don't stand so in a file to which a link led since the block before, if one did; an empty line
+    or `..` ends a piece."""
+    wrong, files, quoted = [], [], None
     for line in read(path).splitlines():
-        links = re.findall(r"\]\((\.\./crates/[^)#]+)", line)
-        file = links[-1] if links and quoted is None else file
+        if quoted is None:
+            files += re.findall(r"\]\(((?:\.\./)?crates/[^)#]+)", line)
         if line.startswith("```"):
             if quoted is None:
                 quoted = [[]]
                 continue
-            lines = code_lines(os.path.join(os.path.dirname(path), file))
-            wrong += [f"not in {file}: {piece[0]} .." for piece in quoted if piece and not is_within(piece, lines)]
-            quoted = None
-        elif quoted is not None and line.strip() == "..":
+            texts = [code_lines(os.path.join(os.path.dirname(path), it)) for it in files]
+            wrong += [f"not in {', '.join(files)}: {it[0]} .." for it in quoted if files and it and not any(is_within(it, lines) for lines in texts)]
+            files, quoted = [], None
+        elif quoted is not None and line.strip() in ("..", ""):
             quoted.append([])
-        elif quoted is not None and line.strip():
+        elif quoted is not None:
             quoted[-1].append(line.strip())
     return wrong
 
@@ -237,7 +237,7 @@ def main():
         tell(listed, sys.argv[2:])
         return 0
     mend = sys.argv[1:] == ["--mend"]
-    wrong = [it for page in PAGES for it in wrong_links(page, mend)] + wrong_quotes(PAGE)
+    wrong = [it for page in PAGES for it in [*wrong_links(page, mend), *wrong_quotes(page)]]
     counted = counts([*crates, "tsn"])
     wrong += [it for page in COUNTS for it in wrong_counts(page, counted, mend)]
     words = set().union(*(definitions(it) for it in used))
