@@ -25,7 +25,7 @@ use Rattle.tsn_model.specs.declared.Side.{Side}
 use Rattle.tsn_model.specs.declared.Side.TheVariants.{Left, Right}
 use Rattle.tsn_model.proofs.Lists.{range_more, Contains-nil, Contains-head, Contains-more, Contains-cons_cases}
 use Rattle.tsn_model.proofs.Schedules.{flowspan-le-cycle}
-use Rattle.tsn_model.proofs.ArgumentViews.{decision_eq-true}
+use Rattle.tsn_model.proofs.Paths.{decision_eq-true}
 
 -- one element more of a list that a range is mapped to
 pub mapped_more : {X : Type 0} (f : ℕ → X) (xs ys : List X) (x : X) (n : ℕ) → ys ≡ xs ++ x ∷ [] → x ≡ f n → xs ≡ map f (range_with_len 0 n)

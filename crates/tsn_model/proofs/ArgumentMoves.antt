@@ -22,7 +22,7 @@ use Rattle.tsn_model.proofs.ArgumentViews.{Fits-learned_all, either_way, contrad
 use Rattle.tsn_model.proofs.ArgumentLoads.{pack_sound, last_sound, first_sound}
 
 -- the streams of a conflict's arc are there
-arc_within : (network : Network) (triple : Triple) (side : Side) → IsConflict network triple
+pub arc_within : (network : Network) (triple : Triple) (side : Side) → IsConflict network triple
     → ((arc_on network triple side).from < stream_count network) × ((arc_on network triple side).to < stream_count network)
 unfolding arc_on arc_between
 arc_within network triple Left conflict = let ordered = conflict.ordered in let counted = conflict.counted in (omega arith, omega arith)

@@ -1,46 +1,15 @@
 -- The numbers of a view stay between 0 and the cycle, unless it is impossible.
-use Rattle.std.proofs.Common.{ℕ, zero, suc, ◌<◌, List, [], ◌∷◌, length, get_or, set, ℤ, pos, ◌≤ℤ◌, sym, subst, arith, inl, inr}
+use Rattle.std.proofs.Common.{ℕ, zero, suc, ◌<◌, List, [], ◌∷◌, get_or, ℤ, pos, ◌≤ℤ◌, arith, inl, inr}
 use Rattle.std.specs.Prelude.{int_le}
 use Rattle.std.specs.Int.{int_min, int_max}
 use Rattle.std.proofs.lemmas.Int.{ints, clamps, by_lt_z}
-use Rattle.std.proofs.lemmas.Bool.{cases_eq, cases_lt, cond_both}
-use Rattle.std.proofs.lemmas.List.{get_or-set_other, get_or-set_same, get_or_past, length-set}
+use Rattle.std.proofs.lemmas.Bool.{cond_both}
 use Rattle.std.proofs.lemmas.List.FromFn.{get_or-map-range_with_len}
 use Rattle.tsn_model.specs.Network.{Network, stream_count, release_of}
 use Rattle.tsn_model.specs.Schedule.{flowspan, latest_offset}
+use Rattle.tsn_model.proofs.Numbers.{each-set}
 use Rattle.tsn_model.proofs.Shifts.{period-le-cycle}
 use Rattle.tsn_model.specs.Argument.{Goal, goal_first, goal_least, goal_none, Fact, from, until, order, done_from, done_until, View, low_at, high_at, IsImpossible, IsBounded, learned, learned_all, greatest_flowspan, first_ground, capped, settled}
-
--- a higher number at one place leaves each at least as high
-raised-ge : (xs : List ℤ) (i j : ℕ) (v : ℤ) → get_or xs j (pos 0) ≤ℤ get_or (set xs i (int_max v (get_or xs i (pos 0)))) j (pos 0)
-raised-ge xs i j v = elim (cases_eq j i) [
-  | inl is ↦
-      let new = int_max v (get_or xs i (pos 0)) in
-      let here : get_or xs i (pos 0) ≤ℤ get_or (set xs i new) i (pos 0) = elim (cases_lt i (length xs)) [
-        | inl inside ↦ let is_new = get_or-set_same xs i new (pos 0) inside in omega (arith, ints, clamps, is_new)
-        | inr past ↦
-            let none = get_or_past (set xs i new) i (pos 0) (omega (arith, length-set xs i new)) in
-            let was_none = get_or_past xs i (pos 0) past in
-            omega (arith, ints, none, was_none)
-      ] in
-      subst (λ k. get_or xs k (pos 0) ≤ℤ get_or (set xs i new) k (pos 0)) (sym is) here
-  | inr other ↦ let same = get_or-set_other xs i j (int_max v (get_or xs i (pos 0))) (pos 0) other in omega (arith, ints, same)
-]
-
-lowered-le : (xs : List ℤ) (i j : ℕ) (v : ℤ) → get_or (set xs i (int_min v (get_or xs i (pos 0)))) j (pos 0) ≤ℤ get_or xs j (pos 0)
-lowered-le xs i j v = elim (cases_eq j i) [
-  | inl is ↦
-      let new = int_min v (get_or xs i (pos 0)) in
-      let here : get_or (set xs i new) i (pos 0) ≤ℤ get_or xs i (pos 0) = elim (cases_lt i (length xs)) [
-        | inl inside ↦ let is_new = get_or-set_same xs i new (pos 0) inside in omega (arith, ints, clamps, is_new)
-        | inr past ↦
-            let none = get_or_past (set xs i new) i (pos 0) (omega (arith, length-set xs i new)) in
-            let was_none = get_or_past xs i (pos 0) past in
-            omega (arith, ints, none, was_none)
-      ] in
-      subst (λ k. get_or (set xs i new) k (pos 0) ≤ℤ get_or xs k (pos 0)) (sym is) here
-  | inr other ↦ let same = get_or-set_other xs i j (int_min v (get_or xs i (pos 0))) (pos 0) other in omega (arith, ints, same)
-]
 
 capped-le : (plan : List ℕ) (lows highs : List ℤ) (j : ℕ) → get_or (capped plan lows highs) j (pos 0) ≤ℤ get_or highs j (pos 0)
 unfolding capped
@@ -55,32 +24,22 @@ capped-le (p ∷ plan) (l ∷ lows) (h ∷ highs) (suc k) =
 module _ (network : Network) where
   pub IsBounded-learned : (view : View) (fact : Fact) → IsBounded network view → IsBounded network (learned view fact)
   unfolding learned
-  IsBounded-learned view (from i v) bounded = record {
-    low = λ j below. let rises = raised-ge view.low i j v in let old = bounded.low j below in omega (arith, ints, rises, old);
-    high = bounded.high;
-    done_low = bounded.done_low;
-    done_high = bounded.done_high;
-  }
-  IsBounded-learned view (until i v) bounded = record {
-    low = bounded.low;
-    high = λ j below. let falls = lowered-le view.high i j v in let old = bounded.high j below in omega (arith, ints, falls, old);
-    done_low = bounded.done_low;
-    done_high = bounded.done_high;
-  }
-  IsBounded-learned view (order decision) bounded = record
-      { low = bounded.low; high = bounded.high; done_low = bounded.done_low; done_high = bounded.done_high }
-  IsBounded-learned view (done_from v) bounded = record {
-    low = bounded.low;
-    high = bounded.high;
-    done_low = let old = bounded.done_low in omega (arith, ints, clamps);
-    done_high = bounded.done_high;
-  }
-  IsBounded-learned view (done_until v) bounded = record {
-    low = bounded.low;
-    high = bounded.high;
-    done_low = bounded.done_low;
-    done_high = let old = bounded.done_high in omega (arith, ints, clamps);
-  }
+  IsBounded-learned view (from i v) bounded =
+      let low = each-set (λ j x. j < stream_count network → pos 0 ≤ℤ x) view.low i (int_max v (low_at view i))
+      (λ below. let old = bounded.low i below in omega (arith, ints, clamps)) bounded.low in
+      record { low = low; high = bounded.high; done_low = bounded.done_low; done_high = bounded.done_high }
+  IsBounded-learned view (until i v) bounded =
+      let high = each-set (λ j x. j < stream_count network → x ≤ℤ pos network.cycle) view.high i (int_min v (high_at view i))
+      (λ below. let old = bounded.high i below in omega (arith, ints, clamps)) bounded.high in
+      record { low = bounded.low; high = high; done_low = bounded.done_low; done_high = bounded.done_high }
+  IsBounded-learned view (order decision) bounded =
+      record { low = bounded.low; high = bounded.high; done_low = bounded.done_low; done_high = bounded.done_high }
+  IsBounded-learned view (done_from v) bounded =
+      let done_low : pos 0 ≤ℤ int_max v view.done_low = let old = bounded.done_low in omega (arith, ints, clamps) in
+      record { low = bounded.low; high = bounded.high; done_low = done_low; done_high = bounded.done_high }
+  IsBounded-learned view (done_until v) bounded =
+      let done_high : int_min v view.done_high ≤ℤ pos network.cycle = let old = bounded.done_high in omega (arith, ints, clamps) in
+      record { low = bounded.low; high = bounded.high; done_low = bounded.done_low; done_high = done_high }
 
   pub IsBounded-learned_all : (view : View) (facts : List Fact) → IsBounded network view → IsBounded network (learned_all view facts)
   unfolding learned_all

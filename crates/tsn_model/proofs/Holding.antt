@@ -1,5 +1,5 @@
 -- Holding streams to their offsets, one after the other.
-use Rattle.std.proofs.Common.{◌≡◌, ◌≢◌, ℕ, zero, suc, ◌+◌, ◌-◌, ◌*◌, ◌≤◌, ◌<◌, ◌⊎◌, inl, inr, min, List, [], ◌∷◌, map, length, get_or, set, take, All, Option, Some, None, refl, sym, ap, ap₂, ◌∙◌, subst, arith, length-take, mul-pos}
+use Rattle.std.proofs.Common.{◌≡◌, ◌≢◌, ℕ, ◌+◌, ◌-◌, ◌*◌, ◌≤◌, ◌<◌, inl, inr, min, List, [], map, length, get_or, set, take, Option, Some, None, refl, sym, ap, ap₂, ◌∙◌, subst, arith, length-take, mul-pos}
 use Rattle.std.specs.List.{range_with_len}
 use Rattle.std.specs.Option.{option_map_or}
 use Rattle.std.proofs.lemmas.Bool.{cases_lt, cases_eq}
@@ -8,9 +8,9 @@ use Rattle.std.proofs.lemmas.List.Elements.{All-set, All-weaker}
 use Rattle.std.proofs.lemmas.List.Sums.{sum_by-set}
 use Rattle.std.proofs.lemmas.List.FromFn.{length-map-range_with_len, get_or-map-range_with_len}
 use Rattle.tsn_model.specs.declared.Link.{Link}
-use Rattle.tsn_model.specs.Network.{Network, Stream, IsWellFormed, IsLink, IsRoute, IsStream, no_stream, stream_count, stream_at, octets_of, route_of, hop_count, route_link, link_at, frame_count, nodes_along}
+use Rattle.tsn_model.specs.Network.{Network, Stream, IsWellFormed, IsLink, IsRoute, IsStream, no_stream, stream_count, stream_at, octets_of, hop_count, route_link, link_at, frame_count, nodes_along}
 use Rattle.tsn_model.specs.Timing.{transfer, arrival}
-use Rattle.tsn_model.specs.Held.{hold, had, held_stream, held, AreInLimits}
+use Rattle.tsn_model.specs.Held.{hold, had, held_stream, held}
 use Rattle.tsn_model.proofs.Routes.{rate-pos}
 use Rattle.tsn_model.proofs.Limits.{hops-pos, route_exists}
 use Rattle.tsn_model.proofs.Held.{same_count, stream_held, same_arrival}

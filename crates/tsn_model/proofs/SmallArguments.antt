@@ -1,12 +1,11 @@
 -- The small network's arguments.
-use Rattle.std.proofs.Common.{◌≡◌, ◌≢◌, ℕ, zero, suc, ◌<◌, [], ◌∷◌, get_or, ℤ, AllPairs, Contains, refl, ap, List, arith, inl, inr, pos, ◌≤ℤ◌}
+use Rattle.std.proofs.Common.{◌≡◌, ◌≢◌, ℕ, zero, suc, [], ◌∷◌, get_or, ℤ, Contains, refl, ap, List, arith, inl, inr, pos, ◌≤ℤ◌}
 use Rattle.std.specs.Prelude.{int_le, ◌&&◌, true}
 use Rattle.std.proofs.lemmas.Int.{ints}
 use Rattle.std.proofs.lemmas.Bool.{and_parts}
 use Rattle.std.proofs.lemmas.List.Elements.{All-nil, All-cons}
-use Rattle.std.proofs.lemmas.List.Kept.{AllPairs-cons}
 use Rattle.tsn_model.specs.declared.Frame.{Frame}
-use Rattle.tsn_model.specs.Network.{IsWellFormed, stream_at, period_of, turns_of, burst_of, octets_of, route_of, release_of, latest_of, link_at}
+use Rattle.tsn_model.specs.Network.{Network, stream_count, IsWellFormed, stream_at, period_of, turns_of, burst_of, octets_of, route_of, release_of, latest_of, link_at}
 use Rattle.tsn_model.specs.Timing.{occupancy, transfer, hop_delay, pace, spread, start, arrival, hop_end, span, greatest, hop_on, start_on, UsesLink}
 use Rattle.tsn_model.specs.Schedule.{offset_of, flowspan, latest_offset}
 use Rattle.tsn_model.specs.Arcs.{arc_between, arc_on, arc_of}
@@ -15,18 +14,11 @@ use Rattle.tsn_model.specs.Search.{side_eq, decision_eq}
 use Rattle.tsn_model.specs.Argument.{goal_first, goal_least, goal_none, order, done_from, IsFact, IsImpossible, other_side, turned, opposite, learned, learned_all, refuting, contradicts, left_open, unit_of, head_at, end_at, most, first_head, last_end, work_on, AreOn, AreSome, weight_by, shown_by, shown, narrowed, greatest_flowspan, first_ground, capped, settled, begun, ended, known_with, known_after, IsInQuestion, Step, Argues}
 use Rattle.tsn_model.specs.Examples.{first_frame, star_network, small_network, short_network, shared, small_offsets, left_goes, right_goes, first_steps, least_steps, none_steps, far_steps, early_steps, SmallArguments}
 use Rattle.tsn_model.proofs.Lists.{Contains-head, Contains-more}
-use Rattle.tsn_model.proofs.Small.{small_formed, short_formed, small_valid, shared_conflict, first_on, frames_differ}
+use Rattle.tsn_model.proofs.Small.{both_streams, all_two, one_alone, pairs_two, small_formed, short_formed, small_valid, shared_conflict, first_on, frames_differ}
 use Rattle.tsn_model.proofs.Arguments.{int_le-true, argues, plan_alone, argued_none}
 
-one_alone : (frame : Frame) → AllPairs ◌≢◌ (frame ∷ [])
-one_alone frame = AllPairs-cons ◌≢◌ frame [] (All-nil (λ other. frame ≢ other)) (λ a b d order below. absurd (omega arith))
-
 two_on : (cycle : ℕ) (a b : Frame) → a ≢ b → IsFrameOn (star_network cycle) 4 a → IsFrameOn (star_network cycle) 4 b → AreOn (star_network cycle) 4 (a ∷ b ∷ [])
-two_on cycle a b differ a_on b_on = record {
-  different = AllPairs-cons ◌≢◌ a (b ∷ []) (All-cons (λ other. a ≢ other) b [] differ (All-nil (λ other. a ≢ other))) (one_alone b);
-  on_link = All-cons (IsFrameOn (star_network cycle) 4) a (b ∷ []) a_on
-      (All-cons (IsFrameOn (star_network cycle) 4) b [] b_on (All-nil (IsFrameOn (star_network cycle) 4)));
-}
+two_on cycle a b differ a_on b_on = record { different = pairs_two ◌≢◌ a b differ; on_link = all_two (IsFrameOn (star_network cycle) 4) a b a_on b_on }
 
 uses : (cycle : ℕ) → UsesLink (star_network cycle) 0 4 × UsesLink (star_network cycle) 1 4
 unfolding stream_at route_of hop_on
@@ -45,14 +37,14 @@ back cycle formed =
 all_some : (frame : Frame) → AreSome (frame ∷ []) (frame ∷ [])
 all_some frame = record {
   one = omega arith;
-  different = one_alone frame;
+  different = one_alone ◌≢◌ frame;
   among = All-cons (Contains (frame ∷ [])) frame [] (Contains-head frame []) (All-nil (Contains (frame ∷ [])));
 }
 
 -- a view of two streams that isn't impossible
-is_open : (cycle : ℕ) (a b c d e f : ℤ) → (int_le a c && int_le b d && int_le e f) ≡ true
-    → IsImpossible (star_network cycle) (record { low = a ∷ b ∷ []; high = c ∷ d ∷ []; orders = []; done_low = e; done_high = f }) → ⊥
-is_open cycle a b c d e f known impossible =
+pub is_open : (network : Network) (a b c d e f : ℤ) → stream_count network ≡ 2 → (int_le a c && int_le b d && int_le e f) ≡ true
+    → IsImpossible network (record { low = a ∷ b ∷ []; high = c ∷ d ∷ []; orders = []; done_low = e; done_high = f }) → ⊥
+is_open network a b c d e f two known impossible =
     let parts = and_parts (int_le a c && int_le b d) (int_le e f) known in
     let streams = and_parts (int_le a c) (int_le b d) parts.0 in
     let first = int_le-true a c streams.0 in
@@ -60,40 +52,41 @@ is_open cycle a b c d e f known impossible =
     let done = int_le-true e f parts.1 in
     crossing impossible first second done
   where
-    crossing : IsImpossible (star_network cycle) (record { low = a ∷ b ∷ []; high = c ∷ d ∷ []; orders = []; done_low = e; done_high = f }) → a ≤ℤ c
+    crossing : IsImpossible network (record { low = a ∷ b ∷ []; high = c ∷ d ∷ []; orders = []; done_low = e; done_high = f }) → a ≤ℤ c
         → b ≤ℤ d → e ≤ℤ f → ⊥
     crossing (inl (zero, below, crossed)) first second done = omega (arith, ints)
     crossing (inl (suc zero, below, crossed)) first second done = omega (arith, ints)
     crossing (inl (suc (suc k), below, crossed)) first second done = omega arith
     crossing (inr past) first second done = omega (arith, ints)
 
--- at the end the least offsets are the plan's
-planned : (i : ℕ) → i < 2 → pos (offset_of (0 ∷ 672 ∷ []) i) ≤ℤ get_or (pos 0 ∷ pos 672 ∷ []) i (pos 0)
-planned zero below = omega (arith, ints)
-planned (suc zero) below = omega (arith, ints)
-planned (suc (suc k)) below = absurd (omega arith)
-
 first_argued : Argues small_network (goal_first small_offsets) first_steps
 unfolding first_steps small_network small_offsets stream_at octets_of route_of release_of latest_of link_at occupancy transfer hop_delay start arrival hop_end span greatest start_on flowspan least opposite learned learned_all head_at end_at most first_head last_end work_on shown narrowed latest_offset greatest_flowspan first_ground capped settled begun ended known_with known_after spread burst_of pace period_of begin_on end_on turns_of
 first_argued = (
   record {
-    open_ground = is_open 1000000 _ _ _ _ _ _ refl;
+    open_ground = is_open small_network _ _ _ _ _ _ refl refl;
     facts = All-cons (IsFact small_network) (done_from _) [] tt (All-nil (IsFact small_network));
     moves = (
-      is_open 1000000 _ _ _ _ _ _ refl,
+      is_open small_network _ _ _ _ _ _ refl refl,
       omega arith,
-      (is_open 1000000 _ _ _ _ _ _ refl, omega arith, (is_open 1000000 _ _ _ _ _ _ refl, (forth 1000000 small_formed, all_some (first_frame 1), omega (arith, ints)), tt)),
+      (
+        is_open small_network _ _ _ _ _ _ refl refl,
+        omega arith,
+        (is_open small_network _ _ _ _ _ _ refl refl, (forth 1000000 small_formed, all_some (first_frame 1), omega (arith, ints)), tt),
+      ),
     );
     shows = inr (inl (0, omega arith, omega (arith, ints)));
   },
   (
     record {
-      open_ground = is_open 1000000 _ _ _ _ _ _ refl;
+      open_ground = is_open small_network _ _ _ _ _ _ refl refl;
       facts = All-nil (IsFact small_network);
-      moves = (is_open 1000000 _ _ _ _ _ _ refl, (back 1000000 small_formed, all_some (first_frame 0), omega (arith, ints)), tt);
+      moves = (is_open small_network _ _ _ _ _ _ refl refl, (back 1000000 small_formed, all_some (first_frame 0), omega (arith, ints)), tt);
       shows = inl refl;
     },
-    inr (omega (arith, ints), planned),
+    inr (
+      omega (arith, ints),
+      both_streams (λ i. pos (offset_of (0 ∷ 672 ∷ []) i) ≤ℤ get_or (pos 0 ∷ pos 672 ∷ []) i (pos 0)) (omega (arith, ints)) (omega (arith, ints)),
+    ),
   ),
 )
 
@@ -101,9 +94,9 @@ none_argued : Argues short_network goal_none none_steps
 unfolding none_steps short_network stream_at octets_of route_of release_of latest_of link_at occupancy transfer hop_delay start arrival hop_end span greatest start_on least learned learned_all refuting head_at end_at most first_head last_end work_on shown narrowed latest_offset greatest_flowspan first_ground settled begun ended known_with known_after spread burst_of pace period_of begin_on end_on turns_of
 none_argued = (
   record {
-    open_ground = is_open 2969 _ _ _ _ _ _ refl;
+    open_ground = is_open short_network _ _ _ _ _ _ refl refl;
     facts = All-nil (IsFact short_network);
-    moves = (is_open 2969 _ _ _ _ _ _ refl, (forth 2969 short_formed, omega (arith, ints)), tt);
+    moves = (is_open short_network _ _ _ _ _ _ refl refl, (forth 2969 short_formed, omega (arith, ints)), tt);
     shows = inl refl;
   },
   inl (inr (omega (arith, ints))),
@@ -113,15 +106,13 @@ least_argued : Argues small_network (goal_least small_offsets) least_steps
 unfolding least_steps left_goes right_goes small_network shared small_offsets stream_at octets_of route_of release_of latest_of link_at occupancy transfer hop_delay start arrival hop_end span greatest start_on flowspan arc_of arc_on arc_between decision_eq side_eq other_side turned opposite learned learned_all refuting contradicts left_open unit_of weight_by shown_by shown narrowed latest_offset greatest_flowspan first_ground settled begun ended known_with known_after spread burst_of pace period_of begin_on end_on turns_of
 least_argued = (
   record {
-    open_ground = is_open 1000000 _ _ _ _ _ _ refl;
-    facts = All-cons (IsFact small_network) (order right_goes) (order left_goes ∷ []) shared_conflict
-        (All-cons (IsFact small_network) (order left_goes) [] shared_conflict (All-nil (IsFact small_network)));
+    open_ground = is_open small_network _ _ _ _ _ _ refl refl;
+    facts = all_two (IsFact small_network) (order right_goes) (order left_goes) shared_conflict shared_conflict;
     moves = (
-      is_open 1000000 _ _ _ _ _ _ refl,
+      is_open small_network _ _ _ _ _ _ refl refl,
       (
-        All-cons (Contains (left_goes ∷ right_goes ∷ [])) left_goes (right_goes ∷ []) (Contains-head left_goes (right_goes ∷ []))
-            (All-cons (Contains (left_goes ∷ right_goes ∷ [])) right_goes []
-            (Contains-more left_goes (right_goes ∷ []) right_goes (Contains-head right_goes [])) (All-nil (Contains (left_goes ∷ right_goes ∷ [])))),
+        all_two (Contains (left_goes ∷ right_goes ∷ [])) left_goes right_goes (Contains-head left_goes (right_goes ∷ []))
+            (Contains-more left_goes (right_goes ∷ []) right_goes (Contains-head right_goes [])),
         (0, (refl, (refl, refl))),
         omega (arith, ints),
       ),
@@ -131,21 +122,21 @@ least_argued = (
   },
   (
     record {
-      open_ground = is_open 1000000 _ _ _ _ _ _ refl;
+      open_ground = is_open small_network _ _ _ _ _ _ refl refl;
       facts = All-nil (IsFact small_network);
       moves = (
-        is_open 1000000 _ _ _ _ _ _ refl,
+        is_open small_network _ _ _ _ _ _ refl refl,
         omega arith,
         (
-          is_open 1000000 _ _ _ _ _ _ refl,
+          is_open small_network _ _ _ _ _ _ refl refl,
           omega arith,
           (
-            is_open 1000000 _ _ _ _ _ _ refl,
+            is_open small_network _ _ _ _ _ _ refl refl,
             (shared_conflict, omega (arith, ints)),
             (
-              is_open 1000000 _ _ _ _ _ _ refl,
+              is_open small_network _ _ _ _ _ _ refl refl,
               (omega arith, omega arith),
-              (is_open 1000000 _ _ _ _ _ _ refl, Contains-head left_goes (left_goes ∷ []), tt),
+              (is_open small_network _ _ _ _ _ _ refl refl, Contains-head left_goes (left_goes ∷ []), tt),
             ),
           ),
         ),

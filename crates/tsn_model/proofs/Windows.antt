@@ -1,9 +1,8 @@
 -- What is left of a stream's offset by its release, its period and its latest instant.
-use Rattle.std.proofs.Common.{ℕ, ◌≤◌, List, pos, ◌-ℤ◌, ◌≤ℤ◌, arith}
+use Rattle.std.proofs.Common.{ℕ, List, arith}
 use Rattle.std.proofs.lemmas.Int.{ints, clamps}
-use Rattle.tsn_model.specs.Network.{Network, period_of, latest_of}
-use Rattle.tsn_model.specs.Timing.{arrival, span}
-use Rattle.tsn_model.specs.Schedule.{offset_of, latest_offset, FitsPeriod, IsReleased, IsInTime, IsWithinWindow}
+use Rattle.tsn_model.specs.Network.{Network}
+use Rattle.tsn_model.specs.Schedule.{latest_offset, FitsPeriod, IsReleased, IsInTime, IsWithinWindow}
 
 module _ (network : Network) (offsets : List ℕ) (i : ℕ) where
   pub window_of : IsReleased network offsets i × FitsPeriod network offsets i × IsInTime network offsets i → IsWithinWindow network offsets i

@@ -1,4 +1,4 @@
-use Rattle.std.proofs.Common.{◌≡◌, ◌≤◌, length, take}
+use Rattle.std.proofs.Common.{◌≡◌, length, take}
 use Rattle.tsn_model.specs.Held.{held}
 use Rattle.tsn_model.proofs.plain.PlainNetwork.hold.Given as goal
 
