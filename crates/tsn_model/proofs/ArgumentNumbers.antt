@@ -1,15 +1,15 @@
 -- The numbers of a view stay between 0 and the cycle, unless it is impossible.
-use Rattle.std.proofs.Common.{ℕ, zero, suc, ◌<◌, List, [], ◌∷◌, get_or, ℤ, pos, ◌≤ℤ◌, arith, inl, inr}
+use Rattle.std.proofs.Common.{ℕ, zero, suc, ◌<◌, List, [], ◌∷◌, get_or, ℤ, pos, ◌≤ℤ◌, arith}
 use Rattle.std.specs.Prelude.{int_le}
 use Rattle.std.specs.Int.{int_min, int_max}
-use Rattle.std.proofs.lemmas.Int.{ints, clamps, by_lt_z}
+use Rattle.std.proofs.lemmas.Int.{ints, clamps}
 use Rattle.std.proofs.lemmas.Bool.{cond_both}
 use Rattle.std.proofs.lemmas.List.FromFn.{get_or-map-range_with_len}
 use Rattle.tsn_model.specs.Network.{Network, stream_count, release_of}
 use Rattle.tsn_model.specs.Schedule.{flowspan, latest_offset}
 use Rattle.tsn_model.proofs.Numbers.{each-set}
 use Rattle.tsn_model.proofs.Shifts.{period-le-cycle}
-use Rattle.tsn_model.specs.Argument.{Goal, goal_first, goal_least, goal_none, Fact, from, until, order, done_from, done_until, View, low_at, high_at, IsImpossible, IsBounded, learned, learned_all, greatest_flowspan, first_ground, capped, settled}
+use Rattle.tsn_model.specs.Argument.{Goal, goal_first, goal_least, goal_none, Fact, from, until, order, done_from, done_until, View, low_at, high_at, IsBounded, learned, greatest_flowspan, first_ground, capped, settled}
 
 capped-le : (plan : List ℕ) (lows highs : List ℤ) (j : ℕ) → get_or (capped plan lows highs) j (pos 0) ≤ℤ get_or highs j (pos 0)
 unfolding capped
@@ -41,11 +41,6 @@ module _ (network : Network) where
       let done_high : int_min v view.done_high ≤ℤ pos network.cycle = let old = bounded.done_high in omega (arith, ints, clamps) in
       record { low = bounded.low; high = bounded.high; done_low = bounded.done_low; done_high = done_high }
 
-  pub IsBounded-learned_all : (view : View) (facts : List Fact) → IsBounded network view → IsBounded network (learned_all view facts)
-  unfolding learned_all
-  IsBounded-learned_all view [] bounded = bounded
-  IsBounded-learned_all view (fact ∷ facts) bounded = IsBounded-learned_all (learned view fact) facts (IsBounded-learned view fact bounded)
-
   pub IsBounded-settled : (goal : Goal) (view : View) → IsBounded network view → IsBounded network (settled network goal view)
   unfolding settled
   IsBounded-settled (goal_first plan) view bounded =
@@ -71,11 +66,3 @@ module _ (network : Network) where
     done_low = omega (arith, ints);
     done_high = within;
   }
-
-  -- where a view isn't impossible, its least numbers are no higher than its greatest
-  pub not_crossed : (view : View) → (IsImpossible network view → ⊥)
-      → ((i : ℕ) → i < stream_count network → low_at view i ≤ℤ high_at view i) × (view.done_low ≤ℤ view.done_high)
-  not_crossed view possible = (
-    λ i below. by_lt_z (high_at view i) (low_at view i) (λ crossed. absurd (possible (inl (i, below, crossed)))) (λ fine. fine),
-    by_lt_z view.done_high view.done_low (λ crossed. absurd (possible (inr crossed))) (λ fine. fine),
-  )

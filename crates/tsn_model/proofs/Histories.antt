@@ -3,7 +3,7 @@ use Rattle.std.proofs.Common.{◌≡◌, List, [], ◌∷◌, ◌++◌, length, 
 use Rattle.std.specs.List.{flat_map}
 use Rattle.std.proofs.lemmas.Bool.{both_ways, not-true, not_from_false, or_cases, or_from, not-false, false_from_ne_true}
 use Rattle.std.proofs.lemmas.List.{length-append, same_from_push}
-use Rattle.std.proofs.lemmas.List.Folds.{list_any-from_Any, Any-from_list_any}
+use Rattle.std.proofs.lemmas.List.Folds.{list_any-from_Any}
 use Rattle.std.proofs.lemmas.List.Quantifiers.{all_pairs_push}
 use Rattle.std.proofs.lemmas.List.Elements.{All-nil, All-cons, filter-append, filter_agree, Contains-append_left}
 use Rattle.std.proofs.lemmas.List.Kept.{AllPairs-cons, AllPairs-filter}
@@ -106,13 +106,6 @@ unfolding is_settled
 settled_at history settlement found =
     list_any-from_Any (λ (s : Settlement). path_eq s.event.path settlement.event.path) history
     (Any-from_Contains (λ (s : Settlement). path_eq s.event.path settlement.event.path ≡ true) history settlement found (path_eq-refl settlement.event.path))
-
--- a settled path is the path of a settlement
-pub settlement_of : (history : List Settlement) (path : List Decision) → is_settled history path ≡ true → (settlement : Settlement) × Contains history settlement × (settlement.event.path ≡ path)
-unfolding is_settled
-settlement_of history path known =
-    let some = Any-from_list_any (λ (s : Settlement). path_eq s.event.path path) history known in
-    (some.1, (some.0, some.2, some.3), path_eq-true some.1.event.path path some.4)
 
 -- a made child's parent is settled
 pub parent_settled : (history : List Settlement) (path : List Decision) (triple : Triple) (side : Side) → Contains (made_paths history) (decided path triple side) → is_settled history path ≡ true

@@ -198,10 +198,6 @@ twice_shifts : shifts twice_network 0 ≡ 0 ∷ 10000 ∷ []
 unfolding twice_network small_offsets late_offsets burst_offsets shared shared_later stream_at octets_of turns_of period_of burst_of route_of release_of latest_of link_at occupancy pace spread shifts transfer hop_delay start arrival hop_end span greatest hop_on start_on
 twice_shifts = refl
 
-other_shifts : shifts twice_network 1 ≡ 0 ∷ []
-unfolding twice_network small_offsets late_offsets burst_offsets shared shared_later stream_at octets_of turns_of period_of burst_of route_of release_of latest_of link_at occupancy pace spread shifts transfer hop_delay start arrival hop_end span greatest hop_on start_on
-other_shifts = refl
-
 abbrev AreWindows : ℕ → Type 0
 AreWindows t = ((1626 ≤ t) × (t < 2970)) ⊎ ((11626 ≤ t) × (t < 12298))
 
