@@ -1,6 +1,7 @@
 -- The commands over a plan, and over a plan and a certificate, refuse these as they are read, and else go on.
 use Rattle.std.proofs.Common.{◌≡◌, List, Result, Ok, Err, inl, refl, subst, sym}
 use Rattle.tsn_device.specs.declared.device.ReadFault.{ReadFault}
+use Rattle.tsn_device.specs.declared.device.ReadFault.TheVariants.{Broken, TooLong, Memory}
 use Rattle.tsn_reason.specs.declared.answer.Answer.{Answer}
 use Rattle.tsn_reason.specs.Check.{CheckAnswers}
 use Rattle.tsn_reason.specs.Outcome.{ComesOver, output_of}
@@ -40,7 +41,18 @@ cert_inputs showing = record {
 comes_said : (sources : List SourceRun) (answer : Result Answer ReadFault) → ComesOver shown_output (CertAnswers Verdict) sources (shown_said answer)
     → ComesOver output_of CheckAnswers sources answer
 comes_said sources (Ok answer) over = record { comes = over.comes; failures = tells_ok _ _ _ over.failures }
-comes_said sources (Err fault) over = record { comes = over.comes; failures = over.failures }
+comes_said sources (Err Broken) over = record {
+  comes = over.comes;
+  failures = record { broken = λ is. over.failures.broken refl; kept = λ unbroken. absurd (unbroken refl) };
+}
+comes_said sources (Err TooLong) over = record {
+  comes = over.comes;
+  failures = record { broken = λ is. cc; kept = λ unbroken. over.failures.kept (λ is. cc) };
+}
+comes_said sources (Err Memory) over = record {
+  comes = over.comes;
+  failures = record { broken = λ is. cc; kept = λ unbroken. over.failures.kept (λ is. cc) };
+}
 
 pub said_comes : (sources : List SourceRun) (answer : Result Answer ReadFault) (shown : Result Shown ReadFault) → shown_said answer ≡ shown
     → ComesOver shown_output (CertAnswers Verdict) sources shown → ComesOver output_of CheckAnswers sources answer

@@ -49,19 +49,35 @@ pub fn certified_shown<N: Source, P: Source, C: Source>(
 {
     match read_inputs(alloc, network, plan) {
         Ok(InputsRead::Taken(problem, stated)) => {
-            let claim = Claim {
-                problem: &problem,
-                name: plan.name(),
-                plan: &stated,
-            };
-            let shown = answer_on(alloc, claim, cert, showing);
-            drop(problem);
-            drop(stated);
-            shown
+            answer_to(alloc, problem, stated, plan.name(), cert, showing)
         }
         Ok(InputsRead::Refused(answer)) => Ok(Shown::Said(answer)),
         Err(fault) => Err(fault),
     }
+}
+
+// What the run answers to a network and a plan of the file of this name, and to what it reads after that.
+fn answer_to<C: Source>(
+    alloc: Global,
+    problem: Problem,
+    plan: Plan,
+    name: &str,
+    cert: &mut C,
+    showing: Showing,
+) -> Result<Shown, ReadFault>
+    requires { C.failed cert.old < 2 ^ 64 - 1 }
+    ensures goes { GoesOnOver showing problem plan (source_over C.given C.failed C.is_at_end cert.old cert.new) result }
+    ensures told { IfOk result (λ a. showing ≡ Showing.Verdict → IsSaid a) }
+{
+    let claim = Claim {
+        problem: &problem,
+        name,
+        plan: &plan,
+    };
+    let answer = answer_on(alloc, claim, cert, showing);
+    drop(problem);
+    drop(plan);
+    answer
 }
 
 // What the run answers on a network and a plan, to what it reads after that.

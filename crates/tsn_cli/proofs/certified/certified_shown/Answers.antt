@@ -9,8 +9,8 @@ use Rattle.tsn_cli.proofs.certified.certified_shown.Goals as goal
 
 pub returns-in-Ok-Taken-clause-comes : goal.returns-in-Ok-Taken-clause-comes
 returns-in-Ok-Taken-clause-comes g c =
-    comes_after shown_output (CertAnswers c.args.showing) _ _ _ c.in-Ok-Taken.problem c.in-Ok-Taken.stated c.answer_on-shown.result
-    (rw c.in-Ok-Taken.field-0-is at c.in-Ok-Taken.ensures) c.answer_on-shown.ensures.goes.failures c.answer_on-shown.ensures.goes.comes
+    comes_after shown_output (CertAnswers c.args.showing) _ _ _ c.in-Ok-Taken.problem c.in-Ok-Taken.stated c.answer_to.result
+    (rw c.in-Ok-Taken.field-0-is at c.in-Ok-Taken.ensures) c.answer_to.ensures.goes.failures c.answer_to.ensures.goes.comes
 
 pub returns-in-Ok-Refused-clause-comes : goal.returns-in-Ok-Refused-clause-comes
 returns-in-Ok-Refused-clause-comes g c =
