@@ -2,7 +2,6 @@
 use Rattle.std.proofs.Common.{◌≡◌, ◌⊎◌, ℕ, ◌<◌, ◌≤◌, ◌+◌, List, [], ◌∷◌, ◌++◌, map, length, pos, ◌≤ℤ◌, ◌<ℤ◌, Bool, true, false, Contains, refl, sym, ap, ◌∙◌, subst, inl, inr, arith, eq-eqb}
 use Rattle.std.specs.Prelude.{MatchBool, nat_eq, ◌&&◌, ◌||◌}
 use Rattle.std.specs.List.{range_with_len, list_any}
-use Rattle.std.proofs.lemmas.Int.{ints}
 use Rattle.std.specs.Ordering.{int_eq}
 use Rattle.std.proofs.lemmas.Bool.Decides.{Decides-int_eq}
 use Rattle.std.proofs.lemmas.List.{map-append}
@@ -18,7 +17,7 @@ use Rattle.tsn_model.proofs.ArgumentNumbers.{IsBounded-first}
 use Rattle.tsn_argue.specs.State.{view_of, base_of, IsKept}
 use Rattle.tsn_argue.specs.Steps.{AreCrossed, IsFirstView}
 use Rattle.tsn_argue.specs.declared.view.View.{View}
-use Rattle.tsn_argue.proofs.ViewLemmas.{Flag, flag_or}
+use Rattle.tsn_argue.proofs.ViewLemmas.{Flag, flag_or, told_by}
 use Rattle.std.proofs.lemmas.List.Elements.{All-nil}
 use Rattle.tsn_model.specs.Search.{side_eq, decision_eq}
 use Rattle.tsn_model.specs.declared.Side.{Side}
@@ -124,8 +123,6 @@ first_view network goal state crossed within timing orders view base flag lists 
     }
 
     known : Flag network (first_ground network goal) state.crossed
-    known = flag_or crossed state.crossed _ _ _ _ lists told
-        (λ are. inl (are.0, subst (λ n. are.0 < n) lows_count are.1, are.2))
-        (λ past. inr past)
+    known = flag_or crossed state.crossed _ _ _ lists (told_by _ _ _ _ _ told (λ past. past) (λ past. past))
+        (λ either. elim either [ inl are ↦ inl (are.0, subst (λ n. are.0 < n) lows_count are.1, are.2) | inr past ↦ inr past ])
         (λ impossible. elim impossible [ inl one ↦ inl (one.0, subst (λ n. one.0 < n) (sym lows_count) one.1, one.2) | inr past ↦ inr past ])
-        (λ apart past. omega (arith, ints, apart, past))

@@ -6,7 +6,6 @@ pub mod FirstView
 pub mod JudgeFrames
 pub mod LinkLemmas
 pub mod MotionLemmas
-pub mod OpenLemmas
 pub mod OpenViews
 pub mod Ordered
 pub mod PlacingLemmas

@@ -5,18 +5,15 @@ use Rattle.std.proofs.lemmas.Int.{ints}
 use Rattle.std.proofs.lemmas.Bool.{true≢false}
 use Rattle.std.proofs.lemmas.List.{take_more, take_all, take-append-drop, length-append, length-map, get_or-map, map_more, map-append}
 use Rattle.std.proofs.lemmas.List.Elements.{filter-append, All-nil, All-cons, All-push, Contains-push, Contains-append_left}
-use Rattle.tsn_model.specs.declared.Frame.{Frame}
 use Rattle.tsn_model.specs.declared.Arc.{Arc}
 use Rattle.tsn_model.specs.declared.Decision.{Decision}
-use Rattle.tsn_model.specs.declared.Side.{Side}
-use Rattle.tsn_model.specs.declared.Side.TheVariants.{Left, Right}
-use Rattle.tsn_model.specs.declared.Triple.{Triple}
 use Rattle.tsn_model.specs.Network.{Network, stream_count}
 use Rattle.tsn_model.specs.Schedule.{IsConflict}
 use Rattle.tsn_model.specs.Timing.{arrival}
-use Rattle.tsn_model.specs.Arcs.{arc_between, arc_on, arc_of}
-use Rattle.tsn_model.specs.Argument.{Fact as ModelFact, from, until, done_from, IsFact, low_at, high_at, go, turn, order, apply, arrive, pack, round, follow, shown, shown_by, refuting, unit_of, clause_at, View, LeadsBy, weight_by, contradicts, left_open, turned}
+use Rattle.tsn_model.specs.Arcs.{arc_of}
+use Rattle.tsn_model.specs.Argument.{Fact as ModelFact, from, until, done_from, IsFact, low_at, high_at, go, apply, arrive, shown, shown_by, refuting, unit_of, clause_at, View, LeadsBy, weight_by, contradicts, left_open, turned}
 use Rattle.tsn_model.proofs.Lists.{All-unmap}
+use Rattle.tsn_model.proofs.ArgumentMoves.{arc_within}
 use Rattle.tsn_cert.specs.Meaning.{fact_of, clause_of, decision_of}
 use Rattle.tsn_cert.specs.declared.order.Order.{Order}
 use Rattle.tsn_cert.specs.declared.fact.Fact.{Fact}
@@ -29,12 +26,6 @@ use Rattle.tsn_argue.specs.Faults.{IsWrongOrder, IsUnclosed}
 use Rattle.tsn_argue.specs.Motion.{FindsUnit, IsArcIn, clauses_of}
 
 -- ---- arcs
-
-arc_within : (network : Network) (triple : Triple) (side : Side) → IsConflict network triple
-    → ((arc_on network triple side).from < stream_count network) × ((arc_on network triple side).to < stream_count network)
-unfolding arc_on arc_between
-arc_within network triple Left conflict = let ordered = conflict.ordered in let counted = conflict.counted in (omega arith, omega arith)
-arc_within network triple Right conflict = let ordered = conflict.ordered in let counted = conflict.counted in (omega arith, omega arith)
 
 -- the streams of a conflict's arc are there
 pub arc_there : (network : Network) (decision : Decision) (arc : Arc) → arc ≡ arc_of network decision → IsConflict network decision.triple
@@ -269,24 +260,6 @@ module _ (network : Network) (clauses : List (List ModelFact)) (view : View) whe
       → done_from a ∷ until i b ∷ [] ≡ shown network clauses view (arrive i)
   unfolding shown
   arrive_shown i a b low high = λ k. done_from (low k) ∷ until i (high k) ∷ []
-
-  pub turn_shown : (decision : Decision) (facts : List ModelFact) → facts ≡ order decision ∷ [] → facts ≡ shown network clauses view (turn decision)
-  unfolding shown
-  turn_shown decision facts is = is
-
-  pub pack_shown : (link : ℕ) (frames : List Frame) (facts : List ModelFact) → facts ≡ refuting view ∷ []
-      → facts ≡ shown network clauses view (pack link frames)
-  unfolding shown
-  pack_shown link frames facts is = is
-
-  pub round_shown : (decisions : List Decision) (facts : List ModelFact) → facts ≡ refuting view ∷ [] → facts ≡ shown network clauses view (round decisions)
-  unfolding shown
-  round_shown decisions facts is = is
-
-  pub follow_shown : (decision weaker : Decision) (facts : List ModelFact) → facts ≡ order weaker ∷ []
-      → facts ≡ shown network clauses view (follow decision weaker)
-  unfolding shown
-  follow_shown decision weaker facts is = is
 
 -- the clause of a number
 module _ (clauses : List (Bor Clause)) (k : ℕ) (clause : Bor Clause) (below : k < length clauses) (is : clause ≡ get_or clauses k clause) where

@@ -1,15 +1,18 @@
 -- The frames of a placing: the others are on the link, some of them too, and what the move shows.
-use Rattle.std.proofs.Common.{◌≡◌, ℕ, List, [], ◌∷◌, ℤ, pos, ◌+ℤ◌, ◌-ℤ◌, All, inr, sym, ap, ◌∙◌, subst}
+use Rattle.std.proofs.Common.{◌≡◌, ℕ, ◌<◌, Bool, List, [], ◌∷◌, ℤ, ◌<ℤ◌, All, inr, sym, ap, ◌∙◌, subst, arith}
 use Rattle.std.specs.Prelude.{Result, Ok, Err}
 use Rattle.std.proofs.lemmas.List.Elements.{All-head, All-tail, All-contains}
-use Rattle.tsn_model.specs.Network.{Network}
+use Rattle.std.proofs.lemmas.Int.{ints}
+use Rattle.tsn_model.specs.Network.{Network, stream_count}
 use Rattle.tsn_model.specs.declared.Frame.{Frame}
-use Rattle.tsn_model.specs.Certificate.{IsFrameOn, begin_on, end_on}
-use Rattle.tsn_model.specs.Argument.{Fact as ModelFact, from, until, IsFact, View, AreOn, AreSome, first_head, last_end, work_on, put_last, put_first, shown}
+use Rattle.tsn_model.specs.Certificate.{IsFrameOn}
+use Rattle.tsn_model.specs.Argument.{Fact as ModelFact, Move as ModelMove, IsFact, View, AreOn, AreSome, IsAllowed, shown}
 use Rattle.tsn_model.proofs.Routes.{UsesLink-counted}
 use Rattle.tsn_cert.specs.declared.motion.Placing.{Placing}
-use Rattle.tsn_argue.specs.Faults.{AreWrongAmong}
-use Rattle.tsn_argue.specs.Motion.{FindsPlacing}
+use Rattle.tsn_argue.specs.Faults.{AreWrongAmong, HasRoom, IsWrongMove}
+use Rattle.tsn_argue.specs.Motion.{FindsPlacing, JudgesMove, facts_of}
+use Rattle.tsn_argue.specs.Loads.{ShowsWithout}
+use Rattle.tsn_argue.specs.declared.motion.Shown.{Shown}
 use Rattle.tsn_argue.specs.Frames.{FindsChoice}
 use Rattle.tsn_argue.specs.declared.wrong.Wrong.{Wrong}
 use Rattle.tsn_argue.proofs.MotionLemmas.{one_fact}
@@ -18,11 +21,8 @@ module _ (network : Network) (link : ℕ) (frame : Frame) (frames : List Frame) 
   pub frame_on : IsFrameOn network link frame
   frame_on = All-head (IsFrameOn network link) frame frames on.on_link
 
-  pub stream_there : (facts : List ModelFact) (v : ℤ) → facts ≡ from frame.stream v ∷ [] → All (IsFact network) facts
-  stream_there facts v is = one_fact network facts (from frame.stream v) is (UsesLink-counted network frame.stream link frame_on.uses)
-
-  pub stream_there_until : (facts : List ModelFact) (v : ℤ) → facts ≡ until frame.stream v ∷ [] → All (IsFact network) facts
-  stream_there_until facts v is = one_fact network facts (until frame.stream v) is (UsesLink-counted network frame.stream link frame_on.uses)
+  pub stream_there : frame.stream < stream_count network
+  stream_there = UsesLink-counted network frame.stream link frame_on.uses
 
   pub others_on : (list : List Frame) → list ≡ frames → All (IsFrameOn network link) list
   others_on list is = subst (All (IsFrameOn network link)) (sym is) (All-tail (IsFrameOn network link) frame frames on.on_link)
@@ -34,19 +34,18 @@ module _ (network : Network) (link : ℕ) (frame : Frame) (frames : List Frame) 
   some_on some list are is = subst (All (IsFrameOn network link)) (sym is)
       (λ k d below. All-contains (IsFrameOn network link) frames _ (others_on frames (λ _. frames)) (are.among k d below))
 
-module _ (network : Network) (clauses : List (List ModelFact)) (view : View) (link : ℕ) (frame : Frame) (frames some : List Frame)
-    (facts : List ModelFact) (v : ℤ) where
-  pub last_shown : facts ≡ from frame.stream v ∷ []
-      → v ≡ (first_head network view link some +ℤ pos (work_on network link some)) -ℤ pos (begin_on network link frame)
-      → facts ≡ shown network clauses view (put_last link frame frames some)
-  unfolding shown
-  last_shown is same = is ∙ ap (λ x. from frame.stream x ∷ []) same
-
-  pub first_shown : facts ≡ until frame.stream v ∷ []
-      → v ≡ (last_end network view link some -ℤ pos (work_on network link some)) -ℤ pos (end_on network link frame)
-      → facts ≡ shown network clauses view (put_first link frame frames some)
-  unfolding shown
-  first_shown is same = is ∙ ap (λ x. until frame.stream x ∷ []) same
+-- a move that is allowed where there is no room, and else is wrong
+pub judged_by : (network : Network) (clauses : List (List ModelFact)) (view : View) (move : ModelMove) (link : ℕ) (b e bound end : ℤ) (of_others : Bool)
+    (told fact : ModelFact) (result : Result Shown Wrong) → ShowsWithout link b e of_others told result → b ≡ bound → e ≡ end → told ≡ fact
+    → (end <ℤ bound → IsAllowed network clauses view move) → fact ∷ [] ≡ shown network clauses view move → IsFact network fact
+    → ((wrong : Wrong) → HasRoom link bound end of_others wrong → IsWrongMove network clauses view move wrong)
+    → JudgesMove network clauses view move result
+judged_by network clauses view move link b e bound end of_others told fact (Ok found) without is_bound is_end is may shows there fails =
+    let past = without.0 in
+    let facts = without.1 ∙ ap (λ (f : ModelFact). f ∷ []) is in
+    (may (omega (arith, ints, past, is_bound, is_end)), facts ∙ shows, one_fact network (facts_of found) fact facts there)
+judged_by network clauses view move link b e bound end of_others told fact (Err wrong) room is_bound is_end is may shows there fails =
+    fails wrong (subst (λ z. HasRoom link z end of_others wrong) is_bound (subst (λ z. HasRoom link b z of_others wrong) is_end room))
 
 -- the frames of a placing are right where the choice is
 pub placed : (network : Network) (placing : Placing) (others some : List Frame) (result : Result Unit Wrong) → others ≡ placing.others

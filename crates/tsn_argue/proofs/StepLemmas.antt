@@ -26,13 +26,6 @@ module _ (network : Network) (clauses : List (List Fact)) where
   AreAllowed-push view (first ∷ before) move are possible allowed =
       (are.0, are.1, AreAllowed-push (learned_all view (shown network clauses view first)) before move are.2 possible allowed)
 
-  pub AreAllowed-take : (view : View) (moves : List Move) (k : ℕ) → AreAllowed network clauses view moves → AreAllowed network clauses view (take k moves)
-  AreAllowed-take view [] zero are = are
-  AreAllowed-take view [] (suc k) are = are
-  AreAllowed-take view (first ∷ moves) zero are = _
-  AreAllowed-take view (first ∷ moves) (suc k) are =
-      (are.0, are.1, AreAllowed-take (learned_all view (shown network clauses view first)) moves k are.2)
-
   -- each of the moves may be made behind those before it
   pub AreAllowed-at : (view : View) (moves : List Move) (k : ℕ) (move : Move) → AreAllowed network clauses view moves → slice_get moves k ≡ Some move
       → (IsImpossible network (narrowed network clauses view (take k moves)) → ⊥)
@@ -60,12 +53,6 @@ module _ (network : Network) (goal : Goal) where
   unfolding known_by
   AreRight-push known [] step are right = (right, _)
   AreRight-push known (first ∷ before) step are right = (are.0, AreRight-push (known_after network goal known first) before step are.1 right)
-
-  pub AreRight-take : (known : Known) (steps : List Step) (k : ℕ) → AreRight network goal known steps → AreRight network goal known (take k steps)
-  AreRight-take known [] zero are = are
-  AreRight-take known [] (suc k) are = are
-  AreRight-take known (first ∷ steps) zero are = _
-  AreRight-take known (first ∷ steps) (suc k) are = (are.0, AreRight-take (known_after network goal known first) steps k are.1)
 
   -- each of the steps is right behind those before it
   pub AreRight-at : (known : Known) (steps : List Step) (k : ℕ) (step : Step) → AreRight network goal known steps → slice_get steps k ≡ Some step

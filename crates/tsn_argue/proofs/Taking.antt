@@ -43,9 +43,6 @@ module _ (old : View) (sound : IsSound old) (ready : view_of old ≡ base_of old
   unfolding begun
   begins mid supposed = supposed.view ∙ ap (λ v. learned_all v (map opposite step.clause)) ready
 
-  pub settled_step : old.crossed ≡ true → IsWrongStep old.timing.now (known_on old clauses) step of_step.Settled
-  settled_step is = inl (subst (IsImpossible old.timing.now) ready (impossible old sound is), refl)
-
   pub wrong_fact_step : (fault : StepFault) → old.crossed ≡ false → IsFactFault old.timing.now step.clause fault
       → IsWrongStep old.timing.now (known_on old clauses) step fault
   wrong_fact_step fault is wrong = inr (inl (ground_open is, wrong))

@@ -8,6 +8,7 @@ pub mod Decided
 pub mod Frames
 pub mod State
 pub mod Motion
+pub mod Loads
 pub mod Steps
 pub mod Aims
 pub mod Laws

@@ -1,11 +1,12 @@
 //! The frames of a move on a link: whether they are right, and what they come to.
-ghost use Rattle.std.specs.Prelude.{◌<◌, OnOk, ◌≡◌, ◌≤◌, ◌≤ℤ◌, ◌∷◌, false, length, pos, All, MatchBool};
+ghost use Rattle.std.specs.Prelude.{◌<◌, OnOk, ◌≡◌, ◌≤◌, ◌+◌, [], ◌∷◌, false, length, All, MatchBool};
+ghost use Rattle.std.specs.Int.{int_min, int_max};
 ghost use Rattle.tsn_model.specs.declared.bounds.TheConstants.{MAX_OCCUPANCY};
-ghost use Rattle.tsn_model.specs.Timing.{UsesLink, occupancy};
+ghost use Rattle.tsn_model.specs.Timing.{occupancy};
 ghost use Rattle.tsn_model.specs.Certificate.{IsFrameOn, begin_on, end_on};
-ghost use Rattle.tsn_model.specs.Argument.{head_at, end_at, first_head, last_end, work_on};
 ghost use Rattle.tsn_argue.specs.State.{view_of, IsSound};
 ghost use Rattle.tsn_argue.specs.Seen.{Tells};
+ghost use Rattle.tsn_argue.specs.Loads.{IsLoad};
 ghost use Rattle.tsn_argue.specs.Frames.{FindsOn, FindsFrame, FindsFrames, FindsChoice, FindsOne};
 
 use crate::seen::Seen;
@@ -123,25 +124,21 @@ fn is_same(one: Frame, other: Frame) -> bool
     one == other
 }
 
-/// When a frame starts on a link, counted from its stream's offset, in nanoseconds.
-pub fn begin_of(timing: &Timing, link: usize, frame: Frame) -> i128
-    requires { IsFrameOn timing.now link frame }
-    ensures value { result ≡ pos (begin_on timing.now link frame) }
-    ensures high { result ≤ℤ pos 2_000_000_000 }
-{
-    // The limits of the network bound the shift.
-    let _cycle = timing.cycle();
-    let Some(hop) = timing.hop_on(frame.stream, link) else {
-        unreachable!();
-    };
-    (frame.shift + timing.start(frame.stream, hop)) as i128
+/// When a frame starts on a link, counted from its stream's offset, and how long it occupies it, in nanoseconds.
+#[derive(Clone, Copy)]
+pub struct Visit {
+    pub begin: u64,
+    pub work: u64,
 }
 
-/// When a frame's occupancy of a link ends, counted from its stream's offset, in nanoseconds.
-pub fn end_of(timing: &Timing, link: usize, frame: Frame) -> i128
+/// A frame on a link that its stream uses.
+pub fn visit_of(timing: &Timing, link: usize, frame: Frame) -> Visit
     requires { IsFrameOn timing.now link frame }
-    ensures value { result ≡ pos (end_on timing.now link frame) }
-    ensures high { result ≤ℤ pos 2_000_000_000 }
+    ensures begin { result.begin ≡ begin_on timing.now link frame }
+    ensures end { result.begin + result.work ≡ end_on timing.now link frame }
+    ensures work { result.work ≡ occupancy timing.now frame.stream link }
+    ensures early { result.begin ≤ 1_500_000_000 }
+    ensures short { result.work ≤ MAX_OCCUPANCY }
 {
     // The limits of the network bound the shift.
     let _cycle = timing.cycle();
@@ -149,143 +146,77 @@ pub fn end_of(timing: &Timing, link: usize, frame: Frame) -> i128
         unreachable!();
     };
     let begin = frame.shift + timing.start(frame.stream, hop);
-    (begin + timing.occupancy(frame.stream, hop)) as i128
+    let work = timing.occupancy(frame.stream, hop);
+    Visit { begin, work }
 }
 
-/// The earliest start of a frame on a link, in nanoseconds.
-pub fn head(view: &View<'_>, link: usize, frame: Frame) -> i128
+/// What frames come to on a link: before its head none starts, by its end each is done with it, and so long they occupy it, one
+/// after another; in nanoseconds.
+#[derive(Clone, Copy)]
+pub struct Load {
+    pub head: i128,
+    pub end: i128,
+    pub work: u64,
+}
+
+impl Load {
+    /// With one that comes to this.
+    fn with(self, other: Load) -> Load
+        requires { self.work + other.work ≤ 2_000_000_000 }
+        ensures head { result.head ≡ int_min self.head other.head }
+        ensures end { result.end ≡ int_max self.end other.end }
+        ensures work { result.work ≡ self.work + other.work }
+    {
+        let head = self.head.min(other.head);
+        let end = self.end.max(other.end);
+        let work = self.work + other.work;
+        Load { head, end, work }
+    }
+}
+
+/// What one frame comes to.
+fn load_of(view: &View<'_>, link: usize, frame: Frame) -> Load
     requires sound { IsSound view.now }
     requires possible { view.now.crossed ≡ false }
     requires on { IsFrameOn view.now.timing.now link frame }
-    ensures value { result ≡ head_at view.now.timing.now (view_of view.now) link frame }
-    ensures low { pos 0 ≤ℤ result }
-    ensures high { result ≤ℤ pos 4_000_000_000 }
+    ensures { IsLoad view.now.timing.now (view_of view.now) link (frame ∷ []) result }
 {
     let _cycle = view.timing.cycle();
-    view.low.at(frame.stream) + begin_of(view.timing, link, frame)
+    let Visit { begin, work } = visit_of(view.timing, link, frame);
+    let low = view.low.at(frame.stream);
+    let high = view.high.at(frame.stream);
+    let head = low + begin as i128;
+    let end = high + begin as i128 + work as i128;
+    Load { head, end, work }
 }
 
-/// The latest end of a frame's occupancy of a link, in nanoseconds.
-pub fn end(view: &View<'_>, link: usize, frame: Frame) -> i128
-    requires sound { IsSound view.now }
-    requires possible { view.now.crossed ≡ false }
-    requires on { IsFrameOn view.now.timing.now link frame }
-    ensures value { result ≡ end_at view.now.timing.now (view_of view.now) link frame }
-    ensures low { pos 0 ≤ℤ result }
-    ensures high { result ≤ℤ pos 4_000_000_000 }
-{
-    let _cycle = view.timing.cycle();
-    view.high.at(frame.stream) + end_of(view.timing, link, frame)
-}
-
-/// Before this no frame of these starts on the link, in nanoseconds.
-pub fn first_head_with(view: &View<'_>, link: usize, first: Frame, others: &[Frame]) -> i128
+/// What a frame and others come to.
+pub fn load_with(view: &View<'_>, link: usize, first: Frame, others: &[Frame]) -> Load
     requires sound { IsSound view.now }
     requires possible { view.now.crossed ≡ false }
     requires on { All (IsFrameOn view.now.timing.now link) (first ∷ others.now) }
-    ensures value { result ≡ first_head view.now.timing.now (view_of view.now) link (first ∷ others.now) }
-    ensures low { pos 0 ≤ℤ result }
-    ensures high { result ≤ℤ pos 4_000_000_000 }
-{
-    let mut least = head(view, link, first);
-    for frame in others {
-        let next = head(view, link, *frame);
-        if next < least {
-            least = next;
-        }
-    }
-    least
-}
-
-/// By this each of the frames is done with the link, in nanoseconds.
-pub fn last_end_with(view: &View<'_>, link: usize, first: Frame, others: &[Frame]) -> i128
-    requires sound { IsSound view.now }
-    requires possible { view.now.crossed ≡ false }
-    requires on { All (IsFrameOn view.now.timing.now link) (first ∷ others.now) }
-    ensures value { result ≡ last_end view.now.timing.now (view_of view.now) link (first ∷ others.now) }
-    ensures low { pos 0 ≤ℤ result }
-    ensures high { result ≤ℤ pos 4_000_000_000 }
-{
-    let mut most = end(view, link, first);
-    for frame in others {
-        let next = end(view, link, *frame);
-        if next > most {
-            most = next;
-        }
-    }
-    most
-}
-
-/// How long a stream occupies a link that it uses, in nanoseconds.
-fn occupancy(timing: &Timing, link: usize, stream: usize) -> u64
-    requires { UsesLink timing.now stream link }
-    ensures value { result ≡ occupancy timing.now stream link }
-    ensures bound { result ≤ MAX_OCCUPANCY }
-{
-    let Some(hop) = timing.hop_on(stream, link) else {
-        unreachable!();
-    };
-    timing.occupancy(stream, hop)
-}
-
-/// How long the frames occupy the link, one after another, in nanoseconds.
-pub fn work_with(timing: &Timing, link: usize, first: Frame, others: &[Frame]) -> i128
-    requires on { All (IsFrameOn timing.now link) (first ∷ others.now) }
     requires few { length others.now ≤ 1024 }
-    ensures value { result ≡ pos (work_on timing.now link (first ∷ others.now)) }
-    ensures low { pos 0 ≤ℤ result }
-    ensures high { result ≤ℤ pos 1_000_000_000_000 }
+    ensures { IsLoad view.now.timing.now (view_of view.now) link (first ∷ others.now) result }
 {
-    let mut work = occupancy(timing, link, first.stream);
+    let mut load = load_of(view, link, first);
     for frame in others {
-        work += occupancy(timing, link, frame.stream);
+        let next = load_of(view, link, *frame);
+        load = load.with(next);
     }
-    work as i128
+    load
 }
 
-/// The same of frames without one that stands before them.
-pub fn first_head(view: &View<'_>, link: usize, frames: &[Frame]) -> i128
+/// What some frames come to.
+pub fn load_all(view: &View<'_>, link: usize, frames: &[Frame]) -> Load
     requires sound { IsSound view.now }
     requires possible { view.now.crossed ≡ false }
     requires some { 1 ≤ length frames.now }
     requires on { All (IsFrameOn view.now.timing.now link) frames.now }
-    ensures value { result ≡ first_head view.now.timing.now (view_of view.now) link frames.now }
-    ensures low { pos 0 ≤ℤ result }
-    ensures high { result ≤ℤ pos 4_000_000_000 }
-{
-    let [first, others @ ..] = frames else {
-        unreachable!();
-    };
-    first_head_with(view, link, *first, others)
-}
-
-/// The same of frames without one that stands before them.
-pub fn last_end(view: &View<'_>, link: usize, frames: &[Frame]) -> i128
-    requires sound { IsSound view.now }
-    requires possible { view.now.crossed ≡ false }
-    requires some { 1 ≤ length frames.now }
-    requires on { All (IsFrameOn view.now.timing.now link) frames.now }
-    ensures value { result ≡ last_end view.now.timing.now (view_of view.now) link frames.now }
-    ensures low { pos 0 ≤ℤ result }
-    ensures high { result ≤ℤ pos 4_000_000_000 }
-{
-    let [first, others @ ..] = frames else {
-        unreachable!();
-    };
-    last_end_with(view, link, *first, others)
-}
-
-/// The same of frames without one that stands before them.
-pub fn work(timing: &Timing, link: usize, frames: &[Frame]) -> i128
-    requires some { 1 ≤ length frames.now }
     requires few { length frames.now ≤ 1024 }
-    requires on { All (IsFrameOn timing.now link) frames.now }
-    ensures value { result ≡ pos (work_on timing.now link frames.now) }
-    ensures low { pos 0 ≤ℤ result }
-    ensures high { result ≤ℤ pos 1_000_000_000_000 }
+    ensures { IsLoad view.now.timing.now (view_of view.now) link frames.now result }
 {
     let [first, others @ ..] = frames else {
         unreachable!();
     };
-    work_with(timing, link, *first, others)
+    load_with(view, link, *first, others)
 }

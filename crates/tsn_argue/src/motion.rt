@@ -5,12 +5,10 @@ ghost use Rattle.tsn_cert.specs.Meaning.{decision_of, clause_of, move_of};
 ghost use Rattle.tsn_argue.specs.State.{view_of, IsSound};
 ghost use Rattle.tsn_argue.specs.News.{news_of};
 ghost use Rattle.tsn_argue.specs.Faults.{AreAlike};
+ghost use Rattle.tsn_argue.specs.Loads.{ShowsWithout};
 ghost use Rattle.tsn_argue.specs.Motion.{facts_of, clauses_of, AreFacts, JudgesMove, FindsUnit, FindsPlacing, FindsRound, FindsArc};
 
-use crate::link::{
-    begin_of, end_of, first_head, first_head_with, judge_choice, judge_frames, last_end,
-    last_end_with, work, work_with,
-};
+use crate::link::{judge_choice, judge_frames, load_all, load_with, visit_of};
 use crate::news::{News, turned};
 use crate::view::View;
 use crate::wrong::Wrong;
@@ -189,22 +187,15 @@ fn judge_last(view: &View<'_>, placing: &Placing) -> Result<Shown, Wrong>
 {
     judge_placed(view, placing)?;
     let Placing { link, frame, .. } = *placing;
-    let others = placing.others.list();
-    let end = last_end(view, link, others);
-    let start = first_head_with(view, link, frame, others);
-    let bound = start + work_with(view.timing, link, frame, others);
-    if end >= bound {
-        return Err(Wrong::Room {
-            link,
-            bound,
-            end,
-            of_others: true,
-        });
-    }
-    let some = placing.some.list();
-    let free = first_head(view, link, some) + work(view.timing, link, some);
-    let before = begin_of(view.timing, link, frame);
-    Ok(Shown::one(News::From(frame.stream, free - before)))
+    let list = placing.others.list();
+    let others = load_all(view, link, list);
+    let all = load_with(view, link, frame, list);
+    let some = load_all(view, link, placing.some.list());
+    let visit = visit_of(view.timing, link, frame);
+    let free = some.head + some.work as i128 - visit.begin as i128;
+    let bound = all.head + all.work as i128;
+    let news = News::From(frame.stream, free);
+    shown_without(link, bound, others.end, true, news)
 }
 
 /// The frame goes first, since the others can't all begin so late that it fits behind one of them.
@@ -216,22 +207,38 @@ fn judge_first(view: &View<'_>, placing: &Placing) -> Result<Shown, Wrong>
 {
     judge_placed(view, placing)?;
     let Placing { link, frame, .. } = *placing;
-    let others = placing.others.list();
-    let end = last_end_with(view, link, frame, others);
-    let start = first_head(view, link, others);
-    let bound = start + work_with(view.timing, link, frame, others);
-    if end >= bound {
-        return Err(Wrong::Room {
+    let list = placing.others.list();
+    let others = load_all(view, link, list);
+    let all = load_with(view, link, frame, list);
+    let some = load_all(view, link, placing.some.list());
+    let visit = visit_of(view.timing, link, frame);
+    let needed = some.end - some.work as i128 - visit.begin as i128 - visit.work as i128;
+    let bound = others.head + all.work as i128;
+    let news = News::Until(frame.stream, needed);
+    shown_without(link, bound, all.end, false, news)
+}
+
+/// That the fact is shown, where there is no room on the link: the bound of the frames' use is past the end, by which all of them,
+/// or all others than the one that is placed, are done.
+fn shown_without(
+    link: usize,
+    bound: i128,
+    end: i128,
+    of_others: bool,
+    news: News,
+) -> Result<Shown, Wrong>
+    ensures { ShowsWithout link bound end of_others (news_of news) result }
+{
+    if end < bound {
+        Ok(Shown::one(news))
+    } else {
+        Err(Wrong::Room {
             link,
             bound,
             end,
-            of_others: false,
-        });
+            of_others,
+        })
     }
-    let some = placing.some.list();
-    let needed = last_end(view, link, some) - work(view.timing, link, some);
-    let until = end_of(view.timing, link, frame);
-    Ok(Shown::one(News::Until(frame.stream, needed - until)))
 }
 
 /// Whether the frames have no room on the link.
@@ -246,18 +253,9 @@ fn judge_pack(view: &View<'_>, link: usize, frames: &[Frame]) -> Result<Shown, W
         unreachable!();
     };
     judge_frames(view.timing, link, *first, others)?;
-    let end = last_end(view, link, frames);
-    let bound = first_head(view, link, frames) + work(view.timing, link, frames);
-    if end < bound {
-        Ok(Shown::one(refuting(view)))
-    } else {
-        Err(Wrong::Room {
-            link,
-            bound,
-            end,
-            of_others: false,
-        })
-    }
+    let all = load_all(view, link, frames);
+    let bound = all.head + all.work as i128;
+    shown_without(link, bound, all.end, false, refuting(view))
 }
 
 /// Whether the orders lead back to where they begin, and later than they began.

@@ -95,11 +95,10 @@ impl<'a> View<'a> {
         requires there { stream < stream_count self.old.timing.now }
         ensures { OnOk result (Becomes self.old self.new (learned (view_of self.old) (from stream number))) }
     {
-        if number > self.low.at(stream) {
-            self.low.set(stream, number)?;
-            self.crossed = or_above(self.crossed, number, self.high.at(stream));
-        }
-        Ok(())
+        let greatest = self.high.at(stream);
+        self.crossed = or_above(self.crossed, number, greatest);
+        let least = number.max(self.low.at(stream));
+        self.low.set(stream, least)
     }
 
     #[tactic(auto, unfolding(tsn_model::specs::Argument::learned))]
@@ -109,11 +108,10 @@ impl<'a> View<'a> {
         requires there { stream < stream_count self.old.timing.now }
         ensures { OnOk result (Becomes self.old self.new (learned (view_of self.old) (until stream number))) }
     {
-        if number < self.high.at(stream) {
-            self.high.set(stream, number)?;
-            self.crossed = or_above(self.crossed, self.low.at(stream), number);
-        }
-        Ok(())
+        let least = self.low.at(stream);
+        self.crossed = or_above(self.crossed, least, number);
+        let greatest = number.min(self.high.at(stream));
+        self.high.set(stream, greatest)
     }
 
     #[tactic(auto, unfolding(tsn_model::specs::Argument::learned))]
@@ -130,10 +128,8 @@ impl<'a> View<'a> {
         requires { IsSound self.old }
         ensures { Becomes self.old self.new (learned (view_of self.old) (done_from number)) }
     {
-        if number > self.done.low {
-            self.done.low = number;
-            self.crossed = or_above(self.crossed, number, self.done.high);
-        }
+        self.crossed = or_above(self.crossed, number, self.done.high);
+        self.done.low = number.max(self.done.low);
     }
 
     #[tactic(auto, unfolding(tsn_model::specs::Argument::learned))]
@@ -141,10 +137,8 @@ impl<'a> View<'a> {
         requires { IsSound self.old }
         ensures { Becomes self.old self.new (learned (view_of self.old) (done_until number)) }
     {
-        if number < self.done.high {
-            self.done.high = number;
-            self.crossed = or_above(self.crossed, self.done.low, number);
-        }
+        self.crossed = or_above(self.crossed, self.done.low, number);
+        self.done.high = number.min(self.done.high);
     }
 
     #[tactic(auto, unfolding(tsn_model::specs::Argument::contradicts))]

@@ -20,8 +20,6 @@ returns-then-is_same c = inr (
 pub has-requires-clause-inside : goal.has-requires-clause-inside
 has-requires-clause-inside c =
     let counted = UsesLink-counted c.args.timing.now c.args.frame.stream c.args.link c.in_ok-judge_on.ensures.uses in
-    let all = c.streams-count.ensures.value in
-    let few = c.streams-count.ensures.few in
     omega arith
 
 pub returns-then-has : goal.returns-then-has

@@ -25,17 +25,14 @@ pub add-requires : goal.add-requires
 add-requires c =
     let frame = get_or c.args.others.now c.loop-number.number (record { stream = 0; shift = 0 }) in
     let counted = UsesLink-counted c.args.timing.now frame.stream c.args.link c.in_ok-judge_frame.ensures.0.uses in
-    let all = c.streams-count.ensures.value in
-    let few = c.streams-count.ensures.few in
     omega arith
 
 pub loop-number-preserved : goal.loop-number-preserved
 loop-number-preserved c =
-    let on = c.loop-number.invariant.0 in
     let told = c.loop-number.invariant.1 in
     let found = c.in_ok-judge_frame.ensures in (
       on_more c.args.timing.now c.args.link c.args.first c.args.others.now c.loop-number.number (record { stream = 0; shift = 0 })
-          c.loop-number-test.true on found.0 found.1,
+          c.loop-number-test.true c.loop-number.invariant.0 found.0 found.1,
       tells_more c.add.new.self c.args.others.now c.loop-number.number (record { stream = 0; shift = 0 }) c.loop-number-test.true (c.add.ensures _ told),
     )
 

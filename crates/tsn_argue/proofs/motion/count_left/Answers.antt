@@ -19,19 +19,17 @@ pub loop-fact-preserved : goal.loop-fact-preserved
 loop-fact-preserved c =
     let view = view_of c.args.view.now in
     let index = c.loop-fact.fact-index in
-    let count = c.loop-fact.invariant.0 in
-    let few = c.loop-fact.invariant.1 in
     elim c.if-not-contradicts.branch [
       | then-not-contradicts w ↦
           let told : contradicts view (fact_of (get_or c.args.clause.now index blank)) ≡ false =
           ap (contradicts view) (sym c.of.ensures) ∙ sym w.if-not-contradicts.ensures in
           let more = count_more view c.args.clause.now index blank c.loop-fact-test.true told in
           let is = w.left-is in
-          (omega (arith, count, more, is), omega (arith, few, is))
+          (omega (arith, more, is), omega (arith, is))
       | else-not-contradicts w ↦
           let told : contradicts view (fact_of (get_or c.args.clause.now index blank)) ≡ true =
           ap (contradicts view) (sym c.of.ensures) ∙ sym w.if-not-contradicts.ensures in
           let same = count_skip view c.args.clause.now index blank c.loop-fact-test.true told in
           let is = w.left-is in
-          (omega (arith, count, same, is), omega (arith, few, is))
+          (omega (arith, same, is), omega (arith, is))
     ]

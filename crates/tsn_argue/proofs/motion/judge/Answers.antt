@@ -13,8 +13,7 @@ same_move : (network : Network) (clauses : List (List ModelFact)) (view : View) 
 same_move network clauses view result one other is judged = subst (λ move. JudgesMove network clauses view move result) is judged
 
 pub returns-in-Go : goal.returns-in-Go
-returns-in-Go c =
-    same_move _ _ _ _ _ _ (ap go c.decision.ensures ∙ sym (ap move_of c.in-Go.is)) (c.judge_go.ensures (clauses_of c.args.clauses.now))
+returns-in-Go c = same_move _ _ _ _ _ _ (ap go c.decision.ensures ∙ sym (ap move_of c.in-Go.is)) (c.judge_go.ensures (clauses_of c.args.clauses.now))
 
 pub returns-in-Turn : goal.returns-in-Turn
 returns-in-Turn c =

@@ -1,100 +1,39 @@
-use Rattle.std.proofs.Common.{◌≡◌, ◌∷◌, pos, ◌+ℤ◌, to_z, of_z, false, inr, ap, ◌∙◌, arith}
-use mir.Syntax.{w128}
+use Rattle.std.proofs.Common.{◌∷◌, false, inr, refl, ap, subst, arith}
 use Rattle.std.proofs.lemmas.Int.{ints}
-use Rattle.tsn_model.specs.Argument.{first_head, last_end, work_on}
-use Rattle.tsn_argue.specs.declared.wrong.Wrong.TheVariants.{Room}
-use Rattle.tsn_argue.specs.Motion.{facts_of}
+use Rattle.tsn_model.specs.Argument.{until, put_first, shown}
 use Rattle.tsn_argue.specs.State.{view_of}
-use Rattle.tsn_argue.proofs.PlacingLemmas.{frame_on, stream_there_until, others_on, all_on, some_on, first_shown}
+use Rattle.tsn_argue.specs.Loads.{IsLoad}
+use Rattle.tsn_argue.proofs.PlacingLemmas.{frame_on, stream_there, others_on, all_on, some_on, judged_by}
 use Rattle.tsn_argue.proofs.motion.judge_first.Goals as goal
 
-pub first_head-start-requires-clause-on : goal.first_head-start-requires-clause-on
-first_head-start-requires-clause-on c = others_on _ _ _ _ c.in_ok-judge_placed.ensures.0 _ c.list-others.ensures.frames
+pub load_all-others-requires-clause-on : goal.load_all-others-requires-clause-on
+load_all-others-requires-clause-on c = others_on _ _ _ _ c.in_ok-judge_placed.ensures.0 _ c.list-list.ensures.frames
 
-pub last_end_with-end-requires-clause-on : goal.last_end_with-end-requires-clause-on
-last_end_with-end-requires-clause-on c = all_on _ _ _ _ c.in_ok-judge_placed.ensures.0 _ c.list-others.ensures.frames
+pub load_with-all-requires-clause-on : goal.load_with-all-requires-clause-on
+load_with-all-requires-clause-on c = all_on _ _ _ _ c.in_ok-judge_placed.ensures.0 _ c.list-list.ensures.frames
 
-pub work_with-requires-clause-on : goal.work_with-requires-clause-on
-work_with-requires-clause-on c = all_on _ _ _ _ c.in_ok-judge_placed.ensures.0 _ c.list-others.ensures.frames
+pub load_all-some-requires-clause-on : goal.load_all-some-requires-clause-on
+load_all-some-requires-clause-on c = some_on _ _ _ _ c.in_ok-judge_placed.ensures.0 _ _ c.in_ok-judge_placed.ensures.1 c.list.ensures.frames
 
-pub last_end-requires-clause-on : goal.last_end-requires-clause-on
-last_end-requires-clause-on c = some_on _ _ _ _ c.in_ok-judge_placed.ensures.0 _ _ c.in_ok-judge_placed.ensures.1 c.list-some.ensures.frames
-
-pub work-requires-clause-on : goal.work-requires-clause-on
-work-requires-clause-on c = some_on _ _ _ _ c.in_ok-judge_placed.ensures.0 _ _ c.in_ok-judge_placed.ensures.1 c.list-some.ensures.frames
-
-pub end_of-until-requires : goal.end_of-until-requires
-end_of-until-requires c = frame_on _ _ _ _ c.in_ok-judge_placed.ensures.0
-
-pub returns-then-end-bound : goal.returns-then-end-bound
-returns-then-end-bound c clauses =
-    let network = c.args.view.now.timing.now in
-    let view = view_of c.args.view.now in
-    let link = c.args.placing.now.link in
-    let frame = c.args.placing.now.frame in
-    let others = c.args.placing.now.others in
-    let same_others = c.list-others.ensures.frames in
-    let end : c.last_end_with-end.result ≡ last_end network view link (frame ∷ others) =
-    c.last_end_with-end.ensures.value ∙ ap (λ list. last_end network view link (frame ∷ list)) same_others in
-    let end_low = c.last_end_with-end.ensures.low in
-    let end_high = c.last_end_with-end.ensures.high in
-    let begin : c.first_head-start.result ≡ first_head network view link others =
-    c.first_head-start.ensures.value ∙ ap (first_head network view link) same_others in
-    let begin_low = c.first_head-start.ensures.low in
-    let begin_high = c.first_head-start.ensures.high in
-    let long : c.work_with.result ≡ pos (work_on network link (frame ∷ others)) =
-    c.work_with.ensures.value ∙ ap (λ list. pos (work_on network link (frame ∷ list))) same_others in
-    let long_low = c.work_with.ensures.low in
-    let long_high = c.work_with.ensures.high in
-    let more = c.if-end-bound.true in
-    let a = to_z w128 (of_z w128 (to_z w128 (of_z w128 c.first_head-start.result) +ℤ to_z w128 (of_z w128 c.work_with.result))) in
-    let b = to_z w128 (of_z w128 c.last_end_with-end.result) in
-    let a_is : a ≡ first_head network view link others +ℤ pos (work_on network link (frame ∷ others)) =
-    omega (arith, ints, begin, begin_low, begin_high, long, long_low, long_high) in
-    let b_is : b ≡ last_end network view link (frame ∷ others) = omega (arith, ints, end, end_low, end_high) in
-    inr (inr (
-      c.in_ok-judge_placed.ensures.0,
-      c.in_ok-judge_placed.ensures.1,
-      (
-        λ i. Room link (a_is i) (b_is i) false,
-        omega (arith, ints, more, end, end_low, end_high, begin, begin_low, begin_high, long, long_low, long_high),
-      ),
-    ))
+pub visit_of-visit-requires : goal.visit_of-visit-requires
+visit_of-visit-requires c = frame_on _ _ _ _ c.in_ok-judge_placed.ensures.0
 
 pub returns : goal.returns
+unfolding shown
 returns c clauses =
     let network = c.args.view.now.timing.now in
     let view = view_of c.args.view.now in
     let link = c.args.placing.now.link in
     let frame = c.args.placing.now.frame in
-    let others = c.args.placing.now.others in
-    let some = c.args.placing.now.some in
-    let on = c.in_ok-judge_placed.ensures.0 in
-    let same_others = c.list-others.ensures.frames in
-    let same_some = c.list-some.ensures.frames in
-    let end : c.last_end_with-end.result ≡ last_end network view link (frame ∷ others) =
-    c.last_end_with-end.ensures.value ∙ ap (λ list. last_end network view link (frame ∷ list)) same_others in
-    let end_low = c.last_end_with-end.ensures.low in
-    let end_high = c.last_end_with-end.ensures.high in
-    let begin : c.first_head-start.result ≡ first_head network view link others =
-    c.first_head-start.ensures.value ∙ ap (first_head network view link) same_others in
-    let begin_low = c.first_head-start.ensures.low in
-    let begin_high = c.first_head-start.ensures.high in
-    let long : c.work_with.result ≡ pos (work_on network link (frame ∷ others)) =
-    c.work_with.ensures.value ∙ ap (λ list. pos (work_on network link (frame ∷ list))) same_others in
-    let long_low = c.work_with.ensures.low in
-    let long_high = c.work_with.ensures.high in
-    let less = c.if-end-bound.false in
-    let last : c.last_end.result ≡ last_end network view link some = c.last_end.ensures.value ∙ ap (last_end network view link) same_some in
-    let last_low = c.last_end.ensures.low in
-    let last_high = c.last_end.ensures.high in
-    let work : c.work.result ≡ pos (work_on network link some) = c.work.ensures.value ∙ ap (λ list. pos (work_on network link list)) same_some in
-    let work_low = c.work.ensures.low in
-    let work_high = c.work.ensures.high in
-    let until = c.end_of-until.ensures.value in
-    let until_high = c.end_of-until.ensures.high in (
-      (on, c.in_ok-judge_placed.ensures.1, omega (arith, ints, less, end, end_low, end_high, begin, begin_low, begin_high, long, long_low, long_high)),
-      first_shown network clauses view link frame others some (facts_of c.one.result) _ c.one.ensures
-          (omega (arith, ints, last, last_low, last_high, work, work_low, work_high, until, until_high)),
-      stream_there_until network link frame others on (facts_of c.one.result) _ c.one.ensures,
-    )
+    let right = c.in_ok-judge_placed.ensures in
+    let others = subst (λ fs. IsLoad network view link fs c.load_all-others.result) c.list-list.ensures.frames c.load_all-others.ensures in
+    let all = subst (λ fs. IsLoad network view link (frame ∷ fs) c.load_with-all.result) c.list-list.ensures.frames c.load_with-all.ensures in
+    let some = subst (λ fs. IsLoad network view link fs c.load_all-some.result) c.list.ensures.frames c.load_all-some.ensures in
+    let visit = c.visit_of-visit.ensures in
+    judged_by network clauses view (put_first link frame c.args.placing.now.others c.args.placing.now.some) link _ _ _ _ false _ _
+    c.shown_without.result c.shown_without.ensures
+    (omega (arith, ints, all.head, others.head, all.work, all.head_low, all.head_high, others.head_low, others.head_high, all.short))
+    (omega (arith, ints, all.end, others.end, all.end_low, all.end_high, others.end_low, others.end_high))
+    (ap (until frame.stream) (omega (arith, ints, some.end, some.work, some.short, some.end_low, some.end_high, visit.end, visit.early, visit.short)))
+    (λ past. (right.0, right.1, past)) refl (stream_there network link frame c.args.placing.now.others right.0)
+    (λ wrong room. inr (inr (right.0, right.1, room)))

@@ -2,12 +2,12 @@ use Rattle.std.proofs.Common.{◌≡◌, to_z, of_z, w64, refl, inl, inr, subst,
 use Rattle.std.proofs.lemmas.Int.{ints}
 use Rattle.tsn_model.specs.declared.Arc.{Arc}
 use Rattle.tsn_model.specs.Arcs.{arc_of}
-use Rattle.tsn_model.specs.Argument.{order, AsksNoMore}
+use Rattle.tsn_model.specs.Argument.{order, AsksNoMore, shown}
 use Rattle.tsn_argue.specs.Faults.{AsksMore}
 use Rattle.tsn_argue.specs.declared.wrong.Wrong.TheVariants.{OfOthers, Stronger}
 use Rattle.tsn_argue.specs.Motion.{facts_of}
 use Rattle.tsn_argue.specs.State.{view_of}
-use Rattle.tsn_argue.proofs.MotionLemmas.{follow_shown, one_fact}
+use Rattle.tsn_argue.proofs.MotionLemmas.{one_fact}
 use Rattle.tsn_argue.proofs.motion.judge_follow.Goals as goal
 
 pub returns-then-not-are_alike : goal.returns-then-not-are_alike
@@ -23,47 +23,35 @@ returns-then-not-are_alike c clauses =
     ))
 
 pub returns-then-other-arc : goal.returns-then-other-arc
+unfolding shown
 returns-then-other-arc c clauses =
     let network = c.args.view.now.timing.now in
     let view = view_of c.args.view.now in
     let known = c.in_ok-arc.ensures in
-    let conflict = c.if-not-is_conflict.ensures in
     let alike = c.if-not-are_alike.ensures in
-    let below = c.if-other-arc.true in
-    let short = c.arc_of-other.ensures.small in
-    let low = short.low in
-    let high = short.high in
-    let known_low = known.low in
-    let known_high = known.high in
     let less : AsksNoMore c.arc_of-other.result c.in_ok-arc.arc = record {
       begins = alike.0;
       ends = alike.1;
-      weight = omega (arith, ints, below, low, high, known_low, known_high);
+      weight = omega (arith, ints);
     } in
     let asked = subst (λ (arc : Arc). AsksNoMore (arc_of network c.args.weaker) arc) known.is
     (subst (λ (arc : Arc). AsksNoMore arc c.in_ok-arc.arc) c.arc_of-other.ensures.arc less) in (
-      (known.has, conflict, asked),
-      follow_shown network clauses view c.args.known c.args.weaker (facts_of c.one.result) c.one.ensures,
-      one_fact network (facts_of c.one.result) (order c.args.weaker) c.one.ensures conflict,
+      (known.has, c.if-not-is_conflict.ensures, asked),
+      c.one.ensures,
+      one_fact network (facts_of c.one.result) (order c.args.weaker) c.one.ensures c.if-not-is_conflict.ensures,
     )
 
 pub returns-else-other-arc : goal.returns-else-other-arc
 returns-else-other-arc c clauses =
     let network = c.args.view.now.timing.now in
     let known = c.in_ok-arc.ensures in
-    let above = c.if-other-arc.false in
-    let short = c.arc_of-other.ensures.small in
-    let low = short.low in
-    let high = short.high in
-    let known_low = known.low in
-    let known_high = known.high in
     let a = to_z w64 (of_z w64 c.arc_of-other.result.weight) in
     let b = to_z w64 (of_z w64 c.in_ok-arc.arc.weight) in
-    let a_is : a ≡ c.arc_of-other.result.weight = omega (arith, ints, low, high) in
-    let b_is : b ≡ c.in_ok-arc.arc.weight = omega (arith, ints, known_low, known_high) in
+    let a_is : a ≡ c.arc_of-other.result.weight = omega (arith, ints) in
+    let b_is : b ≡ c.in_ok-arc.arc.weight = omega (arith, ints) in
     let wrong = Stronger c.args.weaker a b in
     let asks : AsksMore c.args.weaker c.arc_of-other.result c.in_ok-arc.arc wrong =
-    inr (c.if-not-are_alike.ensures, λ i. Stronger c.args.weaker (a_is i) (b_is i), omega (arith, ints, above, low, high, known_low, known_high)) in
+    inr (c.if-not-are_alike.ensures, λ i. Stronger c.args.weaker (a_is i) (b_is i), omega (arith, ints)) in
     inr (inr (
       known.has,
       c.if-not-is_conflict.ensures,

@@ -3,13 +3,13 @@ use mir.Syntax.{w128}
 use Rattle.std.proofs.lemmas.Int.{ints}
 use Rattle.tsn_model.specs.Schedule.{IsConflict}
 use Rattle.tsn_model.specs.Arcs.{arc_of}
-use Rattle.tsn_model.specs.Argument.{order, turned, IsOutOfReach, low_at, high_at}
+use Rattle.tsn_model.specs.Argument.{order, turned, IsOutOfReach, low_at, high_at, shown}
 use Rattle.tsn_argue.specs.declared.wrong.Wrong.TheVariants.{InReach}
 use Rattle.tsn_argue.specs.Faults.{IsInReach}
 use Rattle.tsn_argue.specs.Motion.{facts_of}
 use Rattle.tsn_argue.specs.State.{view_of}
 use Rattle.tsn_argue.proofs.OpenViews.{open_low, open_high}
-use Rattle.tsn_argue.proofs.MotionLemmas.{arc_there, turned_triple, turn_shown, one_fact}
+use Rattle.tsn_argue.proofs.MotionLemmas.{arc_there, turned_triple, one_fact}
 use Rattle.tsn_argue.proofs.motion.judge_turn.Goals as goal
 
 pub arc_of-arc-requires : goal.arc_of-arc-requires
@@ -18,59 +18,40 @@ arc_of-arc-requires c =
 
 pub at-requires : goal.at-requires
 at-requires c =
-    let lows = c.requires.sound.view.lows in
     let conflict =
     subst (IsConflict c.args.view.now.timing.now) (sym (turned_triple c.args.decision c.turned.result c.turned.ensures)) c.if-not-is_conflict.ensures in
     let there = (arc_there c.args.view.now.timing.now c.turned.result c.arc_of-arc.result c.arc_of-arc.ensures.arc conflict).0 in
-    omega (arith, lows, there)
+    omega (arith, there)
 
 pub at-most-requires : goal.at-most-requires
 at-most-requires c =
-    let highs = c.requires.sound.view.highs in
     let conflict =
     subst (IsConflict c.args.view.now.timing.now) (sym (turned_triple c.args.decision c.turned.result c.turned.ensures)) c.if-not-is_conflict.ensures in
     let there = (arc_there c.args.view.now.timing.now c.turned.result c.arc_of-arc.result c.arc_of-arc.ensures.arc conflict).1 in
-    omega (arith, highs, there)
+    omega (arith, there)
 
 pub overflow_add-least : goal.overflow_add-least
 overflow_add-least c =
-    let short = c.cycle-cycle.ensures.bound in
-    let same = c.cycle-cycle.ensures.value in
     let conflict =
     subst (IsConflict c.args.view.now.timing.now) (sym (turned_triple c.args.decision c.turned.result c.turned.ensures)) c.if-not-is_conflict.ensures in
     let there = arc_there c.args.view.now.timing.now c.turned.result c.arc_of-arc.result c.arc_of-arc.ensures.arc conflict in
-    let low = open_low c.args.view.now c.arc_of-arc.result.from c.requires.sound c.requires.possible (omega (arith, short, same)) there.0 in
-    let least = low.0 in
-    let most = low.1 in
-    let is = c.at.ensures in
-    let arc_low = c.arc_of-arc.ensures.small.low in
-    let arc_high = c.arc_of-arc.ensures.small.high in
-    omega (arith, ints, least, most, is, arc_low, arc_high)
+    let low = open_low c.args.view.now c.arc_of-arc.result.from c.requires.sound c.requires.possible (omega arith) there.0 in
+    omega (arith, ints)
 
 pub returns-then-least-most : goal.returns-then-least-most
+unfolding shown
 returns-then-least-most c clauses =
     let network = c.args.view.now.timing.now in
     let view = view_of c.args.view.now in
     let arc = c.arc_of-arc.result in
-    let short = c.cycle-cycle.ensures.bound in
-    let same = c.cycle-cycle.ensures.value in
     let conflict = subst (IsConflict network) (sym (turned_triple c.args.decision c.turned.result c.turned.ensures)) c.if-not-is_conflict.ensures in
     let there = arc_there network c.turned.result arc c.arc_of-arc.ensures.arc conflict in
-    let low = open_low c.args.view.now arc.from c.requires.sound c.requires.possible (omega (arith, short, same)) there.0 in
-    let least = low.0 in
-    let most = low.1 in
-    let high = open_high c.args.view.now arc.to c.requires.sound c.requires.possible (omega (arith, short, same)) there.1 in
-    let high_least = high.0 in
-    let high_most = high.1 in
-    let is = c.at.ensures in
-    let high_is = c.at-most.ensures in
-    let arc_low = c.arc_of-arc.ensures.small.low in
-    let arc_high = c.arc_of-arc.ensures.small.high in
-    let past = c.if-least-most.true in
-    let beyond : IsOutOfReach view arc = omega (arith, ints, least, most, high_least, high_most, is, high_is, arc_low, arc_high, past) in
+    let low = open_low c.args.view.now arc.from c.requires.sound c.requires.possible (omega arith) there.0 in
+    let high = open_high c.args.view.now arc.to c.requires.sound c.requires.possible (omega arith) there.1 in
+    let beyond : IsOutOfReach view arc = omega (arith, ints) in
     let same_arc : arc ≡ arc_of network (turned c.args.decision) = c.arc_of-arc.ensures.arc ∙ ap (arc_of network) c.turned.ensures in (
       (c.if-not-is_conflict.ensures, subst (IsOutOfReach view) same_arc beyond),
-      turn_shown network clauses view c.args.decision (facts_of c.one.result) c.one.ensures,
+      c.one.ensures,
       one_fact network (facts_of c.one.result) (order c.args.decision) c.one.ensures c.if-not-is_conflict.ensures,
     )
 
@@ -79,28 +60,17 @@ returns-else-least-most c clauses =
     let network = c.args.view.now.timing.now in
     let view = view_of c.args.view.now in
     let arc = c.arc_of-arc.result in
-    let short = c.cycle-cycle.ensures.bound in
-    let same = c.cycle-cycle.ensures.value in
     let conflict = subst (IsConflict network) (sym (turned_triple c.args.decision c.turned.result c.turned.ensures)) c.if-not-is_conflict.ensures in
     let there = arc_there network c.turned.result arc c.arc_of-arc.ensures.arc conflict in
-    let low = open_low c.args.view.now arc.from c.requires.sound c.requires.possible (omega (arith, short, same)) there.0 in
-    let least = low.0 in
-    let most = low.1 in
-    let high = open_high c.args.view.now arc.to c.requires.sound c.requires.possible (omega (arith, short, same)) there.1 in
-    let high_least = high.0 in
-    let high_most = high.1 in
-    let is = c.at.ensures in
-    let high_is = c.at-most.ensures in
-    let arc_low = c.arc_of-arc.ensures.small.low in
-    let arc_high = c.arc_of-arc.ensures.small.high in
-    let near = c.if-least-most.false in
+    let low = open_low c.args.view.now arc.from c.requires.sound c.requires.possible (omega arith) there.0 in
+    let high = open_high c.args.view.now arc.to c.requires.sound c.requires.possible (omega arith) there.1 in
     let same_arc : arc ≡ arc_of network (turned c.args.decision) = c.arc_of-arc.ensures.arc ∙ ap (arc_of network) c.turned.ensures in
     let a = to_z w128 (of_z w128 (to_z w128 (of_z w128 c.at.result) +ℤ to_z w128 (of_z w128 (to_z w64 (of_z w64 arc.weight))))) in
-    let low_is : a ≡ low_at view arc.from +ℤ arc.weight = omega (arith, ints, least, most, is, arc_low, arc_high) in
+    let low_is : a ≡ low_at view arc.from +ℤ arc.weight = omega (arith, ints) in
     let b = to_z w128 (of_z w128 c.at-most.result) in
-    let most_is : b ≡ high_at view arc.to = omega (arith, ints, high_least, high_most, high_is) in
+    let most_is : b ≡ high_at view arc.to = omega (arith, ints) in
     let reach : IsInReach view arc (InReach arc.to a b) = (
       λ i. InReach arc.to (low_is i) (most_is i),
-      omega (arith, ints, least, most, high_least, high_most, is, high_is, arc_low, arc_high, near),
+      omega (arith, ints),
     ) in
     inr (c.if-not-is_conflict.ensures, subst (λ x. IsInReach view x (InReach arc.to a b)) same_arc reach)

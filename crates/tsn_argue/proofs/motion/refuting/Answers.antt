@@ -8,11 +8,7 @@ use Rattle.tsn_argue.proofs.motion.refuting.Goals as goal
 pub returns : goal.returns
 unfolding refuting
 returns c =
-    let short = c.cycle-cycle.ensures.bound in
-    let same = c.cycle-cycle.ensures.value in
-    let done = (open_done c.args.view.now c.requires.sound c.requires.possible (omega (arith, short, same))).1 in
-    let low = done.0 in
-    let high = done.1 in
+    let done = (open_done c.args.view.now c.requires.sound c.requires.possible (omega arith)).1 in
     let more : to_z w128 (of_z w128 (to_z w128 (of_z w128 c.args.view.now.done.high) +ℤ pos 1)) ≡ c.args.view.now.done.high +ℤ pos 1 =
-    omega (arith, ints, low, high) in
+    omega (arith, ints) in
     ap done_from more

@@ -16,8 +16,7 @@ returns-in_err-start c =
     let p = err_from_is_err_and c.from_residual.result c.from_residual.ensures.1 in
     let network = c.args.view.now.timing.now in
     let view = view_of c.args.view.now in
-    let some = c.requires.some in
-    rw (p.1, p.2) (order_wrong network view c.args.orders.now blank 0 0 0 (pos 0) c.decision.result _ (omega (arith, some)) c.decision.ensures
+    rw (p.1, p.2) (order_wrong network view c.args.orders.now blank 0 0 0 (pos 0) c.decision.result _ (omega arith) c.decision.ensures
     (inl c.in_err-start.ensures) (walk_none network view c.args.orders.now blank 0))
 
 pub loop-order-init : goal.loop-order-init
@@ -38,14 +37,13 @@ returns-then-arc-at c =
 
 pub loop-order-preserved : goal.loop-order-preserved
 loop-order-preserved c =
-    let low = c.loop-order.invariant.low in
     let high = c.loop-order.invariant.high in
     let arc_low = c.in_ok-arc.ensures.low in
     let arc_high = c.in_ok-arc.ensures.high in
     let few = c.requires.few in
     let below = c.loop-order-test.true in
     let adds : to_z w64 (of_z w64 (to_z w64 c.loop-order.weight-bits +ℤ to_z w64 (of_z w64 c.in_ok-arc.arc.weight)))
-    ≡ to_z w64 c.loop-order.weight-bits +ℤ c.in_ok-arc.arc.weight = omega (arith, ints, low, high, arc_low, arc_high, few, below) in
+    ≡ to_z w64 c.loop-order.weight-bits +ℤ c.in_ok-arc.arc.weight = omega (arith, ints, c.loop-order.invariant.low, high, arc_low, arc_high, few, below) in
     walk_more c.args.view.now.timing.now (view_of c.args.view.now) c.args.orders.now blank c.in_ok-start.field-0.from c.loop-order.order-index c.loop-order.at
     _ _ c.decision-in-loop-order.result c.in_ok-arc.arc below c.decision-in-loop-order.ensures c.in_ok-arc.ensures c.if-arc-at.false adds
     c.loop-order.invariant
@@ -73,7 +71,6 @@ returns-else-at-start c =
     let network = c.args.view.now.timing.now in
     let view = view_of c.args.view.now in
     let orders = c.args.orders.now in
-    let some = c.requires.some in
     let start = c.in_ok-start.field-0.from in
     let past : length orders ≤ c.loop-order.order-index = omega arith in
     let whole = walk_done network view orders blank start c.loop-order.order-index c.loop-order.at _ past c.loop-order.invariant in
@@ -84,7 +81,7 @@ returns-else-at-start c =
           let i = round.1.0 in
           let leads = round.1.1 in
           let begins : start ≡ i =
-          arc_leads network view orders blank i i i 0 c.decision.result c.in_ok-start.field-0 (omega (arith, some)) c.decision.ensures
+          arc_leads network view orders blank i i i 0 c.decision.result c.in_ok-start.field-0 (omega arith) c.decision.ensures
           c.in_ok-start.ensures.is leads refl in
           let ends : LeadsBy network i (map decision_of orders) c.loop-order.at =
           subst (λ s. LeadsBy network s (map decision_of orders) c.loop-order.at) begins whole.1 in

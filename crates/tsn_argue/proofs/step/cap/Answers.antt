@@ -9,11 +9,10 @@ loop-stream-init c = cap_begin c.args.view.now c.args.plan.now c.requires.sound
 
 pub loop-stream-preserved : goal.loop-stream-preserved
 loop-stream-preserved c =
-    let at = c.at.ensures in
     let is : to_z w128 (get_or c.args.plan.now c.loop-stream.stream 0) ≡ pos (get_or c.args.plan.now c.loop-stream.stream 0) = omega (arith, ints) in
     cap_more c.args.view.now c.loop-stream.view c.lower.new.self c.args.plan.now c.loop-stream.stream _
     c.requires.count c.loop-stream-test.true c.loop-stream.invariant
-    is c.in_ok-lower.ensures (omega (arith, ints, at, c.if-at-offset.false))
+    is c.in_ok-lower.ensures (omega (arith, ints, c.if-at-offset.false))
 
 pub returns-after-loop-stream : goal.returns-after-loop-stream
 returns-after-loop-stream c =
@@ -22,8 +21,7 @@ returns-after-loop-stream c =
 
 pub returns-then-at-offset : goal.returns-then-at-offset
 returns-then-at-offset c =
-    let at = c.at.ensures in
     let is : to_z w128 (get_or c.args.plan.now c.loop-stream.stream 0) ≡ pos (get_or c.args.plan.now c.loop-stream.stream 0) = omega (arith, ints) in
     cap_stop c.args.view.now c.loop-stream.view c.lower.new.self c.args.plan.now c.loop-stream.stream _
     c.requires.count c.loop-stream-test.true c.loop-stream.invariant
-    is c.in_ok-lower.ensures (omega (arith, ints, at, c.if-at-offset.true))
+    is c.in_ok-lower.ensures (omega (arith, ints, c.if-at-offset.true))

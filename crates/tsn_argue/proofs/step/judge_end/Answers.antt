@@ -12,9 +12,7 @@ returns-else-least-flowspan c =
     let network = c.args.view.now.timing.now in
     let view = view_of c.args.view.now in
     let aimed = subst (IsAim network) c.in-First.is c.requires.aim in
-    let span = aimed.1 in
-    let past = c.if-least-flowspan.false in
-    let known : pos (flowspan network c.in-First.plan.now) ≤ℤ view.done_low = omega (arith, ints, span, past) in
+    let known : pos (flowspan network c.in-First.plan.now) ≤ℤ view.done_low = omega (arith, ints) in
     subst (λ aim. FindsOpen network (goal_of aim) view c.first_below.result) (sym c.in-First.is)
     (open_first network c.in-First.plan.now view c.first_below.result aimed.0.count
     (possible c.args.view.now c.requires.sound c.if-view.false) known c.first_below.ensures)

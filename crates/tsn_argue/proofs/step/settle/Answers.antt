@@ -17,8 +17,7 @@ returns-then-view-flowspan c =
     let network = c.args.view.now.timing.now in
     let view = view_of c.args.view.now in
     let aimed = subst (IsAim network) c.in-First.is c.requires.aim in
-    let span = aimed.1 in
-    let below : view.done_low <ℤ pos (flowspan network c.in-First.plan.now) = omega (arith, ints, span, c.if-view-flowspan.true) in
+    let below : view.done_low <ℤ pos (flowspan network c.in-First.plan.now) = omega (arith, ints, c.if-view-flowspan.true) in
     same_view c.args.view.now _ c.requires.sound
     (ap (λ aim. settled network (goal_of aim) view) c.in-First.is ∙ settled_not network c.in-First.plan.now view below)
 
@@ -27,7 +26,6 @@ returns c =
     let network = c.args.view.now.timing.now in
     let view = view_of c.args.view.now in
     let aimed = subst (IsAim network) c.in-First.is c.requires.aim in
-    let span = aimed.1 in
-    let known : pos (flowspan network c.in-First.plan.now) ≤ℤ view.done_low = omega (arith, ints, span, c.if-view-flowspan.false) in
+    let known : pos (flowspan network c.in-First.plan.now) ≤ℤ view.done_low = omega (arith, ints, c.if-view-flowspan.false) in
     on_same c.args.view.now c.cap.new.view _ _ c.cap.result
     (sym (ap (λ aim. settled network (goal_of aim) view) c.in-First.is ∙ settled_on network c.in-First.plan.now view known)) c.cap.ensures

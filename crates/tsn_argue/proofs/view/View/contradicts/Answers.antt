@@ -11,7 +11,6 @@ pub returns-in-Order : goal.returns-in-Order
 unfolding contradicts
 returns-in-Order c =
     let list = c.args.self.now.orders.view in
-    let d = c.in-Order.decision in
     among list c.turned.result c.has.result c.has.ensures
     ∙ ap (λ t. list_any (decision_eq t) list) c.turned.ensures
     ∙ ap (λ news. contradicts (view_of c.args.self.now) (news_of news)) (sym c.in-Order.is)
