@@ -1,13 +1,9 @@
 -- The elements of an array, taken one after another.
-use Rattle.std.proofs.Common.{◌≡◌, ◌<◌, ◌≤◌, ◌-◌, ℕ, zero, suc, List, [], ◌∷◌, ◌++◌, length, map, Bool, true, false, Option, Some, None, Ok, Err, refl, sym, ap, ◌∙◌, append_assoc, append-nil, arith, le-leb}
-use Rattle.std.specs.Prelude.{option_and_then, option_map, nat_le, ◌&&◌}
-use Rattle.std.proofs.lemmas.List.{map-append, length-map}
-use Rattle.std.proofs.lemmas.Bool.{and_parts}
-use Rattle.std.proofs.lemmas.Bool.Decides.{nat_tests}
+use Rattle.std.proofs.Common.{◌≡◌, ◌<◌, ◌≤◌, ◌-◌, ℕ, zero, suc, List, [], ◌∷◌, ◌++◌, length, map, Option, Some, None, Ok, Err, refl, sym, ap, ◌∙◌, append_assoc, append-nil, arith}
+use Rattle.std.specs.Prelude.{option_and_then, option_map}
+use Rattle.std.proofs.lemmas.List.{map-append}
 use Rattle.json.specs.Token.{Token}
 use Rattle.json.specs.Json.{Parse, parse_map, after_end_array}
-use Rattle.serde_json.specs.Read.{converted}
-use Rattle.tsn_cert.specs.Json.{when}
 use Rattle.tsn_cert.specs.Fault.{named}
 use Rattle.tsn_cert.specs.declared.fault.FileFault.TheVariants.{WrongShape}
 use Rattle.tsn_cert.specs.Form.{many, elements_taken}
@@ -70,18 +66,3 @@ seen_more seen old new x pushed = ap (map seen) pushed ∙ map-append seen old (
 pub map_same : {A : Type 0} (xs : List A) → map (λ x. x) xs ≡ xs
 map_same [] = refl
 map_same (x ∷ xs) = ap (λ ys. x ∷ ys) (map_same xs)
-
--- ---- a list that a value's text says
-
-abbrev first_of : {A : Type 0} → Option (A × List Token) → Option A
-first_of o = option_map (λ p. p.0) o
-
-pub text_ok : {A : Type 0} (o : Option A) (x : A) (r : List Token) (taken : Option (A × List Token)) → taken ≡ Some (x, r) → taken ≡ option_map (λ a. (a, [])) o
-    → named WrongShape o ≡ Ok x
-text_ok None x r taken is said = let bad : Some x ≡ None = ap first_of (sym is ∙ said) in absurd (cc)
-text_ok (Some a) x r taken is said = let same : Some x ≡ Some a = ap first_of (sym is ∙ said) in ap (named WrongShape) (sym same)
-
-pub text_none : {A : Type 0} (o : Option A) (taken : Option (A × List Token)) → taken ≡ None → taken ≡ option_map (λ a. (a, [])) o
-    → named WrongShape o ≡ Err WrongShape
-text_none None taken is said = refl
-text_none (Some a) taken is said = let bad : None ≡ Some a = ap first_of (sym is ∙ said) in absurd (cc)

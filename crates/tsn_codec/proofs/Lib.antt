@@ -1,5 +1,11 @@
 pub mod JsonLemmas
 pub mod Elements
+pub mod Pairs
+pub mod Lists
+pub mod Nodes
+pub mod Plain
+pub mod Written
+pub mod Either
 pub mod Numbers
 pub mod Objects
 pub mod PlanLemmas

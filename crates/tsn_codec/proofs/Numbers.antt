@@ -1,5 +1,5 @@
 -- What the text of a number says.
-use Rattle.std.proofs.Common.{◌≡◌, ◌≤◌, ◌<◌, ◌^◌, ℕ, zero, suc, pos, List, drop, Bool, true, false, Option, Some, None, refl, sym, ap, ◌∙◌, arith, lt-ltb, le-leb, eq-eqb, get_or, w64, FitsSigned, ◌<ℤ◌}
+use Rattle.std.proofs.Common.{◌≡◌, ◌≤◌, ◌<◌, ◌^◌, ℕ, pos, List, drop, Bool, true, false, Option, Some, None, refl, sym, ap, ◌∙◌, arith, lt-ltb, le-leb, eq-eqb, get_or, w64, FitsSigned, ◌<ℤ◌}
 use Rattle.std.specs.Prelude.{ℤ, ◌&&◌, ◌==◌, length, not, nat_lt, nat_le, if◌then◌else◌, option_map, option_and_then, SomeIff, min}
 use Rattle.std.proofs.lemmas.Int.{ints}
 use Rattle.std.proofs.lemmas.Bool.{and_parts}

@@ -1,5 +1,5 @@
 -- What the members of an object spell, one after another, and what a file of such members says.
-use Rattle.std.proofs.Common.{◌≡◌, ◌<◌, ◌≤◌, ◌-◌, ℕ, suc, List, [], ◌∷◌, length, Bool, true, Option, Some, None, codes, refl, ap, ◌∙◌, arith}
+use Rattle.std.proofs.Common.{◌≡◌, ◌<◌, ◌≤◌, ◌-◌, ℕ, suc, List, [], ◌∷◌, length, true, Option, Some, None, codes, refl, ap, ◌∙◌, arith}
 use Rattle.std.specs.Prelude.{option_and_then, ◌==◌}
 use Rattle.json.specs.Token.{Token, begin_object}
 use Rattle.json.specs.Json as json
@@ -61,7 +61,7 @@ object_spelled depth first ts ms rest is h =
 
 -- ---- the members of files
 
-abbrev cert_at : Format → List Node → ℕ → Option Cert
+abbrev pub cert_at : Format → List Node → ℕ → Option Cert
 cert_at format nodes target = when (are_of format nodes) (Some (record { format = format; target = target; nodes = nodes }))
 
 -- a tree's file says it
@@ -75,7 +75,7 @@ cert_said f n t format nodes target first second third of =
     ∙ ap (λ o. option_and_then (λ c. cert_at format nodes c) o) third
     ∙ ap (λ b. when b (Some (record { format = format; target = target; nodes = nodes }))) of
 
-abbrev argument_at : Goal → List Step → ℕ → Option Argument
+abbrev pub argument_at : Goal → List Step → ℕ → Option Argument
 argument_at goal steps target = Some (record { goal = goal; target = target; steps = steps })
 
 -- an argument's file says it

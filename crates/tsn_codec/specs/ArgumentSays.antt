@@ -1,6 +1,6 @@
 -- What an argument's parts say of a value is what they say of the tokens that spell it.
 use Rattle.std.proofs.Common.{Some, lit≤}
-use Rattle.tsn_cert.specs.Form.{number, text, made, array, next, over, becomes}
+use Rattle.tsn_cert.specs.Form.{number, text, made, array, over}
 use Rattle.tsn_cert.specs.Cert.{first_frame, lag_row, shift}
 use Rattle.tsn_cert.specs.Says.{Says, Follows}
 use Rattle.tsn_cert.proofs.Says.{number_says, text_says, made_says, either_says, next_follows, over_follows, becomes_follows, array_says, deeper_says, deeper_follows, few_says, list_says, one_says}

@@ -1,9 +1,8 @@
 -- What a certificate's parts say of a value is what they say of the tokens that spell it.
-use Rattle.std.specs.Prelude.{map, length, nat_le, Some}
 use Rattle.std.proofs.Common.{lit≤}
-use Rattle.tsn_model.specs.Certificate.{split_node, leaf_node, tie_node, late, overrun, positive_cycle, load, overload}
-use Rattle.tsn_cert.specs.Form.{number, made, next, over, elements_row, either_row}
-use Rattle.tsn_cert.specs.Cert.{chain_row, chain_form, reason_row, lag_row, shift, triple_row, cycle_row, first_entry_row, later_entry_row, entry_form, entries_form, load_row, chains_form, tie_row, tie_load_row, node_rows, node_form, nodes_form, format_form, format_numbered}
+use Rattle.tsn_model.specs.Certificate.{split_node}
+use Rattle.tsn_cert.specs.Form.{number, over}
+use Rattle.tsn_cert.specs.Cert.{chain_form, reason_row, lag_row, shift, triple_row, cycle_row, first_entry_row, later_entry_row, entry_form, entries_form, load_row, chains_form, tie_row, tie_load_row, node_rows, node_form, nodes_form, format_form, format_numbered}
 use Rattle.tsn_cert.specs.Says.{Says, Follows}
 use Rattle.tsn_cert.proofs.Says.{number_says, made_says, next_follows, over_follows, either_follows, becomes_follows, array_says, deeper_says, deeper_follows, few_says, list_says, one_says}
 use Rattle.tsn_cert.proofs.LagSays.{lag_follows, shift_says, chain_says}

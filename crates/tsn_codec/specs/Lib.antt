@@ -1,4 +1,8 @@
 pub mod Takes
+pub mod Told
+pub mod Lists
+pub mod Places
+pub mod Written
 pub mod PlanSays
 pub mod CertSays
 pub mod ArgumentSays

@@ -1,31 +1,45 @@
 //! Argument files, read and printed.
-ghost use Rattle.std.specs.Prelude.{◌≡◌, ◌≤◌, IfOk, IsTrue, OnOk, Ok, string_bytes};
+ghost use Rattle.std.specs.Prelude.{◌≡◌, ◌≤◌, true, List, IfOk, IfSome, IsTrue, OnOk, None, Ok, string_bytes};
+ghost use Rattle.json.specs.Token.{Token};
+ghost use Rattle.json.specs.Lex.{tokens};
 ghost use Rattle.serde_json.specs.Data.{depth};
 ghost use Rattle.serde_json.specs.Read.{max_depth};
 ghost use Rattle.serde_json.specs.View.{view};
-ghost use Rattle.tsn_cert.specs.Fault.{Gives, Reads};
-ghost use Rattle.tsn_cert.specs.Argument.{goal_of, steps_in, argument_of, argument_of_values, argument_fits, argument_in, argument_text};
+ghost use Rattle.tsn_cert.specs.Fault.{Gives};
+ghost use Rattle.tsn_codec.specs.Told.{Finds};
+ghost use Rattle.tsn_codec.specs.Written.{ArePlain, BeginsArgument, EndsWithTarget, IsNoCertificate};
+ghost use Rattle.tsn_cert.specs.Argument.{goal_of, steps_in, steps_form, argument_of, argument_fits, argument_in, argument_text};
 ghost use Rattle.tsn_cert.specs.ArgumentLaws.{IsArgumentInGrammar};
 
+mod limits;
 mod print;
 mod read;
+mod step;
 pub mod text;
 
 use crate::document;
 use crate::file::{self, File};
-use crate::list::list_in;
+use crate::list::{Unlisted, list_in, list_or_why};
+use crate::refused::{Excess, Key, Misfit, Refused};
 use crate::tokens::{Tokens, Unread};
+use json::Scratch;
 use serde_json::Value;
 use std::alloc::Global;
 use tsn_cert::argument::ARGUMENT_FORMAT;
 use tsn_cert::{Argument, FileFault, Goal, Step, Steps};
 use tsn_model::NoMemory;
 
+// The keys of an argument file.
+const KEYS: &[Key] = &[Key::Format, Key::Goal, Key::Steps, Key::Target];
+
 /// Reads an argument file.
 pub fn argument_from_json(alloc: Global, bytes: &[u8]) -> Result<Argument, FileFault>
     ensures { Gives (λ argument. argument) result (argument_in bytes.now) }
 {
-    file::from_bytes::<Argument>(alloc, bytes)
+    match file::from_bytes::<Argument>(alloc, bytes) {
+        Ok(argument) => Ok(argument),
+        Err(refused) => Err(refused.code()),
+    }
 }
 
 impl File for Argument {
@@ -60,70 +74,137 @@ impl File for Argument {
         })
     }
 
-    fn in_value(alloc: Global, value: &Value) -> Result<Argument, FileFault> {
+    fn in_value(alloc: Global, value: &Value) -> Result<Argument, Refused> {
         argument_from(alloc, value)
     }
 
     fn keeps_limits(&self) -> bool {
         self.is_within_limits()
     }
-}
 
-/// The argument that the value is.
-#[tactic(auto, using(crate::proofs::JsonLemmas::get_depth))]
-fn argument_from(alloc: Global, value: &Value) -> Result<Argument, FileFault>
-    requires { depth (view value.now) ≤ max_depth }
-    ensures { Reads (λ argument. argument) result (argument_of (view value.now)) }
-{
-    if !document::is_object_of(value, 4) {
-        return Err(FileFault::WrongShape);
+    fn excess(&self) -> Excess {
+        limits::excess(self)
     }
-    let format = value.get("format").ok_or(FileFault::WrongShape)?;
-    let goal = value.get("goal").ok_or(FileFault::WrongShape)?;
-    let steps = value.get("steps").ok_or(FileFault::WrongShape)?;
-    let target = value.get("target").ok_or(FileFault::WrongShape)?;
-    argument_from_values(alloc, format, goal, steps, target)
 }
 
-fn argument_from_values(
-    alloc: Global,
-    format: &Value,
-    goal: &Value,
-    steps: &Value,
-    target: &Value,
-) -> Result<Argument, FileFault>
-    requires { depth (view steps.now) ≤ max_depth }
-    ensures { Reads (λ argument. argument) result
-        (argument_of_values (view format.now) (view goal.now) (view steps.now) (view target.now)) }
+// The argument that the value is.
+#[tactic(auto, using(crate::proofs::JsonLemmas::get_depth))]
+fn argument_from(alloc: Global, value: &Value) -> Result<Argument, Refused>
+    requires { depth (view value.now) ≤ max_depth }
+    ensures { Finds (λ argument. argument) result (argument_of (view value.now)) }
 {
-    if document::whole_number_from(format)? != ARGUMENT_FORMAT {
-        return Err(FileFault::WrongShape);
+    if !value.is_object() {
+        return Err(Refused::WrongShape(Misfit::NoObject));
+    }
+    let format = document::member(value, Key::Format)?;
+    if document::whole_number_at(format, Key::Format)? != ARGUMENT_FORMAT {
+        return Err(Refused::WrongShape(Misfit::OtherFormat));
+    }
+    let goal = document::member(value, Key::Goal)?;
+    let steps = document::member(value, Key::Steps)?;
+    let target = document::member(value, Key::Target)?;
+    if !document::is_object_of(value, 4) {
+        return Err(Refused::WrongShape(document::unknown_key(value, KEYS)?));
     }
     let goal = goal_from(goal)?;
-    let steps = steps_from(alloc, steps)?;
-    let target = document::whole_number_from(target)?;
+    let target = document::whole_number_at(target, Key::Target)?;
     Ok(Argument {
         goal,
         target,
-        steps,
+        steps: steps_from(alloc, steps)?,
     })
 }
 
-/// The goal that the value is.
-fn goal_from(value: &Value) -> Result<Goal, FileFault>
-    ensures { Reads (λ goal. goal) result (goal_of (view value.now)) }
+// The goal that the value is.
+fn goal_from(value: &Value) -> Result<Goal, Refused>
+    ensures { Finds (λ goal. goal) result (goal_of (view value.now)) }
 {
-    let word = value.as_str().ok_or(FileFault::WrongShape)?;
-    read::goal_named(word).ok_or(FileFault::WrongShape)
+    match value.as_str() {
+        Some(word) => read::goal_named(word).ok_or(Refused::WrongShape(Misfit::OtherGoal)),
+        None => Err(Refused::WrongShape(Misfit::OtherGoal)),
+    }
 }
 
-/// The steps that the value is.
+// The steps that the value is.
 #[tactic(auto, using(crate::proofs::Elements::map_same))]
-fn steps_from(alloc: Global, value: &Value) -> Result<Steps, FileFault>
+fn steps_from(alloc: Global, value: &Value) -> Result<Steps, Refused>
     requires { depth (view value.now) ≤ max_depth }
-    ensures { Reads (λ steps. steps) result (steps_in (view value.now)) }
+    ensures { Finds (λ steps. steps) result (steps_in (view value.now)) }
 {
-    Ok(Steps::of(list_in::<Step>(alloc, value)?))
+    match list_in::<Step>(alloc, value) {
+        Ok(steps) => Ok(Steps::of(steps)),
+        Err(Unlisted::NoArray) => Err(Refused::WrongShape(Misfit::NoArray(Key::Steps))),
+        Err(Unlisted::Behind(steps)) => {
+            Err(Refused::WrongShape(misfit_in_value(alloc, value, steps.len())?))
+        }
+        Err(Unlisted::Memory) => Err(Refused::Memory),
+    }
+}
+
+// What isn't of the form of the step of this number, in the value of all.
+fn misfit_in_value(alloc: Global, steps: &Value, number: usize) -> Result<Misfit, NoMemory> {
+    match steps.get(number) {
+        Some(step) => {
+            let text = step.to_string(alloc)?;
+            step::misfit(alloc, text.as_str(), number, true)
+        }
+        None => Ok(Misfit::NoStep(number)),
+    }
+}
+
+/// What isn't of the form of a file whose keys stand in the order in which they are written, where that is one of its steps; None where
+/// it is something else, or it isn't known.
+pub(crate) fn misfit_of_written(alloc: Global, text: &str) -> Result<Option<Misfit>, NoMemory>
+    requires { ArePlain (tokens text.now) }
+    ensures { IfOk result (λ misfit. IfSome misfit (λ _. IsNoCertificate text.now)) }
+{
+    let ends = ends_with_target(alloc, text)?;
+    if ends {
+        misfit_of_steps(alloc, text)
+    } else {
+        Ok(None)
+    }
+}
+
+fn misfit_of_steps(alloc: Global, text: &str) -> Result<Option<Misfit>, NoMemory>
+    ensures { IfOk result (λ misfit. IfSome misfit (λ _. (ts : List Token) × BeginsArgument (tokens text.now) ts × (steps_form.taken ts ≡ None))) }
+{
+    let mut scratch = Scratch::new(alloc);
+    let mut tokens = Tokens::of(alloc, text, &mut scratch)?;
+    let Ok(()) = begin(&mut tokens) else {
+        return Ok(None);
+    };
+    match list_or_why::<Step>(&mut tokens) {
+        Err(Unlisted::Behind(steps)) => { Ok(Some(step::misfit(alloc, text, steps.len(), false)?)) }
+        Err(Unlisted::Memory) => Err(NoMemory),
+        _ => Ok(None),
+    }
+}
+
+fn ends_with_target(alloc: Global, text: &str) -> Result<bool, NoMemory>
+    ensures { IfOk result (λ ends. ends ≡ true → (ts : List Token) × BeginsArgument (tokens text.now) ts × EndsWithTarget ts) }
+{
+    let mut scratch = Scratch::new(alloc);
+    let mut tokens = Tokens::of(alloc, text, &mut scratch)?;
+    match begin(&mut tokens) {
+        Ok(()) => Ok(file::is_list_and_target(&mut tokens)),
+        Err(_) => Ok(false),
+    }
+}
+
+// Passes what stands before the steps.
+fn begin(tokens: &mut Tokens<'_>) -> Result<(), Unread>
+    ensures { OnOk result (BeginsArgument tokens.old tokens.new) }
+{
+    tokens.open_object()?;
+    tokens.key("format")?;
+    let format = tokens.number()?;
+    if format != ARGUMENT_FORMAT {
+        return Err(Unread::OtherForm);
+    }
+    tokens.key("goal")?;
+    read::goal(tokens)?;
+    tokens.key("steps")
 }
 
 /// The text of an argument file.

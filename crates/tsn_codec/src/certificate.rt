@@ -1,52 +1,128 @@
 //! Certificate files, read and printed.
-ghost use Rattle.std.specs.Prelude.{◌≡◌, IfOk, IsTrue, Ok, string_bytes};
+ghost use Rattle.std.specs.Prelude.{◌≡◌, ◌≤◌, true, IfOk, IfSome, IsTrue, Ok, Err, string_bytes};
+ghost use Rattle.json.specs.Lex.{tokens};
+ghost use Rattle.serde_json.specs.Data.{depth};
+ghost use Rattle.serde_json.specs.Read.{max_depth};
+ghost use Rattle.serde_json.specs.View.{view};
+ghost use Rattle.tsn_cert.specs.Argument.{argument_of};
 ghost use Rattle.tsn_cert.specs.Fault.{Gives};
+ghost use Rattle.tsn_codec.specs.Told.{Tells, Finds};
+ghost use Rattle.tsn_codec.specs.Written.{ArePlain};
 ghost use Rattle.tsn_cert.specs.Certificate.{certificate_fits, certificate_in, certificate_text, is_of_format};
 
-use crate::argument::argument_to_json;
-use crate::cert::{cert_from_json, cert_to_json};
-use crate::file;
-use crate::tokens::Unread;
+use crate::argument::{self, argument_to_json};
+use crate::cert::{self, cert_to_json};
+use crate::document;
+use crate::file::{self, File};
+use crate::refused::{Misfit, Refused};
+use crate::tokens::{Tokens, Unread};
+use json::Scratch;
+use serde_json::Value;
 use std::alloc::Global;
-use tsn_cert::{Argument, Certificate, FileFault};
+use tsn_cert::argument::ARGUMENT_FORMAT;
+use tsn_cert::{Argument, Cert, Certificate, FileFault};
 use tsn_model::NoMemory;
 
-/// What an argument that is printed begins with.
+// What an argument that is printed begins with.
 const ARGUMENT_BEGIN: &[u8] = b"{\"format\":3,";
 
 /// Reads a certificate file.
 pub fn certificate_from_json(alloc: Global, bytes: &[u8]) -> Result<Certificate, FileFault>
     ensures { Gives (λ certificate. certificate) result (certificate_in bytes.now) }
 {
+    match certificate_or_refuse(alloc, bytes) {
+        Ok(certificate) => Ok(certificate),
+        Err(refused) => Err(refused.code()),
+    }
+}
+
+/// Reads a certificate file, or says what is the matter with it.
+pub fn certificate_or_refuse(alloc: Global, bytes: &[u8]) -> Result<Certificate, Refused>
+    ensures { Tells (λ certificate. certificate) result (certificate_in bytes.now) }
+{
     // A file in written form is read once, whatever its kind.
     if bytes.starts_with(ARGUMENT_BEGIN) {
-        certificate_from_begun(alloc, bytes)
-    } else {
-        certificate_from_any(alloc, bytes)
-    }
-}
-
-/// The same, of a file that begins as an argument.
-fn certificate_from_begun(alloc: Global, bytes: &[u8]) -> Result<Certificate, FileFault>
-    ensures { Gives (λ certificate. certificate) result (certificate_in bytes.now) }
-{
-    match file::from_written::<Argument>(alloc, bytes) {
-        Ok(argument) => Ok(Certificate::Argument(file::limited(argument)?)),
-        Err(Unread::OtherForm) => certificate_from_any(alloc, bytes),
-        Err(Unread::Memory) => Err(FileFault::Memory),
-    }
-}
-
-/// The same, of any file: a tree, or else an argument.
-fn certificate_from_any(alloc: Global, bytes: &[u8]) -> Result<Certificate, FileFault>
-    ensures { Gives (λ certificate. certificate) result (certificate_in bytes.now) }
-{
-    match cert_from_json(alloc, bytes) {
-        Ok(cert) => Ok(Certificate::Tree(cert)),
-        Err(FileFault::WrongShape) => {
-            Ok(Certificate::Argument(file::from_any::<Argument>(alloc, bytes)?))
+        match file::from_written::<Argument>(alloc, bytes) {
+            Ok(argument) => Ok(Certificate::Argument(file::limited(argument)?)),
+            Err(Unread::OtherForm) => from_other(alloc, bytes),
+            Err(Unread::Memory) => Err(Refused::Memory),
         }
-        Err(fault) => Err(fault),
+    } else {
+        match file::from_written::<Cert>(alloc, bytes) {
+            Ok(cert) => Ok(Certificate::Tree(file::limited(cert)?)),
+            Err(Unread::OtherForm) => from_other(alloc, bytes),
+            Err(Unread::Memory) => Err(Refused::Memory),
+        }
+    }
+}
+
+// The same, of a file that is none in written form.
+fn from_other(alloc: Global, bytes: &[u8]) -> Result<Certificate, Refused>
+    ensures { Tells (λ certificate. certificate) result (certificate_in bytes.now) }
+{
+    // Where a node or a step is of another form, no value of the whole file is made.
+    match misfit_of_written(alloc, bytes)? {
+        Some(misfit) => Err(Refused::WrongShape(misfit)),
+        None => from_any(alloc, bytes),
+    }
+}
+
+// The node or the step that isn't of the form, where the keys stand in the order in which they are written and nothing else is amiss.
+fn misfit_of_written(alloc: Global, bytes: &[u8]) -> Result<Option<Misfit>, NoMemory>
+    ensures { IfOk result (λ misfit. IfSome misfit (λ _. certificate_in bytes.now ≡ Err FileFault.WrongShape)) }
+{
+    let Ok(text) = std::str::from_utf8(bytes) else {
+        return Ok(None);
+    };
+    if !has_plain_numbers(alloc, text)? {
+        return Ok(None);
+    }
+    if bytes.starts_with(ARGUMENT_BEGIN) {
+        argument::misfit_of_written(alloc, text)
+    } else {
+        cert::misfit_of_written(alloc, text)
+    }
+}
+
+fn has_plain_numbers(alloc: Global, text: &str) -> Result<bool, NoMemory>
+    ensures { IfOk result (λ plain. plain ≡ true → ArePlain (tokens text.now)) }
+{
+    let mut scratch = Scratch::new(alloc);
+    let mut tokens = Tokens::of(alloc, text, &mut scratch)?;
+    Ok(tokens.have_plain_numbers())
+}
+
+// The same, of a file whose keys stand in any order: a tree, or else an argument.
+fn from_any(alloc: Global, bytes: &[u8]) -> Result<Certificate, Refused>
+    ensures { Tells (λ certificate. certificate) result (certificate_in bytes.now) }
+{
+    let value = document::value_from(alloc, bytes)?;
+    match Cert::in_value(alloc, &value) {
+        Ok(cert) => Ok(Certificate::Tree(file::limited(cert)?)),
+        Err(Refused::WrongShape(misfit)) => {
+            let argument = argument_or(alloc, &value, misfit)?;
+            Ok(Certificate::Argument(file::limited(argument)?))
+        }
+        Err(refused) => Err(refused),
+    }
+}
+
+// The argument that the value is. Where it doesn't tell that it is one, what is the matter with it as a tree is said.
+fn argument_or(alloc: Global, value: &Value, misfit: Misfit) -> Result<Argument, Refused>
+    requires { depth (view value.now) ≤ max_depth }
+    ensures { Finds (λ argument. argument) result (argument_of (view value.now)) }
+{
+    match Argument::in_value(alloc, value) {
+        Err(Refused::WrongShape(_)) if !is_argument(value) => Err(Refused::WrongShape(misfit)),
+        found => found,
+    }
+}
+
+// Whether the value tells that it is an argument.
+fn is_argument(value: &Value) -> bool {
+    match value.get("format") {
+        Some(format) => format.as_u64() == Some(ARGUMENT_FORMAT),
+        None => false,
     }
 }
 

@@ -1,36 +1,66 @@
 //! The parts that the values of files are read from and made of.
-ghost use Rattle.std.specs.Prelude.{◌≡◌, ◌≤◌, map, false, Some, IfOk, IsOkAnd, string_bytes, [], ◌∷◌, ◌++◌};
+ghost use Rattle.std.specs.Prelude.{◌≡◌, ◌≤◌, map, false, Some, None, IfOk, MatchResult, IsOkAnd, string_bytes, [], ◌∷◌, ◌++◌};
 ghost use Rattle.serde_json.specs.Data.{depth, string};
+ghost use Rattle.serde_json.specs.Find.{get};
 ghost use Rattle.serde_json.specs.Read.{max_depth};
 ghost use Rattle.serde_json.specs.View.{view};
 ghost use Rattle.serde_json.specs.Written.{has_float};
 ghost use Rattle.tsn_cert.specs.Json.{value_of, whole_number, is_object_of, all_within, number_value, array_value, file_text};
-ghost use Rattle.tsn_cert.specs.Fault.{Gives, Reads, named};
+ghost use Rattle.tsn_cert.specs.Fault.{named};
+ghost use Rattle.tsn_codec.specs.Told.{key_name, Tells, Finds};
 
+use crate::refused::{Key, Misfit, Refused};
 use serde_json::{ToValue, Value};
 use std::alloc::{AllocError, Global};
 use tsn_cert::FileFault;
+use tsn_model::NoMemory;
 
 /// The value of a file.
-pub fn value_from(alloc: Global, bytes: &[u8]) -> Result<Value, FileFault>
-    ensures value { Gives view result (named FileFault.NotJson (value_of bytes.now)) }
+pub fn value_from(alloc: Global, bytes: &[u8]) -> Result<Value, Refused>
+    ensures value { Tells view result (named FileFault.NotJson (value_of bytes.now)) }
     ensures nests { IfOk result (λ v. depth (view v) ≤ max_depth) }
 {
     match Value::from_slice(alloc, bytes) {
         Ok(value) => Ok(value),
         Err(error) => Err(if error.is_memory() {
-            FileFault::Memory
+            Refused::Memory
         } else {
-            FileFault::NotJson
+            Refused::NotJson(error)
         }),
     }
 }
 
-/// The number that the value is.
-pub fn whole_number_from(value: &Value) -> Result<u64, FileFault>
-    ensures { Reads (λ n. n) result (whole_number (view value.now)) }
+/// What stands at a key of an object.
+pub fn member<'a>(value: &'a Value, key: Key) -> Result<&'a Value, Refused>
+    ensures { MatchResult result (λ v. get (key_name key) (view value.now) ≡ Some (view v.now))
+        (λ refused. (get (key_name key) (view value.now) ≡ None) × (refused ≡ Refused.WrongShape (Misfit.Missing key))) }
 {
-    value.as_u64().ok_or(FileFault::WrongShape)
+    match value.get(key.name()) {
+        Some(found) => Ok(found),
+        None => Err(Refused::WrongShape(Misfit::Missing(key))),
+    }
+}
+
+/// The number that stands at a key.
+pub fn whole_number_at(value: &Value, key: Key) -> Result<u64, Refused>
+    ensures { Finds (λ n. n) result (whole_number (view value.now)) }
+{
+    value
+        .as_u64()
+        .ok_or(Refused::WrongShape(Misfit::NoNumber(key)))
+}
+
+/// The first of the keys of an object that is none of these.
+pub fn unknown_key(value: &Value, keys: &[Key]) -> Result<Misfit, NoMemory> {
+    let Some(members) = value.as_object() else {
+        return Ok(Misfit::NoObject);
+    };
+    for name in members.keys() {
+        if !keys.iter().any(|key| key.name() == name.as_str()) {
+            return Ok(Misfit::Unknown(name.clone()?));
+        }
+    }
+    Ok(Misfit::NoObject)
 }
 
 /// Whether the value is an object of so many members.

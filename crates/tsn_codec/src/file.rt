@@ -1,18 +1,20 @@
 //! Whole files: read from tokens where their keys stand in the order in which they are written, and else by their value.
-ghost use Rattle.std.specs.Prelude.{◌≡◌, ◌≤◌, Bool, Option, Some, IfOk, option_and_then};
+ghost use Rattle.std.specs.Prelude.{◌≡◌, ◌≤◌, Bool, Option, Some, IfOk, OnOk, true, option_and_then};
 ghost use Rattle.serde_json.specs.Data.{Data, depth};
 ghost use Rattle.serde_json.specs.Read.{read, max_depth};
 ghost use Rattle.serde_json.specs.View.{view};
 ghost use Rattle.tsn_cert.specs.Json.{value_of};
 ghost use Rattle.tsn_cert.specs.Spelled.{Spells};
-ghost use Rattle.tsn_cert.specs.Fault.{Gives, Reads, shaped, answer};
+ghost use Rattle.tsn_cert.specs.Fault.{shaped, answer};
+ghost use Rattle.tsn_codec.specs.Told.{Tells, Finds};
+ghost use Rattle.tsn_codec.specs.Written.{PassesTarget, EndsWithTarget};
 
 use crate::document;
+use crate::refused::{Excess, Refused};
 use crate::tokens::{Tokens, Unread};
 use json::Scratch;
 use serde_json::Value;
 use std::alloc::Global;
-use tsn_cert::FileFault;
 
 /// What a file holds.
 pub trait File: Sized + Drop {
@@ -29,13 +31,16 @@ pub trait File: Sized + Drop {
         ensures { IfOk result (λ file. (d : Data) × Spells 127 tokens.old d tokens.new × (grammar d ≡ Some (seen file))) };
 
     /// The one that a value is.
-    fn in_value(alloc: Global, value: &Value) -> Result<Self, FileFault>
+    fn in_value(alloc: Global, value: &Value) -> Result<Self, Refused>
         requires { depth (view value.now) ≤ max_depth }
-        ensures { Reads seen result (grammar (view value.now)) };
+        ensures { Finds seen result (grammar (view value.now)) };
 
     /// Whether each number is within its limit.
     fn keeps_limits(&self) -> bool
         ensures { result ≡ fits (seen self.now) };
+
+    /// The first number above its limit, where one is.
+    fn excess(&self) -> Excess;
 }
 
 fn whole<F: File>(alloc: Global, text: &str) -> Result<F, Unread>
@@ -61,8 +66,8 @@ pub fn from_written<F: File>(alloc: Global, bytes: &[u8]) -> Result<F, Unread>
 }
 
 /// What a file holds whose keys stand in any order.
-pub fn from_any<F: File>(alloc: Global, bytes: &[u8]) -> Result<F, FileFault>
-    ensures { Gives F.seen result (answer F.grammar F.fits (value_of bytes.now)) }
+pub fn from_any<F: File>(alloc: Global, bytes: &[u8]) -> Result<F, Refused>
+    ensures { Tells F.seen result (answer F.grammar F.fits (value_of bytes.now)) }
 {
     let value = document::value_from(alloc, bytes)?;
     let file = F::in_value(alloc, &value)?;
@@ -70,23 +75,39 @@ pub fn from_any<F: File>(alloc: Global, bytes: &[u8]) -> Result<F, FileFault>
 }
 
 /// What a file holds.
-pub fn from_bytes<F: File>(alloc: Global, bytes: &[u8]) -> Result<F, FileFault>
-    ensures { Gives F.seen result (answer F.grammar F.fits (value_of bytes.now)) }
+pub fn from_bytes<F: File>(alloc: Global, bytes: &[u8]) -> Result<F, Refused>
+    ensures { Tells F.seen result (answer F.grammar F.fits (value_of bytes.now)) }
 {
     match from_written::<F>(alloc, bytes) {
         Ok(file) => limited(file),
         Err(Unread::OtherForm) => from_any::<F>(alloc, bytes),
-        Err(Unread::Memory) => Err(FileFault::Memory),
+        Err(Unread::Memory) => Err(Refused::Memory),
     }
 }
 
 /// What was read, where each of its numbers is within its limit.
-pub fn limited<F: File>(file: F) -> Result<F, FileFault>
-    ensures { Gives F.seen result (shaped F.fits (Some (F.seen file))) }
+pub fn limited<F: File>(file: F) -> Result<F, Refused>
+    ensures { Tells F.seen result (shaped F.fits (Some (F.seen file))) }
 {
     if file.keeps_limits() {
         Ok(file)
     } else {
-        Err(FileFault::NumberTooLarge)
+        Err(Refused::NumberTooLarge(file.excess()))
     }
+}
+
+/// Whether a value follows, then a target, and then the end of the text.
+pub fn is_list_and_target(tokens: &mut Tokens<'_>) -> bool
+    ensures { result ≡ true → EndsWithTarget tokens.old }
+{
+    pass_list_and_target(tokens).is_ok() && tokens.are_over()
+}
+
+fn pass_list_and_target(tokens: &mut Tokens<'_>) -> Result<(), Unread>
+    ensures { OnOk result (PassesTarget tokens.old tokens.new) }
+{
+    tokens.skip_value(126)?;
+    tokens.key("target")?;
+    tokens.number()?;
+    tokens.close_object()
 }

@@ -5,15 +5,14 @@ ghost use Rattle.serde_json.specs.Read.{max_depth};
 ghost use Rattle.serde_json.specs.View.{view};
 ghost use Rattle.tsn_cert.specs.Form.{Form};
 ghost use Rattle.tsn_cert.specs.Form as forms;
-ghost use Rattle.tsn_cert.specs.Fault.{Reads};
 ghost use Rattle.tsn_codec.specs.Takes.{Takes};
+ghost use Rattle.tsn_codec.specs.Lists.{TakesElements, TakesList, ReadsList, unread};
 ghost use Rattle.tsn_cert.specs.Says.{Says};
 
 use crate::tokens::{Tokens, Unread};
 use json::Scratch;
 use serde_json::Value;
-use std::alloc::Global;
-use tsn_cert::FileFault;
+use std::alloc::{AllocError, AllocFailed, Global};
 
 /// What a list in a file has: how tokens say one of it.
 pub trait Element: Sized + Drop {
@@ -30,25 +29,85 @@ pub trait Element: Sized + Drop {
     ghost says: { Says 8 form };
 }
 
-/// Takes those up to the end of their array.
-fn elements<T: Element>(tokens: &mut Tokens<'_>) -> Result<Vec<T>, Unread>
-    ensures { Takes (λ v. map T.seen v.items) result
-        (forms.elements_taken T.form.taken tokens.old) tokens.new }
+/// Why there is no list.
+#[derive(Drop)]
+pub enum Unlisted<T: Drop> {
+    /// It is no array.
+    NoArray,
+    /// Behind these elements stands another form.
+    Behind(Vec<T>),
+    /// A growth was refused.
+    Memory,
+}
+
+impl<T: Drop> Unlisted<T> {
+    // Why there is no part that has the list.
+    fn unread(&self) -> Unread
+        ensures { result ≡ unread self.now }
+    {
+        match self {
+            Unlisted::NoArray | Unlisted::Behind(_) => Unread::OtherForm,
+            Unlisted::Memory => Unread::Memory,
+        }
+    }
+}
+
+impl<T: Drop> From<AllocError> for Unlisted<T> {
+    ghost use Rattle.std.specs.Prelude.{◌≡◌};
+    ghost use Rattle.tsn_codec.specs.declared.list.Unlisted.TheVariants.{Memory};
+
+    ghost from_gives = { λ _ e. e ≡ Memory };
+
+    fn from(_refused: AllocError) -> Unlisted<T> {
+        Unlisted::Memory
+    }
+}
+
+impl<T: Drop> From<AllocFailed<T>> for Unlisted<T> {
+    ghost use Rattle.std.specs.Prelude.{◌≡◌};
+    ghost use Rattle.tsn_codec.specs.declared.list.Unlisted.TheVariants.{Memory};
+
+    ghost from_gives = { λ _ e. e ≡ Memory };
+
+    fn from(_refused: AllocFailed<T>) -> Unlisted<T> {
+        Unlisted::Memory
+    }
+}
+
+// Takes those up to the end of their array.
+fn elements<T: Element>(tokens: &mut Tokens<'_>) -> Result<Vec<T>, Unlisted<T>>
+    ensures { TakesElements T.seen T.form.taken result tokens.old tokens.new }
 {
     let mut found = Vec::new(tokens.alloc());
     'elements: while !tokens.take_end() {
-        let one = T::take(tokens)?;
-        found.push(one)?;
+        match T::take(tokens) {
+            Ok(one) => found.push(one)?,
+            Err(Unread::OtherForm) => return Err(Unlisted::Behind(found)),
+            Err(Unread::Memory) => return Err(Unlisted::Memory),
+        }
     }
     Ok(found)
+}
+
+/// Takes a list, or says why there is none.
+pub fn list_or_why<T: Element>(tokens: &mut Tokens<'_>) -> Result<Vec<T>, Unlisted<T>>
+    ensures { TakesList T.seen T.form result tokens.old tokens.new }
+{
+    match tokens.open_array() {
+        Ok(()) => elements::<T>(tokens),
+        Err(Unread::OtherForm) => Err(Unlisted::NoArray),
+        Err(Unread::Memory) => Err(Unlisted::Memory),
+    }
 }
 
 /// Takes a list.
 pub fn list<T: Element>(tokens: &mut Tokens<'_>) -> Result<Vec<T>, Unread>
     ensures { Takes (λ v. map T.seen v.items) result ((forms.list T.form).taken tokens.old) tokens.new }
 {
-    tokens.open_array()?;
-    elements::<T>(tokens)
+    match list_or_why::<T>(tokens) {
+        Ok(found) => Ok(found),
+        Err(why) => Err(why.unread()),
+    }
 }
 
 /// Takes a list of at least one, and of so many at most.
@@ -63,17 +122,12 @@ pub fn few<T: Element>(tokens: &mut Tokens<'_>, most: usize) -> Result<Vec<T>, U
     Ok(found)
 }
 
-/// The list that a value is, by its text.
-pub fn list_in<T: Element>(alloc: Global, value: &Value) -> Result<Vec<T>, FileFault>
-    requires { depth (view value.now) ≤ max_depth }
-    ensures { Reads (λ v. map T.seen v.items) result ((forms.list T.form).said (view value.now)) }
+/// The list that a value is, by its text, or why it is none.
+pub fn list_in<T: Element>(alloc: Global, value: &Value) -> Result<Vec<T>, Unlisted<T>>
+    ensures { depth (view value.now) ≤ max_depth → ReadsList T.seen T.form result (view value.now) }
 {
     let text = value.to_string(alloc)?;
     let mut scratch = Scratch::new(alloc);
     let mut tokens = Tokens::of(alloc, text.as_str(), &mut scratch)?;
-    match list::<T>(&mut tokens) {
-        Ok(found) => Ok(found),
-        Err(Unread::OtherForm) => Err(FileFault::WrongShape),
-        Err(Unread::Memory) => Err(FileFault::Memory),
-    }
+    list_or_why::<T>(&mut tokens)
 }

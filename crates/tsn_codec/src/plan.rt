@@ -1,18 +1,25 @@
+//! Plan files, read and printed.
 ghost use Rattle.std.specs.Prelude.{◌≡◌, ◌≤◌, IfOk, string_bytes, IsTrue, Ok};
 ghost use Rattle.serde_json.specs.Data.{depth};
 ghost use Rattle.serde_json.specs.Read.{max_depth};
 ghost use Rattle.serde_json.specs.View.{view};
-ghost use Rattle.tsn_cert.specs.Fault.{Gives, Reads};
+ghost use Rattle.tsn_cert.specs.Fault.{Gives};
+ghost use Rattle.tsn_codec.specs.Told.{Tells, Finds};
+ghost use Rattle.tsn_cert.specs.Json.{numbers};
 ghost use Rattle.tsn_cert.specs.Plan.{plan_of, plan_of_values, plan_fits, plan_in, plan_value, plan_text};
 
 use crate::document;
-use crate::list::{Element, list_in};
+use crate::list::{Element, Unlisted, list_in};
+use crate::refused::{Excess, Key, Misfit, Refused};
 use crate::tokens::{Tokens, Unread};
 use serde_json::{Value, json};
 use std::alloc::{AllocError, Global};
 use tsn_cert::plan::MAX_TIME;
 use tsn_cert::{FileFault, Offsets, Plan};
 use tsn_model::NoMemory;
+
+// The keys of a plan file.
+const KEYS: &[Key] = &[Key::Flowspan, Key::Offsets];
 
 impl Element for u64 {
     ghost use Rattle.std.specs.Prelude.{ℕ};
@@ -36,12 +43,22 @@ impl Element for u64 {
 pub fn plan_from_json(alloc: Global, bytes: &[u8]) -> Result<Plan, FileFault>
     ensures { Gives (λ plan. plan) result (plan_in bytes.now) }
 {
+    match plan_or_refuse(alloc, bytes) {
+        Ok(plan) => Ok(plan),
+        Err(refused) => Err(refused.code()),
+    }
+}
+
+/// Reads a plan file, or says what is the matter with it.
+pub fn plan_or_refuse(alloc: Global, bytes: &[u8]) -> Result<Plan, Refused>
+    ensures { Tells (λ plan. plan) result (plan_in bytes.now) }
+{
     let value = document::value_from(alloc, bytes)?;
     let plan = plan_from(alloc, &value)?;
     if fits(&plan) {
         Ok(plan)
     } else {
-        Err(FileFault::NumberTooLarge)
+        Err(Refused::NumberTooLarge(excess(&plan)))
     }
 }
 
@@ -56,7 +73,7 @@ pub fn plan_to_json(alloc: Global, plan: &Plan) -> Result<String, NoMemory>
     Ok(document::file_text(alloc, &value)?)
 }
 
-/// The value that a plan file holds.
+// The value that a plan file holds.
 fn value_of(alloc: Global, plan: &Plan) -> Result<Value, AllocError>
     ensures { IfOk result (λ v. view v ≡ plan_value plan.now) }
 {
@@ -69,35 +86,55 @@ fn value_of(alloc: Global, plan: &Plan) -> Result<Value, AllocError>
     }
 }
 
-/// The plan that the value is.
+// The plan that the value is.
 #[tactic(auto, using(crate::proofs::JsonLemmas::get_depth))]
-fn plan_from(alloc: Global, value: &Value) -> Result<Plan, FileFault>
+fn plan_from(alloc: Global, value: &Value) -> Result<Plan, Refused>
     requires { depth (view value.now) ≤ max_depth }
-    ensures { Reads (λ plan. plan) result (plan_of (view value.now)) }
+    ensures { Finds (λ plan. plan) result (plan_of (view value.now)) }
 {
-    if !document::is_object_of(value, 2) {
-        return Err(FileFault::WrongShape);
+    if !value.is_object() {
+        return Err(Refused::WrongShape(Misfit::NoObject));
     }
-    let flowspan = value.get("flowspan").ok_or(FileFault::WrongShape)?;
-    let offsets = value.get("offsets").ok_or(FileFault::WrongShape)?;
+    let flowspan = document::member(value, Key::Flowspan)?;
+    let offsets = document::member(value, Key::Offsets)?;
+    if !document::is_object_of(value, 2) {
+        return Err(Refused::WrongShape(document::unknown_key(value, KEYS)?));
+    }
     plan_from_values(alloc, flowspan, offsets)
 }
 
 #[tactic(auto, using(crate::proofs::Elements::map_same))]
-fn plan_from_values(alloc: Global, flowspan: &Value, offsets: &Value) -> Result<Plan, FileFault>
+fn plan_from_values(alloc: Global, flowspan: &Value, offsets: &Value) -> Result<Plan, Refused>
     requires { depth (view offsets.now) ≤ max_depth }
-    ensures { Reads (λ plan. plan) result (plan_of_values (view flowspan.now) (view offsets.now)) }
+    ensures { Finds (λ plan. plan) result (plan_of_values (view flowspan.now) (view offsets.now)) }
 {
-    if flowspan.is_null() && offsets.is_null() {
-        return Ok(Plan::None);
+    match (flowspan.is_null(), offsets.is_null()) {
+        (true, true) => Ok(Plan::None),
+        (false, false) => Ok(Plan::Schedule {
+            flowspan: document::whole_number_at(flowspan, Key::Flowspan)?,
+            offsets: offsets_from(alloc, offsets)?,
+        }),
+        _ => Err(Refused::WrongShape(Misfit::OneNull)),
     }
-    Ok(Plan::Schedule {
-        flowspan: document::whole_number_from(flowspan)?,
-        offsets: Offsets::of(list_in::<u64>(alloc, offsets)?),
-    })
 }
 
-/// Whether each number is within its limit.
+// The offsets that the value is.
+#[tactic(auto, using(crate::proofs::Elements::map_same))]
+fn offsets_from(alloc: Global, value: &Value) -> Result<Offsets, Refused>
+    requires { depth (view value.now) ≤ max_depth }
+    ensures { Finds (λ offsets. offsets) result (numbers (view value.now)) }
+{
+    match list_in::<u64>(alloc, value) {
+        Ok(offsets) => Ok(Offsets::of(offsets)),
+        Err(Unlisted::NoArray) => Err(Refused::WrongShape(Misfit::NoArray(Key::Offsets))),
+        Err(Unlisted::Behind(offsets)) => {
+            Err(Refused::WrongShape(Misfit::NoOffset(offsets.len())))
+        }
+        Err(Unlisted::Memory) => Err(Refused::Memory),
+    }
+}
+
+// Whether each number is within its limit.
 fn fits(plan: &Plan) -> bool
     ensures { result ≡ plan_fits plan.now }
 {
@@ -107,4 +144,17 @@ fn fits(plan: &Plan) -> bool
         }
         Plan::None => true,
     }
+}
+
+// The first number above its limit, where one is.
+fn excess(plan: &Plan) -> Excess {
+    let Plan::Schedule { flowspan, offsets } = plan else {
+        return Excess::At(Key::Flowspan, 0);
+    };
+    for (number, offset) in offsets.list().iter().enumerate() {
+        if *flowspan <= MAX_TIME && *offset > MAX_TIME {
+            return Excess::OfOffset(number, *offset);
+        }
+    }
+    Excess::At(Key::Flowspan, *flowspan)
 }

@@ -1,15 +1,17 @@
 //! Tokens of a JSON text, read one after another with no value of the text in between.
-ghost use Rattle.std.specs.Prelude.{◌≡◌, ◌≢◌, ◌<◌, ◌==◌, ◌∷◌, false, slice_index, List, Option, length, Some, None, IfOk, OnOk, MatchOption, MatchResult, [], option_and_then};
+ghost use Rattle.std.specs.Prelude.{◌≡◌, ◌≢◌, ◌<◌, ◌==◌, ◌∷◌, true, false, slice_index, List, Option, length, Some, None, IfOk, OnOk, MatchOption, MatchResult, [], option_and_then};
 ghost use Rattle.std.specs.Bool.{MatchBool};
 ghost use Rattle.json.specs.Token.{Token as JsonToken, begin_object};
 ghost use Rattle.json.specs.Lex.{tokens};
-ghost use Rattle.json.specs.Json.{after_end_array, read_key};
+ghost use Rattle.json.specs.Json.{after_end_array, read_key, skip_value};
+ghost use Rattle.json.specs.Reads.{token_of};
 ghost use Rattle.serde_json.specs.Find.{as_u64};
 ghost use Rattle.serde_json.specs.Read.{number_of};
 ghost use Rattle.tsn_cert.specs.Json.{signed_of};
 ghost use Rattle.tsn_cert.specs.Cert.{chain_row, chain_form, lag_row};
 ghost use Rattle.tsn_cert.specs.Form as form;
 ghost use Rattle.tsn_codec.specs.Takes.{Takes, Passes};
+ghost use Rattle.tsn_codec.specs.Written.{is_plain, ArePlain};
 
 use fast_float::Numeral;
 use json::{Reader, Scratch, Token};
@@ -223,6 +225,33 @@ impl<'a> Tokens<'a> {
         Ok(lag)
     }
 
+    /// Passes a value that nests no deeper than so many levels.
+    pub fn skip_value(&mut self, levels: usize) -> Result<(), Unread>
+        ensures passed { OnOk result (skip_value levels self.old ≡ Some self.new) }
+        ensures shorter { OnOk result (length self.new < length self.old) }
+    {
+        match self.reader.skip_value(levels) {
+            Ok(()) => Ok(()),
+            Err(_) => Err(Unread::OtherForm),
+        }
+    }
+
+    /// Passes an array, whose values nest no deeper than so many levels.
+    pub fn skip_array(&mut self, levels: usize) -> Result<(), Unread> {
+        self.open_array()?;
+        'values: while !self.take_end() {
+            self.skip_value(levels)?;
+        }
+        Ok(())
+    }
+
+    /// Passes all. Whether each number is an `i64` or a `u64`.
+    pub fn have_plain_numbers(&mut self) -> bool
+        ensures { result ≡ true → ArePlain self.old }
+    {
+        are_plain(&mut self.reader)
+    }
+
     /// Passes the beginning of an object.
     pub fn open_object(&mut self) -> Result<(), Unread>
         ensures { OnOk result (self.old ≡ begin_object ∷ self.new) }
@@ -260,6 +289,16 @@ impl<'a> Tokens<'a> {
 
 // ---- numbers
 
+// Whether the token is no number, or one that is an `i64` or a `u64`.
+fn is_plain(token: Token<'_>) -> bool
+    ensures { result ≡ true → is_plain (token_of token.entry) ≡ true }
+{
+    match token {
+        Token::Number(text) => signed_number(text).is_some(),
+        _ => true,
+    }
+}
+
 fn number(reader: &mut Reader<'_>) -> Result<u64, Unread>
     ensures { Takes (λ x. x) result (form.number.taken reader.old) reader.new }
 {
@@ -269,7 +308,19 @@ fn number(reader: &mut Reader<'_>) -> Result<u64, Unread>
     }
 }
 
-/// Passes numbers up to the end of their array. The list has them then, and nothing else.
+// Passes all. Whether each number is an `i64` or a `u64`.
+fn are_plain(reader: &mut Reader<'_>) -> bool
+    ensures { result ≡ true → ArePlain reader.old }
+{
+    'tokens: while let Some(token) = reader.next() {
+        if !is_plain(token) {
+            return false;
+        }
+    }
+    true
+}
+
+// Passes numbers up to the end of their array. The list has them then, and nothing else.
 fn fill(reader: &mut Reader<'_>, list: &mut Vec<usize>) -> Result<(), Unread>
     ensures { Takes (λ _. list.new.items) result
         (form.elements_taken form.number.taken reader.old) reader.new }
@@ -288,7 +339,7 @@ fn has_minus(bytes: &[u8]) -> bool
     !bytes.is_empty() && bytes[0] == b'-'
 }
 
-/// The number that the text of a token says, where it is a `u64`.
+// The number that the text of a token says, where it is a `u64`.
 #[tactic(auto, using(crate::proofs::Numbers::whole_minus, crate::proofs::Numbers::whole_plain))]
 fn whole_number(text: &str) -> Option<u64>
     ensures { result ≡ option_and_then as_u64 (number_of text.now) }
@@ -301,7 +352,7 @@ fn whole_number(text: &str) -> Option<u64>
     }
 }
 
-/// The number below 0 that these bytes say behind its sign, where it is an `i64`.
+// The number below 0 that these bytes say behind its sign, where it is an `i64`.
 #[tactic(auto, unfolding(serde_json::specs::Read::number_of))]
 fn below_zero(bytes: &[u8]) -> Option<i64>
     ensures { result ≡ option_and_then signed_of (number_of (45 ∷ bytes.now)) }
@@ -312,7 +363,7 @@ fn below_zero(bytes: &[u8]) -> Option<i64>
     }
 }
 
-/// The number that the text of a token says without a sign, and no more than the greatest `i64`.
+// The number that the text of a token says without a sign, and no more than the greatest `i64`.
 fn at_least_zero(text: &str) -> Option<i64>
     requires { (slice_index text.now 0 == 45) ≡ false }
     ensures { result ≡ option_and_then signed_of (number_of text.now) }
@@ -323,7 +374,7 @@ fn at_least_zero(text: &str) -> Option<i64>
     }
 }
 
-/// The number that the text of a token says, where it is an `i64` or a `u64`.
+// The number that the text of a token says, where it is an `i64` or a `u64`.
 fn signed_number(text: &str) -> Option<i64>
     ensures { result ≡ option_and_then signed_of (number_of text.now) }
 {

@@ -68,7 +68,7 @@ fn orders_value(alloc: Global, orders: &Orders) -> Result<Value, AllocError>
     order_list_value(alloc, orders.list())
 }
 
-/// An array of a word and an order.
+// An array of a word and an order.
 #[tactic(auto, using(tsn_cert::proofs::Parts::order_back))]
 fn order_behind(alloc: Global, word: &str, order: Order) -> Result<Value, AllocError>
     ensures value { IfOk result (λ v. view v ≡ worded_value word.now (order_items order)) }
@@ -106,7 +106,7 @@ fn clause_value(alloc: Global, facts: &[Fact]) -> Result<Value, AllocError>
     Ok(Value::Array(items))
 }
 
-/// An array of a word and a placing.
+// An array of a word and a placing.
 #[tactic(auto, using(tsn_cert::proofs::Parts::placing_back))]
 fn placing_behind(alloc: Global, word: &str, placing: &Placing) -> Result<Value, AllocError>
     ensures value { IfOk result (λ v. view v ≡ worded_value word.now (placing_items placing.now)) }

@@ -14,7 +14,7 @@ use tsn_model::Frame;
 
 // ---- orders and frames
 
-/// Two streams, a link and a lag, with the end of their array.
+// Two streams, a link and a lag, with the end of their array.
 fn order(tokens: &mut Tokens<'_>) -> Result<Order, Unread>
     ensures { Takes (λ order. order) result (order_row.rest tokens.old) tokens.new }
 {
@@ -47,7 +47,7 @@ impl Element for Order {
     ghost says = { order_element };
 }
 
-/// Orders of a round.
+// Orders of a round.
 #[tactic(auto, using(crate::proofs::Elements::map_same))]
 fn orders(tokens: &mut Tokens<'_>) -> Result<Orders, Unread>
     ensures { Takes (λ orders. orders) result (orders_form.taken tokens.old) tokens.new }
@@ -56,7 +56,7 @@ fn orders(tokens: &mut Tokens<'_>) -> Result<Orders, Unread>
     Ok(Orders::of(found))
 }
 
-/// A stream and a shift above 0, with the end of their array.
+// A stream and a shift above 0, with the end of their array.
 fn later_frame(tokens: &mut Tokens<'_>) -> Result<Frame, Unread>
     ensures { Takes (λ frame. frame) result (later_row.rest tokens.old) tokens.new }
 {
@@ -91,7 +91,7 @@ impl Element for Frame {
     ghost says = { frame_element };
 }
 
-/// Frames of a move.
+// Frames of a move.
 #[tactic(auto, using(crate::proofs::Elements::map_same))]
 fn frames(tokens: &mut Tokens<'_>) -> Result<Frames, Unread>
     ensures { Takes (λ frames. frames) result (frames_form.taken tokens.old) tokens.new }
@@ -102,7 +102,7 @@ fn frames(tokens: &mut Tokens<'_>) -> Result<Frames, Unread>
 
 // ---- facts
 
-/// A number alone, with the end of its array.
+// A number alone, with the end of its array.
 fn last_number(tokens: &mut Tokens<'_>) -> Result<u64, Unread>
     ensures { Takes (λ n. n) result (number_row.rest tokens.old) tokens.new }
 {
@@ -111,7 +111,7 @@ fn last_number(tokens: &mut Tokens<'_>) -> Result<u64, Unread>
     Ok(number)
 }
 
-/// A stream and a time, with the end of their array.
+// A stream and a time, with the end of their array.
 fn bound(tokens: &mut Tokens<'_>) -> Result<(usize, u64), Unread>
     ensures { Takes (λ b. b) result (bound_row.rest tokens.old) tokens.new }
 {
@@ -121,7 +121,7 @@ fn bound(tokens: &mut Tokens<'_>) -> Result<(usize, u64), Unread>
     Ok((stream, time))
 }
 
-/// What stands behind the word of a fact.
+// What stands behind the word of a fact.
 fn fact(tokens: &mut Tokens<'_>, word: &str) -> Result<Fact, Unread>
     ensures { Takes (λ fact. fact) result ((row_of facts word.now).rest tokens.old) tokens.new }
 {
@@ -162,7 +162,7 @@ impl Element for Fact {
 
 // ---- moves
 
-/// A link, a frame, others and some of these, with the end of their array.
+// A link, a frame, others and some of these, with the end of their array.
 fn placing(tokens: &mut Tokens<'_>) -> Result<Placing, Unread>
     ensures { Takes (λ placing. placing) result (placing_row.rest tokens.old) tokens.new }
 {
@@ -179,7 +179,7 @@ fn placing(tokens: &mut Tokens<'_>) -> Result<Placing, Unread>
     })
 }
 
-/// A link and frames, with the end of their array.
+// A link and frames, with the end of their array.
 fn pack(tokens: &mut Tokens<'_>) -> Result<(usize, Frames), Unread>
     ensures { Takes (λ pack. pack) result (pack_row.rest tokens.old) tokens.new }
 {
@@ -189,7 +189,7 @@ fn pack(tokens: &mut Tokens<'_>) -> Result<(usize, Frames), Unread>
     Ok((link, frames))
 }
 
-/// Orders alone, with the end of their array.
+// Orders alone, with the end of their array.
 fn round(tokens: &mut Tokens<'_>) -> Result<Orders, Unread>
     ensures { Takes (λ orders. orders) result (round_row.rest tokens.old) tokens.new }
 {
@@ -198,7 +198,7 @@ fn round(tokens: &mut Tokens<'_>) -> Result<Orders, Unread>
     Ok(orders)
 }
 
-/// Two orders, with the end of their array.
+// Two orders, with the end of their array.
 fn follow(tokens: &mut Tokens<'_>) -> Result<(Order, Order), Unread>
     ensures { Takes (λ orders. orders) result (follow_row.rest tokens.old) tokens.new }
 {
@@ -208,7 +208,7 @@ fn follow(tokens: &mut Tokens<'_>) -> Result<(Order, Order), Unread>
     Ok((known, weaker))
 }
 
-/// What stands behind the word of a move.
+// What stands behind the word of a move.
 fn motion(tokens: &mut Tokens<'_>, word: &str) -> Result<Move, Unread>
     ensures { Takes (λ motion. motion) result ((row_of motions word.now).rest tokens.old) tokens.new }
 {

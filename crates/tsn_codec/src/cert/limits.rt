@@ -8,6 +8,7 @@ ghost use Rattle.tsn_cert.specs.Leaf.{bound_leaf, leaf_of};
 ghost use Rattle.tsn_cert.specs.Node.{tree_node};
 ghost use Rattle.tsn_cert.specs.Cert.{triple_fits, entry_fits, leaf_fits, node_fits, max_number, cert_fits};
 
+use crate::refused::{Excess, Key};
 use tsn_cert::chain::{Chain, MAX_NUMBER};
 use tsn_cert::entries::Entries;
 use tsn_cert::plan::MAX_TIME;
@@ -94,4 +95,15 @@ pub(super) fn fits(cert: &Cert) -> bool
     ensures { result ≡ cert_fits cert.now }
 {
     cert.target <= MAX_TIME && nodes_fit(cert.nodes.list())
+}
+
+/// The first number above its limit, where one is.
+pub(super) fn excess(cert: &Cert) -> Excess {
+    for (number, node) in cert.nodes.list().iter().enumerate() {
+        if cert.target <= MAX_TIME && !node_fits(node) {
+            let lags = matches!(node, Node::Branch(triple) if triple.lag != 0);
+            return Excess::OfNode { number, lags };
+        }
+    }
+    Excess::At(Key::Target, cert.target)
 }

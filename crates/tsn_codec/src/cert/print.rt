@@ -114,7 +114,7 @@ fn tie_value(alloc: Global, bound: &LowerBound, chains: &Chains) -> Result<Value
     }
 }
 
-/// An array of a word, a number and two parts, where these could be made.
+// An array of a word, a number and two parts, where these could be made.
 fn two_part_value(
     alloc: Global,
     word: &str,
@@ -129,7 +129,7 @@ fn two_part_value(
     Ok(Value::Array(document::with_item(items, second)?))
 }
 
-/// An array of a word, a number and a part, where that could be made.
+// An array of a word, a number and a part, where that could be made.
 fn one_part_value(
     alloc: Global,
     word: &str,

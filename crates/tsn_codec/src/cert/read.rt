@@ -33,7 +33,7 @@ impl Element for Chain {
     ghost says = { chain_element };
 }
 
-/// Chains of a tie.
+// Chains of a tie.
 #[tactic(auto, using(crate::proofs::Elements::map_same))]
 fn chains(tokens: &mut Tokens<'_>) -> Result<Chains, Unread>
     ensures { Takes (λ chains. chains) result (chains_form.taken tokens.old) tokens.new }
@@ -42,7 +42,7 @@ fn chains(tokens: &mut Tokens<'_>) -> Result<Chains, Unread>
     Ok(Chains::of(found))
 }
 
-/// A chain, and a shift before it where that isn't 0, behind the stream of a frame, with the end of their array.
+// A chain, and a shift before it where that isn't 0, behind the stream of a frame, with the end of their array.
 fn entry(tokens: &mut Tokens<'_>, stream: usize) -> Result<(Frame, Chain), Unread>
     ensures { Takes tree_entry result
         ((either_row (first_entry_row stream) (later_entry_row stream)).rest tokens.old) tokens.new }
@@ -78,7 +78,7 @@ impl Element for (Frame, Chain) {
     ghost says = { entry_element };
 }
 
-/// Entries of a leaf.
+// Entries of a leaf.
 fn entries(tokens: &mut Tokens<'_>) -> Result<Entries, Unread>
     ensures { Takes (λ entries. entries) result (entries_form.taken tokens.old) tokens.new }
 {
@@ -88,7 +88,7 @@ fn entries(tokens: &mut Tokens<'_>) -> Result<Entries, Unread>
 
 // ---- what stands behind the word of a node
 
-/// Two streams, a link and a lag, with the end of their array.
+// Two streams, a link and a lag, with the end of their array.
 fn triple(tokens: &mut Tokens<'_>) -> Result<Triple, Unread>
     ensures { Takes (λ triple. triple) result (triple_row.rest tokens.old) tokens.new }
 {
@@ -104,7 +104,7 @@ fn triple(tokens: &mut Tokens<'_>) -> Result<Triple, Unread>
     })
 }
 
-/// A stream and a chain, with the end of their array.
+// A stream and a chain, with the end of their array.
 fn reason(tokens: &mut Tokens<'_>) -> Result<(usize, Chain), Unread>
     ensures { Takes (λ reason. reason) result (reason_row.rest tokens.old) tokens.new }
 {
@@ -114,7 +114,7 @@ fn reason(tokens: &mut Tokens<'_>) -> Result<(usize, Chain), Unread>
     Ok((stream, chain))
 }
 
-/// A chain alone, with the end of its array.
+// A chain alone, with the end of its array.
 fn cycle(tokens: &mut Tokens<'_>) -> Result<Chain, Unread>
     ensures { Takes (λ chain. chain) result (cycle_row.rest tokens.old) tokens.new }
 {
@@ -123,7 +123,7 @@ fn cycle(tokens: &mut Tokens<'_>) -> Result<Chain, Unread>
     Ok(chain)
 }
 
-/// A link and entries, with the end of their array.
+// A link and entries, with the end of their array.
 fn load(tokens: &mut Tokens<'_>) -> Result<(usize, Entries), Unread>
     ensures { Takes (λ load. load) result (load_row.rest tokens.old) tokens.new }
 {
@@ -133,7 +133,7 @@ fn load(tokens: &mut Tokens<'_>) -> Result<(usize, Entries), Unread>
     Ok((link, entries))
 }
 
-/// A stream, a chain and chains, with the end of their array.
+// A stream, a chain and chains, with the end of their array.
 fn tie(tokens: &mut Tokens<'_>) -> Result<(usize, Chain, Chains), Unread>
     ensures { Takes (λ tie. tie) result (tie_row.rest tokens.old) tokens.new }
 {
@@ -144,7 +144,7 @@ fn tie(tokens: &mut Tokens<'_>) -> Result<(usize, Chain, Chains), Unread>
     Ok((stream, chain, chains))
 }
 
-/// A link, entries and chains, with the end of their array.
+// A link, entries and chains, with the end of their array.
 fn tie_load(tokens: &mut Tokens<'_>) -> Result<(usize, Entries, Chains), Unread>
     ensures { Takes (λ tie. tie) result (tie_load_row.rest tokens.old) tokens.new }
 {
@@ -157,7 +157,7 @@ fn tie_load(tokens: &mut Tokens<'_>) -> Result<(usize, Entries, Chains), Unread>
 
 // ---- nodes
 
-/// What stands behind the word of a node.
+// What stands behind the word of a node.
 fn node(tokens: &mut Tokens<'_>, word: &str) -> Result<Node, Unread>
     ensures { Takes tree_node result ((row_of node_rows word.now).rest tokens.old) tokens.new }
 {

@@ -1,4 +1,4 @@
-use Rattle.std.proofs.Common.{◌≡◌, [], ◌∷◌, true, Some, codes, sym, ap, ◌∙◌, arith, lit≤}
+use Rattle.std.proofs.Common.{◌≡◌, [], ◌∷◌, true, codes, sym, ap, ◌∙◌, arith, lit≤}
 use Rattle.serde_json.specs.Data.{object, no_members}
 use Rattle.tsn_cert.specs.Form.{number}
 use Rattle.tsn_cert.specs.Cert.{format_form, nodes_form, are_of}

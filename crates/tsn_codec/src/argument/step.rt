@@ -1,0 +1,74 @@
+//! Which part of a step isn't of the form.
+
+use crate::list::{Unlisted, list_or_why};
+use crate::refused::{Misfit, Part};
+use crate::tokens::{Tokens, Unread};
+use json::Scratch;
+use std::alloc::Global;
+use tsn_cert::{Fact, Move};
+use tsn_model::NoMemory;
+
+// How deep the values of a step nest at most.
+const LEVELS: usize = 126;
+
+/// What isn't of the form of the step of this number, of the text of that step alone or else of a file in written form.
+pub(super) fn misfit(
+    alloc: Global,
+    text: &str,
+    number: usize,
+    alone: bool,
+) -> Result<Misfit, NoMemory> {
+    let none = Misfit::NoStep(number);
+    let behind = if alone { None } else { Some(number) };
+    if !is_pair(alloc, text, behind)? {
+        return Ok(none);
+    }
+    match part(alloc, text, behind)? {
+        Some(part) => Ok(Misfit::NoPart(number, part)),
+        None => Ok(none),
+    }
+}
+
+// Whether the step is an array of two arrays.
+fn is_pair(alloc: Global, text: &str, behind: Option<usize>) -> Result<bool, NoMemory> {
+    let mut scratch = Scratch::new(alloc);
+    let mut tokens = Tokens::of(alloc, text, &mut scratch)?;
+    Ok(
+        open_step(&mut tokens, behind).is_ok()
+            && tokens.skip_array(LEVELS).is_ok()
+            && tokens.skip_array(LEVELS).is_ok()
+            && tokens.take_end(),
+    )
+}
+
+// The first part that isn't of the form.
+fn part(alloc: Global, text: &str, behind: Option<usize>) -> Result<Option<Part>, NoMemory> {
+    let mut scratch = Scratch::new(alloc);
+    let mut tokens = Tokens::of(alloc, text, &mut scratch)?;
+    if open_step(&mut tokens, behind).is_err() {
+        return Ok(None);
+    }
+    match list_or_why::<Fact>(&mut tokens) {
+        Ok(_) => {}
+        Err(Unlisted::Behind(facts)) => return Ok(Some(Part::Fact(facts.len()))),
+        Err(Unlisted::NoArray) => return Ok(None),
+        Err(Unlisted::Memory) => return Err(NoMemory),
+    }
+    match list_or_why::<Move>(&mut tokens) {
+        Err(Unlisted::Behind(moves)) => Ok(Some(Part::Move(moves.len()))),
+        Err(Unlisted::Memory) => Err(NoMemory),
+        _ => Ok(None),
+    }
+}
+
+// Passes the bracket that opens the step, behind so many others of its file.
+fn open_step(tokens: &mut Tokens<'_>, behind: Option<usize>) -> Result<(), Unread> {
+    if let Some(others) = behind {
+        super::begin(tokens)?;
+        tokens.open_array()?;
+        for _ in 0..others {
+            tokens.skip_value(LEVELS)?;
+        }
+    }
+    tokens.open_array()
+}
