@@ -19,14 +19,14 @@ use tsn_argue::{Silent, judge_argument};
 use tsn_cert::{Certificate, Plan};
 use tsn_chart::Drawing;
 use tsn_check::{CheckFault, Verdict, check};
-use tsn_codec::certificate_from_json;
+use tsn_codec::certificate_or_refuse;
 use tsn_device::device::{ReadFault, Source, read_all};
 use tsn_explain::{explanation, marked_frames};
 use tsn_model::NoMemory;
 use tsn_reason::run::MAX_FILE;
 use tsn_reason::{
-    Claim, File, FileKind, InputsRead, cert_file_line, cert_rejection, file_refusal,
-    line_on_argument, line_on_tree, read_inputs,
+    Claim, File, FileKind, InputsRead, cert_rejection, file_refusal, line_on_argument,
+    line_on_tree, read_inputs,
 };
 use tsn_timing::Problem;
 
@@ -109,15 +109,14 @@ fn answer_to_cert(
     ensures judges { IfOk result (λ a. JudgesShown showing claim.entry.problem.now claim.entry.plan.now file.entry.bytes.now (shown_output (Ok a))) }
     ensures told { IfOk result (λ a. showing ≡ Showing.Verdict → IsSaid a) }
 {
-    match certificate_from_json(alloc, file.bytes) {
+    match certificate_or_refuse(alloc, file.bytes) {
         Ok(certificate) => {
             let answer = judgement(alloc, claim, file.name, &certificate, showing);
             drop(certificate);
             answer
         }
-        Err(fault) => {
-            let reason = cert_file_line(alloc, file, fault).unwrap_or(None);
-            Ok(Shown::Said(file_refusal(alloc, FileKind::Cert, fault, reason)?))
+        Err(refused) => {
+            Ok(Shown::Said(file_refusal(alloc, FileKind::Cert, file.name, &refused)?))
         }
     }
 }

@@ -1,20 +1,16 @@
 //! What is read before a plan is dealt with: a network, and then the plan.
-ghost use Rattle.std.specs.Prelude.{◌≡◌, ◌<◌, ◌-◌, ◌^◌, IfOk, IsErr, Ok};
-ghost use Rattle.tsn_reason.specs.Refusal.{IsOutcome};
-ghost use Rattle.tsn_reason.specs.Outcome.{output_of};
+ghost use Rattle.std.specs.Prelude.{◌≡◌, ◌<◌, ◌-◌, ◌^◌};
 ghost use Rattle.tsn_reason.specs.Run.{source_over};
 ghost use Rattle.tsn_reason.specs.Inputs.{AreInputsOver, IsNetworkOver, IsPlanOver, inputs_with};
 
-use crate::File;
 use crate::answer::Answer;
 use crate::network::network_line;
-use crate::outcome::{FileKind, Outcome};
-use crate::plan::plan_file_line;
+use crate::outcome::FileKind;
 use crate::refusals::{file_refusal, refusal};
 use crate::run::MAX_FILE;
 use std::alloc::Global;
-use tsn_cert::{FileFault, Plan};
-use tsn_codec::plan_from_json;
+use tsn_cert::Plan;
+use tsn_codec::plan_or_refuse;
 use tsn_device::device::{ReadFault, Source, read_all};
 use tsn_model::NoMemory;
 use tsn_net::read_or_refuse;
@@ -63,24 +59,13 @@ fn read_plan<P: Source>(alloc: Global, plan: &mut P) -> Result<PlanRead, ReadFau
     ensures { IsPlanOver (source_over P.given P.failed P.is_at_end plan.old plan.new) result }
 {
     let file = read_all(alloc, plan, MAX_FILE)?;
-    match plan_from_json(alloc, &file) {
+    match plan_or_refuse(alloc, &file) {
         Ok(plan) => Ok(PlanRead::Taken(plan)),
-        Err(fault) => Ok(PlanRead::Refused(plan_refusal(alloc, plan.name(), &file, fault)?)),
+        Err(refused) => {
+            let answer = file_refusal(alloc, FileKind::Plan, plan.name(), &refused)?;
+            Ok(PlanRead::Refused(answer))
+        }
     }
-}
-
-/// What is said of a plan file of this name and these bytes with this fault.
-fn plan_refusal(
-    alloc: Global,
-    name: &str,
-    bytes: &[u8],
-    fault: FileFault,
-) -> Result<Answer, NoMemory>
-    ensures line { IfOk result (λ a. IsOutcome (Outcome.RefusedFile FileKind.Plan fault) (output_of (Ok a))) }
-    ensures memory { fault ≡ FileFault.Memory → IsErr result }
-{
-    let reason = plan_file_line(alloc, File { name, bytes }, fault).unwrap_or(None);
-    file_refusal(alloc, FileKind::Plan, fault, reason)
 }
 
 /// Reads a network, and a plan once that is taken.

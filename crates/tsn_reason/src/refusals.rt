@@ -1,13 +1,16 @@
 //! Why a file, a plan or a certificate is refused.
 ghost use Rattle.std.specs.Prelude.{◌≡◌, IfOk, IsErr, Ok};
+ghost use Rattle.tsn_codec.specs.Told.{code_of};
 ghost use Rattle.tsn_reason.specs.Refusal.{IsOutcome};
 ghost use Rattle.tsn_reason.specs.Outcome.{output_of};
 
 use crate::answer::Answer;
+use crate::file_words::file_line;
 use crate::outcome::{FileKind, Outcome};
 use std::alloc::Global;
 use tsn_cert::FileFault;
 use tsn_check::CheckFault;
+use tsn_codec::Refused;
 use tsn_model::NoMemory;
 use tsn_net::{Code, NetFault};
 
@@ -23,19 +26,21 @@ pub fn refusal(alloc: Global, fault: NetFault, reason: Option<String>) -> Result
     Answer::because(alloc, Outcome::RefusedNetwork(fault), reason)
 }
 
-/// What is said of a file of this kind with this fault.
+/// What is said of a file of this kind and this name that is refused.
 pub fn file_refusal(
     alloc: Global,
     kind: FileKind,
-    fault: FileFault,
-    reason: Option<String>,
+    name: &str,
+    refused: &Refused,
 ) -> Result<Answer, NoMemory>
-    ensures line { IfOk result (λ a. IsOutcome (Outcome.RefusedFile kind fault) (output_of (Ok a))) }
-    ensures memory { fault ≡ FileFault.Memory → IsErr result }
+    ensures line { IfOk result (λ a. IsOutcome (Outcome.RefusedFile kind (code_of refused.now)) (output_of (Ok a))) }
+    ensures memory { code_of refused.now ≡ FileFault.Memory → IsErr result }
 {
+    let fault = refused.code();
     if fault == FileFault::Memory {
         return Err(NoMemory);
     }
+    let reason = file_line(alloc, name, refused).unwrap_or(None);
     Answer::because(alloc, Outcome::RefusedFile(kind, fault), reason)
 }
 

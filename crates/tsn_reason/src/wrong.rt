@@ -12,46 +12,35 @@ pub fn push_wrong(text: &mut TextBuilder, problem: &Problem, wrong: Wrong) {
         Wrong::Crossed => text.push_str(
             "behind the moves before it nothing is in question any more",
         ),
-        Wrong::NoStream(stream) => {
-            text.push_str("there is no stream ");
-            text.push_count(stream);
-        }
+        Wrong::NoneChosen => text.push_str("it is bounded by none of the others"),
+        Wrong::NotClosed => text.push_str("its orders don't lead back to where they begin"),
+        Wrong::OfOthers => text.push_str(
+            "its orders aren't of the same streams, the same one first",
+        ),
+        Wrong::NoStream(stream) => push_no_stream(text, stream),
+        Wrong::NoClause { number, shown } => push_no_clause(text, number, shown),
+        Wrong::Left { number, left } => push_left(text, number, left),
+        Wrong::Weight(sum) => push_weight(text, sum),
         Wrong::NotOnLink { stream, link } => push_not_on_link(text, problem, stream, link),
         Wrong::NoFrame(frame) => push_no_frame(text, problem, frame),
         Wrong::Repeated(frame) => push_about_frame(text, problem, frame, " stands twice"),
-        Wrong::NoConflict(decision) => push_no_conflict(text, problem, decision),
-        Wrong::NoOrder(decision) => push_no_order(text, problem, decision),
-        Wrong::NoClause { number, shown } => {
-            text.push_str("clause ");
-            text.push_count(number);
-            text.push_str(" wasn't shown before: there are ");
-            text.push_count(shown);
-        }
-        Wrong::Left { number, left } => {
-            text.push_str("clause ");
-            text.push_count(number);
-            text.push_str(" has ");
-            text.push_count(left);
-            text.push_str(" facts left, and may have at most 1");
-        }
         Wrong::NotAmong(frame) => {
             push_about_frame(text, problem, frame, " is none of the others")
         }
-        Wrong::NoneChosen => text.push_str("it is bounded by none of the others"),
-        Wrong::NotClosed => text.push_str("its orders don't lead back to where they begin"),
-        Wrong::Weight(sum) => {
-            text.push_str("the weights of its orders add up to ");
-            text.push_signed(sum);
-            text.push_str(", and have to be above 0");
-        }
+        Wrong::NoConflict(decision) => push_no_conflict(text, problem, decision),
+        Wrong::NoOrder(decision) => push_no_order(text, problem, decision),
+        _ => push_unequal(text, problem, wrong),
+    }
+}
+
+/// Writes which inequality doesn't hold.
+fn push_unequal(text: &mut TextBuilder, problem: &Problem, wrong: Wrong) {
+    match wrong {
         Wrong::InReach {
             stream,
             least,
             most,
         } => push_in_reach(text, problem, stream, least, most),
-        Wrong::OfOthers => text.push_str(
-            "its orders aren't of the same streams, the same one first",
-        ),
         Wrong::Stronger {
             decision,
             asked,
@@ -66,7 +55,34 @@ pub fn push_wrong(text: &mut TextBuilder, problem: &Problem, wrong: Wrong) {
             push_room(text, bound, end, of_others);
             push_link(text, problem, link)
         }
+        _ => {}
     }
+}
+
+fn push_no_stream(text: &mut TextBuilder, stream: usize) {
+    text.push_str("there is no stream ");
+    text.push_count(stream)
+}
+
+fn push_no_clause(text: &mut TextBuilder, number: usize, shown: usize) {
+    text.push_str("clause ");
+    text.push_count(number);
+    text.push_str(" wasn't shown before: there are ");
+    text.push_count(shown)
+}
+
+fn push_left(text: &mut TextBuilder, number: usize, left: usize) {
+    text.push_str("clause ");
+    text.push_count(number);
+    text.push_str(" has ");
+    text.push_count(left);
+    text.push_str(" facts left, and may have at most 1")
+}
+
+fn push_weight(text: &mut TextBuilder, sum: i64) {
+    text.push_str("the weights of its orders add up to ");
+    text.push_signed(sum);
+    text.push_str(", and have to be above 0")
 }
 
 /// Writes a number of a view, in nanoseconds.
