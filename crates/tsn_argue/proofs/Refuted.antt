@@ -23,11 +23,8 @@ use Rattle.tsn_argue.specs.declared.fault.Open.TheVariants as open_as
 use Rattle.tsn_argue.specs.declared.fault.ArgumentFault.{ArgumentFault}
 use Rattle.tsn_argue.specs.declared.fault.ArgumentFault.TheVariants as why
 use Rattle.tsn_check.specs.declared.fault.CheckFault.{CheckFault}
-use Rattle.tsn_check.specs.declared.fault.CheckFault.TheVariants.{PlanInvalid, FlowspanWrong}
-use Rattle.tsn_check.specs.Plans.{IsPlanRight}
-use Rattle.tsn_check.specs.Faults.{IsScheduleFault, IsClaimFault}
+use Rattle.tsn_check.proofs.Plans.{claim_refutes, one_claim}
 use Rattle.tsn_cert.specs.declared.plan.Plan.{Plan}
-use Rattle.tsn_cert.specs.declared.plan.Plan.TheVariants as plan
 use Rattle.tsn_cert.specs.declared.argument.Argument.{Argument}
 use Rattle.tsn_cert.specs.Meaning.{steps_of}
 use Rattle.tsn_argue.specs.Certified.{IsFitting, ArgumentCertifies}
@@ -378,30 +375,6 @@ module _ (network : Network) (goal : Goal) (steps : List Step) where
 
 -- ---- of a plan and an argument
 
-schedule_refuted : (network : Network) (span : ℕ) (offsets : List ℕ) (fault : CheckFault) → IsScheduleFault network span offsets fault
-    → IsPlanRight network (plan.Schedule span offsets) → ⊥
-schedule_refuted network span offsets PlanInvalid wrong right = wrong right.0
-schedule_refuted network span offsets FlowspanWrong wrong right = wrong.1 right.1
-schedule_refuted network span offsets _ wrong right = wrong
-
-claim_refuted : (network : Network) (p : Plan) (fault : CheckFault) → IsClaimFault network p fault → IsPlanRight network p → ⊥
-claim_refuted network (plan.Schedule span offsets) fault wrong right = schedule_refuted network span offsets fault wrong right
-claim_refuted network plan.None fault wrong right = wrong
-
-one_schedule : (network : Network) (span : ℕ) (offsets : List ℕ) (a b : CheckFault) → IsScheduleFault network span offsets a
-    → IsScheduleFault network span offsets b → a ≡ b
-one_schedule network span offsets PlanInvalid PlanInvalid one two = refl
-one_schedule network span offsets PlanInvalid FlowspanWrong one two = absurd (one two.0)
-one_schedule network span offsets FlowspanWrong PlanInvalid one two = absurd (two one.0)
-one_schedule network span offsets FlowspanWrong FlowspanWrong one two = refl
-one_schedule network span offsets PlanInvalid _ one two = absurd two
-one_schedule network span offsets FlowspanWrong _ one two = absurd two
-one_schedule network span offsets _ b one two = absurd one
-
-one_claim : (network : Network) (p : Plan) (a b : CheckFault) → IsClaimFault network p a → IsClaimFault network p b → a ≡ b
-one_claim network (plan.Schedule span offsets) a b one two = one_schedule network span offsets a b one two
-one_claim network plan.None a b one two = absurd one
-
 same_goal : (network : Network) (p : Plan) (argument : Argument) (g h : Goal) → IsFitting network p argument g → IsFitting network p argument h → g ≡ h
 same_goal network p argument g h one two =
     let both : Some g ≡ Some h = sym one.1 ∙ two.1 in
@@ -416,7 +389,7 @@ aim_refuted network p argument fault goal (inr unfit) fits =
 
 pub why_refuted : (network : Network) (p : Plan) (argument : Argument) (fault : ArgumentFault) → IsWhy network p argument fault
     → ArgumentCertifies network p argument → ⊥
-why_refuted network p argument fault (inl claim) shows = claim_refuted network p claim.0 claim.1 shows.plan_right
+why_refuted network p argument fault (inl claim) shows = claim_refutes network p claim.0 claim.1 shows.plan_right
 why_refuted network p argument fault (inr (inl unfit)) shows = aim_refuted network p argument fault shows.goal unfit.1 shows.fitting
 why_refuted network p argument fault (inr (inr wrong)) shows =
     let same = same_goal network p argument wrong.1.0 shows.goal wrong.1.1 shows.fitting in
@@ -434,10 +407,10 @@ one_aim network p argument a b (inr one) (inr two) = one.2 ∙ sym two.2
 
 pub one_why : (network : Network) (p : Plan) (argument : Argument) (a b : ArgumentFault) → IsWhy network p argument a → IsWhy network p argument b → a ≡ b
 one_why network p argument a b (inl one) (inl two) = one_plan network p a b one two
-one_why network p argument a b (inl one) (inr (inl two)) = absurd (claim_refuted network p one.0 one.1 two.0)
-one_why network p argument a b (inl one) (inr (inr two)) = absurd (claim_refuted network p one.0 one.1 two.0)
-one_why network p argument a b (inr (inl one)) (inl two) = absurd (claim_refuted network p two.0 two.1 one.0)
-one_why network p argument a b (inr (inr one)) (inl two) = absurd (claim_refuted network p two.0 two.1 one.0)
+one_why network p argument a b (inl one) (inr (inl two)) = absurd (claim_refutes network p one.0 one.1 two.0)
+one_why network p argument a b (inl one) (inr (inr two)) = absurd (claim_refutes network p one.0 one.1 two.0)
+one_why network p argument a b (inr (inl one)) (inl two) = absurd (claim_refutes network p two.0 two.1 one.0)
+one_why network p argument a b (inr (inr one)) (inl two) = absurd (claim_refutes network p two.0 two.1 one.0)
 one_why network p argument a b (inr (inl one)) (inr (inl two)) = one_aim network p argument a b one.1 two.1
 one_why network p argument a b (inr (inl one)) (inr (inr two)) = absurd (aim_refuted network p argument a two.1.0 one.1 two.1.1)
 one_why network p argument a b (inr (inr one)) (inr (inl two)) = absurd (aim_refuted network p argument b one.1.0 two.1 one.1.1)

@@ -24,7 +24,9 @@ use Rattle.tsn_cert.specs.declared.certificate.Certificate.TheVariants.{Tree, Ar
 use Rattle.tsn_check.specs.Faults as tree
 use Rattle.tsn_check.specs.Plans.{offsets_in, IsPlanRight}
 use Rattle.tsn_argue.specs.Certified.{goal_for, IsFitting}
-use Rattle.tsn_check.specs.Faults.{IsClaimFault}
+use Rattle.tsn_check.specs.Faults.{IsWrongClaim}
+use Rattle.tsn_check.specs.Numbers.{plan_code}
+use Rattle.tsn_check.specs.declared.why.PlanFault.{PlanFault}
 use Rattle.tsn_check.specs.declared.fault.CheckFault.{CheckFault}
 use Rattle.tsn_check.specs.declared.fault.CheckFault.TheVariants as code
 use Rattle.tsn_argue.specs.First.{IsFirstWrong, IsFirstTold}
@@ -238,7 +240,7 @@ IsArgumentFault network goal steps fault =
 
 -- the plan is wrong, in this way
 abbrev pub IsWrongPlan : Network → Plan → ArgumentFault → Type 0
-IsWrongPlan network plan fault = (claim : CheckFault) × IsClaimFault network plan claim × (fault ≡ why.Plan claim)
+IsWrongPlan network plan fault = (wrong : PlanFault) × IsWrongClaim network plan wrong × (fault ≡ why.Plan wrong)
 
 -- the target isn't the one that the plan asks for, or it is and the goal doesn't fit the plan
 abbrev pub IsWrongAim : Network → Plan → Argument → ArgumentFault → Type 0
@@ -283,7 +285,7 @@ step_code k (of_step.Move number wrong) = wrong_code k wrong
 step_code k of_step.Unshown = code.BoundTooLow k
 
 abbrev pub code_of : ArgumentFault → CheckFault
-code_of (why.Plan claim) = claim
+code_of (why.Plan wrong) = plan_code wrong
 code_of (why.Target stated wanted) = code.FlowspanWrong
 code_of (why.Goal goal) = code.FlowspanWrong
 code_of (why.Step k fault) = step_code k fault

@@ -4,7 +4,7 @@ ghost use Rattle.tsn_argue.specs.Faults.{step_code, code_of};
 
 use crate::wrong::Wrong;
 use tsn_cert::Goal;
-use tsn_check::CheckFault;
+use tsn_check::{CheckFault, PlanFault};
 use tsn_model::NoMemory;
 
 /// What is wrong with a step.
@@ -55,7 +55,7 @@ pub enum Open {
 #[derive(Clone, Copy)]
 pub enum ArgumentFault {
     /// The plan is wrong.
-    Plan(CheckFault),
+    Plan(PlanFault),
     /// The target isn't the one that the plan asks for.
     Target { stated: u64, wanted: u64 },
     /// The goal is this one, and doesn't fit the plan.
@@ -74,12 +74,23 @@ impl ArgumentFault {
         ensures { result ≡ code_of self }
     {
         match self {
-            ArgumentFault::Plan(fault) => fault,
+            ArgumentFault::Plan(fault) => fault.code(),
             ArgumentFault::Target { .. } | ArgumentFault::Goal(_) => CheckFault::FlowspanWrong,
             ArgumentFault::Step(number, fault) => fault.code(number),
             ArgumentFault::Unfinished(count, _) => CheckFault::TreeUnfinished(count),
             ArgumentFault::Memory => CheckFault::Memory,
         }
+    }
+}
+
+impl From<PlanFault> for ArgumentFault {
+    ghost use Rattle.std.specs.Prelude.{◌≡◌};
+    ghost use Rattle.tsn_argue.specs.declared.fault.ArgumentFault.TheVariants.{Plan};
+
+    ghost from_gives = { λ wrong fault. fault ≡ Plan wrong };
+
+    fn from(wrong: PlanFault) -> ArgumentFault {
+        ArgumentFault::Plan(wrong)
     }
 }
 

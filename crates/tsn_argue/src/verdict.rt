@@ -5,7 +5,7 @@ ghost use Rattle.tsn_model.specs.Argument.{Goal as ModelGoal};
 ghost use Rattle.tsn_cert.specs.Meaning.{steps_of};
 ghost use Rattle.tsn_check.specs.Plans.{IsOptimalPlan, IsFirstPlan, IsPlanRight};
 ghost use Rattle.tsn_argue.specs.Certified.{ArgumentCertifies, Certifies, IsFitting, argument_verdict, certificate_verdict};
-ghost use Rattle.tsn_argue.specs.Faults.{IsWrongPlan, IsWhy, IsShowFault, IsFirstFault};
+ghost use Rattle.tsn_argue.specs.Faults.{IsWhy, IsShowFault, IsFirstFault};
 ghost use Rattle.tsn_argue.specs.Aims.{FindsAim};
 ghost use Rattle.tsn_argue.specs.Told.{told_of, with_told};
 
@@ -15,7 +15,7 @@ use crate::listener::{Listener, Silent};
 use crate::step::check_steps;
 use std::alloc::Global;
 use tsn_cert::{Argument, Certificate, Goal, Plan};
-use tsn_check::{CheckFault, Verdict, check, check_plan};
+use tsn_check::{CheckFault, Verdict, check, judge_claim};
 use tsn_timing::{Problem, Timing};
 
 /// Whether the certificate, a tree or an argument, shows that the plan is optimal, or the first of the optimal schedules, or
@@ -113,28 +113,10 @@ pub fn judge_argument<L: Listener>(
 {
     let timing = problem.timing(alloc)?;
     let _cycle = timing.cycle();
-    judge_plan(alloc, &timing, plan)?;
+    judge_claim(&timing, plan)?;
     let aim = aim_of(&timing, plan, argument)?;
     check_steps(alloc, &timing, &aim, argument.steps.list(), listener)?;
     Ok(verdict_of(argument.goal))
-}
-
-/// Whether a schedule is valid and has its own flowspan; else its first fault.
-fn judge_plan(alloc: Global, timing: &Timing, plan: &Plan) -> Result<(), ArgumentFault>
-    ensures right { OnOk result (IsPlanRight timing.now plan.now) }
-    ensures fault { IfErr result (λ fault. (fault ≡ ArgumentFault.Memory) ⊎ IsWrongPlan timing.now plan.now fault) }
-{
-    match plan {
-        Plan::Schedule { .. } => match check_plan(alloc, timing, plan) {
-            Ok(valid) => {
-                drop(valid);
-                Ok(())
-            }
-            Err(CheckFault::Memory) => Err(ArgumentFault::Memory),
-            Err(fault) => Err(ArgumentFault::Plan(fault)),
-        },
-        Plan::None => Ok(()),
-    }
 }
 
 /// What the argument is to show of the plan, where its target is the plan's and its goal fits it.

@@ -1,27 +1,27 @@
 -- A plan and a certificate have at most one first fault.
-use Rattle.std.proofs.Common.{◌≡◌, ◌≢◌, ℕ, zero, suc, ◌<◌, ◌≤◌, List, [], ◌∷◌, length, take, All, Any, Some, inl, inr, refl, sym, ap, ◌∙◌, subst, arith, Option}
+use Rattle.std.proofs.Common.{◌≡◌, ◌≢◌, ℕ, zero, suc, ◌<◌, ◌≤◌, List, [], ◌∷◌, length, take, All, Any, Some, None, inl, inr, refl, sym, ap, ◌∙◌, subst, arith, Option}
 use Rattle.std.specs.Prelude.{slice_get}
 use Rattle.std.proofs.lemmas.Bool.{cases_lt}
 use Rattle.std.proofs.lemmas.List.{take_all, take-take}
 use Rattle.tsn_model.specs.declared.Decision.{Decision}
 use Rattle.tsn_model.specs.Network.{Network}
-use Rattle.tsn_model.specs.Arcs.{arcs_of, IsClosedChain}
-use Rattle.tsn_model.specs.Certificate.{Leaf, late, overrun, positive_cycle, load, overload, Entry, LeadsTo, AreEntries, Proves, Node, split_node, leaf_node, tie_node, IsNodeShown}
+use Rattle.tsn_model.specs.Schedule.{flowspan}
+use Rattle.tsn_model.specs.Certificate.{Leaf, late, overrun, positive_cycle, load, overload, Entry, AreEntries, Node, split_node, leaf_node, tie_node, IsNodeShown}
 use Rattle.tsn_cert.specs.declared.plan.Plan.{Plan}
-use Rattle.tsn_cert.specs.declared.plan.Plan.TheVariants as plan
 use Rattle.tsn_cert.specs.declared.cert.Cert.{Cert}
 use Rattle.tsn_model.specs.Places.{next_places, places_from, places_after, AreRight}
-use Rattle.tsn_check.specs.Numbers.{fault_at}
-use Rattle.tsn_check.specs.Steps.{IsWrongEntry, IsRightEntry, HasFault}
-use Rattle.tsn_check.specs.declared.fault.NodeFault.{NodeFault}
-use Rattle.tsn_check.specs.declared.fault.NodeFault.TheVariants as kinds
+use Rattle.tsn_check.specs.Steps.{IsRightEntry}
+use Rattle.tsn_check.specs.Numbers.{code_of}
 use Rattle.tsn_check.specs.Plans.{offsets_in}
 use Rattle.tsn_check.specs.Certified.{leaf_target, tie_plan}
-use Rattle.tsn_check.specs.Faults.{IsFirstWrong, Stands, IsTreeFault, IsScheduleFault, IsClaimFault, IsFirstFault}
+use Rattle.tsn_check.specs.Faults.{IsWrongEntry, IsFirstWrong, HasChains, IsWrongPart, IsNoTie, IsWrongNode, Stands, IsWrongTree, IsWhy, IsFirstFault}
+use Rattle.tsn_check.specs.declared.why.NodeFault.{NodeFault}
+use Rattle.tsn_check.specs.declared.why.NodeFault.TheVariants as kinds
+use Rattle.tsn_check.specs.declared.why.TreeFault.{TreeFault}
+use Rattle.tsn_check.specs.declared.why.TreeFault.TheVariants as why
 use Rattle.tsn_check.specs.declared.fault.CheckFault.{CheckFault}
-use Rattle.tsn_check.specs.declared.fault.CheckFault.TheVariants.{PlanInvalid, FlowspanWrong, TreeUnfinished, TreeTooLong, NotConflict, ChainBroken, BoundTooLow, StreamRepeated, NotOnLink, Memory}
-use Rattle.tsn_check.proofs.Refusals.{there_below, entry_right, wrong_not_right, first_wrong_refutes, chain_broken, repeated_wrong, off_link_wrong, fault_wrong}
-use Rattle.tsn_check.proofs.Verdicts.{claim_fault_refutes}
+use Rattle.tsn_check.proofs.Plans.{claim_refutes, one_claim}
+use Rattle.tsn_check.proofs.Refusals.{there_below, entry_right, off_link, wrong_not_right, has_chains, part_refutes, node_refutes}
 
 there_is : (nodes : List Node) (k : ℕ) → k < length nodes → (node : Node) × (slice_get nodes k ≡ Some node)
 there_is [] k below = absurd (omega arith)
@@ -43,22 +43,34 @@ none_repeated before entry some none = none some.0 some.1 some.2 (ap (λ e. e.fr
 
 module _ (network : Network) (path : List Decision) (link : ℕ) where
   -- an entry is wrong in one way
-  one_entry_fault : (before : List Entry) (entry : Entry) (one other : NodeFault) → IsWrongEntry network path link one before entry → IsWrongEntry network path link other before entry → one ≡ other
-  one_entry_fault before entry kinds.NotOnLink kinds.NotOnLink is another = refl
-  one_entry_fault before entry kinds.NotOnLink kinds.StreamRepeated is another = absurd (is another.0)
-  one_entry_fault before entry kinds.NotOnLink kinds.ChainBroken is another = absurd (is another.0)
-  one_entry_fault before entry kinds.StreamRepeated kinds.NotOnLink is another = absurd (another is.0)
-  one_entry_fault before entry kinds.StreamRepeated kinds.StreamRepeated is another = refl
-  one_entry_fault before entry kinds.StreamRepeated kinds.ChainBroken is another = absurd (none_repeated before entry is.1 another.1)
-  one_entry_fault before entry kinds.ChainBroken kinds.NotOnLink is another = absurd (another is.0)
-  one_entry_fault before entry kinds.ChainBroken kinds.StreamRepeated is another = absurd (none_repeated before entry another.1 is.1)
-  one_entry_fault before entry kinds.ChainBroken kinds.ChainBroken is another = refl
-  one_entry_fault before entry kinds.NotConflict _ is another = absurd is
-  one_entry_fault before entry kinds.BoundTooLow _ is another = absurd is
-  one_entry_fault before entry _ kinds.NotConflict is another = absurd another
-  one_entry_fault before entry _ kinds.BoundTooLow is another = absurd another
+  one_entry : (before : List Entry) (entry : Entry) (one other : NodeFault) → IsWrongEntry network path link before entry one
+      → IsWrongEntry network path link before entry other → one ≡ other
+  one_entry before entry kinds.NotSent kinds.NotSent is another = refl
+  one_entry before entry kinds.NotSent kinds.NotOnLink is (inl past) = let below = is.0 in absurd (omega arith)
+  one_entry before entry kinds.NotSent kinds.NotOnLink is (inr off) = absurd (is.1 off.0)
+  one_entry before entry kinds.NotSent kinds.StreamRepeated is another = absurd (is.1 another.0.sent)
+  one_entry before entry kinds.NotSent kinds.ChainBroken is another = absurd (is.1 another.0.sent)
+  one_entry before entry kinds.NotOnLink kinds.NotSent (inl past) another = let below = another.0 in absurd (omega arith)
+  one_entry before entry kinds.NotOnLink kinds.NotSent (inr off) another = absurd (another.1 off.0)
+  one_entry before entry kinds.NotOnLink kinds.NotOnLink is another = refl
+  one_entry before entry kinds.NotOnLink kinds.StreamRepeated is another = absurd (off_link network path link before entry is another.0)
+  one_entry before entry kinds.NotOnLink kinds.ChainBroken is another = absurd (off_link network path link before entry is another.0)
+  one_entry before entry kinds.StreamRepeated kinds.NotSent is another = absurd (another.1 is.0.sent)
+  one_entry before entry kinds.StreamRepeated kinds.NotOnLink is another = absurd (off_link network path link before entry another is.0)
+  one_entry before entry kinds.StreamRepeated kinds.StreamRepeated is another = refl
+  one_entry before entry kinds.StreamRepeated kinds.ChainBroken is another = absurd (none_repeated before entry is.1 another.1)
+  one_entry before entry kinds.ChainBroken kinds.NotSent is another = absurd (another.1 is.0.sent)
+  one_entry before entry kinds.ChainBroken kinds.NotOnLink is another = absurd (off_link network path link before entry another is.0)
+  one_entry before entry kinds.ChainBroken kinds.StreamRepeated is another = absurd (none_repeated before entry another.1 is.1)
+  one_entry before entry kinds.ChainBroken kinds.ChainBroken is another = refl
+  one_entry before entry kinds.NotSent _ is another = absurd another
+  one_entry before entry kinds.NotOnLink _ is another = absurd another
+  one_entry before entry kinds.StreamRepeated _ is another = absurd another
+  one_entry before entry kinds.ChainBroken _ is another = absurd another
+  one_entry before entry _ other is another = absurd is
 
-  entry_blocks : (entries : List Entry) (k m : ℕ) (entry : Entry) (fault : NodeFault) → slice_get entries k ≡ Some entry → IsWrongEntry network path link fault (take k entries) entry → k < m
+  entry_blocks : (entries : List Entry) (k m : ℕ) (entry : Entry) (fault : NodeFault) → slice_get entries k ≡ Some entry
+      → IsWrongEntry network path link (take k entries) entry fault → k < m
       → AreEntries network path link (take m entries) → ⊥
   entry_blocks entries k m entry fault there wrong_there below are =
       let at : slice_get (take m entries) k ≡ Some entry = there_taken entries k m entry below there in
@@ -67,7 +79,7 @@ module _ (network : Network) (path : List Decision) (link : ℕ) where
       wrong_not_right network path link (take k entries) entry fault wrong_there (subst (λ es. IsRightEntry network path link es entry) same right)
 
   -- and is the first that is wrong at one place
-  one_first_wrong : (entries : List Entry) (one other : NodeFault) → IsFirstWrong network path link entries (IsWrongEntry network path link one) → IsFirstWrong network path link entries (IsWrongEntry network path link other)
+  one_first_wrong : (entries : List Entry) (one other : NodeFault) → IsFirstWrong network path link entries one → IsFirstWrong network path link entries other
       → one ≡ other
   one_first_wrong entries one other is another = elim (cases_lt is.k another.k) [
     | inl below ↦ absurd (entry_blocks entries is.k another.k is.entry one is.there is.wrong below another.right_before)
@@ -77,113 +89,55 @@ module _ (network : Network) (path : List Decision) (link : ℕ) where
           let place : is.k ≡ another.k = omega arith in
           let there : Some is.entry ≡ Some another.entry = sym is.there ∙ ap (slice_get entries) place ∙ another.there in
           let entry : is.entry ≡ another.entry = cc in
-          one_entry_fault (take another.k entries) another.entry one other
-          (subst (λ e. IsWrongEntry network path link one (take another.k entries) e) entry (subst (λ n. IsWrongEntry network path link one (take n entries) is.entry) place is.wrong)) another.wrong
+          one_entry (take another.k entries) another.entry one other
+          (subst (λ e. IsWrongEntry network path link (take another.k entries) e one) entry
+          (subst (λ n. IsWrongEntry network path link (take n entries) is.entry one) place is.wrong)) another.wrong
     ]
   ]
 
+-- a leaf has one wrong part
+one_part : (network : Network) (path : List Decision) (proof : Leaf) (one other : NodeFault) → IsWrongPart network path proof one
+    → IsWrongPart network path proof other → one ≡ other
+one_part network path (late i chain) one other is another = is.0 ∙ sym another.0
+one_part network path (overrun i chain) one other is another = is.0 ∙ sym another.0
+one_part network path (positive_cycle chain) one other is another = is.0 ∙ sym another.0
+one_part network path (load link entries) one other is another = one_first_wrong network path link entries one other is another
+one_part network path (overload link entries) one other is another = one_first_wrong network path link entries one other is another
+
+no_tie_chains : (network : Network) (planned : Option (List ℕ)) (path : List Decision) (proof : Leaf) (chains : List (List ℕ)) (fault : NodeFault)
+    → IsNoTie network planned path proof chains fault → HasChains network path proof
+no_tie_chains network None path proof chains fault wrong = wrong.0
+no_tie_chains network (Some offsets) path proof chains fault (inl low) = low.1.0
+no_tie_chains network (Some offsets) path proof chains fault (inr sooner) = has_chains network (flowspan network offsets) path proof sooner.0
+
+one_no_tie : (network : Network) (planned : Option (List ℕ)) (path : List Decision) (proof : Leaf) (chains : List (List ℕ)) (one other : NodeFault)
+    → IsNoTie network planned path proof chains one → IsNoTie network planned path proof chains other → one ≡ other
+one_no_tie network None path proof chains one other is another = is.1 ∙ sym another.1
+one_no_tie network (Some offsets) path proof chains one other (inl is) (inl another) = is.2 ∙ ap kinds.TieTooLow (is.1.2 ∙ sym another.1.2) ∙ sym another.2
+one_no_tie network (Some offsets) path proof chains one other (inl is) (inr another) = absurd (is.1.1 another.0)
+one_no_tie network (Some offsets) path proof chains one other (inr is) (inl another) = absurd (another.1.1 is.0)
+one_no_tie network (Some offsets) path proof chains one other (inr is) (inr another) = is.2 ∙ sym another.2
+
 module _ (network : Network) (target : ℕ) (planned : Option (List ℕ)) (path : List Decision) where
-  -- a leaf without entries: its chain is broken, or its bound is too low
-  PlainFault : Type 0 → Type 0 → NodeFault → Type 0
-  PlainFault Chains Low kinds.ChainBroken = Chains → ⊥
-  PlainFault Chains Low kinds.BoundTooLow = Chains × Low
-  PlainFault Chains Low _ = ⊥
-
-  one_plain_fault : (Chains Low : Type 0) (one other : NodeFault) → PlainFault Chains Low one → PlainFault Chains Low other → one ≡ other
-  unfolding PlainFault
-  one_plain_fault Chains Low kinds.ChainBroken kinds.ChainBroken is another = refl
-  one_plain_fault Chains Low kinds.ChainBroken kinds.BoundTooLow is another = absurd (is another.0)
-  one_plain_fault Chains Low kinds.ChainBroken _ is another = absurd another
-  one_plain_fault Chains Low kinds.BoundTooLow kinds.ChainBroken is another = absurd (another is.0)
-  one_plain_fault Chains Low kinds.BoundTooLow kinds.BoundTooLow is another = refl
-  one_plain_fault Chains Low kinds.BoundTooLow _ is another = absurd another
-  one_plain_fault Chains Low _ other is another = absurd is
-
-  late_fault : (i : ℕ) (chain : List ℕ) (fault : NodeFault) → HasFault network target planned path (leaf_node (late i chain)) fault
-      → PlainFault (LeadsTo network path chain i) (Proves network path target (late i chain) → ⊥) fault
-  unfolding PlainFault
-  late_fault i chain kinds.ChainBroken is = is
-  late_fault i chain kinds.BoundTooLow is = is
-  late_fault i chain _ is = absurd is
-
-  overrun_fault : (i : ℕ) (chain : List ℕ) (fault : NodeFault) → HasFault network target planned path (leaf_node (overrun i chain)) fault
-      → PlainFault (LeadsTo network path chain i) (Proves network path target (overrun i chain) → ⊥) fault
-  unfolding PlainFault
-  overrun_fault i chain kinds.ChainBroken is = is
-  overrun_fault i chain kinds.BoundTooLow is = is
-  overrun_fault i chain _ is = absurd is
-
-  cycle_fault : (chain : List ℕ) (fault : NodeFault) → HasFault network target planned path (leaf_node (positive_cycle chain)) fault
-      → PlainFault (IsClosedChain (arcs_of network path) chain) (Proves network path target (positive_cycle chain) → ⊥) fault
-  unfolding PlainFault
-  cycle_fault chain kinds.ChainBroken is = is
-  cycle_fault chain kinds.BoundTooLow is = is
-  cycle_fault chain _ is = absurd is
-
-  -- a leaf over a link: an entry is wrong, or its bound is too low
-  LinkFault : ℕ → List Entry → Type 0 → NodeFault → Type 0
-  LinkFault link entries Low kinds.BoundTooLow = AreEntries network path link entries × Low
-  LinkFault link entries Low fault = IsFirstWrong network path link entries (IsWrongEntry network path link fault)
-
-  one_link_fault : (link : ℕ) (entries : List Entry) (Low : Type 0) (one other : NodeFault) → LinkFault link entries Low one → LinkFault link entries Low other → one ≡ other
-  unfolding LinkFault
-  one_link_fault link entries Low kinds.BoundTooLow kinds.BoundTooLow is another = refl
-  one_link_fault link entries Low kinds.BoundTooLow other is another = absurd (first_wrong_refutes network path link entries other another is.0)
-  one_link_fault link entries Low one kinds.BoundTooLow is another = absurd (first_wrong_refutes network path link entries one is another.0)
-  one_link_fault link entries Low one other is another = one_first_wrong network path link entries one other is another
-
-  load_fault : (link : ℕ) (entries : List Entry) (fault : NodeFault) → HasFault network target planned path (leaf_node (load link entries)) fault
-      → LinkFault link entries (Proves network path target (load link entries) → ⊥) fault
-  unfolding LinkFault
-  load_fault link entries kinds.NotConflict is = absurd is
-  load_fault link entries _ is = is
-
-  overload_fault : (link : ℕ) (entries : List Entry) (fault : NodeFault) → HasFault network target planned path (leaf_node (overload link entries)) fault
-      → LinkFault link entries (Proves network path target (overload link entries) → ⊥) fault
-  unfolding LinkFault
-  overload_fault link entries kinds.NotConflict is = absurd is
-  overload_fault link entries _ is = is
-
-  one_leaf_fault : (proof : Leaf) (one other : NodeFault) → HasFault network target planned path (leaf_node proof) one → HasFault network target planned path (leaf_node proof) other → one ≡ other
-  one_leaf_fault (late i chain) one other is another = one_plain_fault _ _ one other (late_fault i chain one is) (late_fault i chain other another)
-  one_leaf_fault (overrun i chain) one other is another = one_plain_fault _ _ one other (overrun_fault i chain one is) (overrun_fault i chain other another)
-  one_leaf_fault (positive_cycle chain) one other is another = one_plain_fault _ _ one other (cycle_fault chain one is) (cycle_fault chain other another)
-  one_leaf_fault (load link entries) one other is another = one_link_fault link entries _ one other (load_fault link entries one is) (load_fault link entries other another)
-  one_leaf_fault (overload link entries) one other is another = one_link_fault link entries _ one other (overload_fault link entries one is) (overload_fault link entries other another)
-
-  one_tie_fault : (proof : Leaf) (chains : List (List ℕ)) (one other : NodeFault) → HasFault network target planned path (tie_node proof chains) one → HasFault network target planned path (tie_node proof chains) other → one ≡ other
-  one_tie_fault proof chains kinds.NotConflict other is another = absurd is
-  one_tie_fault proof chains one kinds.NotConflict is another = absurd another
-  one_tie_fault proof chains kinds.ChainBroken kinds.ChainBroken is another = refl
-  one_tie_fault proof chains kinds.ChainBroken kinds.BoundTooLow is another =
-      elim is [ inl breaks ↦ absurd (chain_broken network path proof breaks another.0) | inr unled ↦ absurd (unled.1 another.1) ]
-  one_tie_fault proof chains kinds.ChainBroken kinds.StreamRepeated is another =
-      elim is [ inl breaks ↦ one_leaf_fault proof kinds.ChainBroken kinds.StreamRepeated breaks another | inr unled ↦ absurd (repeated_wrong network path proof another unled.0) ]
-  one_tie_fault proof chains kinds.ChainBroken kinds.NotOnLink is another =
-      elim is [ inl breaks ↦ one_leaf_fault proof kinds.ChainBroken kinds.NotOnLink breaks another | inr unled ↦ absurd (off_link_wrong network path proof another unled.0) ]
-  one_tie_fault proof chains kinds.BoundTooLow kinds.ChainBroken is another =
-      elim another [ inl breaks ↦ absurd (chain_broken network path proof breaks is.0) | inr unled ↦ absurd (unled.1 is.1) ]
-  one_tie_fault proof chains kinds.BoundTooLow kinds.BoundTooLow is another = refl
-  one_tie_fault proof chains kinds.BoundTooLow kinds.StreamRepeated is another = absurd (repeated_wrong network path proof another is.0)
-  one_tie_fault proof chains kinds.BoundTooLow kinds.NotOnLink is another = absurd (off_link_wrong network path proof another is.0)
-  one_tie_fault proof chains kinds.StreamRepeated kinds.ChainBroken is another =
-      elim another [ inl breaks ↦ one_leaf_fault proof kinds.StreamRepeated kinds.ChainBroken is breaks | inr unled ↦ absurd (repeated_wrong network path proof is unled.0) ]
-  one_tie_fault proof chains kinds.StreamRepeated kinds.BoundTooLow is another = absurd (repeated_wrong network path proof is another.0)
-  one_tie_fault proof chains kinds.StreamRepeated kinds.StreamRepeated is another = refl
-  one_tie_fault proof chains kinds.StreamRepeated kinds.NotOnLink is another = one_leaf_fault proof kinds.StreamRepeated kinds.NotOnLink is another
-  one_tie_fault proof chains kinds.NotOnLink kinds.ChainBroken is another =
-      elim another [ inl breaks ↦ one_leaf_fault proof kinds.NotOnLink kinds.ChainBroken is breaks | inr unled ↦ absurd (off_link_wrong network path proof is unled.0) ]
-  one_tie_fault proof chains kinds.NotOnLink kinds.BoundTooLow is another = absurd (off_link_wrong network path proof is another.0)
-  one_tie_fault proof chains kinds.NotOnLink kinds.StreamRepeated is another = one_leaf_fault proof kinds.NotOnLink kinds.StreamRepeated is another
-  one_tie_fault proof chains kinds.NotOnLink kinds.NotOnLink is another = refl
-
-  -- a node has one fault
-  one_node_fault : (node : Node) (one other : NodeFault) → HasFault network target planned path node one → HasFault network target planned path node other → one ≡ other
-  one_node_fault (split_node triple) kinds.NotConflict kinds.NotConflict is another = refl
-  one_node_fault (split_node triple) kinds.NotConflict _ is another = absurd another
-  one_node_fault (split_node triple) _ other is another = absurd is
-  one_node_fault (leaf_node proof) one other is another = one_leaf_fault proof one other is another
-  one_node_fault (tie_node proof chains) one other is another = one_tie_fault proof chains one other is another
+  -- a node is wrong in one way
+  one_node : (node : Node) (one other : NodeFault) → IsWrongNode network target planned path node one → IsWrongNode network target planned path node other
+      → one ≡ other
+  one_node (split_node triple) one other is another = is.0 ∙ sym another.0
+  one_node (leaf_node proof) one other (inl is) (inl another) = one_part network path proof one other is another
+  one_node (leaf_node proof) one other (inl is) (inr another) = absurd (part_refutes network path proof one is another.1.0)
+  one_node (leaf_node proof) one other (inr is) (inl another) = absurd (part_refutes network path proof other another is.1.0)
+  one_node (leaf_node proof) one other (inr is) (inr another) = is.2 ∙ ap kinds.TooLow (is.1.2 ∙ sym another.1.2) ∙ sym another.2
+  one_node (tie_node proof chains) one other (inl is) (inl another) = one_part network path proof one other is another
+  one_node (tie_node proof chains) one other (inl is) (inr (inl another)) = absurd (part_refutes network path proof one is another.0)
+  one_node (tie_node proof chains) one other (inl is) (inr (inr another)) =
+      absurd (part_refutes network path proof one is (no_tie_chains network planned path proof chains other another.1))
+  one_node (tie_node proof chains) one other (inr (inl is)) (inl another) = absurd (part_refutes network path proof other another is.0)
+  one_node (tie_node proof chains) one other (inr (inl is)) (inr (inl another)) = is.2 ∙ sym another.2
+  one_node (tie_node proof chains) one other (inr (inl is)) (inr (inr another)) = absurd (is.1 another.0)
+  one_node (tie_node proof chains) one other (inr (inr is)) (inl another) =
+      absurd (part_refutes network path proof other another (no_tie_chains network planned path proof chains one is.1))
+  one_node (tie_node proof chains) one other (inr (inr is)) (inr (inl another)) = absurd (another.1 is.0)
+  one_node (tie_node proof chains) one other (inr (inr is)) (inr (inr another)) = one_no_tie network planned path proof chains one other is.1 another.1
 
 -- ---- of a list of nodes
 
@@ -223,29 +177,25 @@ module _ (network : Network) (target : ℕ) (planned : Option (List ℕ)) where
 
   -- ---- what a fault of the nodes says of a place
 
-  fault_of : Kind → ℕ → CheckFault
-  fault_of unfinished k = TreeUnfinished k
-  fault_of too_long k = TreeTooLong k
-  fault_of (wrong fault) k = fault_at k fault
+  fault_of : Kind → ℕ → TreeFault
+  fault_of unfinished k = why.Unfinished k
+  fault_of too_long k = why.TooLong k
+  fault_of (wrong fault) k = why.Node k fault
 
   -- the nodes end and a place is open; a node stands after the tree's end; or a node isn't right where it stands
   Says : List Node → Kind → ℕ → Type 0
   Says nodes unfinished k = (k ≡ length nodes) × AreRight (IsNodeShown network target planned) ([] ∷ []) nodes
   Says nodes too_long k = (k < length nodes) × AreRight (IsNodeShown network target planned) ([] ∷ []) (take k nodes) × (places_after (take k nodes) ≡ [])
-  Says nodes (wrong fault) k = (path : List Decision) × (node : Node) × Stands network target planned nodes k path node × HasFault network target planned path node fault
+  Says nodes (wrong fault) k =
+      (path : List Decision) × (node : Node) × Stands network target planned nodes k path node × IsWrongNode network target planned path node fault
 
-  says : (nodes : List Node) (fault : CheckFault) → IsTreeFault network target planned nodes fault → (kind : Kind) × (k : ℕ) × (fault ≡ fault_of kind k) × Says nodes kind k
+  says : (nodes : List Node) (fault : TreeFault) → IsWrongTree network target planned nodes fault
+      → (kind : Kind) × (k : ℕ) × (fault ≡ fault_of kind k) × Says nodes kind k
   unfolding fault_of Says
-  says nodes (TreeUnfinished k) is = (unfinished, k, refl, (is.0, is.1))
-  says nodes (TreeTooLong k) is = (too_long, k, refl, is)
-  says nodes (NotConflict k) is = (wrong kinds.NotConflict, k, refl, is)
-  says nodes (ChainBroken k) is = (wrong kinds.ChainBroken, k, refl, is)
-  says nodes (BoundTooLow k) is = (wrong kinds.BoundTooLow, k, refl, is)
-  says nodes (StreamRepeated k) is = (wrong kinds.StreamRepeated, k, refl, is)
-  says nodes (NotOnLink k) is = (wrong kinds.NotOnLink, k, refl, is)
-  says nodes PlanInvalid is = absurd is
-  says nodes FlowspanWrong is = absurd is
-  says nodes Memory is = absurd is
+  says nodes (why.Unfinished k) is = (unfinished, k, refl, (is.0, is.1))
+  says nodes (why.TooLong k) is = (too_long, k, refl, is)
+  says nodes (why.Node k fault) is = (wrong fault, k, refl, is)
+  says nodes _ is = absurd is
 
   reaches : (nodes : List Node) (kind : Kind) (k : ℕ) → Says nodes kind k → AreRight (IsNodeShown network target planned) ([] ∷ []) (take k nodes) × (k ≤ length nodes)
   unfolding Says
@@ -263,7 +213,8 @@ module _ (network : Network) (target : ℕ) (planned : Option (List ℕ)) where
       let found = right_there nodes m k node.0 right below node.1 in
       let clash : [] ≡ found.0 ∷ found.1 = sym is.2 ∙ found.2 in
       cc
-  blocks nodes (wrong fault) k m is below within right = stands_blocks nodes m k is.0 is.1 is.2 (fault_wrong network target planned is.0 is.1 fault is.3) below right
+  blocks nodes (wrong fault) k m is below within right =
+      stands_blocks nodes m k is.0 is.1 is.2 (node_refutes network target planned is.0 is.1 fault is.3) below right
 
   same_place : (nodes : List Node) (one other : Kind) (k m : ℕ) → Says nodes one k → Says nodes other m → k ≡ m
   same_place nodes one other k m is is_other =
@@ -304,55 +255,33 @@ module _ (network : Network) (target : ℕ) (planned : Option (List ℕ)) where
       cc
   same_kind nodes (wrong fault) (wrong other) k m is another same =
       let both = same_stand nodes k m is.0 another.0 is.1 another.1 is.2 another.2 same in
-      ap wrong (one_node_fault network target planned another.0 another.1 fault other
-      (subst (λ p. HasFault network target planned p another.1 fault) both.0 (subst (λ n. HasFault network target planned is.0 n fault) both.1 is.3)) another.3)
+      ap wrong (one_node network target planned another.0 another.1 fault other
+      (subst (λ p. IsWrongNode network target planned p another.1 fault) both.0 (subst (λ n. IsWrongNode network target planned is.0 n fault) both.1 is.3))
+      another.3)
 
-  one_tree_fault : (nodes : List Node) (one other : CheckFault) → IsTreeFault network target planned nodes one → IsTreeFault network target planned nodes other → one ≡ other
-  one_tree_fault nodes one other is another =
+  one_tree : (nodes : List Node) (one other : TreeFault) → IsWrongTree network target planned nodes one → IsWrongTree network target planned nodes other
+      → one ≡ other
+  one_tree nodes one other is another =
       let first = says nodes one is in
       let second = says nodes other another in
       let place = same_place nodes first.0 second.0 first.1 second.1 first.3 second.3 in
       let kind = same_kind nodes first.0 second.0 first.1 second.1 first.3 second.3 place in
       first.2 ∙ (λ i. fault_of (kind i) (place i)) ∙ sym second.2
 
--- ---- of a plan and its certificate
+-- ---- of a plan and its tree
 
-one_schedule_fault : (network : Network) (span : ℕ) (offsets : List ℕ) (one other : CheckFault) → IsScheduleFault network span offsets one → IsScheduleFault network span offsets other → one ≡ other
-one_schedule_fault network span offsets PlanInvalid PlanInvalid is another = refl
-one_schedule_fault network span offsets PlanInvalid FlowspanWrong is another = absurd (is another.0)
-one_schedule_fault network span offsets FlowspanWrong PlanInvalid is another = absurd (another is.0)
-one_schedule_fault network span offsets FlowspanWrong FlowspanWrong is another = refl
-one_schedule_fault network span offsets PlanInvalid _ is another = absurd another
-one_schedule_fault network span offsets FlowspanWrong _ is another = absurd another
-one_schedule_fault network span offsets _ other is another = absurd is
-
-one_claim_fault : (network : Network) (plan : Plan) (one other : CheckFault) → IsClaimFault network plan one → IsClaimFault network plan other → one ≡ other
-one_claim_fault network (plan.Schedule span offsets) one other is another = one_schedule_fault network span offsets one other is another
-one_claim_fault network plan.None one other is another = absurd is
+pub one_why : (network : Network) (plan : Plan) (cert : Cert) (one other : TreeFault) → IsWhy network plan cert one → IsWhy network plan cert other
+    → one ≡ other
+one_why network plan cert one other (inl is) (inl another) = is.2 ∙ ap why.Plan (one_claim network plan is.0 another.0 is.1 another.1) ∙ sym another.2
+one_why network plan cert one other (inl is) (inr (inl another)) = absurd (claim_refutes network plan is.0 is.1 another.0)
+one_why network plan cert one other (inl is) (inr (inr another)) = absurd (claim_refutes network plan is.0 is.1 another.0)
+one_why network plan cert one other (inr (inl is)) (inl another) = absurd (claim_refutes network plan another.0 another.1 is.0)
+one_why network plan cert one other (inr (inl is)) (inr (inl another)) = is.1.1 ∙ sym another.1.1
+one_why network plan cert one other (inr (inl is)) (inr (inr another)) = absurd (is.1.0 another.1)
+one_why network plan cert one other (inr (inr is)) (inl another) = absurd (claim_refutes network plan another.0 another.1 is.0)
+one_why network plan cert one other (inr (inr is)) (inr (inl another)) = absurd (another.1.0 is.1)
+one_why network plan cert one other (inr (inr is)) (inr (inr another)) =
+    one_tree network (leaf_target network cert.format cert.target) (tie_plan cert.format (offsets_in plan)) cert.nodes one other is.2 another.2
 
 pub one_first_fault : (network : Network) (plan : Plan) (cert : Cert) (one other : CheckFault) → IsFirstFault network plan cert one → IsFirstFault network plan cert other → one ≡ other
-one_first_fault network plan cert one other is another = elim is [
-  | inl claim ↦ elim another [
-    | inl other_claim ↦ one_claim_fault network plan one other claim other_claim
-    | inr later ↦ elim later [
-      | inl target ↦ absurd (claim_fault_refutes network plan one claim target.0)
-      | inr nodes ↦ absurd (claim_fault_refutes network plan one claim nodes.0)
-    ]
-  ]
-  | inr rest ↦ elim rest [
-    | inl target ↦ elim another [
-      | inl other_claim ↦ absurd (claim_fault_refutes network plan other other_claim target.0)
-      | inr later ↦ elim later [
-        | inl other_target ↦ target.2 ∙ sym other_target.2
-        | inr nodes ↦ absurd (target.1 nodes.1)
-      ]
-    ]
-    | inr nodes ↦ elim another [
-      | inl other_claim ↦ absurd (claim_fault_refutes network plan other other_claim nodes.0)
-      | inr later ↦ elim later [
-        | inl target ↦ absurd (target.1 nodes.1)
-        | inr other_nodes ↦ one_tree_fault network (leaf_target network cert.format cert.target) (tie_plan cert.format (offsets_in plan)) cert.nodes one other nodes.2 other_nodes.2
-      ]
-    ]
-  ]
-]
+one_first_fault network plan cert one other is another = is.2 ∙ ap code_of (one_why network plan cert is.0 another.0 is.1 another.1) ∙ sym another.2

@@ -1,3 +1,4 @@
+pub mod Plans
 mod Refusals
 mod Verdicts
 mod Loads

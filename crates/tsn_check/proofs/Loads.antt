@@ -1,5 +1,5 @@
 -- The entries of a leaf over a whole link, taken one after another.
-use Rattle.std.proofs.Common.{◌≡◌, ◌≢◌, ℕ, zero, suc, ◌+◌, ◌<◌, ◌≤◌, List, [], ◌∷◌, ◌++◌, map, length, take, get_or, All, Any, ℤ, pos, ◌+ℤ◌, ◌-ℤ◌, ◌≤ℤ◌, Bool, true, false, cond, Some, ◌==◌, refl, sym, ap, ap₂, ◌∙◌, subst, arith, eqb-true, eq-eqb}
+use Rattle.std.proofs.Common.{◌≡◌, ◌≢◌, ℕ, zero, suc, ◌+◌, ◌<◌, ◌≤◌, List, [], ◌∷◌, ◌++◌, map, length, take, get_or, All, Any, ℤ, pos, ◌+ℤ◌, ◌-ℤ◌, ◌≤ℤ◌, ◌<ℤ◌, Bool, true, false, cond, Option, Some, None, MatchOption, Ok, ◌==◌, refl, sym, ap, ap₂, ◌∙◌, subst, arith, eqb-true, eq-eqb}
 use Rattle.std.specs.Prelude.{slice_get, int_lt, ◌&&◌}
 use Rattle.std.specs.Int.{int_min}
 use Rattle.std.specs.List.{list_any}
@@ -14,13 +14,15 @@ use Rattle.tsn_model.specs.declared.Decision.{Decision}
 use Rattle.tsn_model.specs.declared.Frame.{Frame}
 use Rattle.tsn_model.specs.Network.{Network}
 use Rattle.tsn_model.specs.Timing.{occupancy, arrival}
-use Rattle.tsn_model.specs.Certificate.{Entry, IsFrameOn, begin_on, end_on, LeadsTo, AreEntries, sum_on, least, head_of, tail_of, work_of, busy_until, load_bound}
+use Rattle.tsn_model.specs.Certificate.{Entry, load, IsFrameOn, begin_on, end_on, LeadsTo, AreEntries, sum_on, least, head_of, tail_of, work_of, busy_until, load_bound}
 use Rattle.tsn_model.proofs.Lists.{least-map_push, least-one}
 use Rattle.tsn_cert.specs.Entry.{tree_entry}
-use Rattle.tsn_check.specs.Faults.{IsFirstWrong}
-use Rattle.tsn_check.specs.Steps.{IsWrongEntry, IsRightEntry, IsLoad}
+use Rattle.tsn_check.specs.Faults.{IsWrongEntry, IsFirstWrong}
+use Rattle.tsn_check.specs.Steps.{IsRightEntry, IsLoad, FindsBound}
 use Rattle.tsn_check.specs.declared.load.LinkLoad.{LinkLoad}
-use Rattle.tsn_check.specs.declared.fault.NodeFault.{NodeFault}
+use Rattle.tsn_check.specs.declared.why.Shortfall.{Shortfall}
+use Rattle.tsn_check.specs.declared.why.Shortfall.TheVariants.{Bound}
+use Rattle.tsn_check.specs.declared.why.NodeFault.{NodeFault}
 
 -- ---- a frame among others
 
@@ -128,6 +130,17 @@ module _ (network : Network) (path : List Decision) (link : ℕ) where
   unfolding load_bound
   load_bound_is entries all loaded = λ i. busy_until_is entries all loaded i +ℤ sym loaded.tail i
 
+  -- a leaf over the link is told by what its entries come to
+  pub load_found : (target : ℕ) (entries : List Entry) (all : LinkLoad) (bound : ℤ) (found : Option Shortfall) → AreEntries network path link entries
+      → IsLoad network path link entries all → bound ≡ all.head +ℤ pos all.work +ℤ all.tail
+      → MatchOption found (pos target ≤ℤ bound) (λ short. (bound <ℤ pos target) × (short ≡ Bound bound target))
+      → FindsBound network target path (load link entries) (Ok found)
+  load_found target entries all bound None are loaded is enough = (are, rw (load_bound_is entries all loaded ∙ sym is) enough)
+  load_found target entries all bound (Some short) are loaded is low =
+      let same = load_bound_is entries all loaded ∙ sym is in
+      let less = low.0 in
+      (are, λ proves. let enough = proves.1 in omega (arith, ints), low.1 ∙ ap (λ z. Bound z target) (sym same))
+
   -- ---- and in the code
 
   pub start_load : (entries : List (Frame × List ℕ)) (first : Frame × List ℕ) (all : LinkLoad) → 0 < length entries → first ≡ get_or entries 0 first → IsRightEntry network path link [] (tree_entry first)
@@ -160,12 +173,13 @@ module _ (network : Network) (path : List Decision) (link : ℕ) where
 
   -- the entry at k is the first that isn't right
   pub wrong_there : (entries : List (Frame × List ℕ)) (k : ℕ) (next : Frame × List ℕ) (fault : NodeFault) → k < length entries → next ≡ get_or entries k next
-      → AreEntries network path link (take k (map tree_entry entries)) → IsWrongEntry network path link fault (map tree_entry (take k entries)) (tree_entry next)
-      → IsFirstWrong network path link (map tree_entry entries) (IsWrongEntry network path link fault)
+      → AreEntries network path link (take k (map tree_entry entries))
+      → IsWrongEntry network path link (map tree_entry (take k entries)) (tree_entry next) fault
+      → IsFirstWrong network path link (map tree_entry entries) fault
   wrong_there entries k next fault below is right wrong = record {
     k = k;
     entry = tree_entry next;
     right_before = right;
     there = there_entry entries k next below ∙ ap (λ e. Some (tree_entry e)) (sym is);
-    wrong = subst (λ es. IsWrongEntry network path link fault es (tree_entry next)) (sym (take-map tree_entry k entries)) wrong;
+    wrong = subst (λ es. IsWrongEntry network path link es (tree_entry next) fault) (sym (take-map tree_entry k entries)) wrong;
   }

@@ -8,12 +8,13 @@ use Rattle.tsn_model.specs.Certificate.{Leaf, late, overrun, positive_cycle, loa
 use Rattle.tsn_model.specs.Places.{Fills, places_after}
 use Rattle.tsn_model.proofs.Places.{fills-append, right_from_fills}
 use Rattle.tsn_model.specs.Schedule.{flowspan}
-use Rattle.tsn_check.specs.Faults.{IsFirstWrong, IsOffLink, IsRepeated, HasChains, HasWrongEntry, BreaksChain, Stands, IsTreeFault}
-use Rattle.tsn_check.specs.Steps.{IsWrongEntry, IsRightEntry, HasFault}
-use Rattle.tsn_check.specs.declared.fault.NodeFault.{NodeFault}
-use Rattle.tsn_check.specs.declared.fault.NodeFault.TheVariants as kinds
-use Rattle.tsn_check.specs.declared.fault.CheckFault.{CheckFault}
-use Rattle.tsn_check.specs.declared.fault.CheckFault.TheVariants.{PlanInvalid, FlowspanWrong, TreeUnfinished, TreeTooLong, NotConflict, ChainBroken, BoundTooLow, StreamRepeated, NotOnLink, Memory}
+use Rattle.tsn_model.proofs.Routes.{UsesLink-counted}
+use Rattle.tsn_check.specs.Faults.{IsWrongEntry, IsFirstWrong, HasChains, IsWrongPart, IsNoTie, IsWrongNode, Stands, IsWrongTree}
+use Rattle.tsn_check.specs.Steps.{IsRightEntry}
+use Rattle.tsn_check.specs.declared.why.NodeFault.{NodeFault}
+use Rattle.tsn_check.specs.declared.why.NodeFault.TheVariants as kinds
+use Rattle.tsn_check.specs.declared.why.TreeFault.{TreeFault}
+use Rattle.tsn_check.specs.declared.why.TreeFault.TheVariants as why
 
 at_take : (nodes : List Node) (k : ℕ) (node : Node) → slice_get nodes k ≡ Some node → drop k nodes ≡ node ∷ drop (suc k) nodes
 at_take [] zero node at = cc
@@ -71,37 +72,33 @@ module _ (network : Network) (path : List Decision) (link : ℕ) where
         leads = subst (λ e. LeadsTo network path e.chain e.frame.stream) is (are.chains k entry below);
       }
 
+  -- an entry that isn't on the link has no frame there
+  pub off_link : (before : List Entry) (entry : Entry) → IsWrongEntry network path link before entry kinds.NotOnLink → IsFrameOn network link entry.frame → ⊥
+  off_link before entry (inl past) on =
+      let counted = UsesLink-counted network entry.frame.stream link on.uses in
+      omega arith
+  off_link before entry (inr off) on = off.1 on.uses
+
   -- a wrong entry isn't right
-  pub wrong_not_right : (before : List Entry) (entry : Entry) (fault : NodeFault) → IsWrongEntry network path link fault before entry → IsRightEntry network path link before entry → ⊥
-  wrong_not_right before entry kinds.NotOnLink wrong right = wrong right.on_link
+  pub wrong_not_right : (before : List Entry) (entry : Entry) (fault : NodeFault) → IsWrongEntry network path link before entry fault
+      → IsRightEntry network path link before entry → ⊥
+  wrong_not_right before entry kinds.NotSent wrong right = wrong.1 right.on_link.sent
+  wrong_not_right before entry kinds.NotOnLink wrong right = off_link before entry wrong right.on_link
   wrong_not_right before entry kinds.StreamRepeated wrong right = right.other_frame wrong.1.0 wrong.1.1 wrong.1.2 (ap (λ e. e.frame) wrong.1.3 ∙ wrong.1.4)
   wrong_not_right before entry kinds.ChainBroken wrong right = wrong.2 right.leads
-  wrong_not_right before entry kinds.NotConflict wrong right = wrong
-  wrong_not_right before entry kinds.BoundTooLow wrong right = wrong
+  wrong_not_right before entry _ wrong right = wrong
 
-  pub first_wrong_refutes : (entries : List Entry) (fault : NodeFault) → IsFirstWrong network path link entries (IsWrongEntry network path link fault) → AreEntries network path link entries → ⊥
+  pub first_wrong_refutes : (entries : List Entry) (fault : NodeFault) → IsFirstWrong network path link entries fault → AreEntries network path link entries → ⊥
   first_wrong_refutes entries fault first are = wrong_not_right (take first.k entries) first.entry fault first.wrong (entry_right entries first.k first.entry are first.there)
 
-pub chain_broken : (network : Network) (path : List Decision) (proof : Leaf) → BreaksChain network path proof → HasChains network path proof → ⊥
-chain_broken network path (late i chain) breaks has = breaks has
-chain_broken network path (overrun i chain) breaks has = breaks has
-chain_broken network path (positive_cycle chain) breaks has = breaks has
-chain_broken network path (load link entries) breaks has = first_wrong_refutes network path link entries kinds.ChainBroken breaks has
-chain_broken network path (overload link entries) breaks has = first_wrong_refutes network path link entries kinds.ChainBroken breaks has
-
-pub repeated_wrong : (network : Network) (path : List Decision) (proof : Leaf) → HasWrongEntry network path (IsRepeated network) proof → HasChains network path proof → ⊥
-repeated_wrong network path (late i chain) wrong has = wrong
-repeated_wrong network path (overrun i chain) wrong has = wrong
-repeated_wrong network path (positive_cycle chain) wrong has = wrong
-repeated_wrong network path (load link entries) wrong has = first_wrong_refutes network path link entries kinds.StreamRepeated wrong has
-repeated_wrong network path (overload link entries) wrong has = first_wrong_refutes network path link entries kinds.StreamRepeated wrong has
-
-pub off_link_wrong : (network : Network) (path : List Decision) (proof : Leaf) → HasWrongEntry network path (IsOffLink network) proof → HasChains network path proof → ⊥
-off_link_wrong network path (late i chain) wrong has = wrong
-off_link_wrong network path (overrun i chain) wrong has = wrong
-off_link_wrong network path (positive_cycle chain) wrong has = wrong
-off_link_wrong network path (load link entries) wrong has = first_wrong_refutes network path link entries kinds.NotOnLink wrong has
-off_link_wrong network path (overload link entries) wrong has = first_wrong_refutes network path link entries kinds.NotOnLink wrong has
+-- a leaf with a wrong part hasn't right chains
+pub part_refutes : (network : Network) (path : List Decision) (proof : Leaf) (fault : NodeFault) → IsWrongPart network path proof fault
+    → HasChains network path proof → ⊥
+part_refutes network path (late i chain) fault wrong has = wrong.1 has
+part_refutes network path (overrun i chain) fault wrong has = wrong.1 has
+part_refutes network path (positive_cycle chain) fault wrong has = wrong.1 has
+part_refutes network path (load link entries) fault wrong has = first_wrong_refutes network path link entries fault wrong has
+part_refutes network path (overload link entries) fault wrong has = first_wrong_refutes network path link entries fault wrong has
 
 -- ---- nodes
 
@@ -111,41 +108,35 @@ tie_chains : (network : Network) (planned : Option (List ℕ)) (path : List Deci
 tie_chains network None path proof chains ties = absurd ties
 tie_chains network (Some offsets) path proof chains ties = (has_chains network (flowspan network offsets) path proof ties.bound, ties.are_chains)
 
--- a node with a fault isn't right
-pub fault_wrong : (network : Network) (target : ℕ) (planned : Option (List ℕ)) (path : List Decision) (node : Node) (fault : NodeFault) → HasFault network target planned path node fault → IsNodeShown network target planned path node → ⊥
-fault_wrong network target planned path (split_node triple) kinds.NotConflict fault right = fault right
-fault_wrong network target planned path (split_node triple) _ fault right = absurd fault
-fault_wrong network target planned path (leaf_node proof) kinds.NotConflict fault right = absurd fault
-fault_wrong network target planned path (leaf_node proof) kinds.ChainBroken fault right = chain_broken network path proof fault (has_chains network target path proof right)
-fault_wrong network target planned path (leaf_node proof) kinds.BoundTooLow fault right = fault.1 right
-fault_wrong network target planned path (leaf_node proof) kinds.StreamRepeated fault right = repeated_wrong network path proof fault (has_chains network target path proof right)
-fault_wrong network target planned path (leaf_node proof) kinds.NotOnLink fault right = off_link_wrong network path proof fault (has_chains network target path proof right)
-fault_wrong network target planned path (tie_node proof chains) kinds.NotConflict fault right = absurd fault
-fault_wrong network target planned path (tie_node proof chains) kinds.ChainBroken fault right =
-    let has = tie_chains network planned path proof chains right in
-    elim fault [ inl breaks ↦ chain_broken network path proof breaks has.0 | inr unled ↦ unled.1 has.1 ]
-fault_wrong network target planned path (tie_node proof chains) kinds.BoundTooLow fault right = fault.2 right
-fault_wrong network target planned path (tie_node proof chains) kinds.StreamRepeated fault right = repeated_wrong network path proof fault (tie_chains network planned path proof chains right).0
-fault_wrong network target planned path (tie_node proof chains) kinds.NotOnLink fault right = off_link_wrong network path proof fault (tie_chains network planned path proof chains right).0
+no_tie_refutes : (network : Network) (planned : Option (List ℕ)) (path : List Decision) (proof : Leaf) (chains : List (List ℕ)) (fault : NodeFault)
+    → IsNoTie network planned path proof chains fault → IsSomeAnd planned (λ offsets. Ties network path offsets proof chains) → ⊥
+no_tie_refutes network None path proof chains fault wrong ties = ties
+no_tie_refutes network (Some offsets) path proof chains fault (inl low) ties = low.1.1 ties.bound
+no_tie_refutes network (Some offsets) path proof chains fault (inr sooner) ties = sooner.1 ties.after
 
-pub tree_fault_refutes : (network : Network) (target : ℕ) (planned : Option (List ℕ)) (nodes : List Node) (fault : CheckFault) → IsTreeFault network target planned nodes fault → Fills (IsNodeShown network target planned) ([] ∷ []) nodes → ⊥
+-- a wrong node isn't right
+pub node_refutes : (network : Network) (target : ℕ) (planned : Option (List ℕ)) (path : List Decision) (node : Node) (fault : NodeFault)
+    → IsWrongNode network target planned path node fault → IsNodeShown network target planned path node → ⊥
+node_refutes network target planned path (split_node triple) fault wrong right = wrong.1 right
+node_refutes network target planned path (leaf_node proof) fault (inl part) right =
+    part_refutes network path proof fault part (has_chains network target path proof right)
+node_refutes network target planned path (leaf_node proof) fault (inr low) right = low.1.1 right
+node_refutes network target planned path (tie_node proof chains) fault (inl part) right =
+    part_refutes network path proof fault part (tie_chains network planned path proof chains right).0
+node_refutes network target planned path (tie_node proof chains) fault (inr (inl unled)) right = unled.1 (tie_chains network planned path proof chains right).1
+node_refutes network target planned path (tie_node proof chains) fault (inr (inr low)) right =
+    no_tie_refutes network planned path proof chains fault low.1 right
+
+pub tree_refutes : (network : Network) (target : ℕ) (planned : Option (List ℕ)) (nodes : List Node) (fault : TreeFault)
+    → IsWrongTree network target planned nodes fault → Fills (IsNodeShown network target planned) ([] ∷ []) nodes → ⊥
 unfolding places_after
-tree_fault_refutes network target planned nodes (TreeUnfinished k) fault fills = fault.2 (right_from_fills (IsNodeShown network target planned) ([] ∷ []) nodes fills).1
-tree_fault_refutes network target planned nodes (TreeTooLong k) fault fills =
+tree_refutes network target planned nodes (why.Unfinished k) fault fills =
+    fault.2 (right_from_fills (IsNodeShown network target planned) ([] ∷ []) nodes fills).1
+tree_refutes network target planned nodes (why.TooLong k) fault fills =
     let parts = fills-append (IsNodeShown network target planned) ([] ∷ []) (take k nodes) (drop k nodes) (subst (Fills (IsNodeShown network target planned) ([] ∷ [])) (sym (take-append-drop k nodes)) fills) in
     let below = fault.0 in
     let empty = filled_none network target planned (drop k nodes) (subst (λ ps. Fills (IsNodeShown network target planned) ps (drop k nodes)) fault.2 parts.1) in
     omega (arith, length-drop k nodes, ap length empty)
-tree_fault_refutes network target planned nodes (NotConflict k) fault fills =
-    fault_wrong network target planned fault.0 fault.1 kinds.NotConflict fault.3 (stands_right network target planned nodes k fault.0 fault.1 fault.2 fills)
-tree_fault_refutes network target planned nodes (ChainBroken k) fault fills =
-    fault_wrong network target planned fault.0 fault.1 kinds.ChainBroken fault.3 (stands_right network target planned nodes k fault.0 fault.1 fault.2 fills)
-tree_fault_refutes network target planned nodes (BoundTooLow k) fault fills =
-    fault_wrong network target planned fault.0 fault.1 kinds.BoundTooLow fault.3 (stands_right network target planned nodes k fault.0 fault.1 fault.2 fills)
-tree_fault_refutes network target planned nodes (StreamRepeated k) fault fills =
-    fault_wrong network target planned fault.0 fault.1 kinds.StreamRepeated fault.3 (stands_right network target planned nodes k fault.0 fault.1 fault.2 fills)
-tree_fault_refutes network target planned nodes (NotOnLink k) fault fills =
-    fault_wrong network target planned fault.0 fault.1 kinds.NotOnLink fault.3 (stands_right network target planned nodes k fault.0 fault.1 fault.2 fills)
-tree_fault_refutes network target planned nodes PlanInvalid fault fills = fault
-tree_fault_refutes network target planned nodes FlowspanWrong fault fills = fault
-tree_fault_refutes network target planned nodes Memory fault fills = fault
+tree_refutes network target planned nodes (why.Node k wrong) fault fills =
+    node_refutes network target planned fault.0 fault.1 wrong fault.3 (stands_right network target planned nodes k fault.0 fault.1 fault.2 fills)
+tree_refutes network target planned nodes _ fault fills = absurd fault

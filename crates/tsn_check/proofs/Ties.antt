@@ -1,5 +1,5 @@
 -- What is found of a leaf, as the fault of a node; and what the sums of chains show of a plan.
-use Rattle.std.proofs.Common.{◌≡◌, ℕ, ◌+◌, ◌<◌, List, [], length, get_or, ◌∙◌, pos, ◌<ℤ◌, Option, inl, inr, sym, ap, subst, arith}
+use Rattle.std.proofs.Common.{◌≡◌, ℕ, ◌+◌, ◌<◌, List, [], length, get_or, ◌∙◌, pos, ◌<ℤ◌, Option, Some, None, Ok, refl, inl, inr, sym, ap, subst, arith}
 use Rattle.std.specs.Prelude.{IsSomeAnd}
 use Rattle.std.proofs.lemmas.Int.{ints}
 use Rattle.std.proofs.lemmas.Bool.{cases_lt}
@@ -7,14 +7,15 @@ use Rattle.std.proofs.lemmas.List.{get_or_default}
 use Rattle.tsn_model.specs.declared.Decision.{Decision}
 use Rattle.tsn_model.specs.Network.{Network, stream_count}
 use Rattle.tsn_model.specs.Schedule.{offset_of}
-use Rattle.tsn_model.specs.Certificate.{Leaf, Proves, HasBound, AreChains, Ties, leaf_node, tie_node, sum_on, chain_at, SumsAre, ShowsAfter}
+use Rattle.tsn_model.specs.Certificate.{Leaf, Proves, HasBound, AreChains, Ties, sum_on, chain_at, SumsAre, ShowsAfter}
 use Rattle.tsn_cert.specs.declared.plan.Plan.{Plan}
 use Rattle.tsn_cert.specs.declared.plan.Plan.TheVariants as plan
 use Rattle.tsn_check.specs.Plans.{IsPlanRight, offsets_in, span_in}
-use Rattle.tsn_check.specs.Faults.{HasChains}
-use Rattle.tsn_check.specs.Steps.{HasFault, HasPartFault}
-use Rattle.tsn_check.specs.declared.fault.NodeFault.{NodeFault}
-use Rattle.tsn_check.specs.declared.fault.NodeFault.TheVariants as kinds
+use Rattle.tsn_check.specs.Faults.{HasChains, IsShort, IsNoTie}
+use Rattle.tsn_check.specs.Steps.{FindsBound}
+use Rattle.tsn_check.specs.declared.why.Shortfall.{Shortfall}
+use Rattle.tsn_check.specs.declared.why.NodeFault.TheVariants as kinds
+use Rattle.tsn_check.proofs.Refusals.{has_chains}
 
 offsets_or : Plan → List ℕ
 offsets_or (plan.Schedule span offsets) = offsets
@@ -24,45 +25,36 @@ schedule_offsets : (s span : ℕ) (planned offsets : List ℕ) → plan.Schedule
 unfolding offsets_or
 schedule_offsets s span planned offsets is = ap offsets_or is
 
--- what is wrong with a leaf's parts is wrong with the leaf
-pub leaf_part : (network : Network) (target : ℕ) (planned : Option (List ℕ)) (path : List Decision) (proof : Leaf) (fault : NodeFault) → HasPartFault network path proof fault
-    → HasFault network target planned path (leaf_node proof) fault
-leaf_part network target planned path proof kinds.NotConflict is = is
-leaf_part network target planned path proof kinds.ChainBroken is = is
-leaf_part network target planned path proof kinds.BoundTooLow is = absurd is
-leaf_part network target planned path proof kinds.StreamRepeated is = is
-leaf_part network target planned path proof kinds.NotOnLink is = is
-
--- and with the tie
-pub tie_part : (network : Network) (target : ℕ) (planned : Option (List ℕ)) (path : List Decision) (proof : Leaf) (chains : List (List ℕ)) (fault : NodeFault) → HasPartFault network path proof fault
-    → HasFault network target planned path (tie_node proof chains) fault
-tie_part network target planned path proof chains kinds.NotConflict is = absurd is
-tie_part network target planned path proof chains kinds.ChainBroken is = inl is
-tie_part network target planned path proof chains kinds.BoundTooLow is = absurd is
-tie_part network target planned path proof chains kinds.StreamRepeated is = is
-tie_part network target planned path proof chains kinds.NotOnLink is = is
-
--- where those are right, and the tie's own chains aren't, these are what is wrong with it
-pub tie_broken : (network : Network) (target : ℕ) (planned : Option (List ℕ)) (path : List Decision) (proof : Leaf) (chains : List (List ℕ)) (fault : NodeFault) → fault ≡ kinds.ChainBroken
-    → HasChains network path proof → (AreChains network path chains → ⊥) → HasFault network target planned path (tie_node proof chains) fault
-tie_broken network target planned path proof chains fault is has unled = subst (HasFault network target planned path (tie_node proof chains)) (sym is) (inr (has, unled))
-
--- a tie with a right plan proves its flowspan, and that no schedule on the path comes before it
-pub tie_proves : (network : Network) (path : List Decision) (proof : Leaf) (chains : List (List ℕ)) (plan : Plan) → IsPlanRight network plan
-    → IsSomeAnd (offsets_in plan) (λ offsets. Ties network path offsets proof chains) → Proves network path (span_in plan) proof
-tie_proves network path proof chains (plan.Schedule span offsets) right ties = subst (λ target. Proves network path target proof) (sym right.1) ties.bound
-tie_proves network path proof chains plan.None right ties = absurd ties
-
-pub tie_shows : (network : Network) (path : List Decision) (proof : Leaf) (chains : List (List ℕ)) (whole : Plan) (span : ℕ) (offsets : List ℕ) → whole ≡ plan.Schedule span offsets
-    → IsSomeAnd (offsets_in whole) (λ planned. Ties network path planned proof chains) → ShowsAfter network path chains offsets
-tie_shows network path proof chains whole span offsets is ties =
-    let shown : Ties network path offsets proof chains = subst (λ p. IsSomeAnd (offsets_in p) (λ planned. Ties network path planned proof chains)) is ties in
-    shown.after
+-- where something is found of a leaf its chains are right
+pub found_chains : (network : Network) (path : List Decision) (target : ℕ) (proof : Leaf) (found : Option Shortfall)
+    → FindsBound network target path proof (Ok found) → HasChains network path proof
+found_chains network path target proof None found = has_chains network target path proof found
+found_chains network path target proof (Some short) found = found.0
 
 -- where the plan is that there is no schedule nothing ties
-pub nothing_ties : (network : Network) (path : List Decision) (proof : Leaf) (chains : List (List ℕ)) (whole : Plan) → whole ≡ plan.None
-    → IsSomeAnd (offsets_in whole) (λ planned. Ties network path planned proof chains) → ⊥
-nothing_ties network path proof chains whole is ties = subst (λ p. IsSomeAnd (offsets_in p) (λ planned. Ties network path planned proof chains)) is ties
+pub none_no_tie : (network : Network) (path : List Decision) (proof : Leaf) (chains : List (List ℕ)) (whole : Plan) → whole ≡ plan.None
+    → HasChains network path proof
+    → IsNoTie network (offsets_in whole) path proof chains kinds.TieOfNone
+none_no_tie network path proof chains whole is has = subst (λ p. IsNoTie network (offsets_in p) path proof chains kinds.TieOfNone) (sym is) (has, refl)
+
+-- nor does a leaf that doesn't prove the plan's flowspan
+pub low_no_tie : (network : Network) (path : List Decision) (proof : Leaf) (chains : List (List ℕ)) (whole : Plan) (span : ℕ) (offsets : List ℕ) (short : Shortfall)
+    → whole ≡ plan.Schedule span offsets
+    → IsPlanRight network whole → IsShort network path (span_in whole) proof short
+    → IsNoTie network (offsets_in whole) path proof chains (kinds.TieTooLow short)
+low_no_tie network path proof chains plan.None span offsets short is right low = cc
+low_no_tie network path proof chains (plan.Schedule s planned) span offsets short is right low =
+    inl (short, subst (λ target. IsShort network path target proof short) right.1 low, refl)
+
+-- nor one whose chains don't show that no schedule on the path comes before the plan
+pub sooner_no_tie : (network : Network) (path : List Decision) (proof : Leaf) (chains : List (List ℕ)) (whole : Plan) (span : ℕ) (offsets : List ℕ)
+    → whole ≡ plan.Schedule span offsets
+    → IsPlanRight network whole → Proves network path (span_in whole) proof → (ShowsAfter network path chains offsets → ⊥)
+    → IsNoTie network (offsets_in whole) path proof chains kinds.TieSooner
+sooner_no_tie network path proof chains plan.None span offsets is right proves sooner = cc
+sooner_no_tie network path proof chains (plan.Schedule s planned) span offsets is right proves sooner =
+    let same = schedule_offsets s span planned offsets is in
+    inr (subst (λ target. Proves network path target proof) right.1 proves, λ after. sooner (subst (ShowsAfter network path chains) same after), refl)
 
 -- a leaf that proves the plan's flowspan, with chains that show that no schedule on the path comes before it, is a tie
 pub tie_made : (network : Network) (path : List Decision) (proof : Leaf) (chains : List (List ℕ)) (whole : Plan) (span : ℕ) (offsets : List ℕ) → whole ≡ plan.Schedule span offsets → IsPlanRight network whole

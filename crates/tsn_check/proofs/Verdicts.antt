@@ -17,12 +17,13 @@ use Rattle.tsn_model.specs.Places.{Fills}
 use Rattle.tsn_check.specs.Claims.{IsClaim}
 use Rattle.tsn_check.specs.Plans.{span_in, IsPlanRight, IsOptimalPlan, IsFirstPlan, offsets_in}
 use Rattle.tsn_check.specs.Certified.{TreeCertifies, leaf_target, tie_plan, verdict_of}
-use Rattle.tsn_check.specs.Faults.{IsClaimFault, IsScheduleFault, IsFirstFault, IsTreeFault}
+use Rattle.tsn_check.specs.Faults.{IsWhy, IsWrongTree, IsFirstFault}
 use Rattle.tsn_check.specs.declared.verdict.Verdict.TheVariants.{Optimal, First, NoSchedule}
 use Rattle.tsn_check.specs.declared.fault.CheckFault.{CheckFault}
-use Rattle.tsn_check.specs.declared.fault.CheckFault.TheVariants.{PlanInvalid, FlowspanWrong, TreeUnfinished, TreeTooLong, NotConflict, ChainBroken, BoundTooLow, StreamRepeated, NotOnLink, Memory}
+use Rattle.tsn_check.specs.declared.why.TreeFault.{TreeFault}
 use Rattle.tsn_model.proofs.Places.{filled_tree, tree_filled}
-use Rattle.tsn_check.proofs.Refusals.{tree_fault_refutes}
+use Rattle.tsn_check.proofs.Plans.{claim_refutes}
+use Rattle.tsn_check.proofs.Refusals.{tree_refutes}
 
 -- nodes that fill the root's place for the plan's target
 pub certified : (network : Network) (plan : Plan) (cert : Cert) → IsPlanRight network plan → cert.target ≡ target_of network (offsets_in plan)
@@ -60,31 +61,16 @@ none_in network formed Two (plan.Schedule span offsets) accepted right accepts i
 none_in network formed One plan.None accepted right accepts is = accepted_none network formed accepted accepts
 none_in network formed Two plan.None accepted right accepts is = accepted_first_none network formed accepted accepts
 
-schedule_fault_refutes : (network : Network) (span : ℕ) (offsets : List ℕ) (fault : CheckFault) → IsScheduleFault network span offsets fault → IsPlanRight network (plan.Schedule span offsets) → ⊥
-schedule_fault_refutes network span offsets PlanInvalid fault right = fault right.0
-schedule_fault_refutes network span offsets FlowspanWrong fault right = fault.1 right.1
-schedule_fault_refutes network span offsets (TreeUnfinished k) fault right = fault
-schedule_fault_refutes network span offsets (TreeTooLong k) fault right = fault
-schedule_fault_refutes network span offsets (NotConflict k) fault right = fault
-schedule_fault_refutes network span offsets (ChainBroken k) fault right = fault
-schedule_fault_refutes network span offsets (BoundTooLow k) fault right = fault
-schedule_fault_refutes network span offsets (StreamRepeated k) fault right = fault
-schedule_fault_refutes network span offsets (NotOnLink k) fault right = fault
-schedule_fault_refutes network span offsets Memory fault right = fault
-
-pub claim_fault_refutes : (network : Network) (plan : Plan) (fault : CheckFault) → IsClaimFault network plan fault → IsPlanRight network plan → ⊥
-claim_fault_refutes network (plan.Schedule span offsets) fault is right = schedule_fault_refutes network span offsets fault is right
-claim_fault_refutes network plan.None fault is right = is
+pub why_refutes : (network : Network) (plan : Plan) (cert : Cert) (fault : TreeFault) → IsWhy network plan cert fault → TreeCertifies network plan cert → ⊥
+why_refutes network plan cert fault (inl claim) certifies = claim_refutes network plan claim.0 claim.1 certifies.plan_right
+why_refutes network plan cert fault (inr (inl target)) certifies = target.1.0 certifies.target_right
+why_refutes network plan cert fault (inr (inr tree)) certifies =
+    tree_refutes network (leaf_target network cert.format cert.target) (tie_plan cert.format (offsets_in plan)) cert.nodes fault tree.2
+    (tree_filled (IsNodeShown network (leaf_target network cert.format cert.target) (tie_plan cert.format (offsets_in plan))) [] cert.nodes certifies.tree
+    certifies.spelled certifies.accepted)
 
 pub first_fault_refutes : (network : Network) (plan : Plan) (cert : Cert) (fault : CheckFault) → IsFirstFault network plan cert fault → TreeCertifies network plan cert → ⊥
-first_fault_refutes network plan cert fault is certifies = elim is [
-  | inl claim ↦ claim_fault_refutes network plan fault claim certifies.plan_right
-  | inr later ↦ elim later [
-    | inl target ↦ target.1 certifies.target_right
-    | inr tree ↦ tree_fault_refutes network (leaf_target network cert.format cert.target) (tie_plan cert.format (offsets_in plan)) cert.nodes fault tree.2
-        (tree_filled (IsNodeShown network (leaf_target network cert.format cert.target) (tie_plan cert.format (offsets_in plan))) [] cert.nodes certifies.tree certifies.spelled certifies.accepted)
-  ]
-]
+first_fault_refutes network plan cert fault is certifies = why_refutes network plan cert is.0 is.1 certifies
 
 -- ---- what the code found
 
@@ -119,13 +105,14 @@ shown_none network timing plan cert target same claim certifies is =
     none_in network (subst IsWellFormed same claim.formed) cert.format plan certifies.tree certifies.plan_right (accepted_for network plan cert certifies) is
 
 -- a fault of the nodes is the first one
-pub tree_fault_first : (network timing : Network) (plan : Plan) (cert : Cert) (target : ℕ) (nodes : List tree.Node) (fault : CheckFault) → timing ≡ network → IsClaim timing plan target
-    → cert.target ≡ target → nodes ≡ cert.nodes → IsTreeFault timing (leaf_target timing cert.format target) (tie_plan cert.format (offsets_in plan)) nodes fault → IsFirstFault network plan cert fault
+pub tree_fault_first : (network timing : Network) (plan : Plan) (cert : Cert) (target : ℕ) (nodes : List tree.Node) (fault : TreeFault) → timing ≡ network
+    → IsClaim timing plan target
+    → cert.target ≡ target → nodes ≡ cert.nodes
+    → IsWrongTree timing (leaf_target timing cert.format target) (tie_plan cert.format (offsets_in plan)) nodes fault → IsWhy network plan cert fault
 tree_fault_first network timing plan cert target nodes fault same claim aimed listed is =
     let right = subst (λ n. IsPlanRight n plan) same claim.right in
     let aim : cert.target ≡ target_of network (offsets_in plan) = aimed ∙ claim.aim ∙ ap (λ n. target_of n (offsets_in plan)) same in
-    let Faulty : Network → ℕ → List tree.Node → Type 0 = λ n t ns. IsTreeFault n (leaf_target n cert.format t) (tie_plan cert.format (offsets_in plan)) ns fault in
+    let Faulty : Network → ℕ → List tree.Node → Type 0 = λ n t ns. IsWrongTree n (leaf_target n cert.format t) (tie_plan cert.format (offsets_in plan)) ns
+    fault in
     let whole : Faulty network cert.target cert.nodes = subst (Faulty network cert.target) listed (subst (λ t. Faulty network t nodes) (sym aimed) (subst (λ n. Faulty n target nodes) same is)) in
     inr (inr (right, aim, whole))
-
--- ---- plans

@@ -12,11 +12,9 @@ use Rattle.tsn_cert.specs.declared.cert.Node.{Node}
 use Rattle.tsn_cert.specs.Node.{tree_node}
 use Rattle.tsn_model.specs.Places.{opened_by, next_places, Fills, places_from, places_after, AreRight, pending}
 use Rattle.tsn_check.specs.Turns.{places_at}
-use Rattle.tsn_check.specs.Faults.{IsTreeFault}
-use Rattle.tsn_check.specs.Numbers.{fault_at}
-use Rattle.tsn_check.specs.Steps.{HasFault}
-use Rattle.tsn_check.specs.declared.fault.NodeFault.{NodeFault}
-use Rattle.tsn_check.specs.declared.fault.NodeFault.TheVariants.{NotConflict, ChainBroken, BoundTooLow, StreamRepeated, NotOnLink}
+use Rattle.tsn_check.specs.Faults.{IsWrongTree, IsWrongNode}
+use Rattle.tsn_check.specs.declared.why.NodeFault.{NodeFault}
+use Rattle.tsn_check.specs.declared.why.TreeFault.TheVariants as why
 use Rattle.tsn_model.proofs.Places.{right-snoc, places_after-snoc, places_after-fills, fills_from_right, pending-nil, pending-left}
 
 pub start_places : places_after [] ≡ [] ∷ pending []
@@ -72,16 +70,9 @@ all_filled network target planned nodes i past right filled =
 
 -- a fault of the node where the walk stands is the first one
 pub fault_there : (network : Network) (target : ℕ) (planned : Option (List ℕ)) (nodes : List tree.Node) (i : ℕ) (path : List Decision) (node : tree.Node) (fault : NodeFault) → AreRight (IsNodeShown network target planned) ([] ∷ []) (take i nodes)
-    → places_after (take i nodes) ≡ path ∷ pending path → slice_get nodes i ≡ Some node → HasFault network target planned path node fault → IsTreeFault network target planned nodes (fault_at i fault)
-fault_there network target planned nodes i path node NotConflict right here there is =
-    (path, node, record { right_before = right; waiting = pending path; first_place = here; there = there }, is)
-fault_there network target planned nodes i path node ChainBroken right here there is =
-    (path, node, record { right_before = right; waiting = pending path; first_place = here; there = there }, is)
-fault_there network target planned nodes i path node BoundTooLow right here there is =
-    (path, node, record { right_before = right; waiting = pending path; first_place = here; there = there }, is)
-fault_there network target planned nodes i path node StreamRepeated right here there is =
-    (path, node, record { right_before = right; waiting = pending path; first_place = here; there = there }, is)
-fault_there network target planned nodes i path node NotOnLink right here there is =
+    → places_after (take i nodes) ≡ path ∷ pending path → slice_get nodes i ≡ Some node → IsWrongNode network target planned path node fault
+    → IsWrongTree network target planned nodes (why.Node i fault)
+fault_there network target planned nodes i path node fault right here there is =
     (path, node, record { right_before = right; waiting = pending path; first_place = here; there = there }, is)
 
 -- the nodes end and a place is open

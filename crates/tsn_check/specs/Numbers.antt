@@ -1,9 +1,13 @@
--- The numbers by which faults are told.
+-- The numbers by which faults are told, and the faults without the numbers that show them.
 use Rattle.std.specs.Prelude.{ℕ, Option, Some, None}
 use Rattle.tsn_check.specs.declared.fault.CheckFault.{CheckFault}
 use Rattle.tsn_check.specs.declared.fault.CheckFault.TheVariants.{PlanInvalid, FlowspanWrong, TreeUnfinished, TreeTooLong, NotConflict, ChainBroken, BoundTooLow, StreamRepeated, NotOnLink, Memory}
-use Rattle.tsn_check.specs.declared.fault.NodeFault.{NodeFault}
-use Rattle.tsn_check.specs.declared.fault.NodeFault.TheVariants as node
+use Rattle.tsn_check.specs.declared.why.PlanFault.{PlanFault}
+use Rattle.tsn_check.specs.declared.why.PlanFault.TheVariants as of_plan
+use Rattle.tsn_check.specs.declared.why.NodeFault.{NodeFault}
+use Rattle.tsn_check.specs.declared.why.NodeFault.TheVariants as of_node
+use Rattle.tsn_check.specs.declared.why.TreeFault.{TreeFault}
+use Rattle.tsn_check.specs.declared.why.TreeFault.TheVariants as why
 
 -- the number of a fault
 abbrev pub number_of : CheckFault → ℕ
@@ -31,10 +35,29 @@ node_of (StreamRepeated k) = Some k
 node_of (NotOnLink k) = Some k
 node_of Memory = None
 
--- what is wrong with node k, as a fault of the certificate
-abbrev pub fault_at : ℕ → NodeFault → CheckFault
-fault_at k node.NotConflict = NotConflict k
-fault_at k node.ChainBroken = ChainBroken k
-fault_at k node.BoundTooLow = BoundTooLow k
-fault_at k node.StreamRepeated = StreamRepeated k
-fault_at k node.NotOnLink = NotOnLink k
+-- ---- the faults as they are told without the numbers that show them
+
+abbrev pub plan_code : PlanFault → CheckFault
+plan_code of_plan.NoSchedule = PlanInvalid
+plan_code (of_plan.Invalid violation) = PlanInvalid
+plan_code (of_plan.Flowspan stated wanted) = FlowspanWrong
+plan_code of_plan.Memory = Memory
+
+abbrev pub node_code : ℕ → NodeFault → CheckFault
+node_code k of_node.NotConflict = NotConflict k
+node_code k of_node.ChainBroken = ChainBroken k
+node_code k of_node.StreamRepeated = StreamRepeated k
+node_code k of_node.NotSent = NotOnLink k
+node_code k of_node.NotOnLink = NotOnLink k
+node_code k (of_node.TooLow short) = BoundTooLow k
+node_code k (of_node.TieTooLow short) = BoundTooLow k
+node_code k of_node.TieOfNone = BoundTooLow k
+node_code k of_node.TieSooner = BoundTooLow k
+
+abbrev pub code_of : TreeFault → CheckFault
+code_of (why.Plan fault) = plan_code fault
+code_of (why.Target stated wanted) = FlowspanWrong
+code_of (why.Unfinished k) = TreeUnfinished k
+code_of (why.TooLong k) = TreeTooLong k
+code_of (why.Node k fault) = node_code k fault
+code_of why.Memory = Memory

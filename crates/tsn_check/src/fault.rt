@@ -1,10 +1,8 @@
 //! Why a plan or its certificate is refused.
 ghost use Rattle.std.specs.Prelude.{◌≡◌};
-ghost use Rattle.tsn_check.specs.Numbers.{number_of, node_of, fault_at};
+ghost use Rattle.tsn_check.specs.Numbers.{number_of, node_of};
 
-use std::alloc::{AllocError, AllocFailed};
 use thiserror::Error;
-use tsn_model::NoMemory;
 
 /// Why a plan or its certificate is refused: the first fault, the nodes of the certificate numbered from 0.
 #[derive(Clone, Copy, Debug, PartialEq, Eq, Error)]
@@ -74,64 +72,6 @@ impl CheckFault {
             | CheckFault::StreamRepeated(node)
             | CheckFault::NotOnLink(node) => Some(node),
             CheckFault::PlanInvalid | CheckFault::FlowspanWrong | CheckFault::Memory => None,
-        }
-    }
-}
-
-impl From<NoMemory> for CheckFault {
-    ghost use Rattle.std.specs.Prelude.{◌≡◌};
-    ghost use Rattle.tsn_check.specs.declared.fault.CheckFault.TheVariants.{Memory};
-
-    ghost from_gives = { λ _ fault. fault ≡ Memory };
-
-    fn from(_refused: NoMemory) -> CheckFault {
-        CheckFault::Memory
-    }
-}
-
-impl From<AllocError> for CheckFault {
-    ghost use Rattle.std.specs.Prelude.{◌≡◌};
-    ghost use Rattle.tsn_check.specs.declared.fault.CheckFault.TheVariants.{Memory};
-
-    ghost from_gives = { λ _ fault. fault ≡ Memory };
-
-    fn from(_refused: AllocError) -> CheckFault {
-        CheckFault::Memory
-    }
-}
-
-impl<T: Drop> From<AllocFailed<T>> for CheckFault {
-    ghost use Rattle.std.specs.Prelude.{◌≡◌};
-    ghost use Rattle.tsn_check.specs.declared.fault.CheckFault.TheVariants.{Memory};
-
-    ghost from_gives = { λ _ fault. fault ≡ Memory };
-
-    fn from(_refused: AllocFailed<T>) -> CheckFault {
-        CheckFault::Memory
-    }
-}
-
-/// What is wrong with a node at the end of a path.
-#[derive(Clone, Copy)]
-pub(crate) enum NodeFault {
-    NotConflict,
-    ChainBroken,
-    BoundTooLow,
-    StreamRepeated,
-    NotOnLink,
-}
-
-impl NodeFault {
-    /// The fault of the node of this number.
-    pub(crate) fn at(self, node: usize) -> CheckFault
-        ensures { result ≡ fault_at node self }
-    {
-        match self {
-            NodeFault::NotConflict => CheckFault::NotConflict(node),
-            NodeFault::ChainBroken => CheckFault::ChainBroken(node),
-            NodeFault::BoundTooLow => CheckFault::BoundTooLow(node),
-            NodeFault::StreamRepeated => CheckFault::StreamRepeated(node),
-            NodeFault::NotOnLink => CheckFault::NotOnLink(node),
         }
     }
 }

@@ -1,12 +1,17 @@
 //! The laws of what is judged: the words in which a first fault is told, and the limits of files. Each function does nothing: its
 //! contract is the law.
 
-ghost use Rattle.tsn_check.specs.Laws.{FirstFaultsRefute};
+ghost use Rattle.tsn_check.specs.Laws.{FirstFaultsRefute, FirstReasonsRefute};
 ghost use Rattle.tsn_check.specs.Limits.{RightPlansFit, CertifiedTreesFit};
 
 /// A plan and a certificate with a first fault show nothing, and have no other first fault.
 pub fn first_faults_refute()
     ensures { FirstFaultsRefute }
+{}
+
+/// A plan and a tree with a first reason show nothing, and have no other first reason: none of its numbers is made up.
+pub fn first_reasons_refute()
+    ensures { FirstReasonsRefute }
 {}
 
 /// No number of a right plan is above the limits of a file.

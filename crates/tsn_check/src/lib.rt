@@ -1,7 +1,6 @@
 //! Checks plans and their certificates, and stands alone: its yes implies the optimum, its no names the first fault.
 #![tactic(auto)]
 
-pub mod bound;
 pub mod chain;
 mod claim;
 pub mod fault;
@@ -13,8 +12,9 @@ pub mod plan;
 mod tie;
 mod tree;
 pub mod verdict;
+pub mod why;
 
-pub use bound::{Bound, bound_at};
 pub use fault::CheckFault;
-pub use plan::check_plan;
-pub use verdict::{Verdict, check};
+pub use plan::{check_plan, judge_claim, judge_plan};
+pub use verdict::{Verdict, check, judge_tree};
+pub use why::{NodeFault, PlanFault, Shortfall, TreeFault};

@@ -8,9 +8,9 @@ ghost use Rattle.tsn_cert.specs.Entry.{tree_entry};
 ghost use Rattle.tsn_check.specs.Turns.{AreTurns, decisions};
 ghost use Rattle.tsn_check.specs.Steps.{FindsBound, FindsEntry, FindsLoad};
 
-use crate::fault::NodeFault;
-use crate::leaf::sum_to;
+use crate::leaf::{below, sum_to};
 use crate::path::Turn;
+use crate::why::{NodeFault, Shortfall};
 use tsn_cert::plan::MAX_TIME;
 use tsn_cert::{Chain, Entries};
 use tsn_model::Frame;
@@ -65,7 +65,7 @@ fn entry_load(
         return Err(NodeFault::NotOnLink);
     }
     if !timing.is_shift(stream, frame.shift) {
-        return Err(NodeFault::NotOnLink);
+        return Err(NodeFault::NotSent);
     }
     let Some(hop) = timing.hop_on(stream, link) else {
         return Err(NodeFault::NotOnLink);
@@ -106,32 +106,39 @@ pub fn link_load(
     Ok(all)
 }
 
-/// Whether the frames keep the link busy for so long that one of their streams arrives at the target or after it.
+/// Whether the frames keep the link busy for so long that one of their streams arrives at the target or after it; else when, at
+/// the soonest.
 pub fn judge_load(
     timing: &Timing,
     target: u64,
     path: &[Turn],
     link: usize,
     entries: &Entries,
-) -> Result<bool, NodeFault>
+) -> Result<Option<Shortfall>, NodeFault>
     requires turns { AreTurns timing.now path.now }
     requires target { target ≤ MAX_TIME }
     ensures { FindsBound timing.now target (decisions path.now) (load link entries.now) result }
 {
     let all = link_load(timing, path, link, entries)?;
-    Ok(all.head + all.work as i64 + all.tail >= target as i64)
+    Ok(below(all.head + all.work as i64 + all.tail, target))
 }
 
-/// Whether the frames keep the link busy behind the cycle.
+/// Whether the frames keep the link busy behind the cycle; else for how long.
 pub fn judge_overload(
     timing: &Timing,
     path: &[Turn],
     link: usize,
     entries: &Entries,
-) -> Result<bool, NodeFault>
+) -> Result<Option<Shortfall>, NodeFault>
     requires { AreTurns timing.now path.now }
     ensures { (target : ℕ) → FindsBound timing.now target (decisions path.now) (overload link entries.now) result }
 {
     let all = link_load(timing, path, link, entries)?;
-    Ok(all.head + all.work as i64 > timing.cycle() as i64)
+    let end = all.head + all.work as i64;
+    let cycle = timing.cycle();
+    if end > cycle as i64 {
+        Ok(None)
+    } else {
+        Ok(Some(Shortfall::Overload { link, end, cycle }))
+    }
 }

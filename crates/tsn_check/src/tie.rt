@@ -8,9 +8,9 @@ ghost use Rattle.tsn_check.specs.Plans.{offsets_in, span_in, IsPlanRight};
 ghost use Rattle.tsn_check.specs.Turns.{AreTurns, decisions};
 ghost use Rattle.tsn_check.specs.Steps.{Judges, FindsBound, FindsChains};
 
-use crate::fault::NodeFault;
 use crate::leaf::sum_to;
 use crate::path::Turn;
+use crate::why::{NodeFault, Shortfall};
 use tsn_cert::{Chain, Chains, Plan};
 use tsn_timing::Timing;
 
@@ -68,7 +68,7 @@ fn comes_after(timing: &Timing, path: &[Turn], chains: &[Chain], offsets: &[u64]
 pub fn judge_tie(
     timing: &Timing,
     path: &[Turn],
-    found: Result<bool, NodeFault>,
+    found: Result<Option<Shortfall>, NodeFault>,
     chains: &Chains,
     plan: &Plan,
 ) -> Result<(), NodeFault>
@@ -78,17 +78,17 @@ pub fn judge_tie(
     ensures { (proof : Leaf) (target : ℕ) → HasBound proof → FindsBound timing.now (span_in plan.now) (decisions path.now) proof found
         → Judges timing.now target (offsets_in plan.now) (decisions path.now) (tie_node proof chains.now) result }
 {
-    let proved = found?;
+    let short = found?;
     all_lead(timing, path, chains.list())?;
     let Plan::Schedule { offsets, .. } = plan else {
-        return Err(NodeFault::BoundTooLow);
+        return Err(NodeFault::TieOfNone);
     };
-    if !proved {
-        return Err(NodeFault::BoundTooLow);
+    if let Some(short) = short {
+        return Err(NodeFault::TieTooLow(short));
     }
     if comes_after(timing, path, chains.list(), offsets.list()) {
         Ok(())
     } else {
-        Err(NodeFault::BoundTooLow)
+        Err(NodeFault::TieSooner)
     }
 }

@@ -1,5 +1,5 @@
 //! The nodes of a certificate, walked in their order.
-ghost use Rattle.std.specs.Prelude.{◌≡◌, ◌⊎◌, ◌≤◌, ℕ, List, Option, [], ◌∷◌, map, IfOk, IfErr, IsTrue, OnOk};
+ghost use Rattle.std.specs.Prelude.{◌≡◌, ◌⊎◌, ◌≤◌, ℕ, List, Option, [], ◌∷◌, map, IfOk, IfErr, OnOk};
 ghost use Rattle.tsn_cert.specs.Leaf.{bound_leaf, leaf_of};
 ghost use Rattle.tsn_cert.specs.Node.{tree_node};
 ghost use Rattle.tsn_model.specs.declared.Decision.{Decision};
@@ -8,16 +8,16 @@ ghost use Rattle.tsn_model.specs.Places.{Fills, next_places, pending};
 ghost use Rattle.tsn_model.specs.Certificate.{Leaf as TreeLeaf, IsNodeShown, leaf_node};
 ghost use Rattle.tsn_check.specs.Claims.{IsWellPosed};
 ghost use Rattle.tsn_check.specs.Plans.{offsets_in};
-ghost use Rattle.tsn_check.specs.Faults.{IsTreeFault};
+ghost use Rattle.tsn_check.specs.Faults.{IsWrongTree};
 ghost use Rattle.tsn_check.specs.Turns.{AreTurns, AreTurnsOf, decisions, places_at};
 ghost use Rattle.tsn_check.specs.Steps.{Judges, FindsBound, IsBranchOf};
 
 use crate::claim::Claim;
-use crate::fault::{CheckFault, NodeFault};
 use crate::leaf::{judge_cycle, judge_late, judge_overrun};
 use crate::load::{judge_load, judge_overload};
 use crate::path::{Turn, next_place, turn_to};
 use crate::tie::{judge_tie, span_of};
+use crate::why::{NodeFault, Shortfall, TreeFault};
 use std::alloc::Global;
 use tsn_cert::plan::MAX_TIME;
 use tsn_cert::{Leaf, LowerBound, Node};
@@ -25,13 +25,13 @@ use tsn_conflict::sharing::Conflicts;
 use tsn_model::Side;
 use tsn_timing::Timing;
 
-/// Whether the bound is at least the target.
+/// Whether the bound is at least the target; else what it is.
 fn judge_bound(
     timing: &Timing,
     target: u64,
     path: &[Turn],
     bound: &LowerBound,
-) -> Result<bool, NodeFault>
+) -> Result<Option<Shortfall>, NodeFault>
     requires turns { AreTurns timing.now path.now }
     requires target { target ≤ MAX_TIME }
     ensures { FindsBound timing.now target (decisions path.now) (bound_leaf bound.now) result }
@@ -42,8 +42,13 @@ fn judge_bound(
     }
 }
 
-/// Whether the leaf's bound is at least the target, or it shows that there is no valid schedule on the path.
-fn judge_leaf(timing: &Timing, target: u64, path: &[Turn], leaf: &Leaf) -> Result<bool, NodeFault>
+/// Whether the leaf's bound is at least the target, or it shows that there is no valid schedule on the path; else what it comes to.
+fn judge_leaf(
+    timing: &Timing,
+    target: u64,
+    path: &[Turn],
+    leaf: &Leaf,
+) -> Result<Option<Shortfall>, NodeFault>
     requires turns { AreTurns timing.now path.now }
     requires target { target ≤ MAX_TIME }
     ensures { FindsBound timing.now target (decisions path.now) (leaf_of leaf.now) result }
@@ -57,13 +62,13 @@ fn judge_leaf(timing: &Timing, target: u64, path: &[Turn], leaf: &Leaf) -> Resul
 }
 
 /// Whether a leaf is right, of which this is found.
-fn is_shown(found: Result<bool, NodeFault>) -> Result<(), NodeFault>
+fn is_shown(found: Result<Option<Shortfall>, NodeFault>) -> Result<(), NodeFault>
     ensures { (network : Network) (target : ℕ) (planned : Option (List ℕ)) (path : List Decision) (proof : TreeLeaf) → FindsBound network target path proof found
         → Judges network target planned path (leaf_node proof) result }
 {
     match found {
-        Ok(true) => Ok(()),
-        Ok(false) => Err(NodeFault::BoundTooLow),
+        Ok(None) => Ok(()),
+        Ok(Some(short)) => Err(NodeFault::TooLow(short)),
         Err(fault) => Err(fault),
     }
 }
@@ -98,14 +103,14 @@ fn judge(claim: &Claim<'_>, path: &[Turn], node: &Node) -> Result<(), NodeFault>
 
 /// Goes on from a node at the end of the path to the next open place: a branch's left side, or past a leaf. False where the
 /// tree is at its end.
-fn go_on(conflicts: &Conflicts, path: &mut Vec<Turn>, node: &Node) -> Result<bool, CheckFault>
+fn go_on(conflicts: &Conflicts, path: &mut Vec<Turn>, node: &Node) -> Result<bool, TreeFault>
     requires turns { AreTurnsOf conflicts.now path.old.items }
     requires conflict { IsBranchOf conflicts.now (tree_node node.now) }
     ensures turns { OnOk result (AreTurnsOf conflicts.now path.new.items) }
     ensures places { IfOk result (λ is_open.
         next_places (decisions path.old.items ∷ pending (decisions path.old.items)) (tree_node node.now)
         ≡ places_at is_open (decisions path.new.items)) }
-    ensures memory { IfErr result (λ fault. fault ≡ CheckFault.Memory) }
+    ensures memory { IfErr result (λ fault. fault ≡ TreeFault.Memory) }
 {
     match node {
         Node::Branch(triple) => {
@@ -117,56 +122,26 @@ fn go_on(conflicts: &Conflicts, path: &mut Vec<Turn>, node: &Node) -> Result<boo
 }
 
 /// Whether the nodes spell an accepted tree, or else their first fault.
-pub fn check_tree(alloc: Global, claim: &Claim<'_>, nodes: &[Node]) -> Result<(), CheckFault>
+pub fn check_tree(alloc: Global, claim: &Claim<'_>, nodes: &[Node]) -> Result<(), TreeFault>
     requires { IsWellPosed claim.now }
     ensures ok { OnOk result (Fills (IsNodeShown claim.now.timing.now claim.now.target (offsets_in claim.now.plan.now)) ([] ∷ []) (map tree_node nodes.now)) }
-    ensures err { IfErr result (λ fault. (fault ≡ CheckFault.Memory)
-        ⊎ IsTreeFault claim.now.timing.now claim.now.target (offsets_in claim.now.plan.now) (map tree_node nodes.now) fault) }
+    ensures err { IfErr result (λ fault. (fault ≡ TreeFault.Memory)
+        ⊎ IsWrongTree claim.now.timing.now claim.now.target (offsets_in claim.now.plan.now) (map tree_node nodes.now) fault) }
 {
     let mut path = Vec::new(alloc);
     let mut open = true;
     for (number, node) in nodes.iter().enumerate() {
         if !open {
-            return Err(CheckFault::TreeTooLong(number));
+            return Err(TreeFault::TooLong(number));
         }
         if let Err(fault) = judge(claim, &path, node) {
-            return Err(fault.at(number));
+            return Err(TreeFault::Node(number, fault));
         }
         open = go_on(claim.conflicts, &mut path, node)?;
     }
     if open {
-        Err(CheckFault::TreeUnfinished(nodes.len()))
+        Err(TreeFault::Unfinished(nodes.len()))
     } else {
         Ok(())
-    }
-}
-
-/// The path to the node of this number; it ends sooner, where a branch before it is on no conflict.
-pub fn path_to(
-    alloc: Global,
-    conflicts: &Conflicts,
-    nodes: &[Node],
-    number: usize,
-) -> Result<Vec<Turn>, CheckFault>
-    ensures turns { IfOk result (λ path. AreTurnsOf conflicts.now path.items) }
-    ensures memory { IfErr result (λ fault. fault ≡ CheckFault.Memory) }
-{
-    let mut path = Vec::new(alloc);
-    for node in nodes.iter().take(number) {
-        if !is_branch_of(conflicts, node) {
-            break;
-        }
-        go_on(conflicts, &mut path, node)?;
-    }
-    Ok(path)
-}
-
-/// Whether the node is no branch, or one on a conflict.
-fn is_branch_of(conflicts: &Conflicts, node: &Node) -> bool
-    ensures { IsTrue result → IsBranchOf conflicts.now (tree_node node.now) }
-{
-    match node {
-        Node::Branch(triple) => conflicts.has(*triple),
-        _ => true,
     }
 }

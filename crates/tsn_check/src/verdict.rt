@@ -5,14 +5,15 @@ ghost use Rattle.tsn_check.specs.Claims.{IsClaim, IsWellPosed};
 ghost use Rattle.tsn_model.specs.Certificate.{IsNodeShown};
 ghost use Rattle.tsn_model.specs.Places.{Fills};
 ghost use Rattle.tsn_cert.specs.Node.{tree_node};
-ghost use Rattle.tsn_check.specs.Plans.{IsOptimalPlan, IsFirstPlan, offsets_in};
+ghost use Rattle.tsn_check.specs.Plans.{IsPlanRight, IsOptimalPlan, IsFirstPlan, offsets_in};
 ghost use Rattle.tsn_check.specs.Certified.{TreeCertifies, leaf_target, tie_plan, verdict_of};
-ghost use Rattle.tsn_check.specs.Faults.{IsClaimFault, IsTreeFault, IsFirstFault};
+ghost use Rattle.tsn_check.specs.Faults.{IsWrongTree, IsWhy, IsFirstFault};
 
 use crate::claim::Claim;
 use crate::fault::CheckFault;
-use crate::plan::judge_schedule;
+use crate::plan::judge_claim;
 use crate::tree::check_tree;
+use crate::why::TreeFault;
 use std::alloc::Global;
 use tsn_cert::{Cert, Format, Node, Plan};
 use tsn_conflict::conflicts;
@@ -50,16 +51,40 @@ pub fn check(
     ensures fault { IfErr result (λ fault. (fault ≡ CheckFault.Memory)
         ⊎ IsFirstFault problem.now.network plan.now cert.now fault) }
 {
+    match judge_tree(alloc, problem, plan, cert) {
+        Ok(verdict) => Ok(verdict),
+        Err(fault) => Err(fault.code()),
+    }
+}
+
+/// The same, and the fault is told with the numbers that show it.
+pub fn judge_tree(
+    alloc: Global,
+    problem: &Problem,
+    plan: &Plan,
+    cert: &Cert,
+) -> Result<Verdict, TreeFault>
+    ensures accepted { IfOk result (λ verdict. TreeCertifies problem.now.network plan.now cert.now) }
+    ensures verdict { IfOk result (λ verdict. verdict ≡ verdict_of cert.now.format plan.now) }
+    ensures optimal { result ≡ Ok Verdict.Optimal → IsOptimalPlan problem.now.network plan.now }
+    ensures first { result ≡ Ok Verdict.First → IsFirstPlan problem.now.network plan.now }
+    ensures no_schedule { result ≡ Ok Verdict.NoSchedule → HasNoSchedule problem.now.network }
+    ensures complete { TreeCertifies problem.now.network plan.now cert.now → IsOkUnless result TreeFault.Memory }
+    ensures fault { IfErr result (λ fault. (fault ≡ TreeFault.Memory)
+        ⊎ IsWhy problem.now.network plan.now cert.now fault) }
+{
     let timing = problem.timing(alloc)?;
-    let target = judge_claim(&timing, plan)?;
-    if cert.target != target {
-        return Err(CheckFault::FlowspanWrong);
+    judge_claim(&timing, plan)?;
+    let wanted = target_of(&timing, plan);
+    let stated = cert.target;
+    if stated != wanted {
+        return Err(TreeFault::Target { stated, wanted });
     }
     let conflicts = conflicts(alloc, &timing)?;
     let claim = Claim {
         timing: &timing,
         conflicts: &conflicts,
-        target,
+        target: wanted,
         plan,
     };
     check_nodes(alloc, &claim, cert.format, cert.nodes.list())?;
@@ -85,11 +110,11 @@ fn check_nodes(
     claim: &Claim<'_>,
     format: Format,
     nodes: &[Node],
-) -> Result<(), CheckFault>
+) -> Result<(), TreeFault>
     requires { IsWellPosed claim.now }
     ensures ok { OnOk result (Fills (IsNodeShown claim.now.timing.now (leaf_target claim.now.timing.now format claim.now.target) (tie_plan format (offsets_in claim.now.plan.now))) ([] ∷ []) (map tree_node nodes.now)) }
-    ensures err { IfErr result (λ fault. (fault ≡ CheckFault.Memory)
-        ⊎ IsTreeFault claim.now.timing.now (leaf_target claim.now.timing.now format claim.now.target) (tie_plan format (offsets_in claim.now.plan.now)) (map tree_node nodes.now) fault) }
+    ensures err { IfErr result (λ fault. (fault ≡ TreeFault.Memory)
+        ⊎ IsWrongTree claim.now.timing.now (leaf_target claim.now.timing.now format claim.now.target) (tie_plan format (offsets_in claim.now.plan.now)) (map tree_node nodes.now) fault) }
 {
     match format {
         Format::One => {
@@ -107,17 +132,14 @@ fn check_nodes(
     }
 }
 
-/// The target of a certificate of the plan, in nanoseconds; else the plan's first fault.
-fn judge_claim(timing: &Timing, plan: &Plan) -> Result<u64, CheckFault>
-    ensures claim { IfOk result (λ target. IsClaim timing.now plan.now target) }
-    ensures fault { IfErr result (IsClaimFault timing.now plan.now) }
+/// The target of a certificate of a right plan, in nanoseconds.
+fn target_of(timing: &Timing, plan: &Plan) -> u64
+    requires { IsPlanRight timing.now plan.now }
+    ensures { IsClaim timing.now plan.now result }
 {
     let past_cycle = timing.cycle() + 1;
     match plan {
-        Plan::Schedule { flowspan, offsets } => {
-            judge_schedule(timing, *flowspan, offsets.list())?;
-            Ok(*flowspan)
-        }
-        Plan::None => Ok(past_cycle),
+        Plan::Schedule { flowspan, .. } => *flowspan,
+        Plan::None => past_cycle,
     }
 }

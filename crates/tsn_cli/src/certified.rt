@@ -18,7 +18,7 @@ use std::alloc::Global;
 use tsn_argue::{Silent, judge_argument};
 use tsn_cert::{Certificate, Plan};
 use tsn_chart::Drawing;
-use tsn_check::{CheckFault, Verdict, check};
+use tsn_check::{CheckFault, Verdict, judge_tree};
 use tsn_codec::certificate_or_refuse;
 use tsn_device::device::{ReadFault, Source, read_all};
 use tsn_explain::{explanation, marked_frames};
@@ -160,11 +160,11 @@ fn judged(
         ⊎ IsFirstFault claim.entry.problem.now.network claim.entry.plan.now certificate.now unshown.fault) }
 {
     match certificate {
-        Certificate::Tree(cert) => match check(alloc, claim.problem, claim.plan, cert) {
+        Certificate::Tree(cert) => match judge_tree(alloc, claim.problem, claim.plan, cert) {
             Ok(verdict) => Ok(verdict),
             Err(fault) => Err(Unshown {
-                fault,
-                reason: line_on_tree(alloc, claim, name, cert, fault).unwrap_or(None),
+                fault: fault.code(),
+                reason: line_on_tree(alloc, claim, name, fault).unwrap_or(None),
             }),
         },
         Certificate::Argument(argument) => {

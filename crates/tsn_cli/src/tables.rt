@@ -2,6 +2,7 @@
 //! stream and each link gets.
 ghost use Rattle.std.specs.Prelude.{◌≡◌, ◌≤◌, ◌<◌, ◌-◌, ◌^◌, ◌⊎◌, [], ◌∷◌, All, IfOk, IsErr, Ok, length, string_bytes};
 ghost use Rattle.tsn_model.specs.Schedule.{IsValid};
+ghost use Rattle.tsn_check.specs.Numbers.{plan_code};
 ghost use Rattle.tsn_reason.specs.Run.{RunsOver, sink_over, source_over};
 ghost use Rattle.tsn_reason.specs.Outcome.{ComesOver};
 ghost use Rattle.tsn_reason.specs.Refusal.{IsOutcome};
@@ -18,12 +19,12 @@ use crate::untaken::untaken;
 use std::alloc::Global;
 use tsn_cert::Plan;
 use tsn_chart::{Drawing, Shares, marked_chart, plan_shares, to_csv, to_json, to_text};
-use tsn_check::{CheckFault, check_plan};
+use tsn_check::{PlanFault, judge_plan};
 use tsn_device::device::{ReadFault, Sink, Source};
 use tsn_gate::{Background, ReplayFault, ReplayTable, gate_lists, lists_by, replay_rows, text_in};
 use tsn_model::NoMemory;
-use tsn_reason::{Claim, InputsRead, Stated, plan_line, read_inputs, rejection};
-use tsn_timing::{Problem, Timing, Valid};
+use tsn_reason::{Claim, InputsRead, line_on_plan, read_inputs, rejection};
+use tsn_timing::{Problem, Valid};
 use tsn_words::{ReplayFormat, StreamsFormat};
 
 /// Reads a network file and a plan file, the first judged before the second is read, and writes the plan's gate control
@@ -135,37 +136,24 @@ pub(crate) fn judgement(
         ⊎ RejectsPlan claim.entry.problem.now.network claim.entry.plan.now (shown_output (Ok a))) }
 {
     let timing = claim.problem.timing(alloc)?;
-    match check_plan(alloc, &timing, claim.plan) {
+    let judged = judge_plan(alloc, &timing, claim.plan);
+    drop(timing);
+    match judged {
         Ok(valid) => {
-            drop(timing);
             let answer = table_of(alloc, claim.problem, &valid, table, marked);
             drop(valid);
             answer
         }
-        Err(fault) => {
-            let answer = rejected(alloc, claim, &timing, fault);
-            drop(timing);
-            answer
-        }
+        Err(fault) => rejected(alloc, claim, fault),
     }
 }
 
-fn rejected(
-    alloc: Global,
-    claim: Claim<'_>,
-    timing: &Timing,
-    fault: CheckFault,
-) -> Result<Shown, NoMemory>
-    ensures said { IfOk result (λ a. IsOutcome (RefusedPlan fault) (shown_output (Ok a))) }
-    ensures memory { fault ≡ CheckFault.Memory → IsErr result }
+fn rejected(alloc: Global, claim: Claim<'_>, fault: PlanFault) -> Result<Shown, NoMemory>
+    ensures said { IfOk result (λ a. IsOutcome (RefusedPlan (plan_code fault)) (shown_output (Ok a))) }
+    ensures memory { fault ≡ PlanFault.Memory → IsErr result }
 {
-    let stated = Stated {
-        problem: claim.problem,
-        timing,
-        plan: claim.plan,
-    };
-    let reason = plan_line(alloc, claim.name, stated, fault).unwrap_or(None);
-    Ok(Shown::Said(rejection(alloc, fault, reason)?))
+    let reason = line_on_plan(alloc, claim, fault).unwrap_or(None);
+    Ok(Shown::Said(rejection(alloc, fault.code(), reason)?))
 }
 
 fn table_of(

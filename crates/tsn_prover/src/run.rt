@@ -1,7 +1,7 @@
 //! `prove`: shows that no valid schedule undercuts a plan, whoever made it, or finds one that does.
 ghost use Rattle.std.specs.Prelude.{◌≡◌, ◌≢◌, ◌<◌, ◌-◌, ◌^◌, ◌⊎◌, ◌↔◌, [], ◌∷◌, IfOk, IfErr, IsErr, IfSome, IsTrue, None, Ok, OnOk, is_some};
-ghost use Rattle.tsn_check.specs.Plans.{IsPlanRight, span_in};
-ghost use Rattle.tsn_check.specs.Faults.{IsClaimFault};
+ghost use Rattle.tsn_check.specs.Plans.{span_in};
+ghost use Rattle.tsn_check.specs.Numbers.{plan_code};
 ghost use Rattle.tsn_answer.specs.declared.proof.Proof.TheVariants.{Proved, Stopped, Undercut};
 ghost use Rattle.tsn_reason.specs.Run.{EndsOver, RunsOver, readings_of, sink_over, source_over};
 ghost use Rattle.tsn_reason.specs.Said.{line_of, status_of};
@@ -17,15 +17,15 @@ use std::alloc::Global;
 use tsn_answer::{Proof, prove};
 use tsn_branch::Supervisor;
 use tsn_cert::{Argument, Plan};
-use tsn_check::{CheckFault, check_plan};
+use tsn_check::{PlanFault, judge_claim};
 use tsn_codec::{argument_to_json, plan_to_json};
 use tsn_device::device::{ReadFault, Sink, Source};
 use tsn_model::NoMemory;
 use tsn_reason::run::{DEVICE, STOPPED, respond};
 use tsn_reason::{
-    Answer, Claim, InputsRead, Outcome, Stated, Stop, outcome_of, plan_line, read_inputs, rejection,
+    Answer, Claim, InputsRead, Outcome, Stop, line_on_plan, outcome_of, read_inputs, rejection,
 };
-use tsn_timing::{Problem, Timing};
+use tsn_timing::Problem;
 
 /// How a run of `prove` ended: its status, and what was found of the plan, where one was taken and all was written.
 #[derive(Clone, Copy)]
@@ -197,53 +197,24 @@ fn judgement<S: Supervisor>(
         FindsAs limit claim.entry.problem.now.network claim.entry.plan.now finding (shown (Ok output)))) }
 {
     let timing = claim.problem.timing(alloc)?;
-    match judge_claim(alloc, &timing, claim.plan) {
+    let judged = judge_claim(&timing, claim.plan);
+    drop(timing);
+    match judged {
         Ok(()) => {
-            drop(timing);
             let proof = prove(alloc, claim.problem, claim.plan, limit, supervisor)?;
             output_for(alloc, claim.plan, proof)
         }
-        Err(fault) => {
-            let output = rejected(alloc, claim, &timing, fault);
-            drop(timing);
-            output
-        }
+        Err(fault) => rejected(alloc, claim, fault),
     }
 }
 
 // What is printed of a plan with this fault.
-fn rejected(
-    alloc: Global,
-    claim: Claim<'_>,
-    timing: &Timing,
-    fault: CheckFault,
-) -> Result<ProofOutput, NoMemory>
-    ensures line { IfOk result (λ output. shown (Ok output) ≡ line_after (Outcome.RefusedPlan fault)) }
+fn rejected(alloc: Global, claim: Claim<'_>, fault: PlanFault) -> Result<ProofOutput, NoMemory>
+    ensures line { IfOk result (λ output. shown (Ok output) ≡ line_after (Outcome.RefusedPlan (plan_code fault))) }
     ensures none { IfOk result (λ output. finding_in (Ok output) ≡ None) }
-    ensures memory { fault ≡ CheckFault.Memory → IsErr result }
 {
-    let stated = Stated {
-        problem: claim.problem,
-        timing,
-        plan: claim.plan,
-    };
-    let reason = plan_line(alloc, claim.name, stated, fault).unwrap_or(None);
-    Ok(alone(alloc, rejection(alloc, fault, reason)?))
-}
-
-// Whether the plan is a valid schedule with its own flowspan, or that there is none; else its first fault.
-fn judge_claim(alloc: Global, timing: &Timing, plan: &Plan) -> Result<(), CheckFault>
-    ensures right { OnOk result (IsPlanRight timing.now plan.now) }
-    ensures fault { IfErr result (λ fault. (fault ≡ CheckFault.Memory) ⊎ IsClaimFault timing.now plan.now fault) }
-{
-    match plan {
-        Plan::Schedule { .. } => {
-            let valid = check_plan(alloc, timing, plan)?;
-            drop(valid);
-            Ok(())
-        }
-        Plan::None => Ok(()),
-    }
+    let reason = line_on_plan(alloc, claim, fault).unwrap_or(None);
+    Ok(alone(alloc, rejection(alloc, fault.code(), reason)?))
 }
 
 fn alone(alloc: Global, answer: Answer) -> ProofOutput

@@ -1,11 +1,11 @@
-//! What a plan claims of a problem, and why it or its certificate is refused.
+//! What a plan claims of a problem, and why it is refused, in words.
 use crate::Reason;
-use crate::bound::Shown;
-use crate::plan::{Stated, is_at_fault, plan_line};
-use crate::tree::tree_line;
+use crate::offsets::{Schedule, push_violation};
 use std::alloc::Global;
-use tsn_cert::{Cert, Plan};
-use tsn_check::CheckFault;
+use tsn_cert::Plan;
+use tsn_check::PlanFault;
+use tsn_model::{NoMemory, Violation};
+use tsn_text::{TextBuilder, line_of};
 use tsn_timing::Problem;
 
 /// A plan of a problem, and the name of the file that states it.
@@ -20,52 +20,40 @@ pub struct Claim<'a> {
 }
 
 /// The line on a plan with this fault.
-pub fn line_on_plan(alloc: Global, claim: Claim<'_>, fault: CheckFault) -> Reason {
-    let Claim {
-        problem,
-        name,
-        plan,
-    } = claim;
-    let timing = problem.timing(alloc)?;
-    let stated = Stated {
-        problem,
-        timing: &timing,
-        plan,
-    };
-    let reason = plan_line(alloc, name, stated, fault);
-    drop(timing);
-    reason
+pub fn line_on_plan(alloc: Global, claim: Claim<'_>, fault: PlanFault) -> Reason {
+    let mut text = line_of(alloc, claim.name);
+    match fault {
+        PlanFault::Memory => return Err(NoMemory),
+        PlanFault::NoSchedule => text.push_str("it says that there is no schedule"),
+        PlanFault::Invalid(violation) => push_invalid(alloc, &mut text, claim, violation)?,
+        PlanFault::Flowspan { stated, wanted } => {
+            text.push_str("flowspan is ");
+            text.push_number(stated);
+            text.push_str(", and that of the offsets is ");
+            text.push_number(wanted);
+        }
+    }
+    Ok(Some(text.finish()?))
 }
 
-/// The line on a plan or its tree, of the file of this name, with this fault.
-pub fn line_on_tree(
+/// Writes why the plan's offsets are no valid schedule.
+fn push_invalid(
     alloc: Global,
+    text: &mut TextBuilder,
     claim: Claim<'_>,
-    name: &str,
-    cert: &Cert,
-    fault: CheckFault,
-) -> Reason {
-    let Claim {
-        problem,
-        name: plan_name,
-        plan,
-    } = claim;
-    let timing = problem.timing(alloc)?;
-    let reason = if is_at_fault(&timing, plan) {
-        let stated = Stated {
-            problem,
-            timing: &timing,
-            plan,
-        };
-        plan_line(alloc, plan_name, stated, fault)
-    } else {
-        let shown = Shown {
-            timing: &timing,
-            plan,
-            cert,
-        };
-        tree_line(alloc, name, shown, fault)
+    violation: Violation,
+) -> Result<(), NoMemory> {
+    let Plan::Schedule { offsets, .. } = claim.plan else {
+        return Ok(());
     };
+    let timing = claim.problem.timing(alloc)?;
+    let schedule = Schedule {
+        problem: claim.problem,
+        timing: &timing,
+        offsets: offsets.list(),
+    };
+    text.push_str("no valid schedule: ");
+    push_violation(text, schedule, violation);
     drop(timing);
-    reason
+    Ok(())
 }

@@ -74,13 +74,13 @@ fn push_past_cycle(text: &mut TextBuilder, schedule: Schedule<'_>, stream: usize
     text.push_str(" it ends at ");
     text.push_number(end);
     text.push(',');
-    text.push_str(past_end(schedule.timing, stream));
+    text.push_str(past_end(period, schedule.timing.cycle()));
     text.push_number(period);
 }
 
-/// Past which end of its own a stream is.
-pub fn past_end(timing: &Timing, stream: usize) -> &'static str {
-    if stream < timing.streams() && timing.period(stream) < timing.cycle() {
+/// Past which end of its own a stream of this period is.
+pub fn past_end(period: u64, cycle: u64) -> &'static str {
+    if period < cycle {
         " past its period's end at "
     } else {
         " past the cycle's end at "

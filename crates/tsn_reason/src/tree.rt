@@ -1,74 +1,110 @@
-//! Why a tree is refused, where its plan is right.
+//! Why a tree is refused, in words: what its first fault is, with the names of the problem.
 
 use crate::Reason;
-use crate::bound::{Shown, push_low_bound};
+use crate::claim::{Claim, line_on_plan};
+use crate::offsets::past_end;
 use crate::target::push_wrong_target;
 use std::alloc::Global;
-use tsn_cert::{Chain, Entries, Leaf, LowerBound, Node, Plan};
-use tsn_check::CheckFault;
-use tsn_model::{Frame, NoMemory};
-use tsn_text::line_of;
-use tsn_timing::Timing;
+use tsn_cert::Plan;
+use tsn_check::{NodeFault, Shortfall, TreeFault};
+use tsn_model::NoMemory;
+use tsn_text::{TextBuilder, line_of};
 
-/// Why a tree with this fault is refused, where its plan is right.
-pub fn tree_line(alloc: Global, name: &str, shown: Shown<'_>, fault: CheckFault) -> Reason {
+/// The line on a plan or its tree, of the file of this name, with this fault.
+pub fn line_on_tree(alloc: Global, claim: Claim<'_>, name: &str, fault: TreeFault) -> Reason {
     let mut text = line_of(alloc, name);
     match fault {
-        CheckFault::Memory => return Err(NoMemory),
-        CheckFault::FlowspanWrong => {
-            let wanted = target_of(shown);
-            push_wrong_target(&mut text, shown.plan, shown.cert.target, wanted)
+        TreeFault::Plan(fault) => return line_on_plan(alloc, claim, fault),
+        TreeFault::Memory => return Err(NoMemory),
+        TreeFault::Target { stated, wanted } => {
+            push_wrong_target(&mut text, claim.plan, stated, wanted)
         }
-        CheckFault::BoundTooLow(node) => push_low_bound(alloc, &mut text, shown, node)?,
-        CheckFault::NotOnLink(node) if has_strange_frame(shown, node) => {
-            text.push_str("node ");
-            text.push_count(node);
+        TreeFault::Node(number, NodeFault::NotSent) => {
+            push_node(&mut text, number);
             text.push_str(" has a frame that its stream doesn't send")
         }
-        _ => text.push_str(format!(in alloc; "{fault}")?.as_str()),
+        TreeFault::Node(number, NodeFault::TooLow(short)) => {
+            push_node(&mut text, number);
+            text.push_str(": ");
+            push_short(&mut text, claim.plan, short)
+        }
+        TreeFault::Node(number, NodeFault::TieTooLow(Shortfall::Bound { bound, least })) => {
+            push_node(&mut text, number);
+            text.push_str(": ");
+            push_below(&mut text, bound, "the plan's flowspan ", least)
+        }
+        TreeFault::Node(number, NodeFault::TieOfNone) => {
+            push_node(&mut text, number);
+            text.push_str(": it is a tie, and the plan is that there is no schedule")
+        }
+        TreeFault::Node(number, NodeFault::TieSooner) => {
+            push_node(&mut text, number);
+            text.push_str(
+                ": its chains don't show that each schedule on its path is the plan or comes after it",
+            )
+        }
+        _ => text.push_str(format!(in alloc; "{}", fault.code())?.as_str()),
     }
     Ok(Some(text.finish()?))
 }
 
-/// The target that the plan asks for.
-fn target_of(shown: Shown<'_>) -> u64 {
-    match shown.plan {
-        Plan::Schedule { flowspan, .. } => *flowspan,
-        Plan::None => shown.timing.cycle().saturating_add(1),
+fn push_node(text: &mut TextBuilder, number: usize) {
+    text.push_str("node ");
+    text.push_count(number);
+}
+
+/// Writes what a leaf for this plan comes to, and has to come to.
+fn push_short(text: &mut TextBuilder, plan: &Plan, short: Shortfall) {
+    match short {
+        Shortfall::Bound { bound, least } => match plan {
+            Plan::Schedule { flowspan, .. } if least > *flowspan => {
+                push_below(text, bound, "", least);
+                text.push_str(", one more than the target")
+            }
+            _ => push_below(text, bound, "the target ", least),
+        },
+        Shortfall::Overrun {
+            stream,
+            end,
+            period,
+            cycle,
+            arrival,
+            latest,
+        } => {
+            push_bound(text, end);
+            text.push_str(" of stream ");
+            text.push_count(stream);
+            text.push_str("'s end isn't");
+            text.push_str(past_end(period, cycle));
+            text.push_number(period);
+            text.push_str(", nor ");
+            push_bound(text, arrival);
+            text.push_str(" of its arrival past its latest instant ");
+            text.push_number(latest);
+        }
+        Shortfall::Cycle { sum } => {
+            text.push_str("the weights of its chain add up to ");
+            text.push_signed(sum);
+            text.push_str(", and have to be above 0");
+        }
+        Shortfall::Overload { link, end, cycle } => {
+            push_bound(text, end);
+            text.push_str(" of link ");
+            text.push_count(link);
+            text.push_str("'s use isn't past the cycle's end at ");
+            text.push_number(cycle);
+        }
     }
 }
 
-/// Whether the first frame of a node that isn't on its link is none of its stream's.
-fn has_strange_frame(shown: Shown<'_>, number: usize) -> bool {
-    let Some(node) = shown.cert.nodes.list().get(number) else {
-        return false;
-    };
-    match entries_of(node) {
-        Some((link, entries)) => is_strange_first(shown.timing, link, entries.list()),
-        None => false,
-    }
+fn push_bound(text: &mut TextBuilder, bound: i64) {
+    text.push_str("the bound ");
+    text.push_signed(bound);
 }
 
-fn entries_of(node: &Node) -> Option<(usize, &Entries)> {
-    match node {
-        Node::Leaf(Leaf::Bound(LowerBound::Load(link, entries))) => Some((*link, entries)),
-        Node::Leaf(Leaf::Overload(link, entries)) => Some((*link, entries)),
-        Node::Tie(LowerBound::Load(link, entries), _) => Some((*link, entries)),
-        _ => None,
-    }
-}
-
-fn is_strange_first(timing: &Timing, link: usize, entries: &[(Frame, Chain)]) -> bool {
-    for (frame, _) in entries {
-        if frame.stream >= timing.streams() {
-            return false;
-        }
-        if !timing.is_shift(frame.stream, frame.shift) {
-            return true;
-        }
-        if timing.hop_on(frame.stream, link).is_none() {
-            return false;
-        }
-    }
-    false
+fn push_below(text: &mut TextBuilder, bound: i64, what: &str, least: u64) {
+    push_bound(text, bound);
+    text.push_str(" is below ");
+    text.push_str(what);
+    text.push_number(least);
 }

@@ -1,9 +1,16 @@
-use Rattle.std.proofs.Common.{inl, inr, ◌∙◌, sym}
+use Rattle.std.proofs.Common.{inl, inr, ◌∙◌, sym, subst}
+use Rattle.tsn_check.specs.Plans.{IsPlanRight}
+use Rattle.tsn_check.proofs.Plans.{claim_refutes}
 use Rattle.std.proofs.lemmas.Result.{err_from_is_err_and}
 use Rattle.tsn_argue.specs.Steps.{goal_of}
 use Rattle.tsn_argue.proofs.Refuted.{why_refuted}
 use Rattle.tsn_argue.proofs.Verdicts.{told_fitting, argued, step_fault_first, shown_optimal, shown_first, shown_none}
 use Rattle.tsn_argue.proofs.verdict.judge_argument.Goals as goal
+
+pub returns-in_err-judge_claim-clause-complete : goal.returns-in_err-judge_claim-clause-complete
+returns-in_err-judge_claim-clause-complete g c shows =
+    absurd (claim_refutes c.in_ok-timing.timing c.args.plan.now c.in_err-judge_claim.field-0.0 c.in_err-judge_claim.ensures.fault
+    (subst (λ n. IsPlanRight n c.args.plan.now) (sym c.in_ok-timing.ensures) shows.plan_right))
 
 pub returns-in_err-check_steps-clause-complete : goal.returns-in_err-check_steps-clause-complete
 returns-in_err-check_steps-clause-complete g c shows =
@@ -12,7 +19,7 @@ returns-in_err-check_steps-clause-complete g c shows =
       | inl memory ↦ memory
       | inr fault ↦ absurd (why_refuted c.args.problem.now.network c.args.plan.now c.args.argument.now c.in_err-check_steps.field-0.0
           (step_fault_first c.args.problem.now.network c.in_ok-timing.timing c.args.plan.now c.args.argument.now (goal_of c.in_ok-aim.aim) _
-          c.in_ok-timing.ensures c.in_ok-judge_plan.ensures.right c.in_ok-aim.ensures.1 c.list.ensures c.in_err-check_steps.field-0.0 fault) shows)
+          c.in_ok-timing.ensures c.in_ok-judge_claim.ensures.right c.in_ok-aim.ensures.1 c.list.ensures c.in_err-check_steps.field-0.0 fault) shows)
     ])
 
 pub returns-in_err-check_steps-clause-fault : goal.returns-in_err-check_steps-clause-fault
@@ -21,27 +28,27 @@ returns-in_err-check_steps-clause-fault g c =
     rw (p.1, p.2) (elim c.in_err-check_steps.ensures.err [
       | inl memory ↦ inl memory
       | inr fault ↦ inr (step_fault_first c.args.problem.now.network c.in_ok-timing.timing c.args.plan.now c.args.argument.now (goal_of c.in_ok-aim.aim) _
-          c.in_ok-timing.ensures c.in_ok-judge_plan.ensures.right c.in_ok-aim.ensures.1 c.list.ensures c.in_err-check_steps.field-0.0 fault)
+          c.in_ok-timing.ensures c.in_ok-judge_claim.ensures.right c.in_ok-aim.ensures.1 c.list.ensures c.in_err-check_steps.field-0.0 fault)
     ])
 
 pub returns-clause-optimal : goal.returns-clause-optimal
 returns-clause-optimal g c is =
     let shows = argued c.args.problem.now.network c.in_ok-timing.timing c.args.plan.now c.args.argument.now (goal_of c.in_ok-aim.aim) _
-    c.in_ok-timing.ensures c.in_ok-judge_plan.ensures.right c.in_ok-aim.ensures.1 c.list.ensures c.in_ok-check_steps.ensures.ok in
+    c.in_ok-timing.ensures c.in_ok-judge_claim.ensures.right c.in_ok-aim.ensures.1 c.list.ensures c.in_ok-check_steps.ensures.ok in
     shown_optimal c.args.problem.now.network c.in_ok-timing.timing c.args.plan.now c.args.argument.now c.in_ok-timing.ensures c.cycle-cycle.ensures.well_formed
     shows (sym c.verdict_of.ensures ∙ cc is)
 
 pub returns-clause-first : goal.returns-clause-first
 returns-clause-first g c is =
     let shows = argued c.args.problem.now.network c.in_ok-timing.timing c.args.plan.now c.args.argument.now (goal_of c.in_ok-aim.aim) _
-    c.in_ok-timing.ensures c.in_ok-judge_plan.ensures.right c.in_ok-aim.ensures.1 c.list.ensures c.in_ok-check_steps.ensures.ok in
+    c.in_ok-timing.ensures c.in_ok-judge_claim.ensures.right c.in_ok-aim.ensures.1 c.list.ensures c.in_ok-check_steps.ensures.ok in
     shown_first c.args.problem.now.network c.in_ok-timing.timing c.args.plan.now c.args.argument.now c.in_ok-timing.ensures c.cycle-cycle.ensures.well_formed
     shows (sym c.verdict_of.ensures ∙ cc is)
 
 pub returns-clause-no_schedule : goal.returns-clause-no_schedule
 returns-clause-no_schedule g c is =
     let shows = argued c.args.problem.now.network c.in_ok-timing.timing c.args.plan.now c.args.argument.now (goal_of c.in_ok-aim.aim) _
-    c.in_ok-timing.ensures c.in_ok-judge_plan.ensures.right c.in_ok-aim.ensures.1 c.list.ensures c.in_ok-check_steps.ensures.ok in
+    c.in_ok-timing.ensures c.in_ok-judge_claim.ensures.right c.in_ok-aim.ensures.1 c.list.ensures c.in_ok-check_steps.ensures.ok in
     shown_none c.args.problem.now.network c.in_ok-timing.timing c.args.plan.now c.args.argument.now c.in_ok-timing.ensures c.cycle-cycle.ensures.well_formed
     shows (sym c.verdict_of.ensures ∙ cc is)
 

@@ -1,23 +1,25 @@
-use Rattle.std.proofs.Common.{◌≡◌, ◌+◌, ◌∙◌, sym, ap, arith}
+use Rattle.std.proofs.Common.{◌≡◌, ◌+◌, ◌∙◌, sym, ap, inl, arith}
 use Rattle.std.proofs.lemmas.Int.{ints}
 use Rattle.std.proofs.lemmas.Result.{err_from_is_err_and}
 use Rattle.tsn_model.specs.Timing.{occupancy}
 use Rattle.tsn_model.specs.Certificate.{begin_on}
-use Rattle.tsn_model.proofs.Routes.{hop_on_found, hop_on_link, UsesLink-counted}
+use Rattle.tsn_model.proofs.Routes.{hop_on_found, hop_on_link}
 use Rattle.tsn_cert.specs.Entry.{tree_entry}
 use Rattle.tsn_check.specs.Turns.{decisions}
 use Rattle.tsn_check.proofs.Loads.{repeated, not_repeated, one_load}
 use Rattle.tsn_check.proofs.load.entry_load.Goals as goal
 
 pub returns-then-stream-streams : goal.returns-then-stream-streams
-returns-then-stream-streams c on =
-    let counted = UsesLink-counted c.args.timing.now c.args.entry.now.0.stream c.args.link on.uses in
+returns-then-stream-streams c =
     let past = c.if-stream-streams.true in
     let all = c.streams.ensures.value in
-    omega arith
+    inl (omega arith)
 
 pub returns-then-not-is_shift : goal.returns-then-not-is_shift
-returns-then-not-is_shift c on = c.if-not-is_shift.ensures on.sent
+returns-then-not-is_shift c =
+    let below = c.if-stream-streams.false in
+    let all = c.streams.ensures.value in
+    (omega arith, c.if-not-is_shift.ensures)
 
 pub returns-then-has_frame : goal.returns-then-has_frame
 returns-then-has_frame c =

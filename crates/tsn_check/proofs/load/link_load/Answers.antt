@@ -7,7 +7,7 @@ use Rattle.tsn_model.specs.Certificate.{AreEntries}
 use Rattle.tsn_cert.specs.Entry.{tree_entry}
 use Rattle.tsn_check.specs.Turns.{decisions}
 use Rattle.tsn_check.specs.Faults.{IsFirstWrong}
-use Rattle.tsn_check.specs.Steps.{IsLoad, IsWrongEntry}
+use Rattle.tsn_check.specs.Steps.{IsLoad}
 use Rattle.tsn_check.proofs.Loads.{no_entries, start_load, more_load, wrong_there}
 use Rattle.tsn_check.proofs.load.link_load.Goals as goal
 
@@ -26,7 +26,7 @@ returns-in_err-next c =
     let below = c.loop-number-test.true in
     let wrong = wrong_there network path c.args.link c.list-list.result.now c.loop-number.number c.index-list-number.result fault (omega arith) c.index-list-number.is
     c.loop-number.invariant.right c.in_err-next.ensures in
-    rw (p.1, p.2) (subst (λ es. IsFirstWrong network path c.args.link es (IsWrongEntry network path c.args.link fault)) c.list-list.ensures.entries wrong)
+    rw (p.1, p.2) (subst (λ es. IsFirstWrong network path c.args.link es fault) c.list-list.ensures.entries wrong)
 
 pub overflow_add-all : goal.overflow_add-all
 overflow_add-all c =
@@ -77,4 +77,4 @@ returns-in_err-all c =
     let fault = c.in_err-all.field-0.0 in
     let wrong = wrong_there network path c.args.link c.list-list.result.now 0 c.index-list-0.result fault c.list-list.ensures.some_entry c.index-list-0.is
     (no_entries network path c.args.link) c.in_err-all.ensures in
-    rw (p.1, p.2) (subst (λ es. IsFirstWrong network path c.args.link es (IsWrongEntry network path c.args.link fault)) c.list-list.ensures.entries wrong)
+    rw (p.1, p.2) (subst (λ es. IsFirstWrong network path c.args.link es fault) c.list-list.ensures.entries wrong)

@@ -7,7 +7,7 @@ use Rattle.tsn_model.specs.Certificate.{IsNodeShown}
 use Rattle.tsn_model.specs.Places.{next_places, pending}
 use Rattle.tsn_check.specs.Plans.{offsets_in}
 use Rattle.tsn_check.specs.Turns.{decisions, places_at}
-use Rattle.tsn_check.specs.Steps.{HasFault}
+use Rattle.tsn_check.specs.Faults.{IsWrongNode}
 use Rattle.tsn_check.proofs.Walks.{start_places, node_there, walk_more, all_filled, fault_there, unfinished_there}
 use Rattle.tsn_check.proofs.Kept.{turns_in, branch_of}
 use Rattle.tsn_check.proofs.tree.check_tree.Goals as goal
@@ -37,9 +37,11 @@ returns-in-Err-clause-err c =
     let path : List Decision = decisions c.loop-number.path.items in
     let node : tree.Node = tree_node c.index-nodes-number.result in
     let there = node_there c.args.nodes.now c.loop-number.number c.index-nodes-number.result c.loop-number-test.true ∙ ap (λ n. Some (tree_node n)) (sym c.index-nodes-number.is) in
-    let wrong : HasFault c.args.claim.now.timing.now c.args.claim.now.target (offsets_in c.args.claim.now.plan.now) path node c.in-Err.fault = rw c.deref.ensures.value at c.in-Err.ensures in
-    rw c.at.ensures (inr (fault_there c.args.claim.now.timing.now c.args.claim.now.target (offsets_in c.args.claim.now.plan.now) (map tree_node c.args.nodes.now) c.loop-number.number path node c.in-Err.fault
-    c.loop-number.invariant.right (c.loop-number.invariant.places ∙ ap (λ is_open. places_at is_open path) c.if-not-open.false) there wrong))
+    let wrong : IsWrongNode c.args.claim.now.timing.now c.args.claim.now.target (offsets_in c.args.claim.now.plan.now) path node c.in-Err.fault =
+    rw c.deref.ensures.value at c.in-Err.ensures in
+    inr (fault_there c.args.claim.now.timing.now c.args.claim.now.target (offsets_in c.args.claim.now.plan.now) (map tree_node c.args.nodes.now)
+    c.loop-number.number path node c.in-Err.fault
+    c.loop-number.invariant.right (c.loop-number.invariant.places ∙ ap (λ is_open. places_at is_open path) c.if-not-open.false) there wrong)
 
 pub go_on-requires-clause-conflict : goal.go_on-requires-clause-conflict
 go_on-requires-clause-conflict c =

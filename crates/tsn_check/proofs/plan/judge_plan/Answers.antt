@@ -1,7 +1,7 @@
 use Rattle.std.proofs.Common.{rules, ◌≡◌, subst}
 use Rattle.tsn_model.specs.Schedule.{IsValid}
 use Rattle.tsn_model.proofs.Validity.{violation_refutes}
-use Rattle.tsn_check.proofs.plan.check_plan.Goals as goal
+use Rattle.tsn_check.proofs.plan.judge_plan.Goals as goal
 
 pub unreachable-requires : goal.unreachable-requires
 unreachable-requires c =
