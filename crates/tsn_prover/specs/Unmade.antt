@@ -3,7 +3,7 @@
 --     IsUnmadeOutcome                what is answered, by what is of the network alone
 --     UnmadeTold                     the network alone was judged, and that was told
 --     IsUnmade                       it was, or memory was refused
-use Rattle.std.specs.Prelude.{◌≡◌, ◌≢◌, ◌⊎◌, ⊥, ℕ, List, [], ◌∷◌, Bool, Option, Result, codes}
+use Rattle.std.specs.Prelude.{◌≡◌, ◌≢◌, ◌⊎◌, ℕ, List, [], ◌∷◌, Bool, Option, Result, codes}
 use Rattle.tsn_device.specs.declared.device.ReadFault.{ReadFault}
 use Rattle.tsn_reason.specs.declared.answer.Answer.{Answer}
 use Rattle.tsn_reason.specs.declared.outcome.Outcome.{Outcome}
