@@ -2,10 +2,7 @@
 --     ShowsText, ShowsAccepted      what is shown once the certificate is accepted
 --     JudgesShown, CertAnswers      the answer to the files read so far
 --     ExplainAnswers, MarkedChartAnswers      that of `explain`, and of `chart` with a certificate
---     GoesOnOver                    a run that has a certificate left to read
-use Rattle.std.specs.Prelude.{◌≡◌, ◌⊎◌, ℕ, List, [], ◌∷◌, Result, Ok}
-use Rattle.tsn_device.specs.declared.device.ReadFault.{ReadFault}
-use Rattle.tsn_cli.specs.declared.showing.Shown.{Shown}
+use Rattle.std.specs.Prelude.{◌≡◌, ◌⊎◌, ℕ, List, [], ◌∷◌, Ok}
 use Rattle.tsn_net.specs.File.{States}
 use Rattle.tsn_timing.specs.Problem.{NamedNetwork}
 use Rattle.tsn_cert.specs.declared.plan.Plan.{Plan}
@@ -17,9 +14,7 @@ use Rattle.tsn_chart.specs.declared.picture.Drawing.{Drawing}
 use Rattle.tsn_cli.specs.declared.showing.Showing.{Showing}
 use Rattle.tsn_cli.specs.declared.showing.Showing.TheVariants.{Verdict, Words, Picture}
 use Rattle.tsn_cli.specs.declared.table.Table.TheVariants.{Chart}
-use Rattle.tsn_reason.specs.Run.{Output, Command, IsLine, SourceRun}
-use Rattle.tsn_reason.specs.Outcome.{ComesTo, TellsFailures}
-use Rattle.tsn_cli.specs.Shown.{shown_output}
+use Rattle.tsn_reason.specs.Run.{Output, Command, IsLine}
 use Rattle.tsn_reason.specs.Refusal.{IsOutcome, RefusesNetwork, RefusesPlan}
 use Rattle.tsn_reason.specs.Check.{RefusesCert, ShowsNothing, StatesNetwork, accepted}
 use Rattle.tsn_cli.specs.Tables.{ShowsPlan, RejectsPlan}
@@ -57,9 +52,3 @@ ExplainAnswers = CertAnswers Words
 
 abbrev pub MarkedChartAnswers : Drawing → Command
 MarkedChartAnswers drawing = CertAnswers (Picture drawing)
-
--- what becomes of a run that has taken this network and this plan, and has the source of a certificate left
-pub record GoesOnOver (showing : Showing) (problem : NamedNetwork) (stated : Plan) (cert : SourceRun) (outcome : Result Shown ReadFault) : Type 0 where
-  pub comes : (network_file plan_file : List ℕ) → States network_file problem → plan_in plan_file ≡ Ok stated
-      → ComesTo shown_output (CertAnswers showing) (network_file ∷ plan_file ∷ []) (cert.reading ∷ []) outcome
-  pub failures : TellsFailures (cert.reads ∷ []) outcome

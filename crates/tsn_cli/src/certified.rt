@@ -3,11 +3,12 @@ ghost use Rattle.std.specs.Prelude.{◌≡◌, ◌<◌, ◌-◌, ◌^◌, ◌⊎
 ghost use Rattle.tsn_argue.specs.Certified.{Certifies, certificate_verdict};
 ghost use Rattle.tsn_argue.specs.Faults.{IsFirstFault};
 ghost use Rattle.tsn_cli.specs.declared.table.Table.TheVariants.{Chart};
+ghost use Rattle.tsn_reason.specs.Inputs.{IsReadOver};
 ghost use Rattle.tsn_reason.specs.Run.{source_over};
 ghost use Rattle.tsn_reason.specs.Outcome.{ComesOver};
 ghost use Rattle.tsn_cli.specs.Shown.{IsSaid, shown_output};
 ghost use Rattle.tsn_reason.specs.Check.{ShowsNothing};
-ghost use Rattle.tsn_cli.specs.Explain.{CertAnswers, GoesOnOver, JudgesShown, ShowsAccepted, ShowsText};
+ghost use Rattle.tsn_cli.specs.Explain.{CertAnswers, JudgesShown, ShowsAccepted, ShowsText};
 ghost use Rattle.tsn_cli.specs.Tables.{RejectsPlan, ShowsPlan};
 
 use crate::check::acceptance;
@@ -25,8 +26,8 @@ use tsn_explain::{explanation, marked_frames};
 use tsn_model::NoMemory;
 use tsn_reason::run::MAX_FILE;
 use tsn_reason::{
-    Claim, File, FileKind, InputsRead, cert_rejection, file_refusal, line_on_argument,
-    line_on_tree, read_inputs,
+    Claim, File, FileKind, NetworkRead, PlanRead, cert_rejection, file_refusal, line_on_argument,
+    line_on_tree, read_network, read_plan,
 };
 use tsn_timing::Problem;
 
@@ -47,56 +48,46 @@ pub fn certified_shown<N: Source, P: Source, C: Source>(
         ∷ source_over C.given C.failed C.is_at_end cert.old cert.new ∷ []) result }
     ensures told { IfOk result (λ a. showing ≡ Showing.Verdict → IsSaid a) }
 {
-    match read_inputs(alloc, network, plan) {
-        Ok(InputsRead::Taken(problem, stated)) => {
-            answer_to(alloc, problem, stated, plan.name(), cert, showing)
-        }
-        Ok(InputsRead::Refused(answer)) => Ok(Shown::Said(answer)),
-        Err(fault) => Err(fault),
+    match read_network(alloc, network)? {
+        NetworkRead::Taken(problem) => match read_plan(alloc, plan) {
+            Ok(PlanRead::Taken(stated)) => {
+                answer_on(alloc, problem, stated, plan.name(), cert, showing)
+            }
+            Ok(PlanRead::Refused(answer)) => Ok(Shown::Said(answer)),
+            Err(fault) => Err(fault),
+        },
+        NetworkRead::Refused(answer) => Ok(Shown::Said(answer)),
     }
 }
 
-// What the run answers to a network and a plan of the file of this name, and to what it reads after that.
-fn answer_to<C: Source>(
+/// What the run answers on a network and a plan of the file of this name, to the certificate file that it reads after those.
+fn answer_on<C: Source>(
     alloc: Global,
     problem: Problem,
-    plan: Plan,
+    stated: Plan,
     name: &str,
     cert: &mut C,
     showing: Showing,
 ) -> Result<Shown, ReadFault>
     requires { C.failed cert.old < 2 ^ 64 - 1 }
-    ensures goes { GoesOnOver showing problem plan (source_over C.given C.failed C.is_at_end cert.old cert.new) result }
+    ensures judges { IsReadOver (λ file a. JudgesShown showing problem stated file (shown_output (Ok a)))
+        (source_over C.given C.failed C.is_at_end cert.old cert.new) result }
     ensures told { IfOk result (λ a. showing ≡ Showing.Verdict → IsSaid a) }
 {
+    let bytes = read_all(alloc, cert, MAX_FILE)?;
+    let file = File {
+        name: cert.name(),
+        bytes: &bytes,
+    };
     let claim = Claim {
         problem: &problem,
         name,
-        plan: &plan,
+        plan: &stated,
     };
-    let answer = answer_on(alloc, claim, cert, showing);
+    let answer = answer_to_cert(alloc, claim, file, showing);
     drop(problem);
-    drop(plan);
-    answer
-}
-
-// What the run answers on a network and a plan, to what it reads after that.
-fn answer_on<C: Source>(
-    alloc: Global,
-    claim: Claim<'_>,
-    cert: &mut C,
-    showing: Showing,
-) -> Result<Shown, ReadFault>
-    requires { C.failed cert.old < 2 ^ 64 - 1 }
-    ensures goes { GoesOnOver showing claim.entry.problem.now claim.entry.plan.now (source_over C.given C.failed C.is_at_end cert.old cert.new) result }
-    ensures told { IfOk result (λ a. showing ≡ Showing.Verdict → IsSaid a) }
-{
-    let file = read_all(alloc, cert, MAX_FILE)?;
-    let file = File {
-        name: cert.name(),
-        bytes: &file,
-    };
-    Ok(answer_to_cert(alloc, claim, file, showing)?)
+    drop(stated);
+    Ok(answer?)
 }
 
 // What the run answers to a certificate file.

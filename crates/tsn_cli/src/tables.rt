@@ -23,7 +23,7 @@ use tsn_check::{PlanFault, judge_plan};
 use tsn_device::device::{ReadFault, Sink, Source};
 use tsn_gate::{Background, ReplayFault, ReplayTable, gate_lists, lists_by, replay_rows, text_in};
 use tsn_model::NoMemory;
-use tsn_reason::{Claim, InputsRead, line_on_plan, read_inputs, rejection};
+use tsn_reason::{Claim, NetworkRead, PlanRead, line_on_plan, read_network, read_plan, rejection};
 use tsn_timing::{Problem, Valid};
 use tsn_words::{ReplayFormat, StreamsFormat};
 
@@ -92,12 +92,15 @@ pub fn table_shown<N: Source, P: Source>(
         (source_over N.given N.failed N.is_at_end network.old network.new
         ∷ source_over P.given P.failed P.is_at_end plan.old plan.new ∷ []) result }
 {
-    match read_inputs(alloc, network, plan) {
-        Ok(InputsRead::Taken(problem, stated)) => {
-            Ok(answer_to(alloc, problem, stated, plan.name(), table)?)
-        }
-        Ok(InputsRead::Refused(answer)) => Ok(Shown::Said(answer)),
-        Err(fault) => Err(fault),
+    match read_network(alloc, network)? {
+        NetworkRead::Taken(problem) => match read_plan(alloc, plan) {
+            Ok(PlanRead::Taken(stated)) => {
+                Ok(answer_to(alloc, problem, stated, plan.name(), table)?)
+            }
+            Ok(PlanRead::Refused(answer)) => Ok(Shown::Said(answer)),
+            Err(fault) => Err(fault),
+        },
+        NetworkRead::Refused(answer) => Ok(Shown::Said(answer)),
     }
 }
 

@@ -1,5 +1,5 @@
 -- How the answers of the stages of a run of `prove` make its answer.
-use Rattle.std.proofs.Common.{◌≡◌, ◌≢◌, inl, inr, ℕ, List, [], ◌∷◌, Result, Ok, Err, Option, Some, None, IfOk, IfSome, IsTrue, is_some, refl, ap, sym, ◌∙◌, subst, arith}
+use Rattle.std.proofs.Common.{◌≡◌, ◌≢◌, inl, ℕ, List, [], ◌∷◌, Result, Ok, Err, Option, Some, None, IfOk, IfSome, IsTrue, is_some, refl, ap, sym, ◌∙◌, subst, arith}
 use Rattle.tsn_model.specs.Network.{Network}
 use Rattle.tsn_model.specs.declared.NoMemory.{NoMemory}
 use Rattle.tsn_cert.specs.declared.plan.Plan.{Plan}
@@ -12,32 +12,20 @@ use Rattle.tsn_prover.specs.declared.finding.Finding.{Finding}
 use Rattle.tsn_prover.specs.declared.proof_output.ProofOutput.{ProofOutput}
 use Rattle.tsn_device.specs.declared.run.TheConstants.{DEVICE}
 use Rattle.tsn_reason.specs.declared.answer.Answer.{Answer}
-use Rattle.tsn_reason.specs.declared.inputs.InputsRead.TheVariants.{Refused}
 use Rattle.tsn_reason.specs.declared.outcome.Outcome.{Outcome}
 use Rattle.tsn_reason.specs.declared.outcome.Outcome.TheVariants as ends
 use Rattle.tsn_reason.specs.Run.{Answers, Command, IsLine, IsOutput, Output, Reading, SinkRun, TakesAll, writing_of, writings_of}
 use Rattle.tsn_reason.specs.Said.{line_of, status_of, stop_of}
 use Rattle.tsn_reason.specs.Refusal.{told}
-use Rattle.tsn_reason.specs.Inputs.{ReadsInputs}
 use Rattle.tsn_reason.specs.Outcome.{IsWrittenAs, line_taken, outcome_of}
 use Rattle.tsn_prover.specs.Finding.{finding_of, stop_among}
 use Rattle.tsn_prover.specs.ProofOutput.{Finds, IsShown, finding_in, line_after, shown}
-use Rattle.tsn_prover.specs.Prove.{FindsAs, ProveAnswers, outcome_for, output_of}
-use Rattle.tsn_reason.proofs.CheckLemmas.{goes_on_after_network}
-use Rattle.tsn_reason.proofs.InputLemmas.{TakesInputs}
+use Rattle.tsn_prover.specs.Prove.{FindsAs, outcome_for, output_of}
 use Rattle.tsn_reason.proofs.RunLemmas.{Appends-nothing, Keeps-same, TellsFaults, some_of, told_fault}
 
 -- how a run of `prove` tells a fault of a source
 pub shown_faults : TellsFaults shown
 shown_faults = record { too_long = (refl, (refl, (refl, refl))); memory = (refl, (refl, (refl, refl))) }
-
-pub prove_inputs : (limit : ℕ) → TakesInputs (ProveAnswers limit)
-prove_inputs limit = record {
-  nothing = λ output answers. answers;
-  network = λ file output refused. refused;
-  goes_on = λ file problem states. goes_on_after_network file problem states;
-  plan = λ file plan_file problem output states refused. (problem, states, inl refused);
-}
 
 -- what was written is what it shows
 pub status_shown : (outcome : Result ProofOutput ReadFault) (sinks : List SinkRun) (status : ℕ) → IsWrittenAs IsShown outcome sinks status → status ≢ DEVICE
@@ -55,10 +43,6 @@ pub line_alone : (outcome : Outcome) (line : List ℕ) (output : Output) → out
 line_alone outcome line output is (three, same) = subst (λ (o : Output). IsLine 3 line o) (sym is) (three, (refl, (refl, same)))
 
 -- of a file that is refused nothing is found
-pub refused_three : (network plan : Reading) (answer : Answer) → ReadsInputs network plan (Ok (Refused answer)) → status_of answer.outcome ≡ 3
-refused_three network plan answer (inl (given, left)) = given.refused.2.0
-refused_three network plan answer (inr (problem, given, plan_given)) = plan_given.refused.2.0
-
 pub no_finding : (outcome : Outcome) → status_of outcome ≡ 3 → finding_of outcome ≡ None
 no_finding ends.Taken three = refl
 no_finding (ends.Valid a) three = refl

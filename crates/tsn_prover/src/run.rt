@@ -23,7 +23,8 @@ use tsn_device::device::{ReadFault, Sink, Source};
 use tsn_model::NoMemory;
 use tsn_reason::run::{DEVICE, STOPPED, respond};
 use tsn_reason::{
-    Answer, Claim, InputsRead, Outcome, Stop, line_on_plan, outcome_of, read_inputs, rejection,
+    Answer, Claim, NetworkRead, Outcome, PlanRead, Stop, line_on_plan, outcome_of, read_network,
+    read_plan, rejection,
 };
 use tsn_timing::Problem;
 
@@ -151,12 +152,15 @@ fn output_of<N: Source, P: Source, S: Supervisor>(
         (source_over N.given N.failed N.is_at_end network.old network.new
         ∷ source_over P.given P.failed P.is_at_end plan.old plan.new ∷ [])) result }
 {
-    match read_inputs(alloc, network, plan) {
-        Ok(InputsRead::Taken(problem, stated)) => {
-            Ok(answer_to(alloc, problem, stated, plan.name(), limit, supervisor)?)
-        }
-        Ok(InputsRead::Refused(answer)) => Ok(alone(alloc, answer)),
-        Err(fault) => Err(fault),
+    match read_network(alloc, network)? {
+        NetworkRead::Taken(problem) => match read_plan(alloc, plan) {
+            Ok(PlanRead::Taken(stated)) => {
+                Ok(answer_to(alloc, problem, stated, plan.name(), limit, supervisor)?)
+            }
+            Ok(PlanRead::Refused(answer)) => Ok(alone(alloc, answer)),
+            Err(fault) => Err(fault),
+        },
+        NetworkRead::Refused(answer) => Ok(alone(alloc, answer)),
     }
 }
 

@@ -8,7 +8,10 @@ use Rattle.tsn_net.specs.Conditions.{fault_of}
 use Rattle.tsn_cert.specs.declared.fault.FileFault.{FileFault}
 use Rattle.tsn_cert.specs.declared.fault.FileFault.TheVariants.{NotJson, WrongShape, NumberTooLarge, Memory}
 use Rattle.tsn_cert.specs.Fault.{FaultGiven}
-use Rattle.tsn_reason.specs.Run.{GoesOn}
+use Rattle.tsn_cert.specs.declared.plan.Plan.{Plan}
+use Rattle.tsn_cert.specs.Plan.{plan_in}
+use Rattle.tsn_reason.specs.Run.{GoesOn, Output}
+use Rattle.tsn_reason.specs.Refusal.{RefusesPlan}
 use Rattle.tsn_reason.specs.Check.{CheckAnswers}
 
 not_true : false ≡ true → ⊥
@@ -29,6 +32,10 @@ stated_has_no_fault file problem fault (d, (top, utf8, parsed, is), clear, made)
 -- to a network file that states a network `check` answers nothing
 pub goes_on_after_network : (file : List ℕ) (problem : NamedNetwork) → States file problem → GoesOn CheckAnswers (file ∷ [])
 goes_on_after_network file problem stated output (fault, has, line) = stated_has_no_fault file problem fault stated has
+
+-- nor does it to a plan file that states a plan
+pub plan_not_refused : (file : List ℕ) (stated : Plan) (output : Output) → plan_in file ≡ Ok stated → RefusesPlan file output → ⊥
+plan_not_refused file stated output is (fault, refused, line) = not_both (sym is ∙ refused)
 
 -- what a reader refused for another cause than memory is refused for that cause
 pub fault_is : {A : Type 0} (fault : FileFault) (expected : Result A FileFault) → FaultGiven fault expected → (fault ≡ Memory → false ≡ true) → expected ≡ Err fault

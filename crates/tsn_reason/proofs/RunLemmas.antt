@@ -1,11 +1,11 @@
 -- How the answers of a run's stages make its answer.
-use Rattle.std.proofs.Common.{◌≡◌, ◌≢◌, ◌⊎◌, ◌+◌, inl, inr, ℕ, List, [], ◌∷◌, ◌++◌, codes, take, Option, Some, None, Result, Ok, Err, refl, sym, ap, subst, IfSome, append-nil, arith}
+use Rattle.std.proofs.Common.{◌≡◌, ◌≢◌, ◌⊎◌, ◌+◌, inl, inr, ℕ, List, [], ◌∷◌, codes, take, Option, Some, None, Result, Ok, Err, refl, sym, ap, subst, IfSome, append-nil, arith}
 use Rattle.std.proofs.lemmas.List.Sums.{sum_by-cons}
 use Rattle.std.specs.Io.KnownBytes.{Appends, Keeps}
 use Rattle.tsn_device.specs.declared.device.ReadFault.{ReadFault}
 use Rattle.tsn_device.specs.declared.device.ReadFault.TheVariants.{Broken, TooLong, Memory}
 use Rattle.tsn_device.specs.declared.run.TheConstants.{DEVICE}
-use Rattle.tsn_reason.specs.Run.{AreUnwritten, BreaksOff, Command, Failures, IsLine, NoneFailed, Output, Reading, GivesFile, IsOutput, RunsOver, SinkRun, SourceRun, failed_after, failed_before, readings_of, reads_of, writes_of, writings_of}
+use Rattle.tsn_reason.specs.Run.{AreUnwritten, BreaksOff, Command, Failures, IsLine, NoneFailed, Output, Reading, IsOutput, RunsOver, SinkRun, SourceRun, failed_after, failed_before, readings_of, reads_of, writes_of, writings_of}
 use Rattle.tsn_reason.specs.Outcome.{ComesOver, ComesTo, IsWrittenAs, TellsFailures, output_of}
 
 pub Keeps-same : (o : Option (List ℕ)) → Keeps o o
@@ -16,18 +16,6 @@ Keeps-same (Some xs) = refl
 pub record TellsFaults {A : Type 0} (output : Result A ReadFault → Output) : Type 0 where
   pub too_long : IsLine 3 (codes "too long\n") (output (Err TooLong))
   pub memory : IsLine 7 (codes "no memory\n") (output (Err Memory))
-
-module _ {A : Type 0} (output : Result A ReadFault → Output) (command : Command) (files : List (List ℕ)) (reading : Reading) (readings : List Reading) where
-  -- the next file was read, and the run went on
-  pub ComesTo-next : (outcome : Result A ReadFault) (bytes : List ℕ) → GivesFile reading bytes → ComesTo output command (files ++ bytes ∷ []) readings outcome
-      → ComesTo output command files (reading ∷ readings) outcome
-  ComesTo-next (Ok answer) bytes gives (inl rest) = inl (inr (inr (bytes, gives, rest)))
-  ComesTo-next (Ok answer) bytes gives (inr line) = inr line
-  ComesTo-next (Err TooLong) bytes gives (inl rest) = inl (inr (inr (bytes, gives, rest)))
-  ComesTo-next (Err TooLong) bytes gives (inr line) = inr line
-  ComesTo-next (Err Memory) bytes gives (inl rest) = inl (inr (inr (bytes, gives, rest)))
-  ComesTo-next (Err Memory) bytes gives (inr line) = inr line
-  ComesTo-next (Err Broken) bytes gives rest = inr (bytes, gives, rest)
 
 -- the bytes that were written are those of the text
 pub text_whole : (before after : Option (List ℕ)) (bytes text : List ℕ) → bytes ≡ text → Appends before after bytes → Appends before after text
@@ -42,47 +30,6 @@ never_both is = cc
 -- how many reads failed doesn't hang on what was read
 pub tells_ok : {A B : Type 0} (reads : List Failures) (first : A) (then : B) → TellsFailures reads (Ok first) → TellsFailures reads (Ok then)
 tells_ok reads first then tells = record { broken = λ is. absurd (never_both is); kept = λ unbroken. tells.kept never_both }
-
-pub tells_err : {A B : Type 0} (reads : List Failures) (fault : ReadFault) → TellsFailures {A = A} reads (Err fault) → TellsFailures {A = B} reads (Err fault)
-tells_err reads TooLong tells = record { broken = λ is. cc; kept = λ unbroken. tells.kept (λ is. cc) }
-tells_err reads Memory tells = record { broken = λ is. cc; kept = λ unbroken. tells.kept (λ is. cc) }
-tells_err reads Broken tells = record { broken = λ is. tells.broken refl; kept = λ unbroken. absurd (unbroken refl) }
-
--- another source was read after one of which no read had failed, or it was left
-pub tells_next : {A B : Type 0} (network plan : Failures) (first : A) (outcome : Result B ReadFault) → TellsFailures (network ∷ []) (Ok first)
-    → TellsFailures (plan ∷ []) outcome → TellsFailures (network ∷ plan ∷ []) outcome
-tells_next network plan first outcome before tells =
-    let same : network.after ≡ network.before = before.kept never_both in
-    record {
-      broken = λ broken. let failed : 0 + plan.after ≡ 0 + plan.before + 1 = tells.broken broken in omega (arith, same, failed);
-      kept = λ unbroken. (same, tells.kept unbroken);
-    }
-
-pub tells_before : {A : Type 0} (network plan : Failures) (outcome : Result A ReadFault) → plan.after ≡ plan.before
-    → TellsFailures (network ∷ []) outcome → TellsFailures (network ∷ plan ∷ []) outcome
-tells_before network plan outcome left tells = record {
-  broken = λ broken. let failed : 0 + network.after ≡ 0 + network.before + 1 = tells.broken broken in omega (arith, left, failed);
-  kept = λ unbroken. (tells.kept unbroken, left);
-}
-
--- another source was read after two of which no read had failed, or it was left
-pub tells_then : {A B : Type 0} (network plan cert : Failures) (first : A) (outcome : Result B ReadFault) → TellsFailures (network ∷ plan ∷ []) (Ok first)
-    → TellsFailures (cert ∷ []) outcome → TellsFailures (network ∷ plan ∷ cert ∷ []) outcome
-tells_then network plan cert first outcome before tells =
-    let same = before.kept never_both in
-    let network_same : network.after ≡ network.before = same.0 in
-    let plan_same : plan.after ≡ plan.before = same.1 in
-    record {
-      broken = λ broken. let failed : 0 + cert.after ≡ 0 + cert.before + 1 = tells.broken broken in omega (arith, network_same, plan_same, failed);
-      kept = λ unbroken. (network_same, (plan_same, tells.kept unbroken));
-    }
-
-pub tells_left : {A : Type 0} (network plan cert : Failures) (outcome : Result A ReadFault) → cert.after ≡ cert.before
-    → TellsFailures (network ∷ plan ∷ []) outcome → TellsFailures (network ∷ plan ∷ cert ∷ []) outcome
-tells_left network plan cert outcome left tells = record {
-  broken = λ broken. let failed : 0 + network.after + plan.after ≡ 0 + network.before + plan.before + 1 = tells.broken broken in omega (arith, left, failed);
-  kept = λ unbroken. let same = tells.kept unbroken in (same.0, (same.1, left));
-}
 
 -- a fault is told by its line
 pub told_fault : {A : Type 0} (output : Result A ReadFault → Output) (outcome : Result A ReadFault) (fault : ReadFault) → outcome ≡ Err fault

@@ -1,6 +1,6 @@
 -- The outcome of a run before it is written, how far the run has come with it, and how it is written.
 --     outcome_of, output_of         what a run answers, as a value, and its output
---     ComesTo, ComesOver            how far a run has come
+--     ComesTo, ComesFrom, ComesOver how far a run has come
 --     TellsFailures                 a read failed where the outcome says so
 --     IsWrittenAs                   the output was written
 --     line_taken, EndsAs            a run that has come to an outcome whose line isn't written yet
@@ -38,11 +38,15 @@ pub record TellsFailures {A : Type 0} (reads : List Failures) (outcome : Result 
   pub broken : outcome ≡ Err Broken → failed_after reads ≡ failed_before reads + 1
   pub kept : (outcome ≡ Err Broken → ⊥) → NoneFailed reads
 
--- a run comes to this over these sources
-pub record ComesOver {A : Type 0} (output : Result A ReadFault → Output) (command : Command) (sources : List SourceRun) (outcome : Result A ReadFault)
-    : Type 0 where
-  pub comes : ComesTo output command [] (readings_of sources) outcome
+-- a run that has read these files comes to this over these sources
+pub record ComesFrom {A : Type 0} (output : Result A ReadFault → Output) (command : Command) (files : List (List ℕ)) (sources : List SourceRun)
+    (outcome : Result A ReadFault) : Type 0 where
+  pub comes : ComesTo output command files (readings_of sources) outcome
   pub failures : TellsFailures (reads_of sources) outcome
+
+-- and one that has read none
+abbrev pub ComesOver : {A : Type 0} → (Result A ReadFault → Output) → Command → List SourceRun → Result A ReadFault → Type 0
+ComesOver output command sources outcome = ComesFrom output command [] sources outcome
 
 -- The outcome has such an output, which was written to these sinks, and this is the status; or a read had failed; or a write did, and a beginning was
 -- written.

@@ -25,7 +25,7 @@ pub use answer::Answer;
 pub use answering::outcome_of;
 pub use argument::line_on_argument;
 pub use claim::{Claim, line_on_plan};
-pub use inputs::{InputsRead, NetworkRead, read_inputs, read_network};
+pub use inputs::{NetworkRead, PlanRead, read_network, read_plan};
 pub use network::network_line;
 pub use offsets::{Schedule, offsets_line};
 pub use outcome::{FileKind, Outcome};

@@ -5,8 +5,7 @@ use Rattle.tsn_prover.proofs.judge.answer_of.Goals as goal
 pub returns-in_ok-of-in-Ok-Taken : goal.returns-in_ok-of-in-Ok-Taken
 returns-in_ok-of-in-Ok-Taken g c =
     let over = rw c.in-Ok-Taken.field-0-is at c.in-Ok-Taken.ensures in
-    let given = over.reads in
     record {
-      comes = inl (inr (inr (given.file, given.gives, inr (c.in-Ok-Taken.problem, given.states, c.in_ok-of-in-Ok-Taken.ensures.line))));
+      comes = inl (inr (inr (over.reads.0, over.reads.1, inr (c.in-Ok-Taken.problem, over.reads.2, c.in_ok-of-in-Ok-Taken.ensures.line))));
       failures = tells_ok _ _ _ over.failures;
     }

@@ -1,41 +1,60 @@
-use Rattle.std.proofs.Common.{inl, inr}
+use Rattle.std.proofs.Common.{[], ◌∷◌, inl, inr, refl}
+use Rattle.tsn_reason.specs.declared.inputs.NetworkRead.TheVariants as of_network
+use Rattle.tsn_reason.specs.declared.inputs.PlanRead.TheVariants as of_plan
+use Rattle.tsn_reason.specs.Inputs.{TakesNetwork, TakesPlan}
 use Rattle.tsn_prover.specs.Prove.{ProveAnswers}
 use Rattle.tsn_prover.specs.ProofOutput.{shown}
-use Rattle.tsn_reason.proofs.RunLemmas.{tells_ok}
-use Rattle.tsn_reason.proofs.InputLemmas.{comes_failed, comes_refused, comes_taken}
+use Rattle.tsn_reason.proofs.CheckLemmas.{goes_on_after_network}
+use Rattle.tsn_reason.proofs.RunLemmas.{Keeps-same}
+use Rattle.tsn_reason.proofs.InputLemmas.{also_left, answered, none_left, unread, went_on}
 use Rattle.tsn_prover.proofs.FilesLemmas.{some_along}
-use Rattle.tsn_prover.proofs.ProveLemmas.{line_alone, no_finding, prove_inputs, refused_three, shown_faults}
+use Rattle.tsn_prover.proofs.ProveLemmas.{line_alone, no_finding, shown_faults}
 use Rattle.tsn_prover.proofs.run.output_of.Goals as goal
 
 pub returns-in_ok-answer_to-in-Ok-Taken-clause-comes : goal.returns-in_ok-answer_to-in-Ok-Taken-clause-comes
 returns-in_ok-answer_to-in-Ok-Taken-clause-comes g c =
-    let over = rw c.in-Ok-Taken.field-0-is at c.in-Ok-Taken.ensures in
-    comes_taken shown (ProveAnswers c.args.limit) _ _ c.in-Ok-Taken.problem c.in-Ok-Taken.stated _ over (tells_ok _ _ _ over.failures)
-    (λ file plan_file states is. inl (c.in-Ok-Taken.problem, states, inr (c.in-Ok-Taken.stated, is, c.in_ok-answer_to-in-Ok-Taken.ensures.judges)))
+    let network = rw c.in-Taken.is at c.in_ok-problem.ensures in
+    let plan = rw c.in-Ok-Taken.field-0-is at c.in-Ok-Taken.ensures in
+    went_on shown (ProveAnswers c.args.limit) [] TakesNetwork _ _ (of_network.Taken c.in-Taken.problem) _ network
+    (answered shown (ProveAnswers c.args.limit) (network.reads.0 ∷ []) TakesPlan _ [] none_left (of_plan.Taken c.in-Ok-Taken.stated) _ plan
+    (c.in-Taken.problem, network.reads.2, inr (c.in-Ok-Taken.stated, plan.reads.2, c.in_ok-answer_to-in-Ok-Taken.ensures.judges)))
 
 pub returns-in_ok-answer_to-in-Ok-Taken-clause-finds : goal.returns-in_ok-answer_to-in-Ok-Taken-clause-finds
 returns-in_ok-answer_to-in-Ok-Taken-clause-finds g c =
-    let reads = (rw c.in-Ok-Taken.field-0-is at c.in-Ok-Taken.ensures).reads in
+    let network = (rw c.in-Taken.is at c.in_ok-problem.ensures).reads in
+    let plan = (rw c.in-Ok-Taken.field-0-is at c.in-Ok-Taken.ensures).reads in
     some_along _ _ _ c.in_ok-answer_to-in-Ok-Taken.ensures.finds
     (λ finding found. inr (inr (
-      reads.0.file,
-      reads.0.gives,
-      inr (inr (
-        reads.1.file,
-        reads.1.gives,
-        (c.in-Ok-Taken.problem, reads.0.states, (c.in-Ok-Taken.stated, reads.1.states, found)),
-      )),
+      network.0,
+      network.1,
+      inr (inr (plan.0, plan.1, (c.in-Taken.problem, network.2, (c.in-Ok-Taken.stated, plan.2, found)))),
     )))
 
 pub returns-in-Ok-Refused-clause-comes : goal.returns-in-Ok-Refused-clause-comes
 returns-in-Ok-Refused-clause-comes g c =
-    comes_refused shown (ProveAnswers c.args.limit) _ _ (prove_inputs c.args.limit) c.in-Ok-Refused.answer c.alone.result
-    (λ line is. line_alone _ line _ c.alone.ensures.line is) (rw c.in-Ok-Refused.field-0-is at c.in-Ok-Refused.ensures)
+    let network = rw c.in-Taken.is at c.in_ok-problem.ensures in
+    let plan = rw c.in-Ok-Refused.field-0-is at c.in-Ok-Refused.ensures in
+    let refused = plan.reads.2 in
+    went_on shown (ProveAnswers c.args.limit) [] TakesNetwork _ _ (of_network.Taken c.in-Taken.problem) _ network
+    (answered shown (ProveAnswers c.args.limit) (network.reads.0 ∷ []) TakesPlan _ [] none_left (of_plan.Refused c.in-Ok-Refused.answer) _ plan
+    (c.in-Taken.problem, network.reads.2, inl (refused.0, refused.1, line_alone _ _ _ c.alone.ensures.line refused.2)))
+
+pub returns-in-Refused-clause-comes : goal.returns-in-Refused-clause-comes
+returns-in-Refused-clause-comes g c =
+    let network = rw c.in-Refused.is at c.in_ok-problem.ensures in
+    let refused = network.reads.2 in
+    answered shown (ProveAnswers c.args.limit) [] TakesNetwork _ _ (also_left _ [] (Keeps-same _) refl none_left)
+    (of_network.Refused c.in-Refused.answer) _ network (refused.0, refused.1, line_alone _ _ _ c.alone-in-Refused.ensures.line refused.2)
 
 pub returns-in-Err-clause-comes : goal.returns-in-Err-clause-comes
-returns-in-Err-clause-comes g c = comes_failed shown (ProveAnswers c.args.limit) _ _ shown_faults (prove_inputs c.args.limit) c.in-Err.fault c.in-Err.ensures
+returns-in-Err-clause-comes g c =
+    let network = rw c.in-Taken.is at c.in_ok-problem.ensures in
+    went_on shown (ProveAnswers c.args.limit) [] TakesNetwork _ _ (of_network.Taken c.in-Taken.problem) _ network
+    (unread shown (ProveAnswers c.args.limit) (network.reads.0 ∷ []) TakesPlan _ [] shown_faults
+    (goes_on_after_network network.reads.0 c.in-Taken.problem network.reads.2) none_left c.in-Err.fault c.in-Err.ensures)
 
 pub alone-requires : goal.alone-requires
-alone-requires g c =
-    no_finding c.in-Ok-Refused.answer.outcome
-    (refused_three _ _ c.in-Ok-Refused.answer (rw c.in-Ok-Refused.field-0-is at c.in-Ok-Refused.ensures).reads)
+alone-requires g c = no_finding c.in-Ok-Refused.answer.outcome (rw c.in-Ok-Refused.field-0-is at c.in-Ok-Refused.ensures).reads.2.2.0
+
+pub alone-requires-in-Refused : goal.alone-requires-in-Refused
+alone-requires-in-Refused g c = no_finding c.in-Refused.answer.outcome (rw c.in-Refused.is at c.in_ok-problem.ensures).reads.2.2.0
