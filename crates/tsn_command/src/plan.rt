@@ -12,11 +12,12 @@ use std::thread::Threads;
 use tsn_answer::Effort;
 use tsn_branch::Supervisor;
 use tsn_device::device::{ReadFault, Sink, Source, read_all};
+use tsn_model::NoMemory;
 use tsn_net::read_or_refuse;
 use tsn_plan_output::print::write_files;
 use tsn_plan_output::{PlanEnd, PlanOutput, alone, output_for};
 use tsn_reason::run::{MAX_FILE, STOPPED, respond};
-use tsn_reason::{Answer, network_line, outcome_of, refusal};
+use tsn_reason::{Answer, File, network_line, outcome_of, refusal};
 use tsn_worker::{Searched, search_by};
 
 /// Reads a network file and plans it by a method, with 1 to 16 workers and at most so many settlements, 1 to 1,000,000,000. It
@@ -116,7 +117,7 @@ struct Task {
     wanted: bool,
 }
 
-// Plans what a network file states, and says what is printed of it.
+// What the run found.
 fn found<R: Threads + Wait + Sync, N: Source, S: Supervisor + Sync>(
     rt: &R,
     alloc: Global,
@@ -139,17 +140,43 @@ fn found<R: Threads + Wait + Sync, N: Source, S: Supervisor + Sync>(
     ensures failures { TellsFailures (reads_of (source_over N.given N.failed N.is_at_end network.old network.new ∷ [])) result }
 {
     let file = read_all(alloc, network, MAX_FILE)?;
-    match read_or_refuse(alloc, &file) {
+    let file = File {
+        name: network.name(),
+        bytes: &file,
+    };
+    match plan_file(rt, alloc, file, task, supervisor) {
+        Ok(output) => Ok(output),
+        Err(NoMemory) => Err(ReadFault::Memory),
+    }
+}
+
+// Plans what a network file states, and says what is printed of it.
+fn plan_file<R: Threads + Wait + Sync, S: Supervisor + Sync>(
+    rt: &R,
+    alloc: Global,
+    file: File<'_>,
+    task: Task,
+    supervisor: &S,
+) -> Result<PlanOutput, NoMemory>
+    requires workers { (1 ≤ task.effort.workers) × (task.effort.workers ≤ 16) }
+    requires some { 1 ≤ task.effort.limit }
+    requires few { task.effort.limit ≤ 1_000_000_000 }
+    ensures answers { IfOk result (λ output. (shown : Output) → IsPrinted (Ok output) shown
+        → PlanAnswers task.effort task.wanted (file.entry.bytes.now ∷ []) shown) }
+    ensures stops { IfOk result (λ output. IfSome (stop_in (Ok output)) (λ stop. PlanStops task.effort.limit stop (file.entry.bytes.now ∷ []) (printed (Ok output)))) }
+    ensures wanted { IfOk result (λ output. IsTrue (is_some output.cert) → IsTrue task.wanted) }
+{
+    match read_or_refuse(alloc, file.bytes) {
         Ok(problem) => {
             let searched = search_by(rt, alloc, &problem, task.effort, supervisor);
             drop(problem);
             let Searched { found, word } = searched?;
             drop(word);
-            Ok(output_for(alloc, found, task.wanted)?)
+            output_for(alloc, found, task.wanted)
         }
         Err(refused) => {
             let fault = refused.fault;
-            let reason = network_line(alloc, network.name(), refused).unwrap_or(None);
+            let reason = network_line(alloc, file.name, refused).unwrap_or(None);
             Ok(alone(alloc, refusal(alloc, fault, reason)?))
         }
     }
