@@ -2,15 +2,15 @@
 use Rattle.std.proofs.Common.{◌≡◌, List, Result, Ok, Err, refl, subst, sym}
 use Rattle.tsn_device.specs.declared.device.ReadFault.{ReadFault}
 use Rattle.tsn_device.specs.declared.device.ReadFault.TheVariants.{Broken, TooLong, Memory}
-use Rattle.tsn_reason.specs.declared.answer.Answer.{Answer}
+use Rattle.tsn_given.specs.declared.answer.Answer.{Answer}
 use Rattle.tsn_reason.specs.Check.{CheckAnswers}
-use Rattle.tsn_reason.specs.Outcome.{ComesOver, TellsFailures, output_of}
-use Rattle.tsn_reason.specs.Run.{Failures, SourceRun}
+use Rattle.tsn_given.specs.Outcome.{ComesOver, TellsFailures, output_of}
+use Rattle.tsn_given.specs.Run.{Failures, SourceRun}
 use Rattle.tsn_cli.specs.declared.showing.Shown.{Shown}
 use Rattle.tsn_cli.specs.declared.showing.Showing.TheVariants.{Verdict}
 use Rattle.tsn_cli.specs.Shown.{shown_output, shown_said}
 use Rattle.tsn_cli.specs.Explain.{CertAnswers}
-use Rattle.tsn_reason.proofs.RunLemmas.{TellsFaults, tells_ok}
+use Rattle.tsn_given.proofs.RunLemmas.{TellsFaults, tells_ok}
 
 -- how what is shown tells a fault of a source
 pub shown_faults : TellsFaults shown_output

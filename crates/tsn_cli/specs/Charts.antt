@@ -2,7 +2,7 @@
 use Rattle.std.specs.Prelude.{ℕ, List, [], ◌∷◌, Bool, Option, Some, None}
 use Rattle.tsn_words.specs.declared.words.ChartWords.{ChartWords}
 use Rattle.tsn_chart.specs.declared.picture.Drawing.{Drawing}
-use Rattle.tsn_reason.specs.Run.{RunsOver, SinkRun}
+use Rattle.tsn_given.specs.Run.{RunsOver, SinkRun}
 use Rattle.tsn_cli.specs.Explain.{MarkedChartAnswers}
 use Rattle.tsn_cli.specs.Tables.{ChartAnswers}
 use Rattle.tsn_cli.specs.Options.{IsDrawingOf}

@@ -14,8 +14,9 @@ use Rattle.tsn_chart.specs.declared.picture.Drawing.{Drawing}
 use Rattle.tsn_cli.specs.declared.showing.Showing.{Showing}
 use Rattle.tsn_cli.specs.declared.showing.Showing.TheVariants.{Verdict, Words, Picture}
 use Rattle.tsn_cli.specs.declared.table.Table.TheVariants.{Chart}
-use Rattle.tsn_reason.specs.Run.{Output, Command, IsLine}
-use Rattle.tsn_reason.specs.Refusal.{IsOutcome, RefusesNetwork, RefusesPlan}
+use Rattle.tsn_given.specs.Run.{Output, Command, IsLine}
+use Rattle.tsn_given.specs.Outcome.{IsOutcome}
+use Rattle.tsn_reason.specs.Refusal.{RefusesNetwork, RefusesPlan}
 use Rattle.tsn_reason.specs.Check.{RefusesCert, ShowsNothing, StatesNetwork, accepted}
 use Rattle.tsn_cli.specs.Tables.{ShowsPlan, RejectsPlan}
 

@@ -5,9 +5,9 @@ use Rattle.std.specs.Prelude.{◌≡◌, List, [], ◌∷◌, string_bytes, Resu
 use Rattle.tsn_device.specs.declared.device.ReadFault.{ReadFault}
 use Rattle.tsn_cli.specs.declared.showing.Shown.{Shown}
 use Rattle.tsn_cli.specs.declared.showing.Shown.TheVariants.{Text, Said}
-use Rattle.tsn_reason.specs.declared.answer.Answer.{Answer}
-use Rattle.tsn_reason.specs.Run.{Output}
-use Rattle.tsn_reason.specs.Outcome.{output_of}
+use Rattle.tsn_given.specs.declared.answer.Answer.{Answer}
+use Rattle.tsn_given.specs.Run.{Output}
+use Rattle.tsn_given.specs.Outcome.{output_of}
 
 -- a text that was asked for, or an answer in a line
 abbrev pub shown_output : Result Shown ReadFault → Output

@@ -4,8 +4,8 @@ ghost use Rattle.tsn_argue.specs.Certified.{Certifies, certificate_verdict};
 ghost use Rattle.tsn_argue.specs.Faults.{IsFirstFault};
 ghost use Rattle.tsn_cli.specs.declared.table.Table.TheVariants.{Chart};
 ghost use Rattle.tsn_reason.specs.Inputs.{IsReadOver};
-ghost use Rattle.tsn_reason.specs.Run.{source_over};
-ghost use Rattle.tsn_reason.specs.Outcome.{ComesOver};
+ghost use Rattle.tsn_given.specs.Run.{source_over};
+ghost use Rattle.tsn_given.specs.Outcome.{ComesOver};
 ghost use Rattle.tsn_cli.specs.Shown.{IsSaid, shown_output};
 ghost use Rattle.tsn_reason.specs.Check.{ShowsNothing};
 ghost use Rattle.tsn_cli.specs.Explain.{CertAnswers, JudgesShown, ShowsAccepted, ShowsText};
@@ -23,10 +23,11 @@ use tsn_check::{CheckFault, Verdict, judge_tree};
 use tsn_codec::certificate_or_refuse;
 use tsn_device::device::{ReadFault, Source, read_all};
 use tsn_explain::{explanation, marked_frames};
+use tsn_given::FileKind;
+use tsn_given::run::MAX_FILE;
 use tsn_model::NoMemory;
-use tsn_reason::run::MAX_FILE;
 use tsn_reason::{
-    Claim, File, FileKind, NetworkRead, PlanRead, cert_rejection, file_refusal, line_on_argument,
+    Claim, File, NetworkRead, PlanRead, cert_rejection, file_refusal, line_on_argument,
     line_on_tree, read_network, read_plan,
 };
 use tsn_timing::Problem;

@@ -1,8 +1,7 @@
 //! `check`: judges a plan and its certificate.
 ghost use Rattle.std.specs.Prelude.{◌≡◌, ◌<◌, ◌-◌, ◌^◌, [], ◌∷◌, IfOk, Ok};
-ghost use Rattle.tsn_reason.specs.Run.{RunsOver, sink_over, source_over};
-ghost use Rattle.tsn_reason.specs.Refusal.{IsOutcome};
-ghost use Rattle.tsn_reason.specs.Outcome.{output_of};
+ghost use Rattle.tsn_given.specs.Run.{RunsOver, sink_over, source_over};
+ghost use Rattle.tsn_given.specs.Outcome.{IsOutcome, output_of};
 ghost use Rattle.tsn_cli.specs.Shown.{IsSaid, shown_said};
 ghost use Rattle.tsn_reason.specs.Check.{CheckAnswers, accepted};
 
@@ -12,9 +11,9 @@ use std::alloc::Global;
 use tsn_cert::Plan;
 use tsn_check::Verdict;
 use tsn_device::device::{ReadFault, Sink, Source};
+use tsn_given::run::respond;
+use tsn_given::{Answer, Outcome};
 use tsn_model::NoMemory;
-use tsn_reason::run::respond;
-use tsn_reason::{Answer, Outcome};
 
 /// Reads a network file, a plan file and a certificate file of format 1, 2 or 3, each judged before the next is read, and writes a
 /// line on the first that is refused, or on what the certificate shows. The answer is the status.

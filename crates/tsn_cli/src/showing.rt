@@ -1,13 +1,13 @@
 //! What is shown of a plan and its certificate.
 ghost use Rattle.std.specs.Prelude.{◌<◌, ◌-◌, ◌^◌, [], ◌∷◌};
-ghost use Rattle.tsn_reason.specs.Run.{sink_over};
-ghost use Rattle.tsn_reason.specs.Outcome.{IsWrittenAs};
+ghost use Rattle.tsn_given.specs.Run.{sink_over};
+ghost use Rattle.tsn_given.specs.Outcome.{IsWrittenAs};
 ghost use Rattle.tsn_cli.specs.Shown.{IsShownBy};
 
 use tsn_chart::Drawing;
 use tsn_device::device::{ReadFault, Sink};
-use tsn_reason::Answer;
-use tsn_reason::run::{DONE, finish, respond};
+use tsn_given::Answer;
+use tsn_given::run::{DONE, finish, respond};
 
 /// What is shown of a plan once its certificate is accepted.
 #[derive(Clone, Copy)]

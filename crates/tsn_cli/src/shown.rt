@@ -1,8 +1,8 @@
 //! The commands that judge and show, over what they are given.
 ghost use Rattle.std.specs.Prelude.{◌≡◌, [], ◌∷◌, option_map};
-ghost use Rattle.tsn_reason.specs.Run.{RunsOver, sink_over};
+ghost use Rattle.tsn_given.specs.Run.{RunsOver, sink_over};
 ghost use Rattle.tsn_reason.specs.Check.{CheckAnswers};
-ghost use Rattle.tsn_reason.specs.Outcome.{IsWrittenAs};
+ghost use Rattle.tsn_given.specs.Outcome.{IsWrittenAs};
 ghost use Rattle.tsn_cli.specs.Explain.{CertAnswers};
 ghost use Rattle.tsn_cli.specs.Shown.{IsShownBy};
 ghost use Rattle.tsn_cli.specs.Tables.{CanShow, TableAnswers};
@@ -18,12 +18,12 @@ use crate::table::Table;
 use crate::tables::table_shown;
 use crate::valid::valid_answer;
 use std::alloc::Global;
+use tsn_device::device::ReadFault;
 use tsn_given::json::{reason_in, tell_answer};
 use tsn_given::reason::{failure_line, fault_of, source_line};
+use tsn_given::run::{DEVICE, DONE};
 use tsn_given::told::{Ran, Told, tell, tell_all};
 use tsn_given::{Given, Made};
-use tsn_reason::device::ReadFault;
-use tsn_reason::run::{DEVICE, DONE};
 use tsn_words::{ChartWords, CheckWords, ExplainWords, ValidWords};
 
 /// Judges offsets; the network `-` is standard input.

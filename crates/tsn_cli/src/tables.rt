@@ -3,10 +3,9 @@
 ghost use Rattle.std.specs.Prelude.{◌≡◌, ◌≤◌, ◌<◌, ◌-◌, ◌^◌, ◌⊎◌, [], ◌∷◌, All, IfOk, IsErr, Ok, length, string_bytes};
 ghost use Rattle.tsn_model.specs.Schedule.{IsValid};
 ghost use Rattle.tsn_check.specs.Numbers.{plan_code};
-ghost use Rattle.tsn_reason.specs.Run.{RunsOver, sink_over, source_over};
-ghost use Rattle.tsn_reason.specs.Outcome.{ComesOver};
-ghost use Rattle.tsn_reason.specs.Refusal.{IsOutcome};
-ghost use Rattle.tsn_reason.specs.declared.outcome.Outcome.TheVariants.{RefusedPlan};
+ghost use Rattle.tsn_given.specs.Run.{RunsOver, sink_over, source_over};
+ghost use Rattle.tsn_given.specs.Outcome.{ComesOver, IsOutcome};
+ghost use Rattle.tsn_given.specs.declared.outcome.Outcome.TheVariants.{RefusedPlan};
 ghost use Rattle.tsn_cli.specs.Shown.{shown_output};
 ghost use Rattle.tsn_gate.specs.declared.trace.Row.{Row};
 ghost use Rattle.tsn_chart.specs.declared.link.LinkShare.{LinkShare};

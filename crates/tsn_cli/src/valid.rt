@@ -1,14 +1,15 @@
 //! `valid`: judges a list of offsets.
 ghost use Rattle.std.specs.Prelude.{◌<◌, ◌-◌, ◌^◌, ◌⊎◌, [], ◌∷◌, IfOk, Ok};
-ghost use Rattle.tsn_reason.specs.Run.{RunsOver, sink_over, source_over};
-ghost use Rattle.tsn_reason.specs.Outcome.{ComesOver, output_of};
+ghost use Rattle.tsn_given.specs.Run.{RunsOver, sink_over, source_over};
+ghost use Rattle.tsn_given.specs.Outcome.{ComesOver, output_of};
 ghost use Rattle.tsn_cli.specs.Valid.{ValidAnswers, Accepts, Rejects};
 
 use std::alloc::Global;
 use tsn_device::device::{ReadFault, Sink, Source};
+use tsn_given::run::respond;
+use tsn_given::{Answer, Outcome};
 use tsn_model::NoMemory;
-use tsn_reason::run::respond;
-use tsn_reason::{Answer, NetworkRead, Outcome, Schedule, offsets_line, read_network};
+use tsn_reason::{NetworkRead, Schedule, offsets_line, read_network};
 use tsn_timing::{Problem, Validity};
 
 /// Reads a network file, judges the offsets (nanoseconds, of any size, in the order of the file's streams), and writes

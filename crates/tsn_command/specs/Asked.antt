@@ -6,7 +6,7 @@ use Rattle.tsn_words.specs.declared.words.Words.{Words}
 use Rattle.tsn_words.specs.declared.words.Words.TheVariants.{Valid, Plan, Check, Prove, Explain, Gates, Replay, Chart, Streams}
 use Rattle.tsn_words.specs.declared.words.PlanWords.{PlanWords}
 use Rattle.tsn_reason.specs.Check.{CheckAnswers}
-use Rattle.tsn_reason.specs.Run.{RunsOver, SinkRun}
+use Rattle.tsn_given.specs.Run.{RunsOver, SinkRun}
 use Rattle.tsn_cli.specs.Valid.{ValidAnswers}
 use Rattle.tsn_cli.specs.Explain.{ExplainAnswers}
 use Rattle.tsn_cli.specs.Tables.{GatesAnswers, ReplayAnswers, StreamsAnswers}

@@ -1,6 +1,6 @@
 //! The commands, over what they are given.
 ghost use Rattle.std.specs.Prelude.{◌≡◌};
-ghost use Rattle.tsn_reason.specs.Run.{sink_over};
+ghost use Rattle.tsn_given.specs.Run.{sink_over};
 ghost use Rattle.tsn_given.specs.Runs.{WithSome};
 ghost use Rattle.tsn_prover.specs.Devices.{devices_of};
 ghost use Rattle.tsn_command.specs.Asked.{RunsAsked};

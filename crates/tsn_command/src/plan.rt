@@ -1,8 +1,8 @@
 //! `plan`: finds the lexicographically least of the schedules of least flowspan.
 ghost use Rattle.std.specs.Prelude.{◌≡◌, ◌≤◌, ◌<◌, ◌-◌, ◌^◌, ◌↔◌, [], ◌∷◌, IfOk, IfSome, IsTrue, Ok, OnErr, is_some};
-ghost use Rattle.tsn_reason.specs.Run.{EndsOver, IsOutput, Output, RunsOver, failed_in, readings_of, reads_of, sink_over, source_over, taken_in};
-ghost use Rattle.tsn_reason.specs.Said.{line_of, status_of, stop_of};
-ghost use Rattle.tsn_reason.specs.Outcome.{EndsAs, TellsFailures, line_taken, outcome_of};
+ghost use Rattle.tsn_given.specs.Run.{EndsOver, IsOutput, Output, RunsOver, failed_in, readings_of, reads_of, sink_over, source_over, taken_in};
+ghost use Rattle.tsn_given.specs.Said.{line_of, status_of, stop_of};
+ghost use Rattle.tsn_given.specs.Outcome.{EndsAs, TellsFailures, line_taken, outcome_of};
 ghost use Rattle.tsn_plan_output.specs.Plan.{PlanAnswers, PlanStops};
 ghost use Rattle.tsn_plan_output.specs.PlanOutput.{IsPrinted, printed, stop_in};
 
@@ -12,12 +12,13 @@ use std::thread::Threads;
 use tsn_answer::Effort;
 use tsn_branch::Supervisor;
 use tsn_device::device::{ReadFault, Sink, Source, read_all};
+use tsn_given::run::{MAX_FILE, STOPPED, respond};
+use tsn_given::{Answer, outcome_of};
 use tsn_model::NoMemory;
 use tsn_net::read_or_refuse;
 use tsn_plan_output::print::write_files;
 use tsn_plan_output::{PlanEnd, PlanOutput, alone, output_for};
-use tsn_reason::run::{MAX_FILE, STOPPED, respond};
-use tsn_reason::{Answer, File, network_line, outcome_of, refusal};
+use tsn_reason::{File, network_line, refusal};
 use tsn_worker::{Searched, search_by};
 
 /// Reads a network file and plans it by a method, with 1 to 16 workers and at most so many settlements, 1 to 1,000,000,000. It

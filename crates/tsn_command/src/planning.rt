@@ -1,6 +1,6 @@
 //! The command that plans a network.
 ghost use Rattle.std.specs.Prelude.{◌≡◌, [], ◌∷◌, IfSome, is_some, option_map};
-ghost use Rattle.tsn_reason.specs.Run.{failed_in, sink_over};
+ghost use Rattle.tsn_given.specs.Run.{failed_in, sink_over};
 ghost use Rattle.tsn_plan_output.specs.Plan.{PlanAnswers};
 ghost use Rattle.tsn_given.specs.Runs.{OverNetwork, RunsTold};
 ghost use Rattle.tsn_prover.specs.Files.{OverFiles};
@@ -18,11 +18,10 @@ use std::time::Clock;
 use tsn_given::json::tell_answer;
 use tsn_given::reason::{fault_of, source_line, write_line};
 use tsn_given::told::Told;
-use tsn_given::{Given, Made, Ran};
+use tsn_given::{Given, Made, Ran, outcome_of};
 use tsn_prover::{
     PlanFiles, Unwritten, end_progress, file_line, plan_files, progress_of, stop_or, unwritable,
 };
-use tsn_reason::outcome_of;
 use tsn_words::PlanWords;
 
 /// Plans a network; the network `-` is standard input. Where the words ask for it, how far the plan has got is told at once, on a

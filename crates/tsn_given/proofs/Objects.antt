@@ -2,8 +2,8 @@
 use Rattle.std.proofs.Common.{◌≡◌, ◌<◌, ◌||◌, ℕ, Bool, List, [], ◌∷◌, Option, Some, None, true, false, true≢false, length, refl, arith}
 use Rattle.serde_json.specs.Data.{string}
 use Rattle.serde_json.specs.Written.{has_float}
-use Rattle.tsn_reason.specs.declared.outcome.Outcome.{Outcome}
-use Rattle.tsn_reason.specs.Said.{code_of, flowspan_of, place_of, said, settled_of}
+use Rattle.tsn_given.specs.declared.outcome.Outcome.{Outcome}
+use Rattle.tsn_given.specs.Said.{code_of, flowspan_of, place_of, said, settled_of}
 use Rattle.tsn_given.specs.Told.{line_or_null, number_or_null, text_or_null, told_value}
 
 -- a line that isn't empty stands in an object as it is

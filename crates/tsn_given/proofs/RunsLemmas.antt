@@ -1,12 +1,12 @@
 -- What follows of a run over sources, and of one whose answer is told.
 use Rattle.std.proofs.Common.{◌≡◌, ◌≢◌, ◌++◌, ◌∷◌, [], ℕ, List, Bool, true, false, Option, Result, Ok, Err, IfOk, ap, ◌∙◌}
 use Rattle.tsn_device.specs.declared.device.ReadFault.{ReadFault}
-use Rattle.tsn_reason.specs.declared.answer.Answer.{Answer}
+use Rattle.tsn_given.specs.declared.answer.Answer.{Answer}
 use Rattle.tsn_device.specs.declared.run.TheConstants.{DEVICE}
-use Rattle.tsn_reason.specs.Run.{Command, EndsOver, Output, SinkRun, SourceRun}
-use Rattle.tsn_reason.specs.Said.{line_of, status_of}
-use Rattle.tsn_reason.specs.Outcome.{EndsAs, IsOutputOf, IsWrittenAs, line_taken, outcome_of}
-use Rattle.tsn_reason.proofs.LineLemmas.{ends_over, said_over}
+use Rattle.tsn_given.specs.Run.{Command, EndsOver, Output, SinkRun, SourceRun}
+use Rattle.tsn_given.specs.Said.{line_of, status_of}
+use Rattle.tsn_given.specs.Outcome.{EndsAs, IsOutputOf, IsWrittenAs, line_taken, outcome_of}
+use Rattle.tsn_given.proofs.LineLemmas.{ends_over, said_over}
 use Rattle.tsn_given.specs.Runs.{IsToldBy, LeavesSource, OverSource, RunsTold}
 
 -- what follows of a run that left a source so

@@ -9,13 +9,13 @@
 use Rattle.std.specs.Prelude.{◌≡◌, ◌≢◌, ◌⊎◌, ℕ, List, [], ◌∷◌, ◌++◌, Bool, true, false, take, codes, Option, Result}
 use Rattle.std.specs.Io.KnownBytes.{Appends}
 use Rattle.tsn_device.specs.declared.run.TheConstants.{DEVICE}
-use Rattle.tsn_reason.specs.declared.run.TheConstants.{MEMORY}
+use Rattle.tsn_given.specs.declared.run.TheConstants.{MEMORY}
 use Rattle.tsn_device.specs.declared.device.ReadFault.{ReadFault}
-use Rattle.tsn_reason.specs.declared.answer.Answer.{Answer}
-use Rattle.tsn_reason.specs.declared.outcome.Outcome.{Outcome}
-use Rattle.tsn_reason.specs.Run.{Command, RunsOver, SinkRun, SourceRun, source_over}
-use Rattle.tsn_reason.specs.Said.{status_of}
-use Rattle.tsn_reason.specs.Outcome.{EndsAs, IsOutputOf, IsWrittenAs, outcome_of}
+use Rattle.tsn_given.specs.declared.answer.Answer.{Answer}
+use Rattle.tsn_given.specs.declared.outcome.Outcome.{Outcome}
+use Rattle.tsn_given.specs.Run.{Command, RunsOver, SinkRun, SourceRun, source_over}
+use Rattle.tsn_given.specs.Said.{status_of}
+use Rattle.tsn_given.specs.Outcome.{EndsAs, IsOutputOf, IsWrittenAs, outcome_of}
 use Rattle.tsn_given.specs.Told.{told_text}
 
 -- it holds with some value of which this is so

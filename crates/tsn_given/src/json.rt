@@ -1,19 +1,19 @@
 //! What a run answers is told: in a line, or in an object of JSON in its place.
 ghost use Rattle.std.specs.Prelude.{◌≡◌, [], ◌∷◌, IfOk, codes, string_bytes};
-ghost use Rattle.tsn_reason.specs.Run.{sink_over};
-ghost use Rattle.tsn_reason.specs.Said.{status_of};
-ghost use Rattle.tsn_reason.specs.Outcome.{IsOutputOf, IsWrittenAs, outcome_of};
+ghost use Rattle.tsn_given.specs.Run.{sink_over};
+ghost use Rattle.tsn_given.specs.Said.{status_of};
+ghost use Rattle.tsn_given.specs.Outcome.{IsOutputOf, IsWrittenAs, outcome_of};
 ghost use Rattle.tsn_given.specs.Runs.{IsObjectOf, IsTellingOf, IsToldBy, Says};
 
 use crate::devices::{Given, Made};
 use crate::object::format_told;
 use crate::reason::failure_line;
+use crate::run::{DEVICE, MEMORY, NO_MEMORY_LINE, respond};
 use crate::told::{Ran, Told, say, tell};
+use crate::{Answer, Outcome, outcome_of};
 use std::alloc::Global;
 use tsn_device::device::ReadFault;
 use tsn_model::NoMemory;
-use tsn_reason::run::{DEVICE, MEMORY, NO_MEMORY_LINE, respond};
-use tsn_reason::{Answer, Outcome, outcome_of};
 
 /// Writes what a run answers, in a line or, where `json`, as a line of JSON, and tells the reason on standard error.
 pub fn tell_answer<'a, G: Given<'a>, W: Made>(

@@ -1,10 +1,10 @@
 //! What is told where no command runs.
 
 use crate::reason::failure_line;
+use crate::run::{DONE, MEMORY, NO_MEMORY_LINE, WORDS, finish};
 use std::alloc::Global;
 use std::io;
 use tsn_device::WriterSink;
-use tsn_reason::run::{DONE, MEMORY, NO_MEMORY_LINE, WORDS, finish};
 
 /// What standard output is called.
 pub(crate) const STANDARD_OUTPUT: &str = "standard output";

@@ -2,13 +2,13 @@
 ghost use Rattle.std.specs.Prelude.{◌≡◌, IfOk, false, option_map, string_bytes};
 ghost use Rattle.serde_json.specs.View.{view};
 ghost use Rattle.serde_json.specs.Written.{has_float};
-ghost use Rattle.tsn_reason.specs.Said.{said};
+ghost use Rattle.tsn_given.specs.Said.{said};
 ghost use Rattle.tsn_given.specs.Told.{line_or_null, line_text, text_or_null, told_object, told_text, told_value};
 
+use crate::Outcome;
 use serde_json::{Value, json};
 use std::alloc::{AllocError, Global};
 use tsn_model::NoMemory;
-use tsn_reason::Outcome;
 
 /// An outcome as a line of JSON, with the reason in words, if one is told: an object with the keys `code`, `flowspan`, `line`, `place`,
 /// `reason`, `settled` and `status`; what isn't there is `null`.

@@ -2,10 +2,10 @@
 ghost use Rattle.std.specs.Prelude.{◌<◌, IsSome};
 
 use crate::devices::Opened;
+use crate::run::{DEVICE, MAX_FILE};
 use std::alloc::{AllocError, Global};
 use tsn_device::device::ReadFault;
 use tsn_device::{Action, Failure};
-use tsn_reason::run::{DEVICE, MAX_FILE};
 use tsn_text::line_of;
 
 /// Why what a run reads was not read whole, if it wasn't.

@@ -1,12 +1,12 @@
 //! How a run ends: what is told, and its status.
 ghost use Rattle.std.specs.Prelude.{◌≡◌};
-ghost use Rattle.tsn_reason.specs.Run.{sink_over};
+ghost use Rattle.tsn_given.specs.Run.{sink_over};
 ghost use Rattle.tsn_given.specs.Runs.{Says};
 
+use crate::Answer;
 use crate::devices::{Given, Made};
+use crate::run::DEVICE;
 use tsn_device::device::{ReadFault, write_all};
-use tsn_reason::Answer;
-use tsn_reason::run::DEVICE;
 
 /// How a command ended: its status, and standard output as the command left it.
 #[derive(Drop)]

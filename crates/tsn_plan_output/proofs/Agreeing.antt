@@ -8,9 +8,9 @@ use Rattle.tsn_cert.specs.declared.plan.Plan.TheVariants as plan
 use Rattle.tsn_cert.specs.Plan.{plan_text}
 use Rattle.tsn_check.specs.Plans.{IsFirstPlan}
 use Rattle.tsn_answer.specs.declared.effort.Effort.{Effort}
-use Rattle.tsn_reason.specs.declared.stop.Stop.{Stop}
+use Rattle.tsn_given.specs.declared.stop.Stop.{Stop}
 use Rattle.tsn_answer.proofs.Agreeing.{first_plan_once}
-use Rattle.tsn_reason.specs.Run.{Output}
+use Rattle.tsn_given.specs.Run.{Output}
 use Rattle.tsn_plan_output.specs.Plan.{PlanAnswers, TellsPlan, TellsStop}
 
 -- an output with status 0 tells of the first plan

@@ -11,7 +11,7 @@ use Rattle.tsn_cert.specs.Laws.{IsInGrammar, AreInGrammar}
 use Rattle.tsn_cert.specs.Text.{head_text, node_text, nodes_text, tail_text}
 use Rattle.tsn_codec.proofs.CertParts.{cert_text_parts}
 use Rattle.tsn_plan_output.specs.Pieces.{IsParted}
-use Rattle.tsn_reason.proofs.RunLemmas.{Appends-nothing}
+use Rattle.tsn_given.proofs.RunLemmas.{Appends-nothing}
 
 -- one piece behind another
 pub Appends-both : (a b c : Option (List ℕ)) (xs ys : List ℕ) → Appends a b xs → Appends b c ys → Appends a c (xs ++ ys)

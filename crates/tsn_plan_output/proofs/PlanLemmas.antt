@@ -20,18 +20,18 @@ use Rattle.tsn_answer.specs.declared.found.Found.{Found}
 use Rattle.tsn_answer.specs.declared.found.Found.TheVariants as found
 use Rattle.tsn_answer.specs.Optimum.{IsFoundPlan}
 use Rattle.tsn_answer.specs.Answer.{IsArgued, IsFinished, IsFound, IsFoundBy, MayArgue, plan_kept}
-use Rattle.tsn_reason.specs.declared.answer.Answer.{Answer}
-use Rattle.tsn_reason.specs.declared.stop.Stop.{Stop}
-use Rattle.tsn_reason.specs.Outcome.{outcome_of}
+use Rattle.tsn_given.specs.declared.answer.Answer.{Answer}
+use Rattle.tsn_given.specs.declared.stop.Stop.{Stop}
+use Rattle.tsn_given.specs.Outcome.{outcome_of}
 use Rattle.tsn_plan_output.specs.declared.plan_output.PlanOutput.{PlanOutput}
 use Rattle.tsn_plan_output.specs.declared.plan_output.Written.{Written}
 use Rattle.tsn_plan_output.specs.declared.plan_output.Written.TheVariants.{Argued}
-use Rattle.tsn_reason.specs.Run.{Output, Command, Reading, GivesFile, IsOutput}
+use Rattle.tsn_given.specs.Run.{Output, Command, Reading, GivesFile, IsOutput}
 use Rattle.tsn_plan_output.specs.PlanOutput.{HasFormIfAny, IsCut, IsPrinted, cert_bytes, printed, stop_in, written_in}
-use Rattle.tsn_reason.specs.declared.outcome.Outcome.{Outcome}
-use Rattle.tsn_reason.specs.Said.{line_of, status_of, stop_of}
+use Rattle.tsn_given.specs.declared.outcome.Outcome.{Outcome}
+use Rattle.tsn_given.specs.Said.{line_of, status_of, stop_of}
 use Rattle.tsn_plan_output.specs.Plan.{IsTreeOf, IsWanted, PlanAnswers, PlanStops, ShowsIfAny, TellsPlan, TellsStop, finished_output, found_outcome, stop_for, stopped_output}
-use Rattle.tsn_reason.proofs.SaidLemmas.{stop_known}
+use Rattle.tsn_given.proofs.SaidLemmas.{stop_known}
 use Rattle.tsn_plan_output.proofs.TreeLemmas.{cert_is_there}
 
 abbrev three : ℕ → List ℕ → List ℕ → List ℕ → Output

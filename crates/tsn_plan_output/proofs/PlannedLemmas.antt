@@ -24,8 +24,8 @@ use Rattle.tsn_argue.specs.Certified.{Certifies, certificate_verdict}
 use Rattle.tsn_argue.specs.Laws.{FirstFaultsRefute}
 use Rattle.tsn_answer.specs.declared.effort.Effort.{Effort}
 use Rattle.tsn_answer.specs.Answer.{Shows, whole_verdict, IsReadAgain, IsWhole}
-use Rattle.tsn_reason.specs.Run.{Output}
-use Rattle.tsn_reason.specs.Refusal.{IsOutcome}
+use Rattle.tsn_given.specs.Run.{Output}
+use Rattle.tsn_given.specs.Outcome.{IsOutcome}
 use Rattle.tsn_reason.specs.Check.{CheckAnswers, accepted}
 use Rattle.tsn_plan_output.specs.Plan.{TellsPlan}
 use Rattle.tsn_plan_output.specs.PlanOutput.{HasForm}

@@ -6,13 +6,13 @@ use Rattle.tsn_device.specs.declared.device.ReadFault.{ReadFault}
 use Rattle.tsn_device.specs.declared.device.ReadFault.TheVariants.{Broken, TooLong, Memory}
 use Rattle.tsn_plan_output.specs.declared.plan_output.Written.{Written}
 use Rattle.tsn_plan_output.specs.declared.plan_output.PlanOutput.{PlanOutput}
-use Rattle.tsn_reason.specs.declared.outcome.Outcome.{Outcome}
-use Rattle.tsn_reason.specs.declared.outcome.Outcome.TheVariants as ends
-use Rattle.tsn_reason.specs.Run.{Output, IsUnwritten, SinkRun, writing_of}
-use Rattle.tsn_reason.specs.Said.{line_of, status_of}
-use Rattle.tsn_reason.specs.Outcome.{IsWrittenAs, line_taken, outcome_of}
+use Rattle.tsn_given.specs.declared.outcome.Outcome.{Outcome}
+use Rattle.tsn_given.specs.declared.outcome.Outcome.TheVariants as ends
+use Rattle.tsn_given.specs.Run.{Output, IsUnwritten, SinkRun, writing_of}
+use Rattle.tsn_given.specs.Said.{line_of, status_of}
+use Rattle.tsn_given.specs.Outcome.{IsWrittenAs, line_taken, outcome_of}
 use Rattle.tsn_plan_output.specs.PlanOutput.{HasFormIfAny, IsCut, IsPrinted, cert_bytes, printed, written_in}
-use Rattle.tsn_reason.proofs.RunLemmas.{Appends-nothing, Keeps-same}
+use Rattle.tsn_given.proofs.RunLemmas.{Appends-nothing, Keeps-same}
 
 -- the plan, so many bytes of the certificate, and the line
 abbrev pub cut : List ℕ → Option Written → ℕ → Output

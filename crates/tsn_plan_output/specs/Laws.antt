@@ -1,7 +1,7 @@
 -- The laws of the commands, each the contract of a function in `src/laws.rt`.
 use Rattle.std.specs.Prelude.{◌≡◌, ℕ, Bool, List, [], ◌∷◌, slice_get}
 use Rattle.tsn_answer.specs.declared.effort.Effort.{Effort}
-use Rattle.tsn_reason.specs.Run.{Output}
+use Rattle.tsn_given.specs.Run.{Output}
 use Rattle.tsn_plan_output.specs.Plan.{PlanAnswers}
 
 -- two answers to one network file that both have status 0, however they were searched for and whether a certificate is wanted, have the same plan

@@ -19,11 +19,11 @@ use Rattle.tsn_answer.specs.declared.known.Known.{Known}
 use Rattle.tsn_answer.specs.declared.effort.Effort.{Effort}
 use Rattle.tsn_answer.specs.Optimum.{IsFoundPlan}
 use Rattle.tsn_answer.specs.Answer.{IsCertificateBy, IsCertOf, IsReadAgain, IsStoppedWith, Shows}
-use Rattle.tsn_reason.specs.declared.stop.Stop.{Stop}
-use Rattle.tsn_reason.specs.declared.outcome.Outcome.{Outcome}
-use Rattle.tsn_reason.specs.declared.outcome.Outcome.TheVariants.{Optimal, NoSchedule, Stopped}
-use Rattle.tsn_reason.specs.Run.{Output, Command}
-use Rattle.tsn_reason.specs.Said.{line_of, status_of}
+use Rattle.tsn_given.specs.declared.stop.Stop.{Stop}
+use Rattle.tsn_given.specs.declared.outcome.Outcome.{Outcome}
+use Rattle.tsn_given.specs.declared.outcome.Outcome.TheVariants.{Optimal, NoSchedule, Stopped}
+use Rattle.tsn_given.specs.Run.{Output, Command}
+use Rattle.tsn_given.specs.Said.{line_of, status_of}
 use Rattle.tsn_plan_output.specs.PlanOutput.{cert_bytes, HasFormIfAny, IsCut}
 use Rattle.tsn_reason.specs.Refusal.{RefusesNetwork}
 

@@ -5,8 +5,8 @@ use Rattle.tsn_cert.specs.Plan.{plan_in}
 use Rattle.tsn_cert.specs.declared.plan.Plan.{Plan}
 use Rattle.tsn_answer.specs.declared.effort.Effort.{Effort}
 use Rattle.tsn_answer.specs.Answer.{whole_verdict}
-use Rattle.tsn_reason.specs.Run.{Output}
-use Rattle.tsn_reason.specs.Refusal.{IsOutcome}
+use Rattle.tsn_given.specs.Run.{Output}
+use Rattle.tsn_given.specs.Outcome.{IsOutcome}
 use Rattle.tsn_plan_output.specs.Plan.{PlanAnswers}
 use Rattle.tsn_reason.specs.Check.{CheckAnswers, accepted}
 

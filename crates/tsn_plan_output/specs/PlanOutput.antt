@@ -16,11 +16,11 @@ use Rattle.tsn_cert.specs.declared.certificate.Certificate.{Certificate}
 use Rattle.tsn_cert.specs.declared.certificate.Certificate.TheVariants.{Tree, Argument}
 use Rattle.tsn_cert.specs.Laws.{AreInGrammar}
 use Rattle.tsn_cert.specs.Certificate.{certificate_text}
-use Rattle.tsn_reason.specs.declared.stop.Stop.{Stop}
-use Rattle.tsn_reason.specs.declared.outcome.Outcome.{Outcome}
-use Rattle.tsn_reason.specs.declared.outcome.Outcome.TheVariants as ends
-use Rattle.tsn_reason.specs.Run.{Output}
-use Rattle.tsn_reason.specs.Said.{line_of, status_of, stop_of}
+use Rattle.tsn_given.specs.declared.stop.Stop.{Stop}
+use Rattle.tsn_given.specs.declared.outcome.Outcome.{Outcome}
+use Rattle.tsn_given.specs.declared.outcome.Outcome.TheVariants as ends
+use Rattle.tsn_given.specs.Run.{Output}
+use Rattle.tsn_given.specs.Said.{line_of, status_of, stop_of}
 
 -- the certificate that is to be written
 abbrev pub certificate_of : Written → Certificate

@@ -5,7 +5,7 @@ ghost use Rattle.tsn_cert.specs.Cert.{cert_text};
 ghost use Rattle.tsn_cert.specs.Laws.{IsInGrammar, AreInGrammar};
 ghost use Rattle.tsn_cert.specs.Node.{tree_node};
 ghost use Rattle.tsn_cert.specs.Text.{node_text, nodes_text};
-ghost use Rattle.tsn_reason.specs.Run.{taken_in, failed_in};
+ghost use Rattle.tsn_given.specs.Run.{taken_in, failed_in};
 ghost use Rattle.tsn_cert.specs.Argument.{argument_text};
 ghost use Rattle.tsn_cert.specs.Certificate.{certificate_text};
 ghost use Rattle.tsn_plan_output.specs.PlanOutput.{cert_bytes, certificate_of, written_in, HasForm, HasFormIfAny};

@@ -1,8 +1,8 @@
 //! How a run of `plan` ended.
 ghost use Rattle.std.specs.Prelude.{◌≡◌, IsTrue, is_some};
 
-use tsn_reason::Stop;
-use tsn_reason::run::STOPPED;
+use tsn_given::Stop;
+use tsn_given::run::STOPPED;
 
 /// How a run of `plan` ended: its status, and what is known where that is `STOPPED`.
 #[derive(Clone, Copy)]

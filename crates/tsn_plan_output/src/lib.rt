@@ -12,4 +12,4 @@ pub mod print;
 pub use end::PlanEnd;
 pub use output::{alone, output_for};
 pub use plan_output::PlanOutput;
-pub use tsn_reason::run::NO_SCHEDULE;
+pub use tsn_given::run::NO_SCHEDULE;

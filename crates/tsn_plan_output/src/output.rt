@@ -2,8 +2,8 @@
 ghost use Rattle.std.specs.Prelude.{◌≡◌, ◌⊎◌, ℕ, [], IfOk, IfSome, IsTrue, None, Ok, Some, if◌then◌else◌, is_some, length, string_bytes};
 ghost use Rattle.tsn_model.specs.Network.{Network};
 ghost use Rattle.tsn_model.specs.Search.{kept_of, open_paths};
-ghost use Rattle.tsn_reason.specs.Run.{Output};
-ghost use Rattle.tsn_reason.specs.Said.{stop_of};
+ghost use Rattle.tsn_given.specs.Run.{Output};
+ghost use Rattle.tsn_given.specs.Said.{stop_of};
 ghost use Rattle.tsn_plan_output.specs.Plan.{IsWanted, TellsPlan, TellsStop, best_plan_text, found_outcome, stop_for, stopped_output};
 ghost use Rattle.tsn_plan_output.specs.PlanOutput.{IsPrinted, line_alone, printed, stop_in, written_in};
 ghost use Rattle.tsn_cert.specs.Plan.{plan_text};
@@ -17,8 +17,8 @@ use tsn_answer::{Found, Known, plan_of};
 use tsn_book::Book;
 use tsn_cert::{Argument, Offsets, Plan};
 use tsn_codec::plan_to_json;
+use tsn_given::{Answer, Outcome, Stop};
 use tsn_model::NoMemory;
-use tsn_reason::{Answer, Outcome, Stop};
 use tsn_timing::Solved;
 
 /// What is printed of what a search found.

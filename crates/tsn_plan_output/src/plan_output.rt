@@ -2,7 +2,7 @@
 
 use tsn_book::Spelling;
 use tsn_cert::Argument;
-use tsn_reason::Answer;
+use tsn_given::Answer;
 
 /// A certificate that is to be written.
 #[derive(Drop)]

@@ -1,15 +1,15 @@
 //! How a run of `plan` writes what it found: a plan, and its certificate, where one is wanted.
 ghost use Rattle.std.specs.Prelude.{◌≡◌, ◌<◌, ◌-◌, ◌^◌, [], ◌∷◌, IfOk, IsSome, Ok};
-ghost use Rattle.tsn_reason.specs.Run.{failed_in, sink_over, taken_in};
-ghost use Rattle.tsn_reason.specs.Said.{line_of, status_of, stop_of};
-ghost use Rattle.tsn_reason.specs.Outcome.{IsWrittenAs, line_taken, outcome_of};
+ghost use Rattle.tsn_given.specs.Run.{failed_in, sink_over, taken_in};
+ghost use Rattle.tsn_given.specs.Said.{line_of, status_of, stop_of};
+ghost use Rattle.tsn_given.specs.Outcome.{IsWrittenAs, line_taken, outcome_of};
 ghost use Rattle.tsn_plan_output.specs.PlanOutput.{IsPrinted, stop_in};
 
 use crate::certificate::{CertFault, write_wanted};
 use crate::plan_output::PlanOutput;
 use std::alloc::Global;
 use tsn_device::device::{ReadFault as Unanswered, Sink, write_whole};
-use tsn_reason::Answer;
+use tsn_given::Answer;
 
 /// Writes the texts of the files, and answers what is said then: of a write that failed nothing is.
 pub fn write_files<P: Sink, C: Sink>(

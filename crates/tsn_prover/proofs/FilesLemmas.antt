@@ -1,13 +1,13 @@
 -- What follows of a value that may be absent; and runs with two files.
 use Rattle.std.proofs.Common.{◌≡◌, ◌≢◌, ℕ, List, [], ◌∷◌, Option, Some, None, Result, IfSome, IsTrue, is_some, refl, sym, subst, arith}
 use Rattle.tsn_device.specs.declared.device.ReadFault.{ReadFault}
-use Rattle.tsn_reason.specs.declared.answer.Answer.{Answer}
+use Rattle.tsn_given.specs.declared.answer.Answer.{Answer}
 use Rattle.tsn_device.specs.declared.run.TheConstants.{DEVICE}
-use Rattle.tsn_reason.specs.declared.run.TheConstants.{STOPPED}
-use Rattle.tsn_reason.specs.Run.{Command, EndsOver, RunsOver, SinkRun, SourceRun}
-use Rattle.tsn_reason.specs.Said.{line_of, status_of}
-use Rattle.tsn_reason.specs.Outcome.{EndsAs, IsOutputOf, IsWrittenAs, line_taken, outcome_of}
-use Rattle.tsn_reason.proofs.LineLemmas.{said_over}
+use Rattle.tsn_given.specs.declared.run.TheConstants.{STOPPED}
+use Rattle.tsn_given.specs.Run.{Command, EndsOver, RunsOver, SinkRun, SourceRun}
+use Rattle.tsn_given.specs.Said.{line_of, status_of}
+use Rattle.tsn_given.specs.Outcome.{EndsAs, IsOutputOf, IsWrittenAs, line_taken, outcome_of}
+use Rattle.tsn_given.proofs.LineLemmas.{said_over}
 use Rattle.tsn_given.proofs.RunsLemmas.{ends_told}
 
 -- what follows of a value, where there is one

@@ -11,17 +11,16 @@ use Rattle.tsn_device.specs.declared.device.ReadFault.TheVariants.{Broken, TooLo
 use Rattle.tsn_prover.specs.declared.finding.Finding.{Finding}
 use Rattle.tsn_prover.specs.declared.proof_output.ProofOutput.{ProofOutput}
 use Rattle.tsn_device.specs.declared.run.TheConstants.{DEVICE}
-use Rattle.tsn_reason.specs.declared.answer.Answer.{Answer}
-use Rattle.tsn_reason.specs.declared.outcome.Outcome.{Outcome}
-use Rattle.tsn_reason.specs.declared.outcome.Outcome.TheVariants as ends
-use Rattle.tsn_reason.specs.Run.{Answers, Command, IsLine, IsOutput, Output, Reading, SinkRun, TakesAll, writing_of, writings_of}
-use Rattle.tsn_reason.specs.Said.{line_of, status_of, stop_of}
-use Rattle.tsn_reason.specs.Refusal.{told}
-use Rattle.tsn_reason.specs.Outcome.{IsWrittenAs, line_taken, outcome_of}
+use Rattle.tsn_given.specs.declared.answer.Answer.{Answer}
+use Rattle.tsn_given.specs.declared.outcome.Outcome.{Outcome}
+use Rattle.tsn_given.specs.declared.outcome.Outcome.TheVariants as ends
+use Rattle.tsn_given.specs.Run.{Answers, Command, IsLine, IsOutput, Output, Reading, SinkRun, TakesAll, writing_of, writings_of}
+use Rattle.tsn_given.specs.Said.{line_of, status_of, stop_of}
+use Rattle.tsn_given.specs.Outcome.{told, IsWrittenAs, line_taken, outcome_of}
 use Rattle.tsn_prover.specs.Finding.{finding_of, stop_among}
 use Rattle.tsn_prover.specs.ProofOutput.{Finds, IsShown, finding_in, line_after, shown}
 use Rattle.tsn_prover.specs.Prove.{FindsAs, outcome_for, output_of}
-use Rattle.tsn_reason.proofs.RunLemmas.{Appends-nothing, Keeps-same, TellsFaults, some_of, told_fault}
+use Rattle.tsn_given.proofs.RunLemmas.{Appends-nothing, Keeps-same, TellsFaults, some_of, told_fault}
 
 -- how a run of `prove` tells a fault of a source
 pub shown_faults : TellsFaults shown

@@ -19,8 +19,8 @@ use Rattle.tsn_argue.specs.Laws.{FirstFaultsRefute}
 use Rattle.tsn_answer.specs.declared.proof.Proof.{Proof}
 use Rattle.tsn_answer.specs.declared.proof.Proof.TheVariants.{Proved, Undercut, Stopped}
 use Rattle.tsn_answer.specs.Proof.{IsProof}
-use Rattle.tsn_reason.specs.Run.{Output}
-use Rattle.tsn_reason.specs.Refusal.{IsOutcome}
+use Rattle.tsn_given.specs.Run.{Output}
+use Rattle.tsn_given.specs.Outcome.{IsOutcome}
 use Rattle.tsn_reason.specs.Check.{CheckAnswers, accepted}
 use Rattle.tsn_prover.specs.Prove.{output_of}
 use Rattle.tsn_prover.specs.ProveLaws.{ProvedIsAccepted, proved_verdict}

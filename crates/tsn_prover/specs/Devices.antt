@@ -5,7 +5,7 @@
 --     RunsProve                       over the files that are named, or with nothing written, where one can't be made
 use Rattle.std.specs.Prelude.{◌⊎◌, ℕ, List, Bool, Option, option_map}
 use Rattle.tsn_words.specs.declared.words.ProveWords.{ProveWords}
-use Rattle.tsn_reason.specs.Run.{SinkRun, SourceRun}
+use Rattle.tsn_given.specs.Run.{SinkRun, SourceRun}
 use Rattle.tsn_prover.specs.Prove.{ProveAnswers}
 use Rattle.tsn_given.specs.Runs.{OverCert, OverNetwork, OverPlan, RunsTold}
 use Rattle.tsn_prover.specs.Files.{MadeProofFiles}

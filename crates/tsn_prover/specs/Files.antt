@@ -2,7 +2,7 @@
 --     OverFiles, OverProofFiles      a run over files, as they were made and as they were left
 --     MadeFiles, MadeProofFiles      a run over files that words name
 use Rattle.std.specs.Prelude.{◌≡◌, ℕ, List, [], ◌∷◌, Bool, Option, IfSome, is_some}
-use Rattle.tsn_reason.specs.Run.{SinkRun, sink_over, taken_in, failed_in}
+use Rattle.tsn_given.specs.Run.{SinkRun, sink_over, taken_in, failed_in}
 
 -- it holds of what became over a run of the file of a plan and that of a certificate, if there is one
 pub record OverFiles {F : Type 0} (taken : F → Option (List ℕ)) (failed : F → ℕ) (plan : F) (cert : Option F) (holds : List SinkRun → Type 0)

@@ -2,9 +2,9 @@
 --     finding_of     what is found, if that is what a run answers
 --     stop_among     what is known where the limit was met
 use Rattle.std.specs.Prelude.{Option, Some, None}
-use Rattle.tsn_reason.specs.declared.stop.Stop.{Stop}
-use Rattle.tsn_reason.specs.declared.outcome.Outcome.{Outcome}
-use Rattle.tsn_reason.specs.declared.outcome.Outcome.TheVariants as ends
+use Rattle.tsn_given.specs.declared.stop.Stop.{Stop}
+use Rattle.tsn_given.specs.declared.outcome.Outcome.{Outcome}
+use Rattle.tsn_given.specs.declared.outcome.Outcome.TheVariants as ends
 use Rattle.tsn_prover.specs.declared.finding.Finding.{Finding}
 use Rattle.tsn_prover.specs.declared.finding.Finding.TheVariants.{Proved, Undercut, Stopped}
 

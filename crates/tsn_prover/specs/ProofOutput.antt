@@ -4,10 +4,10 @@ use Rattle.tsn_prover.specs.declared.finding.Finding.{Finding}
 use Rattle.tsn_prover.specs.declared.proof_output.ProofOutput.{ProofOutput}
 use Rattle.tsn_device.specs.declared.device.ReadFault.{ReadFault}
 use Rattle.tsn_device.specs.declared.device.ReadFault.TheVariants.{Broken, TooLong, Memory}
-use Rattle.tsn_reason.specs.declared.outcome.Outcome.{Outcome}
-use Rattle.tsn_reason.specs.declared.outcome.Outcome.TheVariants as ends
-use Rattle.tsn_reason.specs.Run.{Output, Command, Reading, Answers}
-use Rattle.tsn_reason.specs.Said.{line_of, status_of}
+use Rattle.tsn_given.specs.declared.outcome.Outcome.{Outcome}
+use Rattle.tsn_given.specs.declared.outcome.Outcome.TheVariants as ends
+use Rattle.tsn_given.specs.Run.{Output, Command, Reading, Answers}
+use Rattle.tsn_given.specs.Said.{line_of, status_of}
 use Rattle.tsn_prover.specs.Finding.{finding_of}
 
 -- the line of an outcome, with nothing in the other texts

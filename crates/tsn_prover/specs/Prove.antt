@@ -19,12 +19,13 @@ use Rattle.tsn_answer.specs.declared.proof.Proof.TheVariants.{Proved, Undercut, 
 use Rattle.tsn_answer.specs.Proof.{IsProof}
 use Rattle.tsn_prover.specs.declared.finding.Finding.{Finding}
 use Rattle.tsn_prover.specs.Finding.{finding_of}
-use Rattle.tsn_reason.specs.declared.outcome.Outcome.{Outcome}
-use Rattle.tsn_reason.specs.declared.outcome.Outcome.TheVariants as ends
-use Rattle.tsn_reason.specs.declared.outcome.Outcome.TheVariants.{RefusedPlan}
-use Rattle.tsn_reason.specs.Run.{Output, Command}
-use Rattle.tsn_reason.specs.Said.{line_of, status_of}
-use Rattle.tsn_reason.specs.Refusal.{IsOutcome, RefusesNetwork, RefusesPlan}
+use Rattle.tsn_given.specs.declared.outcome.Outcome.{Outcome}
+use Rattle.tsn_given.specs.declared.outcome.Outcome.TheVariants as ends
+use Rattle.tsn_given.specs.declared.outcome.Outcome.TheVariants.{RefusedPlan}
+use Rattle.tsn_given.specs.Run.{Output, Command}
+use Rattle.tsn_given.specs.Said.{line_of, status_of}
+use Rattle.tsn_given.specs.Outcome.{IsOutcome}
+use Rattle.tsn_reason.specs.Refusal.{RefusesNetwork, RefusesPlan}
 
 -- the flowspan of a plan, if it is a schedule
 abbrev pub span_if_any : Plan → Option ℕ

@@ -5,8 +5,8 @@ use Rattle.tsn_cert.specs.declared.plan.Plan.TheVariants as plan
 use Rattle.tsn_cert.specs.Plan.{plan_in}
 use Rattle.tsn_check.specs.declared.verdict.Verdict.{Verdict}
 use Rattle.tsn_check.specs.declared.verdict.Verdict.TheVariants.{Optimal, NoSchedule}
-use Rattle.tsn_reason.specs.Run.{Output}
-use Rattle.tsn_reason.specs.Refusal.{IsOutcome}
+use Rattle.tsn_given.specs.Run.{Output}
+use Rattle.tsn_given.specs.Outcome.{IsOutcome}
 use Rattle.tsn_reason.specs.Check.{CheckAnswers, accepted}
 use Rattle.tsn_prover.specs.Prove.{ProveAnswers}
 

@@ -5,16 +5,16 @@
 --     IsUnmade                       it was, or memory was refused
 use Rattle.std.specs.Prelude.{◌≡◌, ◌≢◌, ◌⊎◌, ℕ, List, [], ◌∷◌, Bool, Option, Result, codes}
 use Rattle.tsn_device.specs.declared.device.ReadFault.{ReadFault}
-use Rattle.tsn_reason.specs.declared.answer.Answer.{Answer}
-use Rattle.tsn_reason.specs.declared.outcome.Outcome.{Outcome}
-use Rattle.tsn_reason.specs.declared.outcome.Outcome.TheVariants.{Failed, Taken}
-use Rattle.tsn_reason.specs.declared.run.TheConstants.{DONE, MEMORY}
+use Rattle.tsn_given.specs.declared.answer.Answer.{Answer}
+use Rattle.tsn_given.specs.declared.outcome.Outcome.{Outcome}
+use Rattle.tsn_given.specs.declared.outcome.Outcome.TheVariants.{Failed, Taken}
+use Rattle.tsn_given.specs.declared.run.TheConstants.{DONE, MEMORY}
 use Rattle.tsn_net.specs.File.{States}
 use Rattle.tsn_timing.specs.Problem.{NamedNetwork}
-use Rattle.tsn_reason.specs.Refusal.{IsOutcome, RefusesNetwork}
-use Rattle.tsn_reason.specs.Run.{Command, SinkRun, SourceRun}
-use Rattle.tsn_reason.specs.Said.{status_of}
-use Rattle.tsn_reason.specs.Outcome.{EndsAs, outcome_of}
+use Rattle.tsn_given.specs.Outcome.{IsOutcome, EndsAs, outcome_of}
+use Rattle.tsn_reason.specs.Refusal.{RefusesNetwork}
+use Rattle.tsn_given.specs.Run.{Command, SinkRun, SourceRun}
+use Rattle.tsn_given.specs.Said.{status_of}
 use Rattle.tsn_given.specs.Runs.{IsToldBy, OverNetwork, Says}
 
 -- the answer for a network file that is judged alone: nothing is said of one that is taken

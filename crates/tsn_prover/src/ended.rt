@@ -1,15 +1,14 @@
 //! What is told of how a search ended.
 ghost use Rattle.std.specs.Prelude.{◌≡◌, IfSome, string_bytes};
-ghost use Rattle.tsn_reason.specs.Stop.{stop_text};
+ghost use Rattle.tsn_given.specs.Stop.{stop_text};
 
 use std::alloc::Global;
 use std::io::Eprint;
 use std::time::Clock;
 use tsn_branch::ProgressWriter;
-use tsn_given::Made;
+use tsn_device::device::ReadFault;
 use tsn_given::reason::write_line;
-use tsn_reason::Stop;
-use tsn_reason::device::ReadFault;
+use tsn_given::{Made, Stop};
 
 /// The line on what is known where the limit was met, and else this one. The first names the command that writes a certificate, where
 /// the flowspan is shown to be the least.

@@ -1,6 +1,6 @@
 //! The files that words name for what is written.
 ghost use Rattle.std.specs.Prelude.{◌≡◌, ◌⊎◌, IfOk, IfSome, OnErr, is_some, option_map};
-ghost use Rattle.tsn_reason.specs.Run.{failed_in};
+ghost use Rattle.tsn_given.specs.Run.{failed_in};
 
 use tsn_device::Failure;
 use tsn_given::Given;

@@ -2,7 +2,7 @@
 ghost use Rattle.std.specs.Prelude.{◌≡◌};
 ghost use Rattle.tsn_prover.specs.Finding.{finding_of};
 
-use tsn_reason::{Outcome, Stop};
+use tsn_given::{Outcome, Stop};
 
 /// What is found of a plan.
 #[derive(Clone, Copy)]

@@ -1,12 +1,13 @@
 //! A network file that is judged alone.
 ghost use Rattle.std.specs.Prelude.{◌<◌, ◌-◌, ◌^◌, [], ◌∷◌};
-ghost use Rattle.tsn_reason.specs.Run.{source_over};
-ghost use Rattle.tsn_reason.specs.Outcome.{ComesOver, EndsAs, outcome_of, output_of};
+ghost use Rattle.tsn_given.specs.Run.{source_over};
+ghost use Rattle.tsn_given.specs.Outcome.{ComesOver, EndsAs, outcome_of, output_of};
 ghost use Rattle.tsn_prover.specs.Unmade.{JudgeAnswers};
 
 use std::alloc::Global;
 use tsn_device::device::{ReadFault, Source};
-use tsn_reason::{Answer, NetworkRead, Outcome, read_network};
+use tsn_given::{Answer, Outcome};
+use tsn_reason::{NetworkRead, read_network};
 
 /// Reads a network file, and answers why it is refused, or that it is not.
 pub fn judge_answer<S: Source>(alloc: Global, source: &mut S) -> Result<Answer, ReadFault>

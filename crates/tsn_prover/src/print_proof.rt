@@ -1,14 +1,14 @@
 //! How a run of `prove` writes what it found: a certificate, or a better plan.
 ghost use Rattle.std.specs.Prelude.{◌≡◌, ◌<◌, ◌-◌, ◌^◌, [], ◌∷◌, IfOk, Ok};
-ghost use Rattle.tsn_reason.specs.Run.{sink_over};
-ghost use Rattle.tsn_reason.specs.Said.{line_of, status_of};
-ghost use Rattle.tsn_reason.specs.Outcome.{IsWrittenAs, line_taken, outcome_of};
+ghost use Rattle.tsn_given.specs.Run.{sink_over};
+ghost use Rattle.tsn_given.specs.Said.{line_of, status_of};
+ghost use Rattle.tsn_given.specs.Outcome.{IsWrittenAs, line_taken, outcome_of};
 ghost use Rattle.tsn_prover.specs.Finding.{finding_of};
 ghost use Rattle.tsn_prover.specs.ProofOutput.{IsShown, finding_in};
 
 use crate::proof_output::ProofOutput;
 use tsn_device::device::{ReadFault as Unanswered, Sink, write_whole};
-use tsn_reason::Answer;
+use tsn_given::Answer;
 
 /// Writes the texts of the files, and answers what is said then: of a write that failed nothing is.
 pub(crate) fn write_files<C: Sink, P: Sink>(

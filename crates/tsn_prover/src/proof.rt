@@ -1,6 +1,6 @@
 //! The command that proves a plan.
 ghost use Rattle.std.specs.Prelude.{◌≡◌, option_map};
-ghost use Rattle.tsn_reason.specs.Run.{sink_over};
+ghost use Rattle.tsn_given.specs.Run.{sink_over};
 ghost use Rattle.tsn_prover.specs.Prove.{ProveAnswers};
 ghost use Rattle.tsn_given.specs.Runs.{OverPlan, RunsTold};
 ghost use Rattle.tsn_prover.specs.Files.{OverProofFiles};
@@ -14,12 +14,11 @@ use crate::unwritten::{Unwritten, unwritable};
 use std::alloc::Global;
 use std::io::Eprint;
 use std::time::Clock;
+use tsn_device::device::Source;
 use tsn_given::json::tell_answer;
 use tsn_given::reason::{fault_of, source_line, write_line};
 use tsn_given::told::Told;
-use tsn_given::{Given, Made, Ran};
-use tsn_reason::device::Source;
-use tsn_reason::outcome_of;
+use tsn_given::{Given, Made, Ran, outcome_of};
 use tsn_words::ProveWords;
 
 /// Proves a plan, or finds a better one; the network `-` is standard input. What is said of `plan` holds of the words, the files

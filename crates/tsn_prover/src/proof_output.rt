@@ -1,6 +1,6 @@
 //! What a run of `prove` prints.
 
-use tsn_reason::Answer;
+use tsn_given::Answer;
 
 /// What a run of `prove` prints: an answer, and the texts that go with it: a certificate, and a better plan.
 #[derive(Drop)]

@@ -2,7 +2,7 @@
 
 use crate::finding::{Finding, Spans, finding_of};
 use std::alloc::{AllocError, Global};
-use tsn_reason::Outcome;
+use tsn_given::Outcome;
 use tsn_text::line_of;
 
 /// The line on a plan of the file of this name that a valid schedule undercuts; None where none does, or where there is no memory

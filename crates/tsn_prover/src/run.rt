@@ -3,9 +3,9 @@ ghost use Rattle.std.specs.Prelude.{◌≡◌, ◌≢◌, ◌<◌, ◌-◌, ◌^
 ghost use Rattle.tsn_check.specs.Plans.{span_in};
 ghost use Rattle.tsn_check.specs.Numbers.{plan_code};
 ghost use Rattle.tsn_answer.specs.declared.proof.Proof.TheVariants.{Proved, Stopped, Undercut};
-ghost use Rattle.tsn_reason.specs.Run.{EndsOver, RunsOver, readings_of, sink_over, source_over};
-ghost use Rattle.tsn_reason.specs.Said.{line_of, status_of};
-ghost use Rattle.tsn_reason.specs.Outcome.{ComesOver, EndsAs, line_taken, outcome_of};
+ghost use Rattle.tsn_given.specs.Run.{EndsOver, RunsOver, readings_of, sink_over, source_over};
+ghost use Rattle.tsn_given.specs.Said.{line_of, status_of};
+ghost use Rattle.tsn_given.specs.Outcome.{ComesOver, EndsAs, line_taken, outcome_of};
 ghost use Rattle.tsn_prover.specs.Finding.{finding_of, stop_among};
 ghost use Rattle.tsn_prover.specs.ProofOutput.{Finds, finding_in, line_after, shown};
 ghost use Rattle.tsn_prover.specs.Prove.{FindsAs, FindsOf, ProveAnswers, ProveFinds, RejectsClaim, outcome_for, output_of, span_if_any};
@@ -20,12 +20,10 @@ use tsn_cert::{Argument, Plan};
 use tsn_check::{PlanFault, judge_claim};
 use tsn_codec::{argument_to_json, plan_to_json};
 use tsn_device::device::{ReadFault, Sink, Source};
+use tsn_given::run::{DEVICE, STOPPED, respond};
+use tsn_given::{Answer, Outcome, Stop, outcome_of};
 use tsn_model::NoMemory;
-use tsn_reason::run::{DEVICE, STOPPED, respond};
-use tsn_reason::{
-    Answer, Claim, NetworkRead, Outcome, PlanRead, Stop, line_on_plan, outcome_of, read_network,
-    read_plan, rejection,
-};
+use tsn_reason::{Claim, NetworkRead, PlanRead, line_on_plan, read_network, read_plan, rejection};
 use tsn_timing::Problem;
 
 /// How a run of `prove` ended: its status, and what was found of the plan, where one was taken and all was written.

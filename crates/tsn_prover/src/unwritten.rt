@@ -1,20 +1,19 @@
 //! Runs that end before their search, since a file can't be written.
 ghost use Rattle.std.specs.Prelude.{◌≡◌};
-ghost use Rattle.tsn_reason.specs.Run.{sink_over};
-ghost use Rattle.tsn_reason.specs.Outcome.{outcome_of};
+ghost use Rattle.tsn_given.specs.Run.{sink_over};
+ghost use Rattle.tsn_given.specs.Outcome.{outcome_of};
 ghost use Rattle.tsn_prover.specs.Unmade.{IsUnmade, IsUnmadeOutcome};
 
 use crate::judge::judge_answer;
 use std::alloc::Global;
 use std::io::ErrorKind;
 use tsn_device::Failure;
+use tsn_device::device::ReadFault;
 use tsn_given::json::{say_no_memory, tell_answer};
 use tsn_given::reason::{failure_line, fault_of, source_line};
+use tsn_given::run::{DEVICE, DONE};
 use tsn_given::told::Told;
-use tsn_given::{Given, Made, Ran};
-use tsn_reason::device::ReadFault;
-use tsn_reason::run::{DEVICE, DONE};
-use tsn_reason::{Answer, outcome_of};
+use tsn_given::{Answer, Given, Made, Ran, outcome_of};
 
 /// Why no search began: a file can't be written.
 #[derive(Clone, Copy)]

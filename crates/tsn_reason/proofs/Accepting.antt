@@ -9,8 +9,8 @@ use Rattle.tsn_cert.specs.declared.certificate.Certificate.{Certificate}
 use Rattle.tsn_cert.specs.Certificate.{certificate_in}
 use Rattle.tsn_argue.specs.Certified.{Certifies, certificate_verdict}
 use Rattle.tsn_argue.specs.Laws.{FirstFaultsRefute}
-use Rattle.tsn_reason.specs.Run.{Output}
-use Rattle.tsn_reason.specs.Refusal.{IsOutcome}
+use Rattle.tsn_given.specs.Run.{Output}
+use Rattle.tsn_given.specs.Outcome.{IsOutcome}
 use Rattle.tsn_reason.specs.Check.{CheckAnswers, JudgesCert, accepted}
 
 same_ok : {A E : Type 0} (r : Result A E) (x y : A) → r ≡ Ok x → r ≡ Ok y → x ≡ y

@@ -10,7 +10,7 @@ use Rattle.tsn_cert.specs.declared.fault.FileFault.TheVariants.{NotJson, WrongSh
 use Rattle.tsn_cert.specs.Fault.{FaultGiven}
 use Rattle.tsn_cert.specs.declared.plan.Plan.{Plan}
 use Rattle.tsn_cert.specs.Plan.{plan_in}
-use Rattle.tsn_reason.specs.Run.{GoesOn, Output}
+use Rattle.tsn_given.specs.Run.{GoesOn, Output}
 use Rattle.tsn_reason.specs.Refusal.{RefusesPlan}
 use Rattle.tsn_reason.specs.Check.{CheckAnswers}
 

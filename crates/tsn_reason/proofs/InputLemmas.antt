@@ -4,10 +4,10 @@ use Rattle.std.proofs.lemmas.List.Elements.{All-cons, All-head, All-nil, All-tai
 use Rattle.std.proofs.lemmas.List.Sums.{sum_by-cons}
 use Rattle.tsn_device.specs.declared.device.ReadFault.{ReadFault}
 use Rattle.tsn_device.specs.declared.device.ReadFault.TheVariants.{Broken, TooLong, Memory}
-use Rattle.tsn_reason.specs.Run.{Answers, Command, Failures, GivesFile, GoesOn, IsUnread, NoneFailed, Output, SourceRun, failed_after, failed_before, readings_of, reads_of}
-use Rattle.tsn_reason.specs.Outcome.{ComesFrom, ComesTo}
+use Rattle.tsn_given.specs.Run.{Answers, Command, Failures, GivesFile, GoesOn, IsUnread, NoneFailed, Output, SourceRun, failed_after, failed_before, readings_of, reads_of}
+use Rattle.tsn_given.specs.Outcome.{ComesFrom, ComesTo}
 use Rattle.tsn_reason.specs.Inputs.{IsReadOver}
-use Rattle.tsn_reason.proofs.RunLemmas.{TellsFaults, none_failed}
+use Rattle.tsn_given.proofs.RunLemmas.{TellsFaults, none_failed}
 
 -- sources that were left alone
 pub record AreLeft (sources : List SourceRun) : Type 0 where

@@ -18,11 +18,12 @@ use Rattle.tsn_check.specs.declared.verdict.Verdict.TheVariants.{Optimal, First,
 use Rattle.tsn_check.specs.Plans.{span_in}
 use Rattle.tsn_argue.specs.Certified.{Certifies, certificate_verdict}
 use Rattle.tsn_argue.specs.Faults.{IsFirstFault}
-use Rattle.tsn_reason.specs.declared.outcome.FileKind.TheVariants as kind
-use Rattle.tsn_reason.specs.declared.outcome.Outcome.{Outcome}
-use Rattle.tsn_reason.specs.declared.outcome.Outcome.TheVariants.{AcceptedOptimal, AcceptedFirst, AcceptedNone, RefusedFile, RefusedCert}
-use Rattle.tsn_reason.specs.Run.{Output, Command}
-use Rattle.tsn_reason.specs.Refusal.{IsOutcome, RefusesNetwork, RefusesPlan}
+use Rattle.tsn_given.specs.declared.outcome.FileKind.TheVariants as kind
+use Rattle.tsn_given.specs.declared.outcome.Outcome.{Outcome}
+use Rattle.tsn_given.specs.declared.outcome.Outcome.TheVariants.{AcceptedOptimal, AcceptedFirst, AcceptedNone, RefusedFile, RefusedCert}
+use Rattle.tsn_given.specs.Run.{Output, Command}
+use Rattle.tsn_given.specs.Outcome.{IsOutcome}
+use Rattle.tsn_reason.specs.Refusal.{RefusesNetwork, RefusesPlan}
 
 -- the certificate file, of any format, is refused
 abbrev pub RefusesCert : List ℕ → Output → Type 0

@@ -10,9 +10,9 @@ use Rattle.tsn_reason.specs.declared.inputs.NetworkRead.{NetworkRead}
 use Rattle.tsn_reason.specs.declared.inputs.NetworkRead.TheVariants as of_network
 use Rattle.tsn_reason.specs.declared.inputs.PlanRead.{PlanRead}
 use Rattle.tsn_reason.specs.declared.inputs.PlanRead.TheVariants as of_plan
-use Rattle.tsn_reason.specs.Run.{GivesFile, GivesTooMuch, Reading, SourceRun}
+use Rattle.tsn_given.specs.Run.{GivesFile, GivesTooMuch, Reading, SourceRun}
 use Rattle.tsn_reason.specs.Refusal.{RefusesNetwork, RefusesPlan}
-use Rattle.tsn_reason.specs.Outcome.{TellsFailures, output_of}
+use Rattle.tsn_given.specs.Outcome.{TellsFailures, output_of}
 
 -- the source gave a file, of which this was made; or too much
 abbrev pub IsRead : {M : Type 0} → (List ℕ → M → Type 0) → Reading → Result M ReadFault → Type 0

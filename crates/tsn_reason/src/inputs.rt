@@ -1,17 +1,16 @@
 //! What is read before a plan is dealt with: a network, and then the plan.
 ghost use Rattle.std.specs.Prelude.{◌≡◌, ◌<◌, ◌-◌, ◌^◌};
-ghost use Rattle.tsn_reason.specs.Run.{source_over};
+ghost use Rattle.tsn_given.specs.Run.{source_over};
 ghost use Rattle.tsn_reason.specs.Inputs.{IsReadOver, TakesNetwork, TakesPlan};
 
-use crate::answer::Answer;
 use crate::network::network_line;
-use crate::outcome::FileKind;
 use crate::refusals::{file_refusal, refusal};
-use crate::run::MAX_FILE;
 use std::alloc::Global;
 use tsn_cert::Plan;
 use tsn_codec::plan_or_refuse;
 use tsn_device::device::{ReadFault, Source, read_all};
+use tsn_given::run::MAX_FILE;
+use tsn_given::{Answer, FileKind};
 use tsn_net::read_or_refuse;
 use tsn_timing::Problem;
 

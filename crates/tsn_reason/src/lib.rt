@@ -1,38 +1,27 @@
 //! Why what a command read is refused, in a line of words: what is wrong in a file or in offsets, by how much a leaf of a tree misses
 //! what it has to show, and which step of an argument is the first that is wrong.
 //!
-//! And what the runs of all commands share: what they answer, as a value and in a line, their statuses, what is read before a plan is dealt
-//! with, why a file or a plan is refused, and how a run ends.
+//! And what commands read before a plan is dealt with: a network and a plan, or the answer that refuses them.
 #![tactic(auto)]
 
-mod answer;
-mod answering;
 mod argument;
 mod claim;
 mod file_words;
 mod inputs;
 mod network;
 mod offsets;
-mod outcome;
 mod refusals;
-pub mod run;
-pub mod stop;
 mod target;
 mod tree;
 mod wrong;
 
-pub use answer::Answer;
-pub use answering::outcome_of;
 pub use argument::line_on_argument;
 pub use claim::{Claim, line_on_plan};
 pub use inputs::{NetworkRead, PlanRead, read_network, read_plan};
 pub use network::network_line;
 pub use offsets::{Schedule, offsets_line};
-pub use outcome::{FileKind, Outcome};
 pub use refusals::{cert_rejection, file_refusal, refusal, rejection};
-pub use stop::Stop;
 pub use tree::line_on_tree;
-pub use tsn_device::{device, memory};
 use tsn_model::NoMemory;
 
 /// A file that was read.

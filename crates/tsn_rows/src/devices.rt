@@ -6,9 +6,9 @@ use crate::folder::Folder;
 use std::alloc::Global;
 use std::io::{Error, ErrorKind};
 use tsn_device::device::{Broken, Sink, Source};
+use tsn_device::memory::{MemorySink, MemorySource, NEVER};
 use tsn_device::{Action, Failure};
 use tsn_given::{Given, Made, Opened};
-use tsn_reason::memory::{MemorySink, MemorySource, NEVER};
 
 // The file that stands for standard input, which the network `-` is read from.
 const STANDARD_INPUT: &str = "stdin";

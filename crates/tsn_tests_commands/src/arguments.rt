@@ -2,8 +2,8 @@
 
 use std::process::Abort;
 use tsn_cli::valid_run;
+use tsn_device::memory::{MemorySink, MemorySource, NEVER};
 use tsn_networks::TWO_STREAMS;
-use tsn_reason::memory::{MemorySink, MemorySource, NEVER};
 use tsn_words::{Words, WordsFault, words_from};
 
 /// The run ends with this line and status 6.

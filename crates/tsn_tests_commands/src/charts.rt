@@ -9,8 +9,8 @@ use std::str::from_utf8;
 use std::test::Fail;
 use tsn_chart::{Drawing, LinkChoice};
 use tsn_cli::{Table, show, table_shown};
+use tsn_device::memory::{MemorySink, MemorySource, NEVER};
 use tsn_networks::TWO_STREAMS;
-use tsn_reason::memory::{MemorySink, MemorySource, NEVER};
 
 /// The bytes of a picture from 0 to an instant.
 fn chart_to<R: Abort>(rt: &R, alloc: Global, until: u64) -> Vec<u8>

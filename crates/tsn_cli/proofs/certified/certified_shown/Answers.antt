@@ -5,7 +5,7 @@ use Rattle.tsn_reason.specs.Inputs.{TakesNetwork, TakesPlan}
 use Rattle.tsn_cli.specs.Shown.{shown_output}
 use Rattle.tsn_cli.specs.Explain.{CertAnswers}
 use Rattle.tsn_reason.proofs.CheckLemmas.{goes_on_after_network, plan_not_refused}
-use Rattle.tsn_reason.proofs.RunLemmas.{Keeps-same}
+use Rattle.tsn_given.proofs.RunLemmas.{Keeps-same}
 use Rattle.tsn_reason.proofs.InputLemmas.{also_left, answered, ended, none_left, unread, went_on}
 use Rattle.tsn_cli.proofs.CommandLemmas.{shown_faults}
 use Rattle.tsn_cli.proofs.certified.certified_shown.Goals as goal

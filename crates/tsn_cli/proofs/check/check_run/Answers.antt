@@ -1,6 +1,6 @@
-use Rattle.tsn_reason.specs.Outcome.{output_of}
+use Rattle.tsn_given.specs.Outcome.{output_of}
 use Rattle.tsn_reason.specs.Check.{CheckAnswers}
-use Rattle.tsn_reason.proofs.RunLemmas.{runs_with}
+use Rattle.tsn_given.proofs.RunLemmas.{runs_with}
 use Rattle.tsn_cli.proofs.CommandLemmas.{said_comes}
 use Rattle.tsn_cli.proofs.check.check_run.Goals as goal
 

@@ -1,6 +1,6 @@
 use Rattle.tsn_cli.specs.Shown.{shown_output}
 use Rattle.tsn_cli.specs.Explain.{CertAnswers}
-use Rattle.tsn_reason.proofs.RunLemmas.{runs_with}
+use Rattle.tsn_given.proofs.RunLemmas.{runs_with}
 use Rattle.tsn_cli.proofs.shown.certified.Goals as goal
 
 pub returns : goal.returns

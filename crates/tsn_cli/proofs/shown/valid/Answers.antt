@@ -1,5 +1,5 @@
 use Rattle.tsn_cli.specs.Valid.{ValidAnswers}
-use Rattle.tsn_reason.proofs.LineLemmas.{ends_as}
+use Rattle.tsn_given.proofs.LineLemmas.{ends_as}
 use Rattle.tsn_given.proofs.RunsLemmas.{told_over}
 use Rattle.tsn_cli.proofs.shown.valid.Goals as goal
 

@@ -1,6 +1,6 @@
 use Rattle.tsn_cli.specs.Shown.{shown_output}
 use Rattle.tsn_cli.specs.Tables.{ReplayAnswers}
-use Rattle.tsn_reason.proofs.RunLemmas.{runs_with}
+use Rattle.tsn_given.proofs.RunLemmas.{runs_with}
 use Rattle.tsn_cli.proofs.tables.replay_run.Goals as goal
 
 pub returns : goal.returns

@@ -1,6 +1,6 @@
-use Rattle.tsn_reason.specs.Outcome.{output_of}
+use Rattle.tsn_given.specs.Outcome.{output_of}
 use Rattle.tsn_cli.specs.Valid.{ValidAnswers}
-use Rattle.tsn_reason.proofs.RunLemmas.{runs_with}
+use Rattle.tsn_given.proofs.RunLemmas.{runs_with}
 use Rattle.tsn_cli.proofs.valid.valid_run.Goals as goal
 
 pub returns : goal.returns

@@ -1,4 +1,4 @@
-use Rattle.tsn_reason.specs.Run.{reading_of}
+use Rattle.tsn_given.specs.Run.{reading_of}
 use Rattle.tsn_plan_output.proofs.PlanLemmas.{took_stop}
 use Rattle.tsn_command.proofs.plan.found.Goals as goal
 

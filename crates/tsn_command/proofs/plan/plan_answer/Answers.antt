@@ -1,12 +1,12 @@
 use Rattle.std.proofs.Common.{rules, ◌≡◌, inl, List, [], ◌∷◌, is_some, ap, sym, ◌∙◌, subst, arith}
 use Rattle.std.proofs.lemmas.List.Elements.{All-nil}
-use Rattle.tsn_reason.specs.Run.{IsOutput, IsUnread, Reading, SourceRun, reading_of, readings_of, source_over}
-use Rattle.tsn_reason.specs.Said.{status_of, stop_of}
-use Rattle.tsn_reason.specs.Outcome.{outcome_of}
+use Rattle.tsn_given.specs.Run.{IsOutput, IsUnread, Reading, SourceRun, reading_of, readings_of, source_over}
+use Rattle.tsn_given.specs.Said.{status_of, stop_of}
+use Rattle.tsn_given.specs.Outcome.{outcome_of}
 use Rattle.tsn_plan_output.specs.Plan.{PlanAnswers, PlanStops}
 use Rattle.tsn_plan_output.specs.PlanOutput.{IsPrinted}
-use Rattle.tsn_reason.proofs.RunLemmas.{runs_over, some_of}
-use Rattle.tsn_reason.proofs.SaidLemmas.{known_stop}
+use Rattle.tsn_given.proofs.RunLemmas.{runs_over, some_of}
+use Rattle.tsn_given.proofs.SaidLemmas.{known_stop}
 use Rattle.tsn_plan_output.proofs.PlanLemmas.{kept_stop, plan_shown, stop_answered, stop_printed}
 use Rattle.tsn_command.proofs.plan.plan_answer.Goals as goal
 

@@ -1,9 +1,9 @@
 use Rattle.std.proofs.Common.{IsTrue, is_some, ap, sym, ◌∙◌, ◌≡◌, subst, arith}
-use Rattle.tsn_reason.specs.Outcome.{outcome_of}
-use Rattle.tsn_reason.specs.Said.{stop_of}
+use Rattle.tsn_given.specs.Outcome.{outcome_of}
+use Rattle.tsn_given.specs.Said.{stop_of}
 use Rattle.tsn_plan_output.specs.Plan.{PlanStops}
-use Rattle.tsn_reason.proofs.RunLemmas.{runs_along}
-use Rattle.tsn_reason.proofs.SaidLemmas.{stop_known}
+use Rattle.tsn_given.proofs.RunLemmas.{runs_along}
+use Rattle.tsn_given.proofs.SaidLemmas.{stop_known}
 use Rattle.tsn_given.proofs.RunsLemmas.{status_told}
 use Rattle.tsn_prover.proofs.FilesLemmas.{two_said, two_stopped}
 use Rattle.tsn_command.proofs.plan.plan_run.Goals as goal

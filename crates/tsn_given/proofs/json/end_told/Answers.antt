@@ -1,5 +1,5 @@
 use Rattle.std.proofs.Common.{ℕ, List, subst}
-use Rattle.tsn_reason.specs.Run.{sink_over}
+use Rattle.tsn_given.specs.Run.{sink_over}
 use Rattle.tsn_given.specs.Runs.{Says}
 use Rattle.tsn_given.proofs.json.end_told.Goals as goal
 

@@ -1,8 +1,8 @@
 use Rattle.std.proofs.Common.{rules}
 use Rattle.tsn_cert.specs.Argument.{argument_text}
-use Rattle.tsn_reason.proofs.RunLemmas.{Appends-nothing}
+use Rattle.tsn_given.proofs.RunLemmas.{Appends-nothing}
 use Rattle.tsn_plan_output.proofs.PieceLemmas.{err_beginning}
-use Rattle.tsn_reason.proofs.RunLemmas.{text_beginning, text_whole}
+use Rattle.tsn_given.proofs.RunLemmas.{text_beginning, text_whole}
 use Rattle.tsn_plan_output.proofs.certificate.write_argument.Goals as goal
 
 pub returns-in_err-text-clause-beginning : goal.returns-in_err-text-clause-beginning

@@ -1,5 +1,5 @@
 use Rattle.std.proofs.Common.{rules, ◌≡◌, ◌++◌, string_bytes}
-use Rattle.tsn_reason.proofs.RunLemmas.{Appends-nothing}
+use Rattle.tsn_given.proofs.RunLemmas.{Appends-nothing}
 use Rattle.tsn_plan_output.proofs.PieceLemmas.{err_beginning, err_cert, err_last, last_whole, parted_cert}
 use Rattle.tsn_plan_output.proofs.certificate.write_cert.Goals as goal
 

@@ -2,8 +2,8 @@ use Rattle.std.proofs.Common.{rules, [], Some, Ok, inl, inr, refl, string_bytes,
 use Rattle.std.proofs.lemmas.List.Elements.{All-nil}
 use Rattle.tsn_plan_output.specs.PlanOutput.{printed}
 use Rattle.tsn_plan_output.proofs.PrintLemmas.{cut, early, is_cut, is_early, of_err, of_ok, two_unwritten}
-use Rattle.tsn_reason.proofs.RunLemmas.{Appends-nothing, never_both, text_beginning, text_whole}
-use Rattle.tsn_reason.specs.Run.{IsUnwritten}
+use Rattle.tsn_given.proofs.RunLemmas.{Appends-nothing, never_both, text_beginning, text_whole}
+use Rattle.tsn_given.specs.Run.{IsUnwritten}
 use Rattle.tsn_plan_output.proofs.print.write_output.Goals as goal
 
 pub returns-then-is_err-clause-written : goal.returns-then-is_err-clause-written

@@ -1,5 +1,5 @@
 use Rattle.std.proofs.Common.{inl, inr}
-use Rattle.tsn_reason.proofs.RunLemmas.{tells_ok}
+use Rattle.tsn_given.proofs.RunLemmas.{tells_ok}
 use Rattle.tsn_prover.proofs.judge.answer_of.Goals as goal
 
 pub returns-in_ok-of-in-Ok-Taken : goal.returns-in_ok-of-in-Ok-Taken

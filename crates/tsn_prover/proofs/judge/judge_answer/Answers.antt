@@ -1,5 +1,5 @@
 use Rattle.tsn_prover.specs.Unmade.{JudgeAnswers}
-use Rattle.tsn_reason.proofs.LineLemmas.{ends_as}
+use Rattle.tsn_given.proofs.LineLemmas.{ends_as}
 use Rattle.tsn_prover.proofs.judge.judge_answer.Goals as goal
 
 pub returns : goal.returns

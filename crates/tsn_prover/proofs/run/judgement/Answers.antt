@@ -4,8 +4,8 @@ use Rattle.tsn_cert.specs.declared.plan.Plan.{Plan}
 use Rattle.tsn_check.specs.Numbers.{plan_code}
 use Rattle.tsn_check.specs.Faults.{IsWrongClaim}
 use Rattle.tsn_check.specs.declared.why.PlanFault.{PlanFault}
-use Rattle.tsn_reason.specs.Refusal.{IsOutcome}
-use Rattle.tsn_reason.specs.declared.outcome.Outcome.TheVariants.{RefusedPlan}
+use Rattle.tsn_given.specs.Outcome.{IsOutcome}
+use Rattle.tsn_given.specs.declared.outcome.Outcome.TheVariants.{RefusedPlan}
 use Rattle.tsn_prover.specs.declared.proof_output.ProofOutput.{ProofOutput}
 use Rattle.tsn_prover.specs.ProofOutput.{line_after, shown}
 use Rattle.tsn_prover.specs.Prove.{FindsOf, RejectsClaim}

@@ -5,7 +5,7 @@ use Rattle.tsn_reason.specs.Inputs.{TakesNetwork, TakesPlan}
 use Rattle.tsn_prover.specs.Prove.{ProveAnswers}
 use Rattle.tsn_prover.specs.ProofOutput.{shown}
 use Rattle.tsn_reason.proofs.CheckLemmas.{goes_on_after_network}
-use Rattle.tsn_reason.proofs.RunLemmas.{Keeps-same}
+use Rattle.tsn_given.proofs.RunLemmas.{Keeps-same}
 use Rattle.tsn_reason.proofs.InputLemmas.{also_left, answered, none_left, unread, went_on}
 use Rattle.tsn_prover.proofs.FilesLemmas.{some_along}
 use Rattle.tsn_prover.proofs.ProveLemmas.{line_alone, no_finding, shown_faults}

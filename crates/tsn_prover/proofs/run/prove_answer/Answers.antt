@@ -1,10 +1,10 @@
 use Rattle.std.proofs.Common.{◌≡◌, List, [], ◌∷◌}
-use Rattle.tsn_reason.specs.Run.{Reading, reading_of}
-use Rattle.tsn_reason.specs.Outcome.{outcome_of}
+use Rattle.tsn_given.specs.Run.{Reading, reading_of}
+use Rattle.tsn_given.specs.Outcome.{outcome_of}
 use Rattle.tsn_prover.specs.Finding.{finding_of}
 use Rattle.tsn_prover.specs.ProofOutput.{shown}
 use Rattle.tsn_prover.specs.Prove.{ProveAnswers, ProveFinds}
-use Rattle.tsn_reason.proofs.RunLemmas.{runs_with, some_of}
+use Rattle.tsn_given.proofs.RunLemmas.{runs_with, some_of}
 use Rattle.tsn_prover.proofs.ProveLemmas.{IsOutput-finds, found_done, kept_finding, status_shown, taken_shown}
 use Rattle.tsn_prover.proofs.run.prove_answer.Goals as goal
 

@@ -1,9 +1,9 @@
 use Rattle.std.proofs.Common.{◌≡◌, IsTrue, is_some, ap, sym, ◌∙◌, subst, arith}
-use Rattle.tsn_reason.specs.Outcome.{outcome_of}
+use Rattle.tsn_given.specs.Outcome.{outcome_of}
 use Rattle.tsn_prover.specs.Finding.{finding_of, stop_among}
 use Rattle.tsn_prover.specs.Prove.{ProveFinds}
-use Rattle.tsn_reason.proofs.RunLemmas.{runs_along}
-use Rattle.tsn_reason.proofs.SaidLemmas.{known_stop, stop_known}
+use Rattle.tsn_given.proofs.RunLemmas.{runs_along}
+use Rattle.tsn_given.proofs.SaidLemmas.{known_stop, stop_known}
 use Rattle.tsn_given.proofs.RunsLemmas.{status_told}
 use Rattle.tsn_prover.proofs.FilesLemmas.{two_found, two_said}
 use Rattle.tsn_prover.proofs.ProveLemmas.{finding_stop, some_stop}

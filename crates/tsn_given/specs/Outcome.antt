@@ -1,19 +1,27 @@
 -- The outcome of a run before it is written, how far the run has come with it, and how it is written.
+--     told, IsOutcome               the output that is an outcome's line
 --     outcome_of, output_of         what a run answers, as a value, and its output
 --     ComesTo, ComesFrom, ComesOver how far a run has come
 --     TellsFailures                 a read failed where the outcome says so
 --     IsWrittenAs                   the output was written
 --     line_taken, EndsAs            a run that has come to an outcome whose line isn't written yet
 use Rattle.std.specs.Prelude.{◌≡◌, ◌≢◌, ◌+◌, ℕ, ◌⊎◌, List, [], ◌∷◌, ◌++◌, codes, Result, Ok, Err, Some}
-use Rattle.tsn_reason.specs.declared.answer.Answer.{Answer}
-use Rattle.tsn_reason.specs.declared.outcome.Outcome.{Outcome}
-use Rattle.tsn_reason.specs.declared.outcome.Outcome.TheVariants as ends
+use Rattle.tsn_given.specs.declared.answer.Answer.{Answer}
+use Rattle.tsn_given.specs.declared.outcome.Outcome.{Outcome}
+use Rattle.tsn_given.specs.declared.outcome.Outcome.TheVariants as ends
 use Rattle.tsn_device.specs.declared.device.ReadFault.{ReadFault}
 use Rattle.tsn_device.specs.declared.device.ReadFault.TheVariants.{Broken, TooLong, Memory}
 use Rattle.tsn_device.specs.declared.run.TheConstants.{DEVICE}
-use Rattle.tsn_reason.specs.Said.{line_of, status_of}
-use Rattle.tsn_reason.specs.Refusal.{told}
-use Rattle.tsn_reason.specs.Run.{AreUnwritten, Output, Command, Reading, Answers, BreaksOff, Failures, IsLine, NoneFailed, RunsOver, SinkRun, SourceRun, TakesAll, TakesBeginning, failed_after, failed_before, readings_of, reads_of, writes_of, writing_of, writings_of}
+use Rattle.tsn_given.specs.Said.{line_of, status_of}
+use Rattle.tsn_given.specs.Run.{AreUnwritten, Output, Command, Reading, Answers, BreaksOff, Failures, IsLine, NoneFailed, RunsOver, SinkRun, SourceRun, TakesAll, TakesBeginning, failed_after, failed_before, readings_of, reads_of, writes_of, writing_of, writings_of}
+
+-- the output that is the line of an outcome, with its status
+abbrev pub told : Outcome → Output
+told outcome = record { status = status_of outcome; texts = line_of outcome ∷ [] }
+
+-- the output is the line of this outcome, with its status, and else nothing
+abbrev pub IsOutcome : Outcome → Output → Type 0
+IsOutcome outcome output = IsLine (status_of outcome) (line_of outcome) output
 
 -- what a run answers, as a value
 abbrev pub outcome_of : Result Answer ReadFault → Outcome

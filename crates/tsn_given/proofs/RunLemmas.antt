@@ -5,8 +5,8 @@ use Rattle.std.specs.Io.KnownBytes.{Appends, Keeps}
 use Rattle.tsn_device.specs.declared.device.ReadFault.{ReadFault}
 use Rattle.tsn_device.specs.declared.device.ReadFault.TheVariants.{Broken, TooLong, Memory}
 use Rattle.tsn_device.specs.declared.run.TheConstants.{DEVICE}
-use Rattle.tsn_reason.specs.Run.{AreUnwritten, BreaksOff, Command, Failures, IsLine, NoneFailed, Output, Reading, IsOutput, RunsOver, SinkRun, SourceRun, failed_after, failed_before, readings_of, reads_of, writes_of, writings_of}
-use Rattle.tsn_reason.specs.Outcome.{ComesOver, ComesTo, IsWrittenAs, TellsFailures, output_of}
+use Rattle.tsn_given.specs.Run.{AreUnwritten, BreaksOff, Command, Failures, IsLine, NoneFailed, Output, Reading, IsOutput, RunsOver, SinkRun, SourceRun, failed_after, failed_before, readings_of, reads_of, writes_of, writings_of}
+use Rattle.tsn_given.specs.Outcome.{ComesOver, ComesTo, IsWrittenAs, TellsFailures, output_of}
 
 pub Keeps-same : (o : Option (List ℕ)) → Keeps o o
 Keeps-same None = tt

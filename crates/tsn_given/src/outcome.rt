@@ -1,7 +1,7 @@
 //! What a command answers.
 ghost use Rattle.std.specs.Prelude.{◌≡◌, IfOk, Some, option_map, string_bytes};
 ghost use Rattle.tsn_check.specs.Numbers.{node_of};
-ghost use Rattle.tsn_reason.specs.Said.{code_of, flowspan_of, line_of, node_place, place_of, settled_of, status_of, stop_of, violation_place};
+ghost use Rattle.tsn_given.specs.Said.{code_of, flowspan_of, line_of, node_place, place_of, settled_of, status_of, stop_of, violation_place};
 
 use crate::run::{DEVICE, DONE, MEMORY, NO_SCHEDULE, REFUSED, REJECTED, STOPPED};
 use crate::stop::{Span, Stop};
@@ -20,7 +20,7 @@ pub enum FileKind {
 }
 
 impl fmt::Display for FileKind {
-    ghost use Rattle.tsn_reason.specs.Said.{kind_text};
+    ghost use Rattle.tsn_given.specs.Said.{kind_text};
 
     ghost output = { λ kind. Some (kind_text kind) };
 
@@ -297,7 +297,7 @@ fn node_place(alloc: Global, fault: CheckFault) -> Result<Option<String>, NoMemo
 }
 
 impl fmt::Display for Outcome {
-    ghost use Rattle.tsn_reason.specs.Said.{said};
+    ghost use Rattle.tsn_given.specs.Said.{said};
 
     ghost output = { λ outcome. Some (said outcome) };
 
@@ -340,7 +340,7 @@ impl fmt::Display for Outcome {
 struct Claim(Option<u64>);
 
 impl fmt::Display for Claim {
-    ghost use Rattle.tsn_reason.specs.Said.{proved_text};
+    ghost use Rattle.tsn_given.specs.Said.{proved_text};
 
     ghost output = { λ claim. Some (proved_text claim.0) };
 
@@ -357,7 +357,7 @@ impl fmt::Display for Claim {
 struct Cause(CheckFault);
 
 impl fmt::Display for Cause {
-    ghost use Rattle.tsn_reason.specs.Said.{cause_text};
+    ghost use Rattle.tsn_given.specs.Said.{cause_text};
 
     ghost output = { λ cause. Some (cause_text cause.0) };
 
@@ -375,7 +375,7 @@ impl fmt::Display for Cause {
 struct Reason(Violation);
 
 impl fmt::Display for Reason {
-    ghost use Rattle.tsn_reason.specs.Said.{violation_text};
+    ghost use Rattle.tsn_given.specs.Said.{violation_text};
 
     ghost output = { λ reason. Some (violation_text reason.0) };
 
@@ -403,7 +403,7 @@ impl fmt::Display for Reason {
 struct Behind(i64);
 
 impl fmt::Display for Behind {
-    ghost use Rattle.tsn_reason.specs.Said.{lag_text};
+    ghost use Rattle.tsn_given.specs.Said.{lag_text};
 
     ghost output = { λ lag. Some (lag_text lag.0) };
 
@@ -420,7 +420,7 @@ impl fmt::Display for Behind {
 struct ViolationCode(Violation);
 
 impl fmt::Display for ViolationCode {
-    ghost use Rattle.tsn_reason.specs.Said.{violation_code};
+    ghost use Rattle.tsn_given.specs.Said.{violation_code};
 
     ghost output = { λ code. Some (violation_code code.0) };
 

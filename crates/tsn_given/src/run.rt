@@ -1,7 +1,7 @@
 //! What the runs of all commands share: their statuses, and how a run ends.
 ghost use Rattle.std.specs.Prelude.{◌<◌, ◌-◌, ◌^◌, [], ◌∷◌};
-ghost use Rattle.tsn_reason.specs.Run.{sink_over};
-ghost use Rattle.tsn_reason.specs.Outcome.{IsOutputOf, IsWrittenAs};
+ghost use Rattle.tsn_given.specs.Run.{sink_over};
+ghost use Rattle.tsn_given.specs.Outcome.{IsOutputOf, IsWrittenAs};
 
 use crate::answer::Answer;
 use tsn_device::device::{ReadFault, Sink};

@@ -1,8 +1,8 @@
 -- The line of an outcome, and what is known where the limit was met.
 use Rattle.std.proofs.Common.{◌≡◌, ◌<◌, ◌++◌, ℕ, List, [], ◌∷◌, IsTrue, codes, is_some, length, refl, arith}
-use Rattle.tsn_reason.specs.declared.outcome.Outcome.{Outcome}
-use Rattle.tsn_reason.specs.declared.outcome.Outcome.TheVariants.{Taken, Valid, NotValid, Optimal, NoSchedule, Stopped, Proved, Undercut, AcceptedOptimal, AcceptedFirst, AcceptedNone, RefusedNetwork, RefusedFile, RefusedPlan, RefusedCert, TooLong, NoMemory, Failed}
-use Rattle.tsn_reason.specs.Said.{ended, status_of, stop_of}
+use Rattle.tsn_given.specs.declared.outcome.Outcome.{Outcome}
+use Rattle.tsn_given.specs.declared.outcome.Outcome.TheVariants.{Taken, Valid, NotValid, Optimal, NoSchedule, Stopped, Proved, Undercut, AcceptedOptimal, AcceptedFirst, AcceptedNone, RefusedNetwork, RefusedFile, RefusedPlan, RefusedCert, TooLong, NoMemory, Failed}
+use Rattle.tsn_given.specs.Said.{ended, status_of, stop_of}
 
 pub ended_more : (text : List ℕ) → 0 < length text → ended text ≡ text ++ codes "\n"
 ended_more [] some = absurd (omega (arith, some))

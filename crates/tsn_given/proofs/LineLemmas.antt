@@ -6,11 +6,11 @@ use Rattle.std.specs.Io.KnownBytes.{Appends, Keeps}
 use Rattle.tsn_device.specs.declared.device.ReadFault.{ReadFault}
 use Rattle.tsn_device.specs.declared.device.ReadFault.TheVariants.{Broken, TooLong, Memory}
 use Rattle.tsn_device.specs.declared.run.TheConstants.{DEVICE}
-use Rattle.tsn_reason.specs.declared.answer.Answer.{Answer}
-use Rattle.tsn_reason.specs.Run.{AreUnwritten, Command, Ends, EndsEarly, EndsOver, Failures, IsUnwritten, NoneFailed, Output, RunsOver, SinkRun, SourceRun, TakesAll, TakesBeginning, failed_after, failed_before, readings_of, reads_of, writes_of, writings_of}
-use Rattle.tsn_reason.specs.Said.{line_of, status_of}
-use Rattle.tsn_reason.specs.Outcome.{ComesOver, EndsAs, IsOutputOf, IsWrittenAs, line_taken, outcome_of, output_of}
-use Rattle.tsn_reason.proofs.RunLemmas.{Keeps-same, never_both, none_failed, runs_with}
+use Rattle.tsn_given.specs.declared.answer.Answer.{Answer}
+use Rattle.tsn_given.specs.Run.{AreUnwritten, Command, Ends, EndsEarly, EndsOver, Failures, IsUnwritten, NoneFailed, Output, RunsOver, SinkRun, SourceRun, TakesAll, TakesBeginning, failed_after, failed_before, readings_of, reads_of, writes_of, writings_of}
+use Rattle.tsn_given.specs.Said.{line_of, status_of}
+use Rattle.tsn_given.specs.Outcome.{ComesOver, EndsAs, IsOutputOf, IsWrittenAs, line_taken, outcome_of, output_of}
+use Rattle.tsn_given.proofs.RunLemmas.{Keeps-same, never_both, none_failed, runs_with}
 
 -- what took a line whole
 pub taken_whole : (answer : Result Answer ReadFault)

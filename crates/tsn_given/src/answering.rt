@@ -1,8 +1,7 @@
 //! How an outcome gets its line, and what a run answers, as a value.
 ghost use Rattle.std.specs.Prelude.{◌≡◌, ◌<◌, IfOk, Ok};
-ghost use Rattle.tsn_reason.specs.Said.{status_of};
-ghost use Rattle.tsn_reason.specs.Refusal.{IsOutcome};
-ghost use Rattle.tsn_reason.specs.Outcome.{outcome_of, output_of};
+ghost use Rattle.tsn_given.specs.Said.{status_of};
+ghost use Rattle.tsn_given.specs.Outcome.{IsOutcome, outcome_of, output_of};
 
 use crate::answer::Answer;
 use crate::outcome::Outcome;

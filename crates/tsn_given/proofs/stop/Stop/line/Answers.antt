@@ -1,6 +1,6 @@
 use Rattle.std.proofs.Common.{◌≡◌, ℕ, Option, IfOk, string_bytes, subst, sym}
-use Rattle.tsn_reason.specs.Stop.{stop_text}
-use Rattle.tsn_reason.proofs.stop.Stop.line.Goals as goal
+use Rattle.tsn_given.specs.Stop.{stop_text}
+use Rattle.tsn_given.proofs.stop.Stop.line.Goals as goal
 
 pub returns-in-Some : goal.returns-in-Some
 returns-in-Some c =

@@ -1,6 +1,6 @@
 //! What is known where a search was stopped.
 ghost use Rattle.std.specs.Prelude.{◌≡◌, [], IfOk, None, Some, false, string_bytes, true};
-ghost use Rattle.tsn_reason.specs.Stop.{known_text, stop_text};
+ghost use Rattle.tsn_given.specs.Stop.{known_text, stop_text};
 
 use std::alloc::Global;
 use std::fmt;
@@ -20,7 +20,7 @@ pub struct Stop {
 pub(crate) struct Span(pub(crate) Option<u64>);
 
 impl fmt::Display for Span {
-    ghost use Rattle.tsn_reason.specs.Stop.{span_text};
+    ghost use Rattle.tsn_given.specs.Stop.{span_text};
 
     ghost output = { λ span. Some (span_text span.0) };
 

@@ -1,6 +1,6 @@
 //! What a command answers, with its line, before any of it is written.
 ghost use Rattle.std.specs.Prelude.{◌≡◌, ◌<◌, string_bytes};
-ghost use Rattle.tsn_reason.specs.Said.{line_of, status_of};
+ghost use Rattle.tsn_given.specs.Said.{line_of, status_of};
 
 use crate::outcome::Outcome;
 

@@ -3,7 +3,7 @@
 --     known_text      the line on it, by whether it is
 --     stop_text       the line on it
 use Rattle.std.specs.Prelude.{ℕ, List, ◌++◌, codes, decimal, nat_eq, Bool, true, false, Option, Some, None}
-use Rattle.tsn_reason.specs.declared.stop.Stop.{Stop}
+use Rattle.tsn_given.specs.declared.stop.Stop.{Stop}
 
 -- a number of nanoseconds, if there is one
 abbrev pub span_text : Option ℕ → List ℕ

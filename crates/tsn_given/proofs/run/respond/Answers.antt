@@ -1,10 +1,10 @@
 use Rattle.std.proofs.Common.{rules, Err, inl, codes}
 use Rattle.std.proofs.lemmas.List.Elements.{All-nil}
 use Rattle.tsn_device.specs.declared.device.ReadFault.TheVariants.{TooLong, Memory}
-use Rattle.tsn_reason.specs.Run.{IsUnwritten}
-use Rattle.tsn_reason.specs.Outcome.{output_of}
-use Rattle.tsn_reason.proofs.RunLemmas.{text_beginning, text_whole, told_fault}
-use Rattle.tsn_reason.proofs.run.respond.Goals as goal
+use Rattle.tsn_given.specs.Run.{IsUnwritten}
+use Rattle.tsn_given.specs.Outcome.{output_of}
+use Rattle.tsn_given.proofs.RunLemmas.{text_beginning, text_whole, told_fault}
+use Rattle.tsn_given.proofs.run.respond.Goals as goal
 
 pub returns-in-Err-TooLong : goal.returns-in-Err-TooLong
 returns-in-Err-TooLong g c = record {

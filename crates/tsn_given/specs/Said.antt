@@ -15,12 +15,12 @@ use Rattle.tsn_net.specs.Fault.{code_text, fault_text, place_text}
 use Rattle.tsn_cert.specs.Fault as file
 use Rattle.tsn_check.specs.declared.fault.CheckFault.{CheckFault}
 use Rattle.tsn_check.specs.Numbers.{number_of, node_of}
-use Rattle.tsn_reason.specs.declared.stop.Stop.{Stop}
-use Rattle.tsn_reason.specs.declared.outcome.FileKind.{FileKind}
-use Rattle.tsn_reason.specs.declared.outcome.FileKind.TheVariants as kind
-use Rattle.tsn_reason.specs.declared.outcome.Outcome.{Outcome}
-use Rattle.tsn_reason.specs.declared.outcome.Outcome.TheVariants.{Taken, Valid, NotValid, Optimal, NoSchedule, Stopped, Proved, Undercut, AcceptedOptimal, AcceptedFirst, AcceptedNone, RefusedNetwork, RefusedFile, RefusedPlan, RefusedCert, TooLong, NoMemory, Failed}
-use Rattle.tsn_reason.specs.Stop.{span_text}
+use Rattle.tsn_given.specs.declared.stop.Stop.{Stop}
+use Rattle.tsn_given.specs.declared.outcome.FileKind.{FileKind}
+use Rattle.tsn_given.specs.declared.outcome.FileKind.TheVariants as kind
+use Rattle.tsn_given.specs.declared.outcome.Outcome.{Outcome}
+use Rattle.tsn_given.specs.declared.outcome.Outcome.TheVariants.{Taken, Valid, NotValid, Optimal, NoSchedule, Stopped, Proved, Undercut, AcceptedOptimal, AcceptedFirst, AcceptedNone, RefusedNetwork, RefusedFile, RefusedPlan, RefusedCert, TooLong, NoMemory, Failed}
+use Rattle.tsn_given.specs.Stop.{span_text}
 
 abbrev pub status_of : Outcome → ℕ
 status_of Taken = 0
