@@ -1,6 +1,7 @@
 -- A run that has come to an outcome, and the sink that takes its line.
 use Rattle.std.proofs.Common.{◌≡◌, ◌≢◌, ◌⊎◌, ◌+◌, inl, inr, ℕ, List, [], ◌∷◌, ◌++◌, take, Option, Some, None, Result, Ok, Err, All, append-nil, refl, sym, ap, ◌∙◌, subst, arith}
 use Rattle.std.proofs.lemmas.List.Elements.{All-cons, All-head, All-nil, All-tail}
+use Rattle.std.specs.Prelude.{sum_by}
 use Rattle.std.proofs.lemmas.List.Sums.{sum_by-cons}
 use Rattle.std.specs.Io.KnownBytes.{Appends, Keeps}
 use Rattle.tsn_device.specs.declared.device.ReadFault.{ReadFault}
@@ -95,24 +96,22 @@ module _ (taken output : SinkRun) where
   unwritten_still (file ∷ []) left none = (none.0, left)
   unwritten_still (file ∷ next ∷ files) left none = (none.0, unwritten_still (next ∷ files) left none.1)
 
--- the calls that failed, without the last sink
+-- a sum over the sinks, without the last one
+sum_with : (f : Failures → ℕ) (files : List SinkRun) (last : SinkRun) → sum_by f (writes_of (files ++ last ∷ [])) ≡ sum_by f (writes_of files) + f last.writes
+sum_with f [] last = omega arith
+sum_with f (file ∷ files) last =
+    let more = sum_with f files last in
+    let whole = sum_by-cons f file.writes (writes_of (files ++ last ∷ [])) in
+    let part = sum_by-cons f file.writes (writes_of files) in
+    omega (arith, more, whole, part)
+
 after_with : (files : List SinkRun) (last : SinkRun)
     → failed_after (writes_of (files ++ last ∷ [])) ≡ failed_after (writes_of files) + last.writes.after
-after_with [] last = omega arith
-after_with (file ∷ files) last =
-    let more = after_with files last in
-    let whole = sum_by-cons (λ (c : Failures). c.after) file.writes (writes_of (files ++ last ∷ [])) in
-    let part = sum_by-cons (λ (c : Failures). c.after) file.writes (writes_of files) in
-    omega (arith, more, whole, part)
+after_with files last = sum_with (λ (c : Failures). c.after) files last
 
 before_with : (files : List SinkRun) (last : SinkRun)
     → failed_before (writes_of (files ++ last ∷ [])) ≡ failed_before (writes_of files) + last.writes.before
-before_with [] last = omega arith
-before_with (file ∷ files) last =
-    let more = before_with files last in
-    let whole = sum_by-cons (λ (c : Failures). c.before) file.writes (writes_of (files ++ last ∷ [])) in
-    let part = sum_by-cons (λ (c : Failures). c.before) file.writes (writes_of files) in
-    omega (arith, more, whole, part)
+before_with files last = sum_with (λ (c : Failures). c.before) files last
 
 keeps_appends : (before after : Option (List ℕ)) → Keeps before after → Appends before after []
 keeps_appends None after keeps = tt

@@ -3,11 +3,17 @@ use Rattle.std.proofs.Common.{◌≡◌, ◌≢◌, ◌++◌, ◌∷◌, [], ℕ
 use Rattle.tsn_device.specs.declared.device.ReadFault.{ReadFault}
 use Rattle.tsn_given.specs.declared.answer.Answer.{Answer}
 use Rattle.tsn_device.specs.declared.run.TheConstants.{DEVICE}
-use Rattle.tsn_given.specs.Run.{Command, EndsOver, Output, SinkRun, SourceRun}
+use Rattle.tsn_given.specs.Run.{Command, EndsOver, Output, SinkRun, SourceRun, source_over}
 use Rattle.tsn_given.specs.Said.{line_of, status_of}
 use Rattle.tsn_given.specs.Outcome.{EndsAs, IsOutputOf, IsWrittenAs, line_taken, outcome_of}
 use Rattle.tsn_given.proofs.LineLemmas.{ends_over, said_over}
 use Rattle.tsn_given.specs.Runs.{IsToldBy, LeavesSource, OverSource, RunsTold}
+
+-- a run over a source that was opened for it
+pub over_source : {S : Type 0} {given : S → Option (List ℕ)} {failed : S → ℕ} {is_at_end : S → Bool} {IsAsked : S → Type 0}
+    {holds : SourceRun → Type 0} (source left : S) → IsAsked source → failed source ≡ 0
+    → holds (source_over given failed is_at_end source left) → OverSource given failed is_at_end IsAsked holds
+over_source source left opened unfailing ran = (left, record { source = source; opened = opened; unfailing = unfailing; ran = ran })
 
 -- what follows of a run that left a source so
 pub leaves_over : {S : Type 0} {given : S → Option (List ℕ)} {failed : S → ℕ} {is_at_end : S → Bool} {IsAsked : S → Type 0} {left : S}

@@ -144,17 +144,7 @@ impl Outcome {
             Outcome::Undercut { better, .. } => Some(better),
             Outcome::Stopped { known, .. } => known.best,
             Outcome::Proved { stated, .. } => stated,
-            Outcome::Taken
-            | Outcome::NotValid(_)
-            | Outcome::NoSchedule { .. }
-            | Outcome::AcceptedNone
-            | Outcome::RefusedNetwork(_)
-            | Outcome::RefusedFile(..)
-            | Outcome::RefusedPlan(_)
-            | Outcome::RefusedCert(_)
-            | Outcome::TooLong
-            | Outcome::NoMemory
-            | Outcome::Failed => None,
+            _ => None,
         }
     }
 
@@ -168,19 +158,7 @@ impl Outcome {
             | Outcome::Stopped { settled, .. }
             | Outcome::Proved { settled, .. }
             | Outcome::Undercut { settled, .. } => Some(settled),
-            Outcome::Taken
-            | Outcome::Valid { .. }
-            | Outcome::NotValid(_)
-            | Outcome::AcceptedOptimal { .. }
-            | Outcome::AcceptedFirst { .. }
-            | Outcome::AcceptedNone
-            | Outcome::RefusedNetwork(_)
-            | Outcome::RefusedFile(..)
-            | Outcome::RefusedPlan(_)
-            | Outcome::RefusedCert(_)
-            | Outcome::TooLong
-            | Outcome::NoMemory
-            | Outcome::Failed => None,
+            _ => None,
         }
     }
 
@@ -190,23 +168,7 @@ impl Outcome {
     {
         match self {
             Outcome::Stopped { known, .. } => Some(known),
-            Outcome::Taken
-            | Outcome::Valid { .. }
-            | Outcome::NotValid(_)
-            | Outcome::Optimal { .. }
-            | Outcome::NoSchedule { .. }
-            | Outcome::Proved { .. }
-            | Outcome::Undercut { .. }
-            | Outcome::AcceptedOptimal { .. }
-            | Outcome::AcceptedFirst { .. }
-            | Outcome::AcceptedNone
-            | Outcome::RefusedNetwork(_)
-            | Outcome::RefusedFile(..)
-            | Outcome::RefusedPlan(_)
-            | Outcome::RefusedCert(_)
-            | Outcome::TooLong
-            | Outcome::NoMemory
-            | Outcome::Failed => None,
+            _ => None,
         }
     }
 
@@ -221,19 +183,7 @@ impl Outcome {
             Outcome::RefusedPlan(fault) | Outcome::RefusedCert(fault) => {
                 format!(in alloc; "K{}", fault.number())?
             }
-            Outcome::Taken
-            | Outcome::Valid { .. }
-            | Outcome::Optimal { .. }
-            | Outcome::NoSchedule { .. }
-            | Outcome::Stopped { .. }
-            | Outcome::Proved { .. }
-            | Outcome::Undercut { .. }
-            | Outcome::AcceptedOptimal { .. }
-            | Outcome::AcceptedFirst { .. }
-            | Outcome::AcceptedNone
-            | Outcome::TooLong
-            | Outcome::NoMemory
-            | Outcome::Failed => return Ok(None),
+            _ => return Ok(None),
         };
         Ok(Some(code))
     }
@@ -247,19 +197,7 @@ impl Outcome {
             Outcome::RefusedNetwork(fault) => Ok(Some(format!(in alloc; "{}", fault.place)?)),
             Outcome::RefusedFile(kind, _) => Ok(Some(format!(in alloc; "{kind}")?)),
             Outcome::RefusedPlan(fault) | Outcome::RefusedCert(fault) => node_place(alloc, fault),
-            Outcome::Taken
-            | Outcome::Valid { .. }
-            | Outcome::Optimal { .. }
-            | Outcome::NoSchedule { .. }
-            | Outcome::Stopped { .. }
-            | Outcome::Proved { .. }
-            | Outcome::Undercut { .. }
-            | Outcome::AcceptedOptimal { .. }
-            | Outcome::AcceptedFirst { .. }
-            | Outcome::AcceptedNone
-            | Outcome::TooLong
-            | Outcome::NoMemory
-            | Outcome::Failed => Ok(None),
+            _ => Ok(None),
         }
     }
 }
