@@ -11,7 +11,7 @@ use Rattle.tsn_argue.specs.Certified.{Certifies, certificate_verdict}
 use Rattle.tsn_argue.specs.Laws.{FirstFaultsRefute}
 use Rattle.tsn_given.specs.Run.{Output}
 use Rattle.tsn_given.specs.Outcome.{IsOutcome}
-use Rattle.tsn_reason.specs.Check.{CheckAnswers, JudgesCert, accepted}
+use Rattle.tsn_reason.specs.Check.{CheckAnswers, IsAccepted, JudgesCert, accepted}
 
 same_ok : {A E : Type 0} (r : Result A E) (x y : A) → r ≡ Ok x → r ≡ Ok y → x ≡ y
 same_ok r x y p q = let both : Ok x ≡ Ok y = sym p ∙ q in cc
@@ -21,7 +21,7 @@ not_both r x e p q = let both : Ok x ≡ Err e = sym p ∙ q in cc
 
 -- a certificate that shows what the plan says is accepted
 judged : FirstFaultsRefute → (problem : NamedNetwork) (stated : Plan) (whole : Certificate) (cert_file : List ℕ) (output : Output)
-    → Certifies problem.network stated whole → certificate_in cert_file ≡ Ok whole → JudgesCert problem.network stated cert_file output
+    → Certifies problem.network stated whole → certificate_in cert_file ≡ Ok whole → JudgesCert (IsAccepted problem stated) problem.network stated cert_file output
     → IsOutcome (accepted (certificate_verdict whole stated) stated) output
 judged refutes problem stated whole cert_file output certifies is (inl refused) =
     absurd (not_both (certificate_in cert_file) whole refused.0 is refused.1)
@@ -42,7 +42,7 @@ certificate_accepted refutes network_file plan_file cert_file problem stated who
     let same : answers.0 ≡ problem = stated_once network_file answers.0 problem answers.1 states in
     let found = answers.2 in
     let same_plan : found.0 ≡ stated = same_ok (plan_in plan_file) found.0 stated found.1 reads in
-    let judges : JudgesCert problem.network stated cert_file output =
-    subst (λ (p : Plan). JudgesCert problem.network p cert_file output) same_plan
-    (subst (λ (p : NamedNetwork). JudgesCert p.network found.0 cert_file output) same found.2) in
+    let judges : JudgesCert (IsAccepted problem stated) problem.network stated cert_file output =
+    subst (λ (p : Plan). JudgesCert (IsAccepted problem p) problem.network p cert_file output) same_plan
+    (subst (λ (p : NamedNetwork). JudgesCert (IsAccepted p found.0) p.network found.0 cert_file output) same found.2) in
     judged refutes problem stated whole cert_file output certifies is judges

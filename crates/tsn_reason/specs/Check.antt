@@ -1,8 +1,8 @@
 -- What `check` answers.
 --     RefusesCert                   the certificate file is refused
 --     accepted                      what is answered where it shows what the plan says
---     ShowsClaim, ShowsNothing      what the certificate shows
---     CheckAnswers                  the answer to the files read so far
+--     ShowsNothing                  the certificate doesn't show what the plan says
+--     CertAnswersBy, CheckAnswers   the answer to the files read so far, of any command that reads a certificate, and of `check`
 use Rattle.std.specs.Prelude.{◌≡◌, ◌⊎◌, ℕ, List, [], ◌∷◌, Ok, Err}
 use Rattle.tsn_model.specs.Network.{Network}
 use Rattle.tsn_net.specs.File.{States}
@@ -35,32 +35,35 @@ accepted Optimal plan = AcceptedOptimal (span_in plan)
 accepted First plan = AcceptedFirst (span_in plan)
 accepted NoSchedule plan = AcceptedNone
 
--- the certificate shows what the plan says
-abbrev pub ShowsClaim : Network → Plan → Certificate → Output → Type 0
-ShowsClaim network plan certificate output =
-    Certifies network plan certificate × IsOutcome (accepted (certificate_verdict certificate plan) plan) output
-
--- it doesn't, and this is the first fault
+-- it doesn't show that, and this is the first fault
 abbrev pub ShowsNothing : Network → Plan → Certificate → Output → Type 0
 ShowsNothing network plan certificate output =
     (fault : CheckFault) × IsFirstFault network plan certificate fault × IsOutcome (RefusedCert fault) output
 
--- the answer to a certificate file for this plan
-abbrev pub JudgesCert : Network → Plan → List ℕ → Output → Type 0
-JudgesCert network plan file output =
+-- the answer to a certificate file for this plan, by the answer to a certificate that shows what the plan says
+abbrev pub JudgesCert : (Certificate → Output → Type 0) → Network → Plan → List ℕ → Output → Type 0
+JudgesCert Accepts network plan file output =
     RefusesCert file output
     ⊎ ((certificate : Certificate) × (certificate_in file ≡ Ok certificate)
-    × (ShowsClaim network plan certificate output ⊎ ShowsNothing network plan certificate output))
+    × ((Certifies network plan certificate × Accepts certificate output) ⊎ ShowsNothing network plan certificate output))
 
 -- the file states a network
 abbrev pub StatesNetwork : List ℕ → Type 0
 StatesNetwork file = (problem : NamedNetwork) × States file problem
 
 -- the answer to the files read so far: each is judged once those before it were taken
+abbrev pub CertAnswersBy : (NamedNetwork → Plan → Certificate → Output → Type 0) → Command
+CertAnswersBy Accepts [] output = ⊥
+CertAnswersBy Accepts (network ∷ []) output = RefusesNetwork network output
+CertAnswersBy Accepts (network ∷ plan ∷ []) output = StatesNetwork network × RefusesPlan plan output
+CertAnswersBy Accepts (network ∷ plan ∷ cert ∷ []) output =
+    (problem : NamedNetwork) × States network problem
+    × ((stated : Plan) × (plan_in plan ≡ Ok stated) × JudgesCert (Accepts problem stated) problem.network stated cert output)
+CertAnswersBy Accepts _ output = ⊥
+
+-- `check` says in a line what the certificate shows
+abbrev pub IsAccepted : NamedNetwork → Plan → Certificate → Output → Type 0
+IsAccepted problem plan certificate output = IsOutcome (accepted (certificate_verdict certificate plan) plan) output
+
 abbrev pub CheckAnswers : Command
-CheckAnswers [] output = ⊥
-CheckAnswers (network ∷ []) output = RefusesNetwork network output
-CheckAnswers (network ∷ plan ∷ []) output = StatesNetwork network × RefusesPlan plan output
-CheckAnswers (network ∷ plan ∷ cert ∷ []) output =
-    (problem : NamedNetwork) × States network problem × ((stated : Plan) × (plan_in plan ≡ Ok stated) × JudgesCert problem.network stated cert output)
-CheckAnswers _ output = ⊥
+CheckAnswers = CertAnswersBy IsAccepted

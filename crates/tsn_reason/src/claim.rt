@@ -1,11 +1,12 @@
-//! What a plan claims of a problem, and why it is refused, in words.
+//! What a plan claims of a problem, and why it is refused, in words; and the target that it asks of a certificate.
 use crate::Reason;
 use crate::offsets::{Schedule, push_violation};
-use std::alloc::Global;
+use std::alloc::{AllocError, Global};
+use std::fmt::Write;
 use tsn_cert::Plan;
 use tsn_check::PlanFault;
 use tsn_model::{NoMemory, Violation};
-use tsn_text::{TextBuilder, line_of};
+use tsn_text::line_of;
 use tsn_timing::Problem;
 
 /// A plan of a problem, and the name of the file that states it.
@@ -21,25 +22,25 @@ pub struct Claim<'a> {
 
 /// The line on a plan with this fault.
 pub fn line_on_plan(alloc: Global, claim: Claim<'_>, fault: PlanFault) -> Reason {
-    let mut text = line_of(alloc, claim.name);
+    let mut text = line_of(alloc, claim.name).finish()?;
     match fault {
         PlanFault::Memory => return Err(NoMemory),
-        PlanFault::NoSchedule => text.push_str("it says that there is no schedule"),
+        PlanFault::NoSchedule => write!(text, "it says that there is no schedule")?,
         PlanFault::Invalid(violation) => push_invalid(alloc, &mut text, claim, violation)?,
         PlanFault::Flowspan { stated, wanted } => {
-            text.push_str("flowspan is ");
-            text.push_number(stated);
-            text.push_str(", and that of the offsets is ");
-            text.push_number(wanted);
+            write!(
+                text,
+                "flowspan is {stated}, and that of the offsets is {wanted}"
+            )?
         }
     }
-    Ok(Some(text.finish()?))
+    Ok(Some(text))
 }
 
 /// Writes why the plan's offsets are no valid schedule.
 fn push_invalid(
     alloc: Global,
-    text: &mut TextBuilder,
+    text: &mut String,
     claim: Claim<'_>,
     violation: Violation,
 ) -> Result<(), NoMemory> {
@@ -52,8 +53,22 @@ fn push_invalid(
         timing: &timing,
         offsets: offsets.list(),
     };
-    text.push_str("no valid schedule: ");
-    push_violation(text, schedule, violation);
+    text.push_str("no valid schedule: ")?;
+    let pushed = push_violation(text, schedule, violation);
     drop(timing);
-    Ok(())
+    Ok(pushed?)
+}
+
+/// Writes what the target is, and has to be.
+pub fn push_wrong_target(
+    text: &mut String,
+    plan: &Plan,
+    stated: u64,
+    wanted: u64,
+) -> Result<(), AllocError> {
+    let whose = match plan {
+        Plan::Schedule { .. } => "the flowspan of the plan",
+        Plan::None => "one more than the cycle, since the plan is that there is no schedule",
+    };
+    write!(text, "target is {stated}, and has to be {wanted}, {whose}")
 }

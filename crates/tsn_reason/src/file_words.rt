@@ -1,7 +1,9 @@
 //! Why a plan file or a certificate file is refused, in words.
 
 use crate::Reason;
-use std::alloc::Global;
+use std::alloc::{AllocError, Global};
+use std::fmt;
+use std::fmt::Write;
 use tsn_cert::limits::MAX_LAG;
 use tsn_cert::plan::MAX_TIME;
 use tsn_codec::{Excess, Misfit, Part, Refused};
@@ -10,115 +12,98 @@ use tsn_text::{TextBuilder, line_of, push_name};
 
 /// Why the file of this name is refused.
 pub fn file_line(alloc: Global, name: &str, refused: &Refused) -> Reason {
-    let mut text = line_of(alloc, name);
-    match refused {
-        Refused::NotJson(error) => text.push_str(format!(in alloc; "{error}")?.as_str()),
-        Refused::WrongShape(misfit) => push_misfit(&mut text, misfit),
+    let mut text = line_of(alloc, name).finish()?;
+    let told = match refused {
+        Refused::NotJson(error) => write!(text, "{error}"),
+        Refused::WrongShape(misfit) => push_misfit(alloc, &mut text, misfit),
         Refused::NumberTooLarge(excess) => push_excess(&mut text, *excess),
         Refused::Memory => return Err(NoMemory),
-    }
-    Ok(Some(text.finish()?))
+    };
+    told?;
+    Ok(Some(text))
 }
 
-fn push_misfit(text: &mut TextBuilder, misfit: &Misfit) {
+fn push_misfit(alloc: Global, text: &mut String, misfit: &Misfit) -> Result<(), AllocError> {
     match misfit {
         Misfit::NoObject => text.push_str("it has to be an object"),
         Misfit::OtherFormat => text.push_str("format has to be 1, 2 or 3"),
-        Misfit::Missing(key) => push_about_key(text, key.name(), " is missing"),
-        Misfit::Unknown(key) => push_about_key(text, key.as_str(), " isn't known"),
+        Misfit::Missing(key) => write!(text, "the key {} is missing", key.name()),
+        Misfit::Unknown(key) => {
+            let mut shown = TextBuilder::new(alloc);
+            push_name(&mut shown, key.as_str());
+            let shown = shown.finish()?;
+            write!(text, "the key {shown} isn't known")
+        }
         Misfit::OneNull => text.push_str("flowspan and offsets have to be null both or neither"),
         Misfit::OtherGoal => text.push_str("goal has to be \"first\", \"least\" or \"none\""),
-        Misfit::NoNumber(key) => {
-            text.push_str(key.name());
-            text.push_str(" has to be a whole number")
-        }
-        Misfit::NoArray(key) => {
-            text.push_str(key.name());
-            text.push_str(" has to be an array")
-        }
-        Misfit::NoOffset(number) => {
-            push_numbered(text, "offset ", *number, " has to be a whole number")
-        }
+        Misfit::NoNumber(key) => write!(text, "{} has to be a whole number", key.name()),
+        Misfit::NoArray(key) => write!(text, "{} has to be an array", key.name()),
+        Misfit::NoOffset(number) => write!(text, "offset {number} has to be a whole number"),
         Misfit::NoNode(number, format) => {
-            push_numbered(text, "node ", *number, " has none of the forms of format ");
-            text.push_number(format.number())
+            let format = format.number();
+            write!(
+                text,
+                "node {number} has none of the forms of format {format}"
+            )
         }
-        Misfit::NoStep(number) => push_numbered(
+        Misfit::NoStep(number) => write!(
             text,
-            "step ",
-            *number,
-            " has to be an array of two arrays, of facts and of moves",
+            "step {number} has to be an array of two arrays, of facts and of moves"
         ),
-        Misfit::NoPart(step, part) => {
-            push_part(text, *step, *part);
-            text.push_str(" has none of the forms of format 3")
+        Misfit::NoPart(step, part) => write!(
+            text,
+            "step {step}, {} has none of the forms of format 3",
+            PartName(*part)
+        ),
+    }
+}
+
+// A part of a step, by its number.
+#[derive(Clone, Copy)]
+struct PartName(Part);
+
+impl fmt::Display for PartName {
+    fn fmt<W: fmt::Write>(&self, f: &mut fmt::Formatter<W>) -> fmt::Result {
+        match self.0 {
+            Part::Fact(number) => write!(f, "fact {number}"),
+            Part::Move(number) => write!(f, "move {number}"),
         }
     }
 }
 
-fn push_about_key(text: &mut TextBuilder, key: &str, what: &str) {
-    text.push_str("the key ");
-    push_name(text, key);
-    text.push_str(what)
-}
-
-fn push_numbered(text: &mut TextBuilder, of: &str, number: usize, what: &str) {
-    text.push_str(of);
-    text.push_count(number);
-    text.push_str(what)
-}
-
-fn push_part(text: &mut TextBuilder, step: usize, part: Part) {
-    push_numbered(text, "step ", step, ", ");
-    match part {
-        Part::Fact(number) => push_numbered(text, "fact ", number, ""),
-        Part::Move(number) => push_numbered(text, "move ", number, ""),
-    }
-}
-
-fn push_excess(text: &mut TextBuilder, excess: Excess) {
+fn push_excess(text: &mut String, excess: Excess) -> Result<(), AllocError> {
+    let most = MAX_TIME;
     match excess {
         Excess::At(key, number) => {
-            text.push_str(key.name());
-            push_above(text, number)
+            let name = key.name();
+            write!(text, "{name} is {number}, and may be at most {most}")
         }
         Excess::OfOffset(place, number) => {
-            push_numbered(text, "offset ", place, "");
-            push_above(text, number)
+            write!(
+                text,
+                "offset {place} is {number}, and may be at most {most}"
+            )
         }
         Excess::OfNode { number, lags } => {
-            push_numbered(text, "node ", number, "");
+            write!(text, "node {number}")?;
             push_large(text, lags, " has a number above ")
         }
         Excess::OfPart { step, part, lags } => {
-            push_part(text, step, part);
+            write!(text, "step {step}, {}", PartName(part))?;
             if !lags {
-                text.push_str(" has a time above ");
-                text.push_number(MAX_TIME);
+                write!(text, " has a time above {most}")?;
             }
             push_large(text, lags, ", or another number above ")
         }
     }
 }
 
-/// Writes that a time is too large.
-fn push_above(text: &mut TextBuilder, number: u64) {
-    text.push_str(" is ");
-    text.push_number(number);
-    text.push_str(", and may be at most ");
-    text.push_number(MAX_TIME)
-}
-
 /// Writes that a number is too large, where a lag among them may be, and else by these words.
-fn push_large(text: &mut TextBuilder, lags: bool, words: &str) {
+fn push_large(text: &mut String, lags: bool, words: &str) -> Result<(), AllocError> {
+    let mut words = words;
     if lags {
-        text.push_str(" has a lag whose size is above ");
-        text.push_number(MAX_LAG);
+        write!(text, " has a lag whose size is above {}", MAX_LAG)?;
+        words = ", or another number above ";
     }
-    text.push_str(if lags {
-        ", or another number above "
-    } else {
-        words
-    });
-    text.push_str("4294967295")
+    write!(text, "{words}4294967295")
 }

@@ -3,8 +3,7 @@ ghost use Rattle.std.specs.Prelude.{◌≡◌, ◌<◌, ◌-◌, ◌^◌};
 ghost use Rattle.tsn_given.specs.Run.{source_over};
 ghost use Rattle.tsn_reason.specs.Inputs.{IsReadOver, TakesNetwork, TakesPlan};
 
-use crate::network::network_line;
-use crate::refusals::{file_refusal, refusal};
+use crate::refusals::{file_refusal, network_line, refusal};
 use std::alloc::Global;
 use tsn_cert::Plan;
 use tsn_codec::plan_or_refuse;

@@ -8,19 +8,17 @@ mod argument;
 mod claim;
 mod file_words;
 mod inputs;
-mod network;
+mod names;
 mod offsets;
 mod refusals;
-mod target;
 mod tree;
 mod wrong;
 
 pub use argument::line_on_argument;
 pub use claim::{Claim, line_on_plan};
 pub use inputs::{NetworkRead, PlanRead, read_network, read_plan};
-pub use network::network_line;
 pub use offsets::{Schedule, offsets_line};
-pub use refusals::{cert_rejection, file_refusal, refusal, rejection};
+pub use refusals::{cert_rejection, file_refusal, network_line, refusal, rejection};
 pub use tree::line_on_tree;
 use tsn_model::NoMemory;
 

@@ -1,10 +1,13 @@
 //! Why offsets are no valid schedule.
+ghost use Rattle.std.specs.Prelude.{◌<◌};
+ghost use Rattle.tsn_model.specs.Network.{stream_count};
 
 use crate::Reason;
-use crate::wrong::push_later;
-use std::alloc::Global;
-use tsn_model::{Link, Triple, Violation};
-use tsn_text::{TextBuilder, line_of};
+use crate::names::{Later, LinkName, StreamName};
+use std::alloc::{AllocError, Global};
+use std::fmt::Write;
+use tsn_model::{Triple, Violation};
+use tsn_text::line_of;
 use tsn_timing::{Problem, Timing};
 
 /// Offsets of the streams of a network, in nanoseconds.
@@ -35,47 +38,37 @@ pub fn offsets_line(
     schedule: Schedule<'_>,
     violation: Violation,
 ) -> Reason {
-    let mut text = line_of(alloc, name);
-    push_violation(&mut text, schedule, violation);
-    Ok(Some(text.finish()?))
+    let mut text = line_of(alloc, name).finish()?;
+    push_violation(&mut text, schedule, violation)?;
+    Ok(Some(text))
 }
 
 /// Writes what the violation is.
-pub fn push_violation(text: &mut TextBuilder, schedule: Schedule<'_>, violation: Violation) {
+pub fn push_violation(
+    text: &mut String,
+    schedule: Schedule<'_>,
+    violation: Violation,
+) -> Result<(), AllocError> {
     match violation {
         Violation::WrongCount => push_count(text, schedule),
-        Violation::PastCycle(stream) => push_past_cycle(text, schedule, stream),
         Violation::Overlap(triple) => push_overlap(text, schedule.problem, triple),
-        Violation::Early(stream) => push_early(text, schedule, stream),
-        Violation::TooLate(stream) => push_too_late(text, schedule, stream),
+        Violation::PastCycle(stream) | Violation::Early(stream) | Violation::TooLate(stream) => {
+            write!(text, "{}", StreamName(schedule.problem, stream))?;
+            if stream >= schedule.timing.streams() {
+                return Ok(());
+            }
+            push_times(text, schedule, stream, violation)
+        }
     }
 }
 
-fn push_count(text: &mut TextBuilder, schedule: Schedule<'_>) {
+fn push_count(text: &mut String, schedule: Schedule<'_>) -> Result<(), AllocError> {
     let count = schedule.offsets.len();
     let streams = schedule.timing.streams();
-    text.push_str("the number of offsets is ");
-    text.push_count(count);
-    text.push_str(", and has to be ");
-    text.push_count(streams);
-    text.push_str(", one for each stream");
-}
-
-fn push_past_cycle(text: &mut TextBuilder, schedule: Schedule<'_>, stream: usize) {
-    push_stream(text, schedule.problem, stream);
-    if stream >= schedule.timing.streams() {
-        return;
-    }
-    let offset = schedule.offset(stream);
-    let end = offset.saturating_add(schedule.timing.span(stream));
-    let period = schedule.timing.period(stream);
-    text.push_str(": with offset ");
-    text.push_number(offset);
-    text.push_str(" it ends at ");
-    text.push_number(end);
-    text.push(',');
-    text.push_str(past_end(period, schedule.timing.cycle()));
-    text.push_number(period);
+    write!(
+        text,
+        "the number of offsets is {count}, and has to be {streams}, one for each stream"
+    )
 }
 
 /// Past which end of its own a stream of this period is.
@@ -87,100 +80,52 @@ pub fn past_end(period: u64, cycle: u64) -> &'static str {
     }
 }
 
-fn push_overlap(text: &mut TextBuilder, problem: &Problem, triple: Triple) {
-    let Triple {
-        left,
-        right,
-        link,
-        lag,
-    } = triple;
-    push_stream(text, problem, left);
-    text.push_str(" and ");
-    push_stream(text, problem, right);
-    push_later(text, lag);
-    text.push_str(" overlap on ");
-    push_link(text, problem, link)
+fn push_overlap(text: &mut String, problem: &Problem, triple: Triple) -> Result<(), AllocError> {
+    let left = StreamName(problem, triple.left);
+    let right = StreamName(problem, triple.right);
+    let link = LinkName(problem, triple.link);
+    write!(
+        text,
+        "{left} and {right}{} overlap on {link}",
+        Later(triple.lag)
+    )
 }
 
-fn push_early(text: &mut TextBuilder, schedule: Schedule<'_>, stream: usize) {
-    push_stream(text, schedule.problem, stream);
-    if stream >= schedule.timing.streams() {
-        return;
-    }
-    if push_other(text, schedule, stream) {
-        return;
-    }
+// Writes which of its times a stream's offset doesn't keep; where one offset alone is within its window, that it has to be that.
+fn push_times(
+    text: &mut String,
+    schedule: Schedule<'_>,
+    stream: usize,
+    violation: Violation,
+) -> Result<(), AllocError>
+    requires { stream < stream_count schedule.timing.now }
+{
+    let timing = schedule.timing;
     let offset = schedule.offset(stream);
-    let release = schedule.timing.release(stream);
-    text.push_str(": its offset ");
-    text.push_number(offset);
-    text.push_str(" is before its release ");
-    text.push_number(release);
-}
-
-fn push_too_late(text: &mut TextBuilder, schedule: Schedule<'_>, stream: usize) {
-    push_stream(text, schedule.problem, stream);
-    if stream >= schedule.timing.streams() {
-        return;
+    if let Violation::PastCycle(_) = violation {
+        let end = offset.saturating_add(timing.span(stream));
+        let period = timing.period(stream);
+        let past = past_end(period, timing.cycle());
+        return write!(
+            text,
+            ": with offset {offset} it ends at {end},{past}{period}"
+        );
     }
-    if push_other(text, schedule, stream) {
-        return;
+    let release = timing.release(stream);
+    let latest = timing.latest(stream);
+    let travel = timing.arrival(stream);
+    if release.saturating_add(travel) == latest {
+        return write!(text, ": its offset is {offset}, and has to be {release}");
     }
-    let offset = schedule.offset(stream);
-    let arrival = offset.saturating_add(schedule.timing.arrival(stream));
-    let latest = schedule.timing.latest(stream);
-    text.push_str(": with offset ");
-    text.push_number(offset);
-    text.push_str(" it arrives at ");
-    text.push_number(arrival);
-    text.push_str(", after its latest instant ");
-    text.push_number(latest);
-}
-
-/// Writes what a stream's offset has to be, where one alone is left. Whether it wrote.
-fn push_other(text: &mut TextBuilder, schedule: Schedule<'_>, stream: usize) -> bool {
-    if stream >= schedule.timing.streams() {
-        return false;
+    if let Violation::Early(_) = violation {
+        return write!(
+            text,
+            ": its offset {offset} is before its release {release}"
+        );
     }
-    let least = schedule.timing.release(stream);
-    let arrival = least.saturating_add(schedule.timing.arrival(stream));
-    if arrival != schedule.timing.latest(stream) {
-        return false;
-    }
-    let offset = schedule.offset(stream);
-    text.push_str(": its offset is ");
-    text.push_number(offset);
-    text.push_str(", and has to be ");
-    text.push_number(least);
-    true
-}
-
-/// Writes a stream by its name.
-pub fn push_stream(text: &mut TextBuilder, problem: &Problem, stream: usize) {
-    if stream >= problem.streams() {
-        text.push_str("stream ");
-        return text.push_count(stream);
-    }
-    let name = problem.stream_name(stream);
-    text.push_str("stream ");
-    text.push_str(name);
-}
-
-/// Writes a directed link by its number, and the nodes that it joins.
-pub fn push_link(text: &mut TextBuilder, problem: &Problem, number: usize) {
-    text.push_str("link ");
-    text.push_count(number);
-    if number >= problem.links() {
-        return;
-    }
-    let Link { from, to, .. } = problem.link(number);
-    if from >= problem.nodes() || to >= problem.nodes() {
-        return;
-    }
-    let first = problem.node_name(from);
-    let second = problem.node_name(to);
-    text.push_str(", ");
-    text.push_str(first);
-    text.push_str(" to ");
-    text.push_str(second);
+    let arrival = offset.saturating_add(travel);
+    write!(
+        text,
+        ": with offset {offset} it arrives at {arrival}, after its latest instant {latest}"
+    )
 }

@@ -3,6 +3,7 @@ ghost use Rattle.std.specs.Prelude.{◌≡◌, IfOk, IsErr, Ok};
 ghost use Rattle.tsn_codec.specs.Told.{code_of};
 ghost use Rattle.tsn_given.specs.Outcome.{IsOutcome, output_of};
 
+use crate::Reason;
 use crate::file_words::file_line;
 use std::alloc::Global;
 use tsn_cert::FileFault;
@@ -11,6 +12,17 @@ use tsn_codec::Refused;
 use tsn_given::{Answer, FileKind, Outcome};
 use tsn_model::NoMemory;
 use tsn_net::{Code, NetFault};
+use tsn_text::line_of;
+
+/// The line on a network file of this name that is refused.
+pub fn network_line(alloc: Global, name: &str, refused: tsn_net::Refused) -> Reason {
+    let Some(words) = refused.words else {
+        return Err(NoMemory);
+    };
+    let mut text = line_of(alloc, name).finish()?;
+    text.push_str(words.as_str())?;
+    Ok(Some(text))
+}
 
 /// What is said of a network file with this fault, for this reason.
 pub fn refusal(alloc: Global, fault: NetFault, reason: Option<String>) -> Result<Answer, NoMemory>
