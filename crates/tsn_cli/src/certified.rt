@@ -1,14 +1,14 @@
 //! A plan and its certificate: read, judged, and shown where the certificate is accepted.
-ghost use Rattle.std.specs.Prelude.{◌≡◌, ◌<◌, ◌-◌, ◌^◌, ◌⊎◌, [], ◌∷◌, IfOk, IfErr};
+ghost use Rattle.std.specs.Prelude.{◌≡◌, ◌<◌, ◌-◌, ◌^◌, ◌⊎◌, [], ◌∷◌, IfOk};
 ghost use Rattle.tsn_argue.specs.Certified.{Certifies, certificate_verdict};
 ghost use Rattle.tsn_argue.specs.Faults.{IsFirstFault};
 ghost use Rattle.tsn_cli.specs.declared.table.Table.TheVariants.{Chart};
 ghost use Rattle.tsn_reason.specs.Inputs.{IsReadOver};
 ghost use Rattle.tsn_given.specs.Run.{source_over};
-ghost use Rattle.tsn_given.specs.Outcome.{ComesOver};
+ghost use Rattle.tsn_given.specs.Outcome.{ComesOver, output_of};
 ghost use Rattle.tsn_cli.specs.Shown.{IsSaid, shown_output};
-ghost use Rattle.tsn_reason.specs.Check.{ShowsNothing};
-ghost use Rattle.tsn_cli.specs.Explain.{CertAnswers, JudgesShown, ShowsAccepted, ShowsText};
+ghost use Rattle.tsn_reason.specs.Check.{JudgesCert, ShowsNothing};
+ghost use Rattle.tsn_cli.specs.Explain.{CertAnswers, ShowsAccepted, ShowsText};
 ghost use Rattle.tsn_cli.specs.Tables.{RejectsPlan, ShowsPlan};
 
 use crate::check::acceptance;
@@ -23,12 +23,12 @@ use tsn_check::{CheckFault, Verdict, judge_tree};
 use tsn_codec::certificate_or_refuse;
 use tsn_device::device::{ReadFault, Source, read_all};
 use tsn_explain::{explanation, marked_frames};
-use tsn_given::FileKind;
 use tsn_given::run::MAX_FILE;
+use tsn_given::{Answer, FileKind};
 use tsn_model::NoMemory;
 use tsn_reason::{
-    Claim, File, NetworkRead, PlanRead, cert_rejection, file_refusal, line_on_argument,
-    line_on_tree, read_network, read_plan,
+    Claim, NetworkRead, PlanRead, cert_rejection, file_refusal, line_on_argument, line_on_tree,
+    read_network, read_plan,
 };
 use tsn_timing::Problem;
 
@@ -71,44 +71,21 @@ fn answer_on<C: Source>(
     showing: Showing,
 ) -> Result<Shown, ReadFault>
     requires { C.failed cert.old < 2 ^ 64 - 1 }
-    ensures judges { IsReadOver (λ file a. JudgesShown showing problem stated file (shown_output (Ok a)))
+    ensures judges { IsReadOver (λ file a. JudgesCert (ShowsAccepted showing problem stated) problem.network stated file (shown_output (Ok a)))
         (source_over C.given C.failed C.is_at_end cert.old cert.new) result }
     ensures told { IfOk result (λ a. showing ≡ Showing.Verdict → IsSaid a) }
 {
     let bytes = read_all(alloc, cert, MAX_FILE)?;
-    let file = File {
-        name: cert.name(),
-        bytes: &bytes,
-    };
     let claim = Claim {
         problem: &problem,
         name,
         plan: &stated,
     };
-    let answer = answer_to_cert(alloc, claim, file, showing);
-    drop(problem);
-    drop(stated);
-    Ok(answer?)
-}
-
-// What the run answers to a certificate file.
-fn answer_to_cert(
-    alloc: Global,
-    claim: Claim<'_>,
-    file: File<'_>,
-    showing: Showing,
-) -> Result<Shown, NoMemory>
-    ensures judges { IfOk result (λ a. JudgesShown showing claim.entry.problem.now claim.entry.plan.now file.entry.bytes.now (shown_output (Ok a))) }
-    ensures told { IfOk result (λ a. showing ≡ Showing.Verdict → IsSaid a) }
-{
-    match certificate_or_refuse(alloc, file.bytes) {
-        Ok(certificate) => {
-            let answer = judgement(alloc, claim, file.name, &certificate, showing);
-            drop(certificate);
-            answer
-        }
+    match certificate_or_refuse(alloc, &bytes) {
+        Ok(certificate) => Ok(judgement(alloc, claim, cert.name(), &certificate, showing)?),
         Err(refused) => {
-            Ok(Shown::Said(file_refusal(alloc, FileKind::Cert, file.name, &refused)?))
+            let answer = file_refusal(alloc, FileKind::Cert, cert.name(), &refused)?;
+            Ok(Shown::Said(answer))
         }
     }
 }
@@ -126,50 +103,41 @@ fn judgement(
         ⊎ ShowsNothing claim.entry.problem.now.network claim.entry.plan.now certificate.now (shown_output (Ok a))) }
     ensures told { IfOk result (λ a. showing ≡ Showing.Verdict → IsSaid a) }
 {
-    match judged(alloc, claim, name, certificate) {
-        Ok(verdict) => shown(alloc, claim, certificate, verdict, showing),
-        Err(Unshown { fault, reason }) => { Ok(Shown::Said(cert_rejection(alloc, fault, reason)?)) }
-    }
-}
-
-// The first fault of a plan or its certificate, and why, in words.
-#[derive(Drop)]
-struct Unshown {
-    fault: CheckFault,
-    reason: Option<String>,
-}
-
-// What the certificate, of the file of this name, shows of the plan; else the first fault.
-fn judged(
-    alloc: Global,
-    claim: Claim<'_>,
-    name: &str,
-    certificate: &Certificate,
-) -> Result<Verdict, Unshown>
-    ensures accepted { IfOk result (λ verdict. Certifies claim.entry.problem.now.network claim.entry.plan.now certificate.now) }
-    ensures verdict { IfOk result (λ verdict. verdict ≡ certificate_verdict certificate.now claim.entry.plan.now) }
-    ensures fault { IfErr result (λ unshown. (unshown.fault ≡ CheckFault.Memory)
-        ⊎ IsFirstFault claim.entry.problem.now.network claim.entry.plan.now certificate.now unshown.fault) }
-{
     match certificate {
         Certificate::Tree(cert) => match judge_tree(alloc, claim.problem, claim.plan, cert) {
-            Ok(verdict) => Ok(verdict),
-            Err(fault) => Err(Unshown {
-                fault: fault.code(),
-                reason: line_on_tree(alloc, claim, name, fault).unwrap_or(None),
-            }),
+            Ok(verdict) => shown(alloc, claim, certificate, verdict, showing),
+            Err(fault) => {
+                let reason = line_on_tree(alloc, claim, name, fault).unwrap_or(None);
+                let answer = refused(alloc, claim, certificate, fault.code(), reason)?;
+                Ok(Shown::Said(answer))
+            }
         },
         Certificate::Argument(argument) => {
             let mut silent = Silent;
             match judge_argument(alloc, claim.problem, claim.plan, argument, &mut silent) {
-                Ok(verdict) => Ok(verdict),
-                Err(fault) => Err(Unshown {
-                    fault: fault.code(),
-                    reason: line_on_argument(alloc, claim, name, fault).unwrap_or(None),
-                }),
+                Ok(verdict) => shown(alloc, claim, certificate, verdict, showing),
+                Err(fault) => {
+                    let reason = line_on_argument(alloc, claim, name, fault).unwrap_or(None);
+                    let answer = refused(alloc, claim, certificate, fault.code(), reason)?;
+                    Ok(Shown::Said(answer))
+                }
             }
         }
     }
+}
+
+// What is said of a plan and its certificate with this first fault.
+fn refused(
+    alloc: Global,
+    _claim: Claim<'_>,
+    _certificate: &Certificate,
+    fault: CheckFault,
+    reason: Option<String>,
+) -> Result<Answer, NoMemory>
+    requires { (fault ≡ CheckFault.Memory) ⊎ IsFirstFault _claim.problem.now.network _claim.plan.now _certificate.now fault }
+    ensures { IfOk result (λ a. ShowsNothing _claim.entry.problem.now.network _claim.entry.plan.now _certificate.now (output_of (Ok a))) }
+{
+    cert_rejection(alloc, fault, reason)
 }
 
 // What is shown of a plan whose certificate is accepted with this verdict.

@@ -41,27 +41,13 @@ pub fn valid_answer<S: Source>(
         (source_over S.given S.failed S.is_at_end source.old source.new ∷ []) result }
 {
     match read_network(alloc, source) {
-        Ok(NetworkRead::Taken(problem)) => Ok(answer_to(alloc, problem, source.name(), offsets)?),
+        Ok(NetworkRead::Taken(problem)) => Ok(answer_on(alloc, &problem, source.name(), offsets)?),
         Ok(NetworkRead::Refused(answer)) => Ok(answer),
         Err(fault) => Err(fault),
     }
 }
 
 // What the run answers on a network of the file of this name.
-fn answer_to(
-    alloc: Global,
-    problem: Problem,
-    name: &str,
-    offsets: &[u64],
-) -> Result<Answer, NoMemory>
-    ensures { IfOk result (λ a. Accepts problem.network offsets.now (output_of (Ok a))
-        ⊎ Rejects problem.network offsets.now (output_of (Ok a))) }
-{
-    let answer = answer_on(alloc, &problem, name, offsets);
-    drop(problem);
-    answer
-}
-
 fn answer_on(
     alloc: Global,
     problem: &Problem,
