@@ -1,5 +1,5 @@
 -- What a parse without a fault leaves of an argument: where it is given it has values, and its parser takes each.
-use Rattle.std.proofs.Common.{◌≡◌, ◌≤◌, ◌+◌, ◌&&◌, ◌⊎◌, not, inl, inr, is_some, subst, ℕ, Bool, cond, codes, zero, suc, refl, sym, ap, arith, List, [], ◌∷◌, ◌++◌, length, drop, min, true, false, Option, Some, None, true≢false, nat_lt, lt-ltb, length-append}
+use Rattle.std.proofs.Common.{◌≡◌, ◌≤◌, ◌+◌, ◌&&◌, not, is_some, subst, ℕ, Bool, cond, codes, zero, suc, refl, sym, ap, arith, List, [], ◌∷◌, ◌++◌, length, drop, min, true, false, Option, Some, None, true≢false, nat_lt, lt-ltb, length-append}
 use Rattle.std.specs.Prelude.{encode_utf8, slice_get}
 use Rattle.std.specs.Option.{option_map_or}
 use Rattle.std.specs.List.{find, fold, list_any}
@@ -21,19 +21,19 @@ use Rattle.clap.specs.declared.builder.value_parser.Reading.{Reading}
 use Rattle.clap.specs.declared.parser.matches.ValueSource.{ValueSource}
 use Rattle.clap.specs.declared.parser.matches.ValueSource.TheVariants.{DefaultValue, CommandLine}
 use Rattle.clap.specs.declared.error.kind.ErrorKind.TheVariants as error_kind
+use Rattle.tsn_words.specs.Grammar.{Each, takes_word}
 
--- each of a list, by its cases
-abbrev pub Each : {X : Type 0} → (X → Type 0) → List X → Type 0
-Each P [] = Unit {0}
-Each P (x ∷ xs) = P x × Each P xs
-
-each_append : {X : Type 0} (P : X → Type 0) (xs ys : List X) → Each P xs → Each P ys → Each P (xs ++ ys)
+pub each_append : {X : Type 0} (P : X → Type 0) (xs ys : List X) → Each P xs → Each P ys → Each P (xs ++ ys)
 each_append P [] ys before behind = behind
 each_append P (x ∷ xs) ys before behind = (before.0, each_append P xs ys before.1 behind)
 
 each_as : {X : Type 0} (P Q : X → Type 0) (xs : List X) → ((x : X) → P x → Q x) → Each P xs → Each Q xs
 each_as P Q [] step h = tt
 each_as P Q (x ∷ xs) step h = (step x h.0, each_as P Q xs step h.1)
+
+pub both_of : (a b : Bool) → (a && b) ≡ true → (a ≡ true) × (b ≡ true)
+both_of true b e = (refl, e)
+both_of false b e = absurd (true≢false (sym e))
 
 some≢none : {X : Type 0} (x : X) → Some x ≡ None → ⊥
 some≢none x e = true≢false (ap is_some e)
@@ -99,12 +99,12 @@ pub record Good (Q : Text → Type 0) (values : List Text) : Type 0 where
 pub record Fit (Q : Text → Type 0) (a : Rule) : Type 0 where
   pub some : 1 ≤ (unwrap_or_range a.range).start_inclusive
   pub each : (t : Text) → value_passes a t ≡ true → Q t
-  pub kind : (action_of a ≡ action.Set) ⊎ (action_of a ≡ action.Append)
+  pub kind : takes_word (action_of a) ≡ true
   pub no_default : a.defaults ≡ []
 
 record New (Q : Text → Type 0) (x : ArgAction) (values : List Text) : Type 0 where
   good : Good Q values
-  kind : (x ≡ action.Set) ⊎ (x ≡ action.Append)
+  kind : takes_word x ≡ true
 
 abbrev pub FitsFor : Text → (Text → Type 0) → Rule → Type 0
 FitsFor id Q a = bytes_eq a.id id ≡ true → Fit Q a
@@ -141,7 +141,7 @@ module _ (id : Text) (Q : Text → Type 0) where
       (λ same. absurd (other same), tt) h
 
   counts_not : (values : List Text) → New Q action.Count values → ⊥
-  counts_not values new = elim new.kind [ inl e ↦ cc | inr e ↦ cc ]
+  counts_not values new = true≢false (sym new.kind)
 
   used_as_good : (x : ArgAction) (name : Text) (how : Reading) (values : List Text) (rows : List Row) → (bytes_eq name id ≡ true → New Q x values)
       → Rows rows → Rows (used_as x name how values rows)
@@ -156,17 +156,17 @@ module _ (id : Text) (Q : Text → Type 0) where
   used_as_good action.HelpLong name how values rows new h = h
   used_as_good action.Version name how values rows new h = h
 
-  use_accepted : (x : ArgAction) (again : Bool) (a : Rule) (values : List Text) (rows : List Row) → (x ≡ action.Set) ⊎ (x ≡ action.Append)
+  use_accepted : (x : ArgAction) (again : Bool) (a : Rule) (values : List Text) (rows : List Row) → takes_word x ≡ true
       → Rattle.clap.specs.Faults.action_fault x again a values rows ≡ [] → values_fault a values ≡ []
   use_accepted action.Set again a values rows set e = (neither _ _ e).1
   use_accepted action.Append again a values rows set e = e
   use_accepted action.SetTrue again a values rows set e = (neither _ _ e).1
   use_accepted action.SetFalse again a values rows set e = (neither _ _ e).1
-  use_accepted action.Count again a values rows set e = absurd (elim set [ inl e ↦ cc | inr e ↦ cc ])
-  use_accepted action.Help again a values rows set e = absurd (elim set [ inl e ↦ cc | inr e ↦ cc ])
-  use_accepted action.HelpShort again a values rows set e = absurd (elim set [ inl e ↦ cc | inr e ↦ cc ])
-  use_accepted action.HelpLong again a values rows set e = absurd (elim set [ inl e ↦ cc | inr e ↦ cc ])
-  use_accepted action.Version again a values rows set e = absurd (elim set [ inl e ↦ cc | inr e ↦ cc ])
+  use_accepted action.Count again a values rows set e = absurd (true≢false (sym set))
+  use_accepted action.Help again a values rows set e = absurd (true≢false (sym set))
+  use_accepted action.HelpShort again a values rows set e = absurd (true≢false (sym set))
+  use_accepted action.HelpLong again a values rows set e = absurd (true≢false (sym set))
+  use_accepted action.Version again a values rows set e = absurd (true≢false (sym set))
 
   use_new : (again : Bool) (a : Rule) (values : List Text) (rows : List Row) → Fit Q a → use_fault again a values rows ≡ [] → New Q (action_of a) (values_or_missing a values)
   use_new again a values rows fit e =

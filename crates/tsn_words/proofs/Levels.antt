@@ -1,24 +1,20 @@
 -- What a parse of the program without a fault finds: a command, with what it requires.
-use Rattle.std.proofs.Common.{◌≡◌, ◌∙◌, ◌≤◌, ◌&&◌, ◌||◌, ◌⊎◌, not, inl, inr, is_some, subst, ℕ, Bool, codes, zero, suc, refl, sym, ap, arith, List, [], ◌∷◌, length, true, false, Option, Some, None, All, IfSome, true≢false}
+use Rattle.std.proofs.Common.{◌≡◌, ◌∙◌, ◌≤◌, ◌&&◌, ◌||◌, ◌++◌, append_assoc, not, is_some, subst, ℕ, Bool, cond, codes, zero, suc, refl, sym, ap, arith, List, [], ◌∷◌, length, leb-true, nat_le, true, false, Option, Some, None, All, IfSome, true≢false}
 use Rattle.std.specs.Prelude.{MatchOption, option_and_then, option_map, slice_get}
 use Rattle.std.specs.Option.{option_map_or}
-use Rattle.std.specs.List.{find, list_any}
+use Rattle.std.specs.List.{find, list_all, list_any}
 use Rattle.std.specs.Str.{bytes_eq}
 use Rattle.std.proofs.lemmas.Slice.Eq.{bytes_eq-Decides}
-use Rattle.clap.specs.Values.{IsUnsignedIn}
-use Rattle.clap.specs.Facts.{explicit_source, unwrap_or_range}
+use Rattle.clap.specs.Facts.{explicit_source, parser_of_value, unwrap_or_range}
 use Rattle.clap.specs.Kinds.{Kinds, check_kinds}
 use Rattle.clap.specs.Faults.{check_fault, defaults_fault, entered_fault, fault_of, level_fault, settle_fault, walk_fault}
-use Rattle.clap.specs.Walk.{Names, Row, Rule, Text, action_of, answers_to, first_of, nothing_held, rows_after, settled, stop_after, walk, walk_from}
-use Rattle.clap.specs.Simple.{App, Shape, argument_words, built, built_leaf, entered, help_shape, inherited, label_of, marked_built, names_of, rows_at, subcommand_of, with_leaf_noted}
+use Rattle.clap.specs.Walk.{Names, Row, Rule, Text, action_of, all_of, answers_to, first_of, nothing_held, rows_after, settled, stop_after, walk, walk_from}
+use Rattle.clap.specs.Simple.{Shape, argument_words, built, entered, label_of, names_of, rows_at, subcommand_of}
 use Rattle.clap.specs.Takes.{is_given}
-use Rattle.clap.specs.declared.builder.action.ArgAction.TheVariants as action
-use Rattle.clap.specs.declared.builder.value_parser.ValueParser.TheVariants as parser
 use Rattle.clap.proofs.ValueTestLemmas.{accepts-Accepts}
 use Rattle.tsn_words.specs.Grammar as grammar
-use Rattle.tsn_words.specs.declared.words.TheConstants.{MAX_WORKERS}
-use Rattle.tsn_words.specs.Grammar.{HasCommand, HasOffsets, IsGiven, IsLink, IsTime, IsWhole, IsWithin}
-use Rattle.tsn_words.proofs.Given.{Each, Fit, FitsFor, Good, GoodFor, StopGood, defaults_good, found_one, neither, settled_good, walk_good}
+use Rattle.tsn_words.specs.Grammar.{Each, HasArguments, HasWords, IsGiven, IsTaken, IsWhole, takes_word}
+use Rattle.tsn_words.proofs.Given.{Fit, FitsFor, Good, GoodFor, StopGood, both_of, defaults_good, each_append, found_one, neither, settled_good, walk_good}
 
 -- ---- one level
 
@@ -120,217 +116,167 @@ all_each Q [] each k d lt = absurd (omega arith)
 all_each Q (x ∷ xs) each zero d lt = each.0
 all_each Q (x ∷ xs) each (suc k) d lt = all_each Q xs each.1 k d (omega arith)
 
-offsets_given : (rows : List Row) → Each (GoodFor (codes "OFFSET") (IsUnsignedIn 0 2000000000)) rows → (not (is_given (codes "OFFSET") rows)) ≡ false → HasOffsets rows
-offsets_given rows good is =
-    let r = given (codes "OFFSET") (IsUnsignedIn 0 2000000000) rows good is in
-    let Has : Option (List Text) → Type 0 = λ o. MatchOption o ⊥ (λ words. (1 ≤ length words) × All (IsUnsignedIn 0 2000000000) words) in
+all_given : (id : Text) (Q : Text → Type 0) (rows : List Row) → Each (GoodFor id Q) rows → (not (is_given id rows)) ≡ false
+    → MatchOption (all_of id rows) ⊥ (λ words. (1 ≤ length words) × All Q words)
+all_given id Q rows good is =
+    let r = given id Q rows good is in
+    let Has : Option (List Text) → Type 0 = λ o. MatchOption o ⊥ (λ words. (1 ≤ length words) × All Q words) in
     subst Has (sym (ap (option_map (λ (r : Row). r.values)) r.1)) (r.2.some, all_each _ _ r.2.each)
 
--- ---- the rules of the commands
+-- ---- the arguments of a command
+
+abbrev has_none : {X : Type 0} → List X → Bool
+has_none [] = true
+has_none (x ∷ xs) = false
+
+-- a rule whose parser is asked for each value
+abbrev is_fit : Rule → Bool
+is_fit a = nat_le 1 (unwrap_or_range a.range).start_inclusive && has_none a.defaults
+
+abbrev differs : Rule → Rule → Bool
+differs a x = not (bytes_eq x.id a.id)
+
+-- a rule that takes words is fit, and each differs from those before it and behind it
+abbrev are_fit : List Rule → List Rule → Bool
+are_fit before [] = true
+are_fit before (a ∷ after) =
+    (not (takes_word (action_of a)) || is_fit a) && (list_all (differs a) before && (list_all (differs a) after && are_fit (before ++ a ∷ []) after))
+
+empty : (xs : List Text) → has_none xs ≡ true → xs ≡ []
+empty [] e = refl
+empty (x ∷ xs) e = absurd (true≢false (sym e))
+
+not_both : (b : Bool) → not b ≡ true → b ≡ true → ⊥
+not_both true none some = true≢false (sym none)
+not_both false none some = true≢false (sym some)
+
+fit_of : (a : Rule) → takes_word (action_of a) ≡ true → is_fit a ≡ true → Fit (IsTaken a) a
+fit_of a kind e =
+    let parts = both_of (nat_le 1 (unwrap_or_range a.range).start_inclusive) _ e in
+    record {
+      some = leb-true _ _ parts.0;
+      each = λ t passes. accepts-Accepts a.ignore_case (parser_of_value a.parser) t passes;
+      kind = kind;
+      no_default = empty a.defaults parts.1;
+    }
+
+others : (a : Rule) (xs : List Rule) → list_all (differs a) xs ≡ true → Each (FitsFor a.id (IsTaken a)) xs
+others a [] e = tt
+others a (x ∷ xs) e = let parts = both_of (differs a x) _ e in (λ same. absurd (not_both _ parts.0 same), others a xs parts.1)
+
+words_of : (a : Rule) (rows : List Row) (required : Bool) → Each (GoodFor a.id (IsTaken a)) rows → (required && not (is_given a.id rows)) ≡ false → HasWords true required a rows
+words_of a rows false good wanted = first_fits a.id (IsTaken a) rows good
+words_of a rows true good wanted = (first_given a.id (IsTaken a) rows good wanted, all_given a.id (IsTaken a) rows good wanted)
+
+module _ (s : Shape) (words : List Text) (negates : s.subcommand_negates_reqs ≡ false) (e : level_fault s [] nothing_held words false [] ≡ []) where
+  abbrev rows : List Row
+  rows = rows_after s.rules [] words
+
+  argument : (a : Rule) (takes : Bool) → takes_word (action_of a) ≡ takes → (not takes || is_fit a) ≡ true → (Fit (IsTaken a) a → Each (FitsFor a.id (IsTaken a)) s.rules)
+      → (a.required && not (is_given a.id rows)) ≡ false → HasWords takes a.required a rows
+  argument a false kind fit fits wanted = tt
+  argument a true kind fit fits wanted = words_of a rows a.required (rows_good s [] words false [] e a.id (IsTaken a) (fits (fit_of a kind fit))) wanted
+
+  arguments : (before after : List Rule) → before ++ after ≡ s.rules → are_fit before after ≡ true → Each (λ a. (a.required && not (is_given a.id rows)) ≡ false) after → HasArguments after rows
+  arguments before [] all fit wanted = tt
+  arguments before (a ∷ after) all fit wanted =
+      let parts = both_of _ _ fit in
+      let ahead = both_of (list_all (differs a) before) _ parts.1 in
+      let behind = both_of (list_all (differs a) after) _ ahead.1 in (
+        argument a (takes_word (action_of a)) refl parts.0
+            (λ is. subst (Each (FitsFor a.id (IsTaken a))) all
+            (each_append (FitsFor a.id (IsTaken a)) before (a ∷ after) (others a before ahead.0) (λ _. is, others a after behind.0)))
+            wanted.0,
+        arguments (before ++ a ∷ []) after (append_assoc before (a ∷ []) after ∙ all) behind.1 wanted.1,
+      )
+
+-- ---- the commands
+
+-- a command of one name, whose rules are fit; or help
+abbrev is_usual : Shape → Bool
+is_usual s = has_none s.aliases && (bytes_eq s.name (codes "help") || (not s.subcommand_negates_reqs && are_fit [] s.rules))
+
+no_aliases : (s : Shape) (xs : List (List ℕ)) (word : Text) → has_none xs ≡ true → answers_to word (s.name, xs) ≡ true → s.name ≡ word
+no_aliases s [] word e answers = (bytes_eq-Decides s.name word).0 (or_false (bytes_eq s.name word) answers)
+  where
+    or_false : (b : Bool) → (b || false) ≡ true → b ≡ true
+    or_false true e = refl
+    or_false false e = e
+no_aliases s (x ∷ xs) word e answers = absurd (true≢false (sym e))
+
+-- a test that only equal texts pass, whichever stands first
+other_way : (a b : Text) (p : Bool) → bytes_eq b a ≡ p → bytes_eq a b ≡ p
+other_way a b p is = go (bytes_eq a b) refl p is
+  where
+    go : (q : Bool) → bytes_eq a b ≡ q → (p : Bool) → bytes_eq b a ≡ p → bytes_eq a b ≡ p
+    go true there true back = there
+    go true there false back =
+        let same : bytes_eq b a ≡ bytes_eq a b = subst (λ t. bytes_eq t a ≡ bytes_eq a t) ((bytes_eq-Decides a b).0 there) refl in
+        absurd (true≢false (sym (sym back ∙ same ∙ there)))
+    go false there true back =
+        let same : bytes_eq a b ≡ bytes_eq b a = subst (λ t. bytes_eq t b ≡ bytes_eq b t) ((bytes_eq-Decides b a).0 back) refl in
+        absurd (true≢false (sym (sym there ∙ same ∙ back)))
+    go false there false back = there
+
+-- so the command that a word finds is the one of that name
+same_found : (word : Text) (xs : List Shape) → Each (λ s. is_usual s ≡ true) xs
+    → find (λ s. answers_to word (label_of s)) xs ≡ find (λ s. bytes_eq word s.name) xs
+same_found word [] usual = refl
+same_found word (x ∷ xs) usual = go x.aliases (both_of (has_none x.aliases) _ usual.0).0 (bytes_eq x.name word) refl (same_found word xs usual.1)
+  where
+    go : (aliases : List (List ℕ)) → has_none aliases ≡ true → (p : Bool) → bytes_eq x.name word ≡ p
+        → find (λ s. answers_to word (label_of s)) xs ≡ find (λ s. bytes_eq word s.name) xs
+        → cond (answers_to word (x.name, aliases)) (Some x) (find (λ s. answers_to word (label_of s)) xs) ≡ cond (bytes_eq word x.name) (Some x) (find (λ s. bytes_eq word s.name) xs)
+    go [] none true is rest = rw (is, other_way word x.name true is) refl
+    go [] none false is rest = rw (is, other_way word x.name false is) rest
+    go (y ∷ ys) none p is rest = absurd (true≢false (sym none))
+
+-- what is known of a command that was met by this word
+known : (s : Shape) (words : List Text) → bytes_eq s.name (codes "help") ≡ false → (bytes_eq s.name (codes "help") || (not s.subcommand_negates_reqs && are_fit [] s.rules)) ≡ true
+    → level_fault s [] nothing_held words false [] ≡ [] → HasArguments s.rules (rows_after s.rules [] words)
+known s words other usual e =
+    let fit : (not s.subcommand_negates_reqs && are_fit [] s.rules) ≡ true = rw other at usual in
+    let parts = both_of (not s.subcommand_negates_reqs) _ fit in
+    let negates = isnt s.subcommand_negates_reqs parts.0 in
+    arguments s words negates e [] s.rules refl parts.1 (required s words negates e)
+  where
+    isnt : (b : Bool) → not b ≡ true → b ≡ false
+    isnt true e = sym e
+    isnt false e = refl
+
+-- ---- the program
+
+each_of : {X : Type 0} (p : X → Bool) (xs : List X) → list_all p xs ≡ true → Each (λ x. p x ≡ true) xs
+each_of p [] e = tt
+each_of p (x ∷ xs) e = let parts = both_of (p x) _ e in (parts.0, each_of p xs parts.1)
+
+each_usual : Each (λ s. is_usual s ≡ true) (built grammar.tsn).subs
+each_usual = each_of is_usual (built grammar.tsn).subs refl
+
+entered_whole : (stop : Option (Text × List Text)) → option_map_or (λ p. bytes_eq p.0 (codes "help")) stop false ≡ false
+    → is_some (entered (built grammar.tsn) stop) ≡ true → entered_fault (built grammar.tsn) stop ≡ [] → IsWhole (entered (built grammar.tsn) stop)
+entered_whole None no_help some e = cc
+entered_whole (Some p) no_help some e = go (find (λ s. answers_to p.0 (label_of s)) (built grammar.tsn).subs) refl some e
+  where
+    go : (o : Option Shape) → find (λ s. answers_to p.0 (label_of s)) (built grammar.tsn).subs ≡ o → is_some (option_map (λ s. rows_at s p.1) o) ≡ true
+        → option_map_or (λ s. level_fault s [] nothing_held p.1 false []) o [] ≡ [] → IsWhole (option_map (λ s. rows_at s p.1) o)
+    go None found some e = cc
+    go (Some s) found some e =
+        let one = found_one (λ s. is_usual s ≡ true) (λ s. answers_to p.0 (label_of s)) (built grammar.tsn).subs s each_usual found in
+        let usual = both_of (has_none s.aliases) _ one.0 in
+        let named : s.name ≡ p.0 = no_aliases s s.aliases p.0 usual.0 one.1 in
+        let other : bytes_eq s.name (codes "help") ≡ false = subst (λ n. bytes_eq n (codes "help") ≡ false) (sym named) no_help in
+        let met : find (λ x. bytes_eq s.name x.name) (built grammar.tsn).subs ≡ Some s =
+        subst (λ n. find (λ x. bytes_eq n x.name) (built grammar.tsn).subs ≡ Some s) (sym named) (sym (same_found p.0 (built grammar.tsn).subs each_usual) ∙ found) in
+        let Has : Option Shape → Type 0 = λ o. MatchOption o ⊥ (λ command. HasArguments command.rules (rows_after s.rules [] p.1)) in
+        (other, subst Has (sym met) (known s p.1 other usual.1 e))
 
 abbrev Any : Text → Type 0
 Any _ = Unit {0}
 
-fit_file : (a : Rule) → (unwrap_or_range a.range).start_inclusive ≡ 1 → action_of a ≡ action.Set → a.defaults ≡ [] → Fit Any a
-fit_file a one set none = record { some = omega arith; each = λ t e. tt; kind = inl set; no_default = none }
-
-fit_numbers : (low high : ℕ) (a : Rule) → (unwrap_or_range a.range).start_inclusive ≡ 1 → (action_of a ≡ action.Set) ⊎ (action_of a ≡ action.Append) → a.defaults ≡ []
-    → a.parser ≡ Some (parser.Unsigned low high) → Fit (IsUnsignedIn low high) a
-fit_numbers low high a one set none is = record {
-  some = omega arith;
-  each = λ t e. accepts-Accepts a.ignore_case (parser.Unsigned low high) t (rw is at e);
-  kind = set;
-  no_default = none;
-}
-
 -- another argument
 apart : {A : Type 0} → false ≡ true → A
 apart e = absurd (true≢false (sym e))
-
--- the command as it is built below the program
-abbrev leaf : Shape → Shape
-leaf s = built_leaf (inherited (with_leaf_noted (marked_built grammar.tsn.top)) s)
-
-abbrev Known : Shape → Type 0
-Known s = (p : Text × List Text) → answers_to p.0 (label_of s) ≡ true → bytes_eq p.0 (codes "help") ≡ false → level_fault s [] nothing_held p.1 false [] ≡ []
-    → HasCommand s.name (rows_after s.rules [] p.1)
-
-valid_known : Known (leaf grammar.valid.top)
-valid_known p answers no_help e =
-    let s = leaf grammar.valid.top in
-    let rows = rows_after s.rules [] p.1 in
-    let wanted = required s p.1 refl e in
-    let network : IsGiven (codes "NET") rows = first_given (codes "NET") Any rows
-    (rows_good s [] p.1 false [] e (codes "NET") Any (λ _. fit_file _ refl refl refl, (apart, (apart, (apart, tt))))) wanted.0 in
-    let offsets : HasOffsets rows = offsets_given rows
-    (rows_good s [] p.1 false [] e (codes "OFFSET") (IsUnsignedIn 0 2000000000)
-    (apart, (λ _. fit_numbers _ _ _ refl (inr refl) refl refl, (apart, (apart, tt))))) wanted.1.0 in
-    (network, offsets)
-
-plan_known : Known (leaf grammar.plan.top)
-plan_known p answers no_help e =
-    let s = leaf grammar.plan.top in
-    let rows = rows_after s.rules [] p.1 in
-    let wanted = required s p.1 refl e in
-    let network : IsGiven (codes "NET") rows = first_given (codes "NET") Any rows
-    (rows_good s [] p.1 false [] e (codes "NET") Any
-    (λ _. fit_file _ refl refl refl, (apart, (apart, (apart, (apart, (apart, (apart, (apart, (apart, tt)))))))))) wanted.0 in
-    let workers : IsWithin (codes "workers") MAX_WORKERS rows = first_fits (codes "workers") _ rows
-    (rows_good s [] p.1 false [] e (codes "workers") (IsUnsignedIn 1 MAX_WORKERS)
-    (apart, (λ _. fit_numbers _ _ _ refl (inl refl) refl refl, (apart, (apart, (apart, (apart, (apart, (apart, (apart, tt)))))))))) in
-    let steps : IsWithin (codes "steps") 1000000000 rows = first_fits (codes "steps") _ rows
-    (rows_good s [] p.1 false [] e (codes "steps") (IsUnsignedIn 1 1000000000)
-    (apart, (apart, (λ _. fit_numbers _ _ _ refl (inl refl) refl refl, (apart, (apart, (apart, (apart, (apart, (apart, tt)))))))))) in
-    (network, workers, steps)
-
-check_known : Known (leaf grammar.check.top)
-check_known p answers no_help e =
-    let s = leaf grammar.check.top in
-    let rows = rows_after s.rules [] p.1 in
-    let wanted = required s p.1 refl e in
-    let network : IsGiven (codes "NET") rows = first_given (codes "NET") Any rows
-    (rows_good s [] p.1 false [] e (codes "NET") Any (λ _. fit_file _ refl refl refl, (apart, (apart, (apart, (apart, tt)))))) wanted.0 in
-    let plan : IsGiven (codes "PLAN") rows = first_given (codes "PLAN") Any rows
-    (rows_good s [] p.1 false [] e (codes "PLAN") Any (apart, (λ _. fit_file _ refl refl refl, (apart, (apart, (apart, tt)))))) wanted.1.0 in
-    let cert : IsGiven (codes "CERT") rows = first_given (codes "CERT") Any rows
-    (rows_good s [] p.1 false [] e (codes "CERT") Any (apart, (apart, (λ _. fit_file _ refl refl refl, (apart, (apart, tt)))))) wanted.1.1.0 in
-    (network, plan, cert)
-
-prove_known : Known (leaf grammar.prove.top)
-prove_known p answers no_help e =
-    let s = leaf grammar.prove.top in
-    let rows = rows_after s.rules [] p.1 in
-    let wanted = required s p.1 refl e in
-    let network : IsGiven (codes "NET") rows = first_given (codes "NET") Any rows
-    (rows_good s [] p.1 false [] e (codes "NET") Any (λ _. fit_file _ refl refl refl, (apart, (apart, (apart, (apart, (apart, (apart, (apart, tt))))))))) wanted.0 in
-    let plan : IsGiven (codes "PLAN") rows = first_given (codes "PLAN") Any rows
-    (rows_good s [] p.1 false [] e (codes "PLAN") Any (apart, (λ _. fit_file _ refl refl refl, (apart, (apart, (apart, (apart, (apart, (apart, tt))))))))) wanted.1.0 in
-    let steps : IsWithin (codes "steps") 1000000000 rows = first_fits (codes "steps") _ rows
-    (rows_good s [] p.1 false [] e (codes "steps") (IsUnsignedIn 1 1000000000)
-    (apart, (apart, (λ _. fit_numbers _ _ _ refl (inl refl) refl refl, (apart, (apart, (apart, (apart, (apart, tt))))))))) in
-    (network, plan, steps)
-
-explain_known : Known (leaf grammar.explain.top)
-explain_known p answers no_help e =
-    let s = leaf grammar.explain.top in
-    let rows = rows_after s.rules [] p.1 in
-    let wanted = required s p.1 refl e in
-    let network : IsGiven (codes "NET") rows = first_given (codes "NET") Any rows
-    (rows_good s [] p.1 false [] e (codes "NET") Any (λ _. fit_file _ refl refl refl, (apart, (apart, (apart, tt))))) wanted.0 in
-    let plan : IsGiven (codes "PLAN") rows = first_given (codes "PLAN") Any rows
-    (rows_good s [] p.1 false [] e (codes "PLAN") Any (apart, (λ _. fit_file _ refl refl refl, (apart, (apart, tt))))) wanted.1.0 in
-    let cert : IsGiven (codes "CERT") rows = first_given (codes "CERT") Any rows
-    (rows_good s [] p.1 false [] e (codes "CERT") Any (apart, (apart, (λ _. fit_file _ refl refl refl, (apart, tt))))) wanted.1.1.0 in
-    (network, plan, cert)
-
-gates_known : Known (leaf grammar.gates.top)
-gates_known p answers no_help e =
-    let s = leaf grammar.gates.top in
-    let rows = rows_after s.rules [] p.1 in
-    let wanted = required s p.1 refl e in
-    let network : IsGiven (codes "NET") rows = first_given (codes "NET") Any rows
-    (rows_good s [] p.1 false [] e (codes "NET") Any (λ _. fit_file _ refl refl refl, (apart, (apart, (apart, (apart, (apart, (apart, tt)))))))) wanted.0 in
-    let plan : IsGiven (codes "PLAN") rows = first_given (codes "PLAN") Any rows
-    (rows_good s [] p.1 false [] e (codes "PLAN") Any (apart, (λ _. fit_file _ refl refl refl, (apart, (apart, (apart, (apart, (apart, tt)))))))) wanted.1.0 in
-    let merge : IsTime (codes "merge") rows = first_fits (codes "merge") _ rows
-    (rows_good s [] p.1 false [] e (codes "merge") (IsUnsignedIn 0 1000000000)
-    (apart, (apart, (apart, (λ _. fit_numbers _ _ _ refl (inl refl) refl refl, (apart, (apart, (apart, tt)))))))) in
-    let most : IsWithin (codes "most") 1000000 rows = first_fits (codes "most") _ rows
-    (rows_good s [] p.1 false [] e (codes "most") (IsUnsignedIn 1 1000000)
-    (apart, (apart, (apart, (apart, (λ _. fit_numbers _ _ _ refl (inl refl) refl refl, (apart, (apart, tt)))))))) in
-    let least : IsTime (codes "least") rows = first_fits (codes "least") _ rows
-    (rows_good s [] p.1 false [] e (codes "least") (IsUnsignedIn 0 1000000000)
-    (apart, (apart, (apart, (apart, (apart, (λ _. fit_numbers _ _ _ refl (inl refl) refl refl, (apart, tt)))))))) in
-    (network, plan, merge, most, least)
-
-replay_known : Known (leaf grammar.replay.top)
-replay_known p answers no_help e =
-    let s = leaf grammar.replay.top in
-    let rows = rows_after s.rules [] p.1 in
-    let wanted = required s p.1 refl e in
-    let network : IsGiven (codes "NET") rows = first_given (codes "NET") Any rows
-    (rows_good s [] p.1 false [] e (codes "NET") Any (λ _. fit_file _ refl refl refl, (apart, (apart, (apart, (apart, (apart, (apart, tt)))))))) wanted.0 in
-    let plan : IsGiven (codes "PLAN") rows = first_given (codes "PLAN") Any rows
-    (rows_good s [] p.1 false [] e (codes "PLAN") Any (apart, (λ _. fit_file _ refl refl refl, (apart, (apart, (apart, (apart, (apart, tt)))))))) wanted.1.0 in
-    let cycles : IsWithin (codes "cycles") 16 rows = first_fits (codes "cycles") _ rows
-    (rows_good s [] p.1 false [] e (codes "cycles") (IsUnsignedIn 1 16)
-    (apart, (apart, (λ _. fit_numbers _ _ _ refl (inl refl) refl refl, (apart, (apart, (apart, (apart, tt)))))))) in
-    let merge : IsTime (codes "merge") rows = first_fits (codes "merge") _ rows
-    (rows_good s [] p.1 false [] e (codes "merge") (IsUnsignedIn 0 1000000000)
-    (apart, (apart, (apart, (apart, (apart, (λ _. fit_numbers _ _ _ refl (inl refl) refl refl, (apart, tt)))))))) in
-    (network, plan, cycles, merge)
-
-chart_known : Known (leaf grammar.chart.top)
-chart_known p answers no_help e =
-    let s = leaf grammar.chart.top in
-    let rows = rows_after s.rules [] p.1 in
-    let wanted = required s p.1 refl e in
-    let network : IsGiven (codes "NET") rows = first_given (codes "NET") Any rows
-    (rows_good s [] p.1 false [] e (codes "NET") Any (λ _. fit_file _ refl refl refl, (apart, (apart, (apart, (apart, (apart, (apart, tt)))))))) wanted.0 in
-    let plan : IsGiven (codes "PLAN") rows = first_given (codes "PLAN") Any rows
-    (rows_good s [] p.1 false [] e (codes "PLAN") Any (apart, (λ _. fit_file _ refl refl refl, (apart, (apart, (apart, (apart, (apart, tt)))))))) wanted.1.0 in
-    let until : IsWithin (codes "until") 1000000000 rows = first_fits (codes "until") _ rows
-    (rows_good s [] p.1 false [] e (codes "until") (IsUnsignedIn 1 1000000000)
-    (apart, (apart, (λ _. fit_numbers _ _ _ refl (inl refl) refl refl, (apart, (apart, (apart, (apart, tt)))))))) in
-    let link : IsLink rows = first_fits (codes "link") _ rows
-    (rows_good s [] p.1 false [] e (codes "link") (IsUnsignedIn 0 1023)
-    (apart, (apart, (apart, (apart, (λ _. fit_numbers _ _ _ refl (inl refl) refl refl, (apart, (apart, tt)))))))) in
-    (network, plan, until, link)
-
-streams_known : Known (leaf grammar.streams.top)
-streams_known p answers no_help e =
-    let s = leaf grammar.streams.top in
-    let rows = rows_after s.rules [] p.1 in
-    let wanted = required s p.1 refl e in
-    let network : IsGiven (codes "NET") rows = first_given (codes "NET") Any rows
-    (rows_good s [] p.1 false [] e (codes "NET") Any (λ _. fit_file _ refl refl refl, (apart, (apart, (apart, tt))))) wanted.0 in
-    let plan : IsGiven (codes "PLAN") rows = first_given (codes "PLAN") Any rows
-    (rows_good s [] p.1 false [] e (codes "PLAN") Any (apart, (λ _. fit_file _ refl refl refl, (apart, (apart, tt))))) wanted.1.0 in
-    (network, plan)
-
-or_false : (b : Bool) → (b || false) ≡ true → b ≡ true
-or_false true e = refl
-or_false false e = e
-
-help_known : Known (built_leaf help_shape)
-help_known p answers no_help e =
-    let named : p.0 ≡ codes "help" = sym ((bytes_eq-Decides (codes "help") p.0).0 (or_false (bytes_eq (codes "help") p.0) answers)) in
-    absurd (true≢false (subst (λ t. bytes_eq t (codes "help") ≡ false) named no_help))
-
-each_known : Each Known (built grammar.tsn).subs
-each_known = (
-  valid_known,
-  (
-    plan_known,
-    (
-      check_known,
-      (
-        prove_known,
-        (
-          explain_known,
-          (
-            gates_known,
-            (replay_known, (chart_known, (streams_known, (help_known, tt)))),
-          ),
-        ),
-      ),
-    ),
-  ),
-)
-
--- ---- the program
-
-entered_whole : (a : App) (stop : Option (Text × List Text)) → Each Known a.subs → option_map_or (λ p. bytes_eq p.0 (codes "help")) stop false ≡ false
-    → is_some (entered a stop) ≡ true → entered_fault a stop ≡ [] → IsWhole (entered a stop)
-entered_whole a None known no_help some e = cc
-entered_whole a (Some p) known no_help some e = go (find (λ s. answers_to p.0 (label_of s)) a.subs) refl some e
-  where
-    go : (o : Option Shape) → find (λ s. answers_to p.0 (label_of s)) a.subs ≡ o → is_some (option_map (λ s. rows_at s p.1) o) ≡ true
-        → option_map_or (λ s. level_fault s [] nothing_held p.1 false []) o [] ≡ [] → IsWhole (option_map (λ s. rows_at s p.1) o)
-    go None found some e = cc
-    go (Some s) found some e =
-        let one = found_one Known (λ s. answers_to p.0 (label_of s)) a.subs s known found in
-        one.0 p one.1 no_help e
 
 top_fits : Each (FitsFor (codes "NET") Any) (built grammar.tsn).top.rules
 top_fits = (apart, (apart, tt))
@@ -353,4 +299,4 @@ whole words e =
     let below = entered_fault a stop in
     let stops = stop_good a.top (names_of a) after has below e (codes "NET") Any top_fits in
     let some = some_entered has (command_met a.top (rows_after a.top.rules (names_of a) after) has (check_none a.top (names_of a) after has below e)) in
-    entered_whole a stop each_known (not_help stop stops) some (below_none a.top (names_of a) after has below e)
+    entered_whole stop (not_help stop stops) some (below_none a.top (names_of a) after has below e)

@@ -18,9 +18,10 @@ use Rattle.clap.specs.declared.builder.action.ArgAction.TheVariants as action
 use Rattle.clap.specs.declared.error.kind.ErrorKind.{ErrorKind}
 use Rattle.clap.specs.declared.error.kind.ErrorKind.TheVariants as error_kind
 use Rattle.tsn_words.specs.Grammar as grammar
-use Rattle.tsn_words.proofs.Given.{Each, accepted, found_one, neither}
+use Rattle.tsn_words.specs.Grammar.{Each}
+use Rattle.tsn_words.proofs.Given.{accepted, both_of, found_one, neither}
 
-both : (a b : Bool) → a ≡ true → b ≡ true → (a && b) ≡ true
+pub both : (a b : Bool) → a ≡ true → b ≡ true → (a && b) ≡ true
 both true b e f = f
 both false b e f = absurd (true≢false (sym e))
 
@@ -277,28 +278,11 @@ entered_taken a (Some p) free e = go (find (λ s. answers_to p.0 (label_of s)) a
     go (Some s) found e = level_taken s [] p.1 false [] (found_one IsFree (λ s. answers_to p.0 (label_of s)) a.subs s free found).0 e
 
 each_free : Each IsFree (built grammar.tsn).subs
-each_free = (
-  (refl, refl),
-  (
-    (refl, refl),
-    (
-      (refl, refl),
-      (
-        (refl, refl),
-        (
-          (refl, refl),
-          (
-            (refl, refl),
-            (
-              (refl, refl),
-              ((refl, refl), ((refl, refl), ((refl, refl), tt))),
-            ),
-          ),
-        ),
-      ),
-    ),
-  ),
-)
+each_free = each_of (built grammar.tsn).subs refl
+  where
+    each_of : (xs : List Shape) → list_all (λ s. list_all default_passes s.rules && list_all (λ a. a.is_free) s.rules) xs ≡ true → Each IsFree xs
+    each_of [] e = tt
+    each_of (s ∷ rest) e = let parts = both_of _ _ e in (both_of (list_all default_passes s.rules) _ parts.0, each_of rest parts.1)
 
 -- words without a fault are taken
 pub taken : (words : List Text) → fault_of grammar.tsn words ≡ [] → takes grammar.tsn words ≡ true

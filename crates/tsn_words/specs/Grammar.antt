@@ -3,11 +3,17 @@
 --     IsNumber, number_of, offsets_in      numbers
 --     gates_format, replay_format, streams_format, plan_search, has_format      formats and searches
 --     AsksFor, takes_words, IsRefused      what the words ask for, and whether they are refused
---     IsGiven, IsWithin, IsTime, IsLink, HasOffsets, Needs, HasCommand, IsWhole      what a parse without a fault finds
-use Rattle.std.specs.Prelude.{◌≡◌, ◌≤◌, ◌⊎◌, ◌&&◌, if◌then◌else◌, ℕ, List, map, length, codes, Option, Some, None, IfSome, MatchOption, is_some, option_map, Bool, true, false, All}
+--     IsGiven, HasWords, HasArguments, HasCommand, IsWhole      what a parse without a fault finds
+use Rattle.std.specs.Prelude.{◌≡◌, ◌≤◌, ◌&&◌, if◌then◌else◌, ℕ, List, [], ◌∷◌, map, length, codes, Option, Some, None, IfSome, MatchOption, is_some, option_map, Bool, true, false, All}
 use Rattle.std.specs.Str.Parse.{IsNumeral, digits_value, without_leading_plus}
 use Rattle.std.specs.Str.{bytes_eq}
-use Rattle.clap.specs.Words.{App, IsUnsignedIn, Row, Rule, Text, all_of, first_of, one_of, new_app, new_rule, subcommand_of, takes, with_rule, with_subcommand}
+use Rattle.std.specs.List.{find}
+use Rattle.clap.specs.Facts.{parser_of_value}
+use Rattle.clap.specs.Simple.{built}
+use Rattle.clap.specs.Values.{Accepts}
+use Rattle.clap.specs.Walk.{action_of}
+use Rattle.clap.specs.Words.{App, Row, Rule, Text, all_of, first_of, one_of, new_app, new_rule, subcommand_of, takes, with_rule, with_subcommand}
+use Rattle.clap.specs.declared.builder.ArgAction.{ArgAction}
 use Rattle.clap.specs.declared.builder.ArgAction.TheVariants.{Set, Append, SetTrue}
 use Rattle.clap.specs.declared.builder.value_parser.ValueParser.TheVariants.{Unsigned}
 use Rattle.tsn_words.specs.declared.words.TheConstants.{MAX_WORKERS}
@@ -272,62 +278,35 @@ takes_words words = takes tsn words && has_format (subcommand_of tsn words)
 abbrev pub IsGiven : Text → List Row → Type 0
 IsGiven id rows = is_some (first_of id rows) ≡ true
 
--- the word of an option, where there is one, is a number from 1 to `most`
-abbrev pub IsWithin : Text → ℕ → List Row → Type 0
-IsWithin id most rows = IfSome (first_of id rows) (IsUnsignedIn 1 most)
+-- each of a list, by its cases
+abbrev pub Each : {X : Type 0} → (X → Type 0) → List X → Type 0
+Each P [] = Unit {0}
+Each P (x ∷ xs) = P x × Each P xs
 
--- the word of an option, where there is one, is a time
-abbrev pub IsTime : Text → List Row → Type 0
-IsTime id rows = IfSome (first_of id rows) (IsUnsignedIn 0 1000000000)
+-- each use of an argument gives a word
+abbrev pub takes_word : ArgAction → Bool
+takes_word Set = true
+takes_word Append = true
+takes_word _ = false
 
--- the word of `--link`, where there is one, is a link's number
-abbrev pub IsLink : List Row → Type 0
-IsLink rows = IfSome (first_of (codes "link") rows) (IsUnsignedIn 0 1023)
+-- the argument's parser takes the word
+abbrev pub IsTaken : Rule → Text → Type 0
+IsTaken rule word = Accepts rule.ignore_case (parser_of_value rule.parser) word
 
--- there is an offset, and each is a number up to the greatest offset
-abbrev pub HasOffsets : List Row → Type 0
-HasOffsets rows = MatchOption (all_of (codes "OFFSET") rows) ⊥ (λ words. (1 ≤ length words) × All (IsUnsignedIn 0 2000000000) words)
+-- what is there of an argument, by whether it takes a word and whether it is required: words where it is, and none that its parser refuses
+abbrev pub HasWords : Bool → Bool → Rule → List Row → Type 0
+HasWords false required rule rows = Unit {0}
+HasWords true false rule rows = IfSome (first_of rule.id rows) (IsTaken rule)
+HasWords true true rule rows = IsGiven rule.id rows × MatchOption (all_of rule.id rows) ⊥ (λ words. (1 ≤ length words) × All (IsTaken rule) words)
 
--- the commands, and which one a name is
-pub data Kind : Type 0 where
-  a_valid : Kind
-  a_plan : Kind
-  a_check : Kind
-  a_prove : Kind
-  a_explain : Kind
-  a_gates : Kind
-  a_replay : Kind
-  a_chart : Kind
-  a_streams : Kind
+-- the same of each of a command's arguments
+abbrev pub HasArguments : List Rule → List Row → Type 0
+HasArguments rules rows = Each (λ rule. HasWords (takes_word (action_of rule)) rule.required rule rows) rules
 
-abbrev pub kind_of : Text → Option Kind
-kind_of name =
-    if bytes_eq name (codes "valid") then Some a_valid
-    else if bytes_eq name (codes "plan") then Some a_plan
-    else if bytes_eq name (codes "check") then Some a_check
-    else if bytes_eq name (codes "prove") then Some a_prove
-    else if bytes_eq name (codes "explain") then Some a_explain
-    else if bytes_eq name (codes "gates") then Some a_gates
-    else if bytes_eq name (codes "replay") then Some a_replay
-    else if bytes_eq name (codes "chart") then Some a_chart
-    else if bytes_eq name (codes "streams") then Some a_streams
-    else None
-
--- a command that was met is one of the nine, and has what it requires, each value within its range
-abbrev pub Needs : Option Kind → List Row → Type 0
-Needs None rows = ⊥
-Needs (Some a_valid) rows = IsGiven (codes "NET") rows × HasOffsets rows
-Needs (Some a_plan) rows = IsGiven (codes "NET") rows × IsWithin (codes "workers") MAX_WORKERS rows × IsWithin (codes "steps") 1000000000 rows
-Needs (Some a_check) rows = IsGiven (codes "NET") rows × IsGiven (codes "PLAN") rows × IsGiven (codes "CERT") rows
-Needs (Some a_prove) rows = IsGiven (codes "NET") rows × IsGiven (codes "PLAN") rows × IsWithin (codes "steps") 1000000000 rows
-Needs (Some a_explain) rows = IsGiven (codes "NET") rows × IsGiven (codes "PLAN") rows × IsGiven (codes "CERT") rows
-Needs (Some a_gates) rows = IsGiven (codes "NET") rows × IsGiven (codes "PLAN") rows × IsTime (codes "merge") rows × IsWithin (codes "most") 1000000 rows × IsTime (codes "least") rows
-Needs (Some a_replay) rows = IsGiven (codes "NET") rows × IsGiven (codes "PLAN") rows × IsWithin (codes "cycles") 16 rows × IsTime (codes "merge") rows
-Needs (Some a_chart) rows = IsGiven (codes "NET") rows × IsGiven (codes "PLAN") rows × IsWithin (codes "until") 1000000000 rows × IsLink rows
-Needs (Some a_streams) rows = IsGiven (codes "NET") rows × IsGiven (codes "PLAN") rows
-
+-- a command of the program, other than help, and what its arguments have
 abbrev pub HasCommand : Text → List Row → Type 0
-HasCommand name rows = Needs (kind_of name) rows
+HasCommand name rows =
+    (bytes_eq name (codes "help") ≡ false) × MatchOption (find (λ command. bytes_eq name command.name) (built tsn).subs) ⊥ (λ command. HasArguments command.rules rows)
 
 -- what a parse without a fault finds
 abbrev pub IsWhole : Option (Text × List Row) → Type 0

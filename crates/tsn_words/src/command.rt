@@ -4,7 +4,7 @@ ghost use Rattle.std.specs.List.{fold};
 ghost use Rattle.std.specs.Option.{ForSome};
 ghost use Rattle.clap.specs.Words.{IsUnsignedIn, app_of, first_of, found_of, kind_of, one_of, rows_of, rule_of, subcommand_rows_of};
 ghost use Rattle.clap.specs.declared.builder.command.Command.TheViews.{out-Command as fields_of};
-ghost use Rattle.tsn_words.specs.Grammar.{AsksFor, HasCommand, IsAsked, IsFlag, IsGiven, IsNumberIf, IsNumberOr, IsRefused, IsWhole, IsWithin, gates_format, number_of, plan_search, replay_format, streams_format, takes_words};
+ghost use Rattle.tsn_words.specs.Grammar.{AsksFor, HasCommand, IsAsked, IsFlag, IsGiven, IsNumberIf, IsNumberOr, IsRefused, IsWhole, gates_format, number_of, plan_search, replay_format, streams_format, takes_words};
 ghost use Rattle.tsn_words.specs.Grammar as grammar;
 ghost use Rattle.tsn_words.specs.Table.{IsReadAs, IsReadOf, app_by, rule_by, with_form};
 
@@ -387,7 +387,7 @@ fn flag_of(words: &ArgMatches<'_>, id: &str) -> bool
 fn number_or(words: &ArgMatches<'_>, id: &str, most: usize, default: usize) -> usize
     requires some { 1 ≤ default }
     requires within { default ≤ most }
-    requires number { IsWithin id.now most (rows_of (found_of words.now)) }
+    requires number { IfSome (first_of id.now (rows_of (found_of words.now))) (IsUnsignedIn 1 most) }
     ensures some { 1 ≤ result }
     ensures most { result ≤ most }
     ensures value { IsNumberOr (first_of id.now (rows_of (found_of words.now))) default result }

@@ -7,9 +7,10 @@ use Rattle.tsn_words.specs.Grammar as grammar
 use Rattle.tsn_words.specs.Grammar.{IsAsked, IsRefused, IsWhole, has_format, takes_words}
 use Rattle.tsn_words.specs.declared.words.WordsFault.{WordsFault}
 use Rattle.tsn_words.specs.declared.words.WordsFault.TheVariants.{Asked, Memory, Refused}
+use Rattle.tsn_words.proofs.Given.{both_of}
 use Rattle.tsn_words.proofs.Levels.{whole}
 use Rattle.tsn_words.proofs.Reading.{asked_of, known_of, refused_of}
-use Rattle.tsn_words.proofs.Taken.{taken}
+use Rattle.tsn_words.proofs.Taken.{both, taken}
 use Rattle.tsn_words.proofs.command.words_from.Goals as goal
 
 faultless : (app : App) (words : List Text) → app ≡ grammar.tsn → (is_simple_and_free app ≡ true → fault_of app words ≡ []) → fault_of grammar.tsn words ≡ []
@@ -23,14 +24,6 @@ command_of-requires c =
     let words : List Text = map (λ word. word.now) c.args.words.now in
     let none = faultless _ words c.in_ok-program.ensures c.in-Ok.ensures.kinds in
     subst IsWhole (sym (found _ words c.in-Ok.matches c.in_ok-program.ensures c.in-Ok.ensures.matches)) (whole words none)
-
-left : (a b : Bool) → (a && b) ≡ true → a ≡ true
-left true b e = refl
-left false b e = e
-
-both : (a b : Bool) → a ≡ true → b ≡ true → (a && b) ≡ true
-both true b e f = f
-both false b e f = absurd (true≢false (sym e))
 
 -- words whose format is none of the command's
 unknown : (a b : Bool) → b ≡ false → (a && b) ≡ true → ⊥
@@ -46,7 +39,7 @@ pub returns-in-Err-clause-refused : goal.returns-in-Err-clause-refused
 returns-in-Err-clause-refused c refused takes_all =
     let words : List Text = map (λ word. word.now) c.args.words.now in
     let same = ap (λ (a : App). takes a words) c.in_ok-program.ensures in
-    c.fault_of.ensures refused (c.in-Err.ensures.passes (same ∙ left (takes grammar.tsn words) _ takes_all))
+    c.fault_of.ensures refused (c.in-Err.ensures.passes (same ∙ (both_of (takes grammar.tsn words) _ takes_all).0))
 
 pub returns-in-Err-clause-memory : goal.returns-in-Err-clause-memory
 returns-in-Err-clause-memory c takes_all = only_memory c.fault_of.result (λ refused. returns-in-Err-clause-refused c refused takes_all)
