@@ -28,6 +28,9 @@ from itertools import permutations
 from plainly import OCTET_TIME, flowspan, judged, network_of, overlaps, read
 
 ROOT = os.path.dirname(os.path.dirname(os.path.abspath(__file__)))
+sys.path.append(os.path.join(ROOT, "bench", "arguments"))
+
+import check_argument
 
 # The octets whose times are multiples of 96 ns at 1000 Mb/s, and what a step of 8 ns leaves.
 LENGTHS = {96: range(64, 300, 12), 8: range(64, 200)}
@@ -216,10 +219,8 @@ def at_path(value, path):
     return value
 
 
-WORDS = (
-    "branch late overrun cycle load overload tie tieload first least none from until order done_from done_until "
-    "go turn use arrive last pack round follow"
-).split()
+NODES = ("branch", "late", "overrun", "cycle", "load", "overload", "tie", "tieload")
+WORDS = list(dict.fromkeys([*NODES, *check_argument.GOALS, *check_argument.FACTS, *check_argument.MOVES]))
 
 
 def changed(cert, rng):

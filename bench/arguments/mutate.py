@@ -111,16 +111,19 @@ class Case:
 
     def move(self):
         word = self.chance.choice(list(check_argument.MOVES))
-        if word in ("go", "turn"):
+        kinds = check_argument.MOVES[word]
+        if kinds == "nnnl":
             return [word, *self.conflict()]
-        if word in ("use", "arrive"):
-            return [word, self.stream() if word == "arrive" else self.chance.randrange(len(self.steps) + 1)]
-        if word == "round":
+        if kinds == "n":
+            return [word, self.chance.randrange(len(self.steps) + 1) if word == "use" else self.stream()]
+        if kinds == "o":
             return [word, [self.conflict() for _ in range(self.chance.randint(1, 3))]]
+        if kinds == "pp":
+            return [word, self.conflict(), self.conflict()]
         link = self.chance.choice(self.links)
         users = self.frames(i for i, it in enumerate(self.network.streams) if link in it.start)
         some = self.chance.sample(users, self.chance.randint(1, len(users)))
-        if word == "pack":
+        if kinds == "ns":
             return [word, link, some]
         others = some[1:] or [self.frame()]
         return [word, link, some[0], others, self.chance.sample(others, self.chance.randint(1, len(others)))]
