@@ -14,7 +14,8 @@ use Rattle.tsn_model.specs.Arcs.{arc_of}
 use Rattle.tsn_model.specs.Argument.{Fact as ModelFact, from, until, done_from, IsFact, low_at, high_at, go, apply, arrive, shown, shown_by, refuting, unit_of, clause_at, View, LeadsBy, weight_by, contradicts, left_open, turned}
 use Rattle.tsn_model.proofs.Lists.{All-unmap}
 use Rattle.tsn_model.proofs.ArgumentMoves.{arc_within}
-use Rattle.tsn_cert.specs.Meaning.{fact_of, clause_of, decision_of}
+use Rattle.tsn_cert.specs.Fact.{fact_of, clause_of}
+use Rattle.tsn_cert.specs.Order.{decision_of}
 use Rattle.tsn_cert.specs.declared.order.Order.{Order}
 use Rattle.tsn_cert.specs.declared.fact.Fact.{Fact}
 use Rattle.std.specs.Borrow.{Bor}

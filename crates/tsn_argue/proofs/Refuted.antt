@@ -26,7 +26,7 @@ use Rattle.tsn_check.specs.declared.fault.CheckFault.{CheckFault}
 use Rattle.tsn_check.proofs.Plans.{claim_refutes, one_claim}
 use Rattle.tsn_cert.specs.declared.plan.Plan.{Plan}
 use Rattle.tsn_cert.specs.declared.argument.Argument.{Argument}
-use Rattle.tsn_cert.specs.Meaning.{steps_of}
+use Rattle.tsn_cert.specs.Argument.{steps_of}
 use Rattle.tsn_argue.specs.Certified.{IsFitting, ArgumentCertifies}
 use Rattle.tsn_argue.specs.Faults.{IsShowFault}
 use Rattle.tsn_argue.proofs.FirstLemmas.{first_wrong_refutes, one_first_wrong, told_refutes, one_first_told, all_there, none_before}

@@ -6,7 +6,7 @@ use Rattle.std.proofs.lemmas.List.Elements.{All-get_or, All-head, All-tail}
 use Rattle.tsn_model.specs.Network.{Network}
 use Rattle.tsn_model.specs.Argument as model
 use Rattle.tsn_model.specs.Argument.{from, until, order, done_from, done_until, IsFact, opposite, turned, learned, learned_all}
-use Rattle.tsn_cert.specs.Meaning.{fact_of, clause_of}
+use Rattle.tsn_cert.specs.Fact.{fact_of, clause_of}
 use Rattle.tsn_cert.specs.declared.fact.Fact.{Fact}
 use Rattle.tsn_model.proofs.Lists.{All-unmap}
 use Rattle.tsn_argue.specs.News.{news_of}

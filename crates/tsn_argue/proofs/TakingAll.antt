@@ -7,7 +7,9 @@ use Rattle.std.proofs.lemmas.List.Elements.{All-push}
 use Rattle.tsn_model.specs.Network.{Network}
 use Rattle.tsn_model.specs.Argument as model
 use Rattle.tsn_model.specs.Argument.{IsFact, IsImpossible, IsAllowed, IsRight, IsSettled, Argues, first_ground, shown, opposite, learned, learned_all, narrowed, AreAllowed, settled, begun, ended, known_with, known_after}
-use Rattle.tsn_cert.specs.Meaning.{clause_of, move_of, step_of, steps_of}
+use Rattle.tsn_cert.specs.Fact.{clause_of}
+use Rattle.tsn_cert.specs.Move.{move_of}
+use Rattle.tsn_cert.specs.Argument.{step_of, steps_of}
 use Rattle.std.specs.Borrow.{Bor}
 use Rattle.tsn_cert.specs.declared.fact.Clause.{Clause}
 use Rattle.tsn_cert.specs.declared.fact.Fact.{Fact}

@@ -3,7 +3,8 @@ use Rattle.std.proofs.Common.{◌≡◌, ℕ, ◌+◌, ◌<◌, List, [], ◌∷
 use Rattle.tsn_model.specs.Network.{Network}
 use Rattle.tsn_model.specs.Argument as model
 use Rattle.tsn_model.specs.Argument.{Goal, Fact, shown, opposite, learned_all, narrowed, begun, ended, known_after}
-use Rattle.tsn_cert.specs.Meaning.{move_of, step_of}
+use Rattle.tsn_cert.specs.Move.{move_of}
+use Rattle.tsn_cert.specs.Argument.{step_of}
 use Rattle.tsn_cert.specs.declared.motion.Move.{Move}
 use Rattle.tsn_cert.specs.declared.step.Step.{Step}
 use Rattle.tsn_argue.specs.Faults.{known_by, first_known}

@@ -9,7 +9,7 @@ use Rattle.tsn_model.specs.Argument as model
 use Rattle.tsn_model.specs.Argument.{goal_first, goal_least, goal_none, Argues}
 use Rattle.tsn_cert.specs.declared.plan.Plan.{Plan}
 use Rattle.tsn_cert.specs.declared.plan.Plan.TheVariants as plan
-use Rattle.tsn_cert.specs.Meaning.{steps_of}
+use Rattle.tsn_cert.specs.Argument.{steps_of}
 use Rattle.tsn_cert.specs.declared.argument.Argument.{Argument}
 use Rattle.tsn_cert.specs.declared.argument.Goal.{Goal}
 use Rattle.tsn_cert.specs.declared.argument.Goal.TheVariants as aim

@@ -17,7 +17,7 @@ use Rattle.tsn_model.specs.Arcs.{arc_of}
 use Rattle.tsn_model.specs.Argument as model
 use Rattle.tsn_model.specs.Argument.{goal_first, goal_least, goal_none, from, until, order, done_from, done_until, IsFact, View, low_at, high_at, IsImpossible, first_head, last_end, work_on, AreOn, AreSome, go, turn, apply, arrive, put_last, put_first, pack, round, follow, turned, left_open, clause_at, LeadsBy, weight_by, AreAllowed, narrowed, first_ground, Known, begun, ended, IsRight, known_after, IsSettled}
 use Rattle.tsn_cert.specs.declared.plan.Plan.{Plan}
-use Rattle.tsn_cert.specs.Meaning.{steps_of}
+use Rattle.tsn_cert.specs.Argument.{steps_of}
 use Rattle.tsn_cert.specs.declared.argument.Argument.{Argument}
 use Rattle.tsn_cert.specs.declared.certificate.Certificate.{Certificate}
 use Rattle.tsn_cert.specs.declared.certificate.Certificate.TheVariants.{Tree, Argument as Argued}

@@ -10,7 +10,7 @@ use Rattle.tsn_model.specs.Network.{Network, stream_count}
 use Rattle.tsn_model.specs.Arcs.{arc_of}
 use Rattle.tsn_model.specs.Argument as model
 use Rattle.tsn_model.specs.Argument.{IsFact, View, IsAllowed, shown, left_open, weight_by, AreOn, AreSome}
-use Rattle.tsn_cert.specs.Meaning.{fact_of, clause_of}
+use Rattle.tsn_cert.specs.Fact.{fact_of, clause_of}
 use Rattle.tsn_cert.specs.declared.fact.Clause.{Clause}
 use Rattle.tsn_cert.specs.declared.fact.Fact.{Fact}
 use Rattle.tsn_cert.specs.declared.motion.Placing.{Placing}

@@ -1,7 +1,8 @@
 //! Who listens to the steps of an argument as they are checked.
 ghost use Rattle.std.specs.Prelude.{◌≡◌, [], ◌∷◌, List, Option, None, All};
 ghost use Rattle.tsn_model.specs.Argument.{IsFact};
-ghost use Rattle.tsn_cert.specs.Meaning.{move_of, step_of};
+ghost use Rattle.tsn_cert.specs.Move.{move_of};
+ghost use Rattle.tsn_cert.specs.Argument.{step_of};
 ghost use Rattle.tsn_argue.specs.State.{view_of, base_of, IsSound};
 ghost use Rattle.tsn_argue.specs.Motion.{facts_of, clauses_of};
 ghost use Rattle.tsn_argue.specs.Told.{Event, begins, makes, ends, with_told, IsMade};

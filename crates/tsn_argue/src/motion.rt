@@ -1,7 +1,9 @@
 //! Whether a move may be made on a view, and what it shows.
 ghost use Rattle.std.specs.Prelude.{◌≡◌, ◌≤◌, [], ◌∷◌, List, length, map, false, All, MatchBool};
 ghost use Rattle.tsn_model.specs.Argument.{Fact as ModelFact, IsFact, go, turn, apply, arrive, put_last, put_first, pack, round, follow, refuting, left_open};
-ghost use Rattle.tsn_cert.specs.Meaning.{decision_of, clause_of, move_of};
+ghost use Rattle.tsn_cert.specs.Order.{decision_of};
+ghost use Rattle.tsn_cert.specs.Fact.{clause_of};
+ghost use Rattle.tsn_cert.specs.Move.{move_of};
 ghost use Rattle.tsn_argue.specs.State.{view_of, IsSound};
 ghost use Rattle.tsn_argue.specs.News.{news_of};
 ghost use Rattle.tsn_argue.specs.Faults.{AreAlike};

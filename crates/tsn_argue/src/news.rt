@@ -1,7 +1,7 @@
 //! Facts as a view learns them: their numbers may have a sign.
 ghost use Rattle.std.specs.Prelude.{◌≡◌};
 ghost use Rattle.tsn_model.specs.Argument.{opposite, turned};
-ghost use Rattle.tsn_cert.specs.Meaning.{fact_of};
+ghost use Rattle.tsn_cert.specs.Fact.{fact_of};
 ghost use Rattle.tsn_argue.specs.News.{news_of};
 
 use tsn_cert::Fact;

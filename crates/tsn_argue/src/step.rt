@@ -2,7 +2,9 @@
 ghost use Rattle.std.specs.Prelude.{◌≡◌, ◌⊎◌, OnOk, IfOk, IfErr, [], ◌∷◌, map, length, All};
 ghost use Rattle.tsn_model.specs.Network.{stream_count};
 ghost use Rattle.tsn_model.specs.Argument.{IsFact, Argues, opposite, learned_all, settled, shown};
-ghost use Rattle.tsn_cert.specs.Meaning.{fact_of, clause_of, move_of, step_of, steps_of};
+ghost use Rattle.tsn_cert.specs.Fact.{fact_of, clause_of};
+ghost use Rattle.tsn_cert.specs.Move.{move_of};
+ghost use Rattle.tsn_cert.specs.Argument.{step_of, steps_of};
 ghost use Rattle.tsn_argue.specs.Faults.{IsArgumentFault};
 ghost use Rattle.tsn_argue.specs.State.{view_of, base_of, IsSound, Becomes};
 ghost use Rattle.tsn_argue.specs.Motion.{clauses_of, facts_of, AreFacts};

@@ -2,7 +2,7 @@
 ghost use Rattle.std.specs.Prelude.{◌≡◌, ◌⊎◌, IfOk, IfErr, IsOkUnless, Ok, OnOk};
 ghost use Rattle.tsn_model.specs.Schedule.{HasNoSchedule};
 ghost use Rattle.tsn_model.specs.Argument.{Goal as ModelGoal};
-ghost use Rattle.tsn_cert.specs.Meaning.{steps_of};
+ghost use Rattle.tsn_cert.specs.Argument.{steps_of};
 ghost use Rattle.tsn_check.specs.Plans.{IsOptimalPlan, IsFirstPlan, IsPlanRight};
 ghost use Rattle.tsn_argue.specs.Certified.{ArgumentCertifies, Certifies, IsFitting, argument_verdict, certificate_verdict};
 ghost use Rattle.tsn_argue.specs.Faults.{IsWhy, IsShowFault, IsFirstFault};

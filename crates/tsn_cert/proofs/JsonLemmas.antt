@@ -1,10 +1,11 @@
 -- What a file's value is, and lists that are printed and read again.
-use Rattle.std.proofs.Common.{◌≡◌, ◌≤◌, ◌+◌, ℕ, List, [], ◌∷◌, ◌++◌, length, take, map, Option, Some, None, refl, sym, ap, ◌∙◌, append-nil, arith}
-use Rattle.std.specs.Prelude.{option_and_then}
+use Rattle.std.proofs.Common.{◌≡◌, ◌≤◌, ◌+◌, ℕ, List, [], ◌∷◌, ◌++◌, length, take, map, Option, Some, None, true, refl, sym, ap, ap₂, ◌∙◌, append-nil, arith}
+use Rattle.std.proofs.lemmas.Bool.Decides.{nat_tests}
+use Rattle.std.specs.Prelude.{option_and_then, nat_le, ◌&&◌}
 use Rattle.std.specs.Str.{IsUtf8}
 use Rattle.std.proofs.Math.ListN.{take-append-drop, drop_of_length-le}
 use Rattle.std.proofs.lemmas.Str.{is_utf8-from_IsUtf8}
-use Rattle.serde_json.specs.Data.{Data, depth, items_depth}
+use Rattle.serde_json.specs.Data.{Data}
 use Rattle.tsn_cert.proofs.LineFeed.{read-line_feed}
 use Rattle.serde_json.specs.Read.{read}
 use Rattle.tsn_cert.specs.Json.{when, value_of, listed, elements, each, items_of_list, array_value, number_value, numbers, whole_number}
@@ -50,10 +51,15 @@ each_push f g (y ∷ xs) x h e =
 pub numbers-array_value : (ns : List ℕ) → numbers (array_value (map number_value ns)) ≡ Some ns
 numbers-array_value ns = each-printed whole_number number_value (λ n. refl) ns
 
-pub items_depth-le : {A : Type 0} (n : ℕ) (g : A → Data) → ((x : A) → depth (g x) ≤ n) → (xs : List A) → items_depth (items_of_list (map g xs)) ≤ n
-items_depth-le n g h [] = omega arith
-items_depth-le n g h (x ∷ xs) = omega (arith, h x, items_depth-le n g h xs)
-
 pub taken_all : {A : Type 0} (xs : List A) (i : ℕ) → length xs ≤ i → take i xs ≡ xs
 taken_all xs i h =
     sym (append-nil (take i xs)) ∙ ap (λ l. take i xs ++ l) (sym (drop_of_length-le xs h)) ∙ take-append-drop i xs
+
+-- ---- lists of at least one element, and of at most so many
+
+pub few_kept : {A : Type 0} (many : ℕ) (xs : List A) → 1 ≤ length xs → length xs ≤ many
+    → when (nat_le 1 (length xs) && nat_le (length xs) many) (Some xs) ≡ Some xs
+few_kept many xs some few =
+    let least : nat_le 1 (length xs) ≡ true = grind (arith, nat_tests) in
+    let most : nat_le (length xs) many ≡ true = grind (arith, nat_tests) in
+    ap₂ (λ a b. when (a && b) (Some xs)) least most

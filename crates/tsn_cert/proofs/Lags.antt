@@ -1,13 +1,11 @@
--- A lag is read again where it is printed, and is neither deep nor a float.
+-- A lag is read again where it is printed.
 use Rattle.std.proofs.Common.{◌≡◌, ◌≤◌, pos, negsuc, [], ◌∷◌, Bool, true, false, Some, refl, sym, ap, ◌∙◌, arith, w64, FitsSigned}
 use Rattle.std.specs.Prelude.{ℤ, not, option_and_then, option_map, if◌then◌else◌, min}
 use Rattle.std.specs.Ordering.{int_eq}
 use Rattle.std.proofs.lemmas.Bool.Decides.{Decides-int_eq}
 use Rattle.std.proofs.lemmas.Int.{ints}
-use Rattle.serde_json.specs.Data.{items_depth}
-use Rattle.serde_json.specs.Written.{items_have_float}
 use Rattle.tsn_model.specs.declared.Triple.{Triple}
-use Rattle.tsn_cert.specs.Json.{when, items_of_list, signed_number, signed_value, number_value, max_signed}
+use Rattle.tsn_cert.specs.Json.{when, signed_number, signed_value, number_value, max_signed}
 use Rattle.tsn_cert.specs.Cert.{lag_parts, lag_items, triple_parts}
 
 signed_back : (z : ℤ) → FitsSigned w64 z → signed_number (signed_value z) ≡ Some z
@@ -29,18 +27,3 @@ pub triple_back : (t : Triple) → FitsSigned w64 t.lag
     → triple_parts (number_value t.left ∷ number_value t.right ∷ number_value t.link ∷ lag_items t.lag) ≡ Some t
 triple_back t fits =
     ap (option_map (λ (z : ℤ). record { left = t.left; right = t.right; link = t.link; lag = z })) (lag_back t.lag fits)
-
-lag_depth_if : (b : Bool) (lag : ℤ) → items_depth (items_of_list (if b then [] else signed_value lag ∷ [])) ≤ 0
-lag_depth_if true lag = omega arith
-lag_depth_if false lag = omega arith
-
-pub lag_depth : (lag : ℤ) → items_depth (items_of_list (lag_items lag)) ≤ 0
-lag_depth lag = lag_depth_if (int_eq lag (pos 0)) lag
-
-lag_no_float_if : (b : Bool) (lag : ℤ) → items_have_float (items_of_list (if b then [] else signed_value lag ∷ [])) ≡ false
-lag_no_float_if true lag = refl
-lag_no_float_if false (pos n) = refl
-lag_no_float_if false (negsuc n) = refl
-
-pub lag_no_float : (lag : ℤ) → items_have_float (items_of_list (lag_items lag)) ≡ false
-lag_no_float lag = lag_no_float_if (int_eq lag (pos 0)) lag

@@ -137,3 +137,7 @@ list form = array (elements_row form)
 -- a list of so many at least and at most
 abbrev pub few : {A : Type 0} → ℕ → ℕ → Form A → Form (List A)
 few least most form = made (λ xs. when (nat_le least (length xs) && nat_le (length xs) most) (Some xs)) (list form)
+
+-- a number alone
+abbrev pub number_row : Row ℕ
+number_row = next number over

@@ -11,7 +11,9 @@ pub mod Text
 pub mod Laws
 pub mod Spelled
 pub mod Says
-pub mod Meaning
+pub mod Order
+pub mod Fact
+pub mod Move
 pub mod Argument
 pub mod Certificate
 pub mod ArgumentText

@@ -1,9 +1,9 @@
 //! Arguments: certificates of format 3.
 ghost use Rattle.std.specs.Prelude.{◌≡◌, true};
 ghost use Rattle.tsn_cert.specs.Argument.{argument_fits};
-ghost use Rattle.tsn_cert.specs.ArgumentLaws.{ArgumentIsReadAgain};
+ghost use Rattle.tsn_cert.specs.ArgumentLaws.{IsArgumentInGrammar, ArgumentIsReadAgain};
 
-use crate::argument_limits;
+use crate::plan::MAX_TIME;
 use crate::step::Steps;
 
 /// The number by which a file tells that it holds an argument.
@@ -34,6 +34,16 @@ impl Argument {
         ensures fits { result ≡ argument_fits self.now }
         ensures reads_back { result ≡ true → ArgumentIsReadAgain self.now }
     {
-        argument_limits::fits(self)
+        self.fits()
+    }
+
+    // Whether each number is within its limit. A form in the file the argument has in any case.
+    #[tactic(auto, using(crate::proofs::ArgumentLemmas::argument_back))]
+    fn fits(&self) -> bool
+        ensures fits { result ≡ argument_fits self.now }
+        ensures grammar { IsArgumentInGrammar self.now }
+    {
+        let steps = self.steps.fit();
+        self.target <= MAX_TIME && steps
     }
 }

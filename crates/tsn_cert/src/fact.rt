@@ -1,7 +1,12 @@
 //! What an argument says of a schedule: facts, and clauses of which one fact holds.
-ghost use Rattle.std.specs.Prelude.{◌≡◌};
+ghost use Rattle.std.specs.Prelude.{◌≡◌, Some};
+ghost use Rattle.std.specs.List.{list_all};
+ghost use Rattle.tsn_cert.specs.Fact.{fact_fits, clause_in, clause_value};
 
+use crate::chain::MAX_NUMBER;
+use crate::limited::{Limited, all_fit};
 use crate::order::Order;
+use crate::plan::MAX_TIME;
 use std::marker::Model;
 
 /// What a clause may say of a schedule. Times are in nanoseconds.
@@ -17,6 +22,27 @@ pub enum Fact {
     DoneFrom(u64),
     /// The flowspan is at most this.
     DoneUntil(u64),
+}
+
+impl Limited for Fact {
+    ghost use Rattle.tsn_cert.specs.Fact.{fact_form, fact_fits, fact_value};
+
+    ghost form = { fact_form };
+
+    ghost within = { fact_fits };
+
+    ghost printed = { fact_value };
+
+    #[tactic(auto, using(crate::proofs::FactLemmas::order_fact_back))]
+    fn fits(&self) -> bool {
+        match self {
+            Fact::From(stream, time) => *stream <= MAX_NUMBER && *time <= MAX_TIME,
+            Fact::Until(stream, time) => *stream <= MAX_NUMBER && *time <= MAX_TIME,
+            Fact::Order(order) => order.fits(),
+            Fact::DoneFrom(time) => *time <= MAX_TIME,
+            Fact::DoneUntil(time) => *time <= MAX_TIME,
+        }
+    }
 }
 
 /// Facts of which one holds; without any it says nothing, and its step shows the view that its moves lead to.
@@ -55,5 +81,12 @@ impl Clause {
     {
         let Clause { list } = self;
         list
+    }
+    /// Whether each number of the facts is within its limit.
+    pub(crate) fn fit(&self) -> bool
+        ensures fits { result ≡ list_all fact_fits self.now }
+        ensures grammar { clause_in (clause_value self.now) ≡ Some self.now }
+    {
+        all_fit::<Fact>(self.list())
     }
 }

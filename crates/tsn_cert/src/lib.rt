@@ -3,7 +3,6 @@
 #![tactic(auto)]
 
 pub mod argument;
-mod argument_limits;
 pub mod cert;
 pub mod certificate;
 pub mod chain;
@@ -12,6 +11,7 @@ pub mod entries;
 pub mod fact;
 pub mod fault;
 pub mod leaf;
+pub mod limited;
 pub mod limits;
 pub mod motion;
 pub mod order;
@@ -27,6 +27,7 @@ pub use entries::Entries;
 pub use fact::{Clause, Fact};
 pub use fault::FileFault;
 pub use leaf::{Leaf, LowerBound};
+pub use limited::Limited;
 pub use motion::{Move, Moves, Placing};
 pub use order::{Order, Orders};
 pub use plan::{Offsets, Plan};

@@ -1,6 +1,12 @@
 //! Moves: the rules by which an argument goes on.
-ghost use Rattle.std.specs.Prelude.{◌≡◌};
+ghost use Rattle.std.specs.Prelude.{◌≡◌, Some};
+ghost use Rattle.std.specs.List.{list_all};
+ghost use Rattle.tsn_cert.specs.declared.motion.Move.TheVariants as form;
+ghost use Rattle.tsn_cert.specs.Move.{placing_fits, placing_parts, placing_items, move_fits, move_in, move_value, moves_in, moves_value};
 
+use crate::chain::MAX_NUMBER;
+use crate::limited::{Limited, all_fit};
+use crate::limits;
 use crate::order::{Order, Orders};
 use crate::step::Frames;
 use std::marker::Model;
@@ -14,6 +20,17 @@ pub struct Placing {
     pub others: Frames,
     /// Some of the others.
     pub some: Frames,
+}
+
+impl Placing {
+    fn fits(&self) -> bool
+        ensures fits { result ≡ placing_fits self.now }
+        ensures grammar { placing_parts (placing_items self.now) ≡ Some self.now }
+    {
+        let others = self.others.fit();
+        let some = self.some.fit();
+        self.link <= MAX_NUMBER && limits::frame_fits(self.frame) && others && some
+    }
 }
 
 /// What narrows a view.
@@ -37,6 +54,48 @@ pub enum Move {
     Round(Orders),
     /// The first order is one of the view, and asks for the second one: of the same two streams, in the same direction, by no more.
     Follow(Order, Order),
+}
+
+fn pack_fits(link: usize, frames: &Frames) -> bool
+    ensures fits { result ≡ move_fits (form.Pack link frames.now) }
+    ensures grammar { move_in (move_value (form.Pack link frames.now)) ≡ Some (form.Pack link frames.now) }
+{
+    let fits = frames.fit();
+    link <= MAX_NUMBER && fits
+}
+
+#[tactic(auto, using(crate::proofs::MoveLemmas::follow_back))]
+fn follow_fits(known: &Order, weaker: &Order) -> bool
+    ensures fits { result ≡ move_fits (form.Follow known.now weaker.now) }
+    ensures grammar { move_in (move_value (form.Follow known.now weaker.now)) ≡ Some (form.Follow known.now weaker.now) }
+{
+    let fits = weaker.fits();
+    known.fits() && fits
+}
+
+impl Limited for Move {
+    ghost use Rattle.tsn_cert.specs.Move.{move_form, move_fits, move_value};
+
+    ghost form = { move_form };
+
+    ghost within = { move_fits };
+
+    ghost printed = { move_value };
+
+    #[tactic(auto, using(crate::proofs::MoveLemmas::go_back, crate::proofs::MoveLemmas::turn_back, crate::proofs::MoveLemmas::last_back, crate::proofs::MoveLemmas::first_back, crate::proofs::MoveLemmas::round_back))]
+    fn fits(&self) -> bool {
+        match self {
+            Move::Go(order) => order.fits(),
+            Move::Turn(order) => order.fits(),
+            Move::Use(number) => *number <= MAX_NUMBER,
+            Move::Arrive(stream) => *stream <= MAX_NUMBER,
+            Move::Last(placing) => placing.fits(),
+            Move::First(placing) => placing.fits(),
+            Move::Pack(link, frames) => pack_fits(*link, frames),
+            Move::Round(orders) => orders.fit(),
+            Move::Follow(known, weaker) => follow_fits(known, weaker),
+        }
+    }
 }
 
 /// The moves of a step, one after another.
@@ -75,5 +134,12 @@ impl Moves {
     {
         let Moves { list } = self;
         list
+    }
+    /// Whether each number of the moves is within its limit.
+    pub(crate) fn fit(&self) -> bool
+        ensures fits { result ≡ list_all move_fits self.now }
+        ensures grammar { moves_in (moves_value self.now) ≡ Some self.now }
+    {
+        all_fit::<Move>(self.list())
     }
 }

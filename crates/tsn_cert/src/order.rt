@@ -1,7 +1,11 @@
 //! Which of two frames goes first on a link, and lists of such orders.
-ghost use Rattle.std.specs.Prelude.{◌≡◌, ◌≤◌, length};
-ghost use Rattle.tsn_cert.specs.Meaning.{decision_of};
+ghost use Rattle.std.specs.Prelude.{◌≡◌, ◌≤◌, length, Some};
+ghost use Rattle.std.specs.List.{list_all};
+ghost use Rattle.tsn_cert.specs.Order.{decision_of, order_fits, orders_of, orders_value};
 
+use crate::chain::MAX_NUMBER;
+use crate::limited::{Limited, all_fit};
+use crate::limits;
 use std::marker::Model;
 use tsn_model::{Decision, Side, Triple};
 
@@ -48,6 +52,22 @@ impl Order {
     }
 }
 
+impl Limited for Order {
+    ghost use Rattle.tsn_cert.specs.Order.{order_form, order_fits, order_value};
+
+    ghost form = { order_form };
+
+    ghost within = { order_fits };
+
+    ghost printed = { order_value };
+
+    #[tactic(auto, using(crate::proofs::OrderLemmas::order_back))]
+    fn fits(&self) -> bool {
+        let lag = limits::lag_fits(self.lag);
+        self.first <= MAX_NUMBER && self.second <= MAX_NUMBER && self.link <= MAX_NUMBER && lag
+    }
+}
+
 /// The orders of a round, one after another: 1 to 128 of them.
 #[derive(Drop)]
 pub struct Orders {
@@ -90,5 +110,12 @@ impl Orders {
     {
         let Orders { list } = self;
         list
+    }
+    /// Whether each number of the orders is within its limit.
+    pub(crate) fn fit(&self) -> bool
+        ensures fits { result ≡ list_all order_fits self.now }
+        ensures grammar { orders_of (orders_value self.now) ≡ Some self.now }
+    {
+        all_fit::<Order>(self.list())
     }
 }

@@ -1,7 +1,13 @@
 //! The steps of an argument, and the frames of a move.
-ghost use Rattle.std.specs.Prelude.{◌≡◌, ◌≤◌, length};
+ghost use Rattle.std.specs.Prelude.{◌≡◌, ◌≤◌, length, Some};
+ghost use Rattle.std.specs.List.{list_all};
+ghost use Rattle.tsn_cert.specs.Cert.{frame_fits};
+ghost use Rattle.tsn_cert.specs.Move.{frames_of, frames_value};
+ghost use Rattle.tsn_cert.specs.Argument.{step_fits, steps_in, steps_value};
 
 use crate::fact::Clause;
+use crate::limited::{Limited, all_fit, both};
+use crate::limits;
 use crate::motion::Moves;
 use std::marker::Model;
 use tsn_model::Frame;
@@ -52,6 +58,14 @@ impl Frames {
         let Frames { list } = self;
         list
     }
+
+    /// Whether each number of the frames is within its limit.
+    pub(crate) fn fit(&self) -> bool
+        ensures fits { result ≡ list_all frame_fits self.now }
+        ensures grammar { frames_of (frames_value self.now) ≡ Some self.now }
+    {
+        self.list().iter().all(|frame| limits::frame_fits(*frame))
+    }
 }
 
 /// A clause, and the moves that show it.
@@ -59,6 +73,22 @@ impl Frames {
 pub struct Step {
     pub clause: Clause,
     pub moves: Moves,
+}
+
+impl Limited for Step {
+    ghost use Rattle.tsn_cert.specs.Argument.{step_form, step_fits, step_value};
+
+    ghost form = { step_form };
+
+    ghost within = { step_fits };
+
+    ghost printed = { step_value };
+
+    #[tactic(auto, using(crate::proofs::ArgumentLemmas::step_back))]
+    fn fits(&self) -> bool {
+        let moves = self.moves.fit();
+        both(self.clause.fit(), moves)
+    }
 }
 
 /// The steps of an argument, one after another.
@@ -97,5 +127,12 @@ impl Steps {
     {
         let Steps { list } = self;
         list
+    }
+    /// Whether each number of the steps is within its limit.
+    pub(crate) fn fit(&self) -> bool
+        ensures fits { result ≡ list_all step_fits self.now }
+        ensures grammar { steps_in (steps_value self.now) ≡ Some self.now }
+    {
+        all_fit::<Step>(self.list())
     }
 }

@@ -1,12 +1,14 @@
--- The text of an argument in parts.
-use Rattle.std.proofs.Common.{◌≡◌, ℕ, List, [], ◌∷◌, ◌++◌, Bool, true, false, map, codes, decimal, refl, sym, ap, ◌∙◌, append_assoc, lit<}
+-- The text of an argument in parts, and what it says.
+use Rattle.std.proofs.Common.{◌≡◌, ℕ, List, [], ◌∷◌, ◌++◌, Bool, true, false, Some, Ok, map, codes, decimal, refl, sym, ap, ◌∙◌, append_assoc, lit<}
 use Rattle.std.proofs.lemmas.Fmt.{decimal_digit}
 use Rattle.json.specs.Print.{escape_byte}
 use Rattle.serde_json.specs.Written.{comma_if, compact_text, items_text}
-use Rattle.tsn_cert.specs.Json.{items_of_list, file_text}
-use Rattle.tsn_cert.specs.Argument.{step_value, argument_value}
+use Rattle.tsn_cert.specs.Json.{items_of_list, file_text, value_of}
+use Rattle.tsn_cert.specs.Fault.{shaped, answer}
+use Rattle.tsn_cert.specs.Argument.{step_value, argument_of, argument_fits, argument_in, argument_value}
 use Rattle.tsn_cert.specs.ArgumentText.{head_text, steps_text, tail_text, ArgumentTextHasParts}
 use Rattle.tsn_cert.specs.declared.step.Step.{Step}
+use Rattle.tsn_cert.specs.declared.argument.Argument.{Argument}
 use Rattle.tsn_cert.specs.declared.argument.Goal.{Goal}
 use Rattle.tsn_cert.specs.declared.argument.Goal.TheVariants as aim
 
@@ -45,3 +47,7 @@ goal_parts aim.None steps target = rw three (ap (λ l. head_text aim.None ++ l) 
 
 pub argument_text_parts : ArgumentTextHasParts
 argument_text_parts argument = goal_parts argument.goal argument.steps argument.target
+
+pub argument_in-printed : (s : List ℕ) (a : Argument) → value_of s ≡ Some (argument_value a) → argument_of (argument_value a) ≡ Some a
+    → argument_fits a ≡ true → argument_in s ≡ Ok a
+argument_in-printed s a e back fits = ap (answer argument_of argument_fits) e ∙ ap (shaped argument_fits) back ∙ rw fits refl

@@ -8,7 +8,6 @@ use Rattle.std.proofs.lemmas.List.{take_more, length-map, map-append}
 use Rattle.std.specs.Ordering.{nat_cmp, match_ordering}
 use Rattle.std.specs.Cmp.Lexicographic.{slice_cmp}
 use Rattle.serde_json.specs.Data.{Data, null, boolean, number, string, array, object, item, Members, no_members, member, depth, members_depth}
-use Rattle.serde_json.specs.Written.{has_float, items_have_float}
 use Rattle.serde_json.specs.Read.{read}
 use Rattle.serde_json.specs.Find.{as_object, get, get_member}
 use Rattle.serde_json.specs.View.{view, items_of, members_of, members_view}
@@ -78,12 +77,6 @@ pub is_object_of-members_view : (n len : ℕ) (ms : List (String Global × Value
 is_object_of-members_view n len ms d counted e =
     ap (λ k. nat_eq k n) (counted ∙ sym (member_count-members_of (map (λ m. (m.0, view m.1)) ms) ∙ length-map ms (λ m. (m.0, view m.1))))
     ∙ ap (λ o. unwrap_or (option_map (λ ms. nat_eq (member_count ms) n) o) false) e
-
--- ---- what is printed has no float
-
-pub no_float-items : {A : Type 0} (g : A → Data) → ((x : A) → has_float (g x) ≡ false) → (xs : List A) → items_have_float (items_of_list (map g xs)) ≡ false
-no_float-items g h [] = refl
-no_float-items g h (x ∷ xs) = rw (h x) (no_float-items g h xs)
 
 -- ---- a loop that prints each number
 

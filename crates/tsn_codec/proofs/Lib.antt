@@ -11,8 +11,6 @@ pub mod Objects
 pub mod PlanLemmas
 pub mod CertLemmas
 pub mod CertParts
-pub mod CertPlain
+pub mod CertWritten
 pub mod Printed
-pub mod ArgumentShape
 pub mod ArgumentParts
-pub mod CertificatePlain

@@ -5,7 +5,11 @@ use Rattle.tsn_cert.specs.Cert.{first_frame, lag_row, shift}
 use Rattle.tsn_cert.specs.Says.{Says, Follows}
 use Rattle.tsn_cert.proofs.Says.{number_says, text_says, made_says, either_says, next_follows, over_follows, becomes_follows, array_says, deeper_says, deeper_follows, few_says, list_says, one_says}
 use Rattle.tsn_cert.proofs.LagSays.{lag_follows, shift_says}
-use Rattle.tsn_cert.specs.Argument.{order_row, order_form, bound_row, number_row, fact_form, facts, clause_form, later_row, frame_form, frames_form, orders_form, placing_row, pack_row, round_row, follow_row, motions, move_form, moves_form, step_form, steps_form, goal_form, goal_named}
+use Rattle.tsn_cert.specs.Order.{order_row, order_form, orders_form}
+use Rattle.tsn_cert.specs.Fact.{bound_row, fact_form, facts, clause_form}
+use Rattle.tsn_cert.specs.Form.{number_row}
+use Rattle.tsn_cert.specs.Move.{later_row, frame_form, frames_form, placing_row, pack_row, round_row, follow_row, motions, move_form, moves_form}
+use Rattle.tsn_cert.specs.Argument.{step_form, steps_form, goal_form, goal_named}
 use Rattle.tsn_cert.specs.declared.fact.Fact.TheVariants as fact
 use Rattle.tsn_cert.specs.declared.motion.Move.TheVariants as form
 

@@ -1,5 +1,5 @@
 //! Argument files, read and printed.
-ghost use Rattle.std.specs.Prelude.{◌≡◌, ◌≤◌, true, List, IfOk, IfSome, IsTrue, OnOk, None, Ok, string_bytes};
+ghost use Rattle.std.specs.Prelude.{◌≡◌, ◌≤◌, true, List, IfOk, IfSome, IsTrue, OnOk, None, Some, Ok, string_bytes};
 ghost use Rattle.json.specs.Token.{Token};
 ghost use Rattle.json.specs.Lex.{tokens};
 ghost use Rattle.serde_json.specs.Data.{depth};
@@ -8,23 +8,24 @@ ghost use Rattle.serde_json.specs.View.{view};
 ghost use Rattle.tsn_cert.specs.Fault.{Gives};
 ghost use Rattle.tsn_codec.specs.Told.{Finds};
 ghost use Rattle.tsn_codec.specs.Written.{ArePlain, BeginsArgument, EndsWithTarget, IsNoCertificate};
-ghost use Rattle.tsn_cert.specs.Argument.{goal_of, steps_in, steps_form, argument_of, argument_fits, argument_in, argument_text};
+ghost use Rattle.tsn_cert.specs.Argument.{goal_of, steps_in, steps_form, argument_of, argument_value, argument_fits, argument_in, argument_text};
 ghost use Rattle.tsn_cert.specs.ArgumentLaws.{IsArgumentInGrammar};
 
+mod goal;
 mod limits;
-mod print;
-mod read;
+mod motion;
+mod parts;
 mod step;
 pub mod text;
 
 use crate::document;
 use crate::file::{self, File};
-use crate::list::{Unlisted, list_in, list_or_why};
+use crate::list::{Unlisted, array_of, list_in, list_or_why};
 use crate::refused::{Excess, Key, Misfit, Refused};
 use crate::tokens::{Tokens, Unread};
 use json::Scratch;
-use serde_json::Value;
-use std::alloc::Global;
+use serde_json::{Value, json};
+use std::alloc::{AllocError, Global};
 use tsn_cert::argument::ARGUMENT_FORMAT;
 use tsn_cert::{Argument, FileFault, Goal, Step, Steps};
 use tsn_model::NoMemory;
@@ -61,9 +62,9 @@ impl File for Argument {
             return Err(Unread::OtherForm);
         }
         tokens.key("goal")?;
-        let goal = read::goal(tokens)?;
+        let goal = goal::goal(tokens)?;
         tokens.key("steps")?;
-        let steps = read::steps(tokens)?;
+        let steps = step::steps(tokens)?;
         tokens.key("target")?;
         let target = tokens.number()?;
         tokens.close_object()?;
@@ -120,7 +121,7 @@ fn goal_from(value: &Value) -> Result<Goal, Refused>
     ensures { Finds (λ goal. goal) result (goal_of (view value.now)) }
 {
     match value.as_str() {
-        Some(word) => read::goal_named(word).ok_or(Refused::WrongShape(Misfit::OtherGoal)),
+        Some(word) => goal::goal_named(word).ok_or(Refused::WrongShape(Misfit::OtherGoal)),
         None => Err(Refused::WrongShape(Misfit::OtherGoal)),
     }
 }
@@ -203,7 +204,7 @@ fn begin(tokens: &mut Tokens<'_>) -> Result<(), Unread>
         return Err(Unread::OtherForm);
     }
     tokens.key("goal")?;
-    read::goal(tokens)?;
+    goal::goal(tokens)?;
     tokens.key("steps")
 }
 
@@ -215,6 +216,17 @@ pub fn argument_to_json(alloc: Global, argument: &Argument) -> Result<String, No
         → argument_in (string_bytes s) ≡ Ok argument.now) }
     ensures grammar { OnOk result (IsArgumentInGrammar argument.now) }
 {
-    let value = print::argument_value(alloc, argument)?;
+    let value = argument_value(alloc, argument)?;
     Ok(document::file_text(alloc, &value)?)
+}
+
+// The value that the file of an argument holds.
+#[tactic(auto, using(crate::proofs::Elements::map_same))]
+fn argument_value(alloc: Global, argument: &Argument) -> Result<Value, AllocError>
+    ensures value { IfOk result (λ v. view v ≡ argument_value argument.now) }
+    ensures reads_back { OnOk result (argument_of (argument_value argument.now) ≡ Some argument.now) }
+{
+    let steps = array_of::<Step>(alloc, argument.steps.list())?;
+    let word = goal::goal_word(argument.goal);
+    json!(in alloc; {"format": ARGUMENT_FORMAT, "goal": word, "steps": steps, "target": argument.target})
 }

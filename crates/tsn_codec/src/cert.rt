@@ -18,7 +18,7 @@ pub mod text;
 
 use crate::document;
 use crate::file::{self, File};
-use crate::list::{Unlisted, list_in, list_or_why};
+use crate::list::{Unlisted, array_of, list_in, list_or_why};
 use crate::refused::{Excess, Key, Misfit, Refused};
 use crate::tokens::{Tokens, Unread};
 use json::Scratch;
@@ -202,7 +202,7 @@ pub fn cert_to_json(alloc: Global, cert: &Cert) -> Result<String, NoMemory>
     ensures reads_back { IfOk result (λ s. IsTrue (are_of cert.now.format cert.now.nodes) → IsTrue (cert_fits cert.now)
         → cert_in (string_bytes s) ≡ Ok cert.now) }
 {
-    let nodes = print::nodes_value(alloc, cert.nodes.list())?;
+    let nodes = array_of::<Node>(alloc, cert.nodes.list())?;
     let value = print::cert_value(alloc, cert.format.number(), cert.target, nodes)?;
     Ok(document::file_text(alloc, &value)?)
 }

@@ -80,17 +80,6 @@ pub fn all_within(limit: u64, numbers: &[u64]) -> bool
     numbers.iter().all(|number| *number <= limit)
 }
 
-/// An array of numbers.
-pub fn array_of_numbers(alloc: Global, numbers: &[u64]) -> Result<Value, AllocError>
-    ensures { IfOk result (λ v. view v ≡ array_value (map number_value numbers.now)) }
-{
-    let mut items = Vec::with_capacity(alloc, numbers.len())?;
-    for number in numbers {
-        items.push(Value::from(*number))?;
-    }
-    Ok(Value::Array(items))
-}
-
 /// An array of indices.
 pub fn array_of_indices(alloc: Global, numbers: &[usize]) -> Result<Value, AllocError>
     ensures { IfOk result (λ v. view v ≡ array_value (map number_value numbers.now)) }

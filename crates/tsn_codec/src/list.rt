@@ -1,8 +1,9 @@
-//! Lists of a file, taken from tokens one element after another.
-ghost use Rattle.std.specs.Prelude.{◌≡◌, ◌≤◌, length, map, IfOk};
-ghost use Rattle.serde_json.specs.Data.{depth};
+//! Lists of a file, taken from tokens and printed one element after another.
+ghost use Rattle.std.specs.Prelude.{◌≡◌, ◌≤◌, length, map, IfOk, OnOk, Some};
+ghost use Rattle.serde_json.specs.Data.{Data, depth};
 ghost use Rattle.serde_json.specs.Read.{max_depth};
 ghost use Rattle.serde_json.specs.View.{view};
+ghost use Rattle.tsn_cert.specs.Json.{array_value};
 ghost use Rattle.tsn_cert.specs.Form.{Form};
 ghost use Rattle.tsn_cert.specs.Form as forms;
 ghost use Rattle.tsn_codec.specs.Takes.{Takes};
@@ -14,7 +15,7 @@ use json::Scratch;
 use serde_json::Value;
 use std::alloc::{AllocError, AllocFailed, Global};
 
-/// What a list in a file has: how tokens say one of it.
+/// What a list in a file has: how tokens say one of it, and how one is printed.
 pub trait Element: Sized + Drop {
     ghost Said: { Type 0 };
 
@@ -22,9 +23,16 @@ pub trait Element: Sized + Drop {
 
     ghost form: { Form Said };
 
+    ghost written: { Said → Data };
+
     /// Takes one.
     fn take(tokens: &mut Tokens<'_>) -> Result<Self, Unread>
         ensures { Takes seen result (form.taken tokens.old) tokens.new };
+
+    /// The value that it is printed as.
+    fn print(&self, alloc: Global) -> Result<Value, AllocError>
+        ensures value { IfOk result (λ v. view v ≡ written (seen self.now)) }
+        ensures reads_back { OnOk result (form.said (written (seen self.now)) ≡ Some (seen self.now)) };
 
     ghost says: { Says 8 form };
 }
@@ -120,6 +128,18 @@ pub fn few<T: Element>(tokens: &mut Tokens<'_>, most: usize) -> Result<Vec<T>, U
         return Err(Unread::OtherForm);
     }
     Ok(found)
+}
+
+/// The array of what is printed of each.
+pub fn array_of<T: Element>(alloc: Global, list: &[T]) -> Result<Value, AllocError>
+    ensures value { IfOk result (λ v. view v ≡ array_value (map T.written (map T.seen list.now))) }
+    ensures reads_back { OnOk result ((forms.list T.form).said (array_value (map T.written (map T.seen list.now))) ≡ Some (map T.seen list.now)) }
+{
+    let mut items = Vec::with_capacity(alloc, list.len())?;
+    for one in list {
+        items.push(one.print(alloc)?)?;
+    }
+    Ok(Value::Array(items))
 }
 
 /// The list that a value is, by its text, or why it is none.

@@ -9,7 +9,7 @@ ghost use Rattle.tsn_cert.specs.Json.{numbers};
 ghost use Rattle.tsn_cert.specs.Plan.{plan_of, plan_of_values, plan_fits, plan_in, plan_value, plan_text};
 
 use crate::document;
-use crate::list::{Element, Unlisted, list_in};
+use crate::list::{Element, Unlisted, array_of, list_in};
 use crate::refused::{Excess, Key, Misfit, Refused};
 use crate::tokens::{Tokens, Unread};
 use serde_json::{Value, json};
@@ -24,6 +24,7 @@ const KEYS: &[Key] = &[Key::Flowspan, Key::Offsets];
 impl Element for u64 {
     ghost use Rattle.std.specs.Prelude.{ℕ};
     ghost use Rattle.tsn_cert.specs.Form.{number};
+    ghost use Rattle.tsn_cert.specs.Json.{number_value};
     ghost use Rattle.tsn_codec.specs.PlanSays.{number_element};
 
     ghost Said = { ℕ };
@@ -34,6 +35,12 @@ impl Element for u64 {
 
     fn take(tokens: &mut Tokens<'_>) -> Result<u64, Unread> {
         tokens.number()
+    }
+
+    ghost written = { number_value };
+
+    fn print(&self, alloc: Global) -> Result<Value, AllocError> {
+        Ok(Value::from(*self))
     }
 
     ghost says = { number_element };
@@ -74,12 +81,13 @@ pub fn plan_to_json(alloc: Global, plan: &Plan) -> Result<String, NoMemory>
 }
 
 // The value that a plan file holds.
+#[tactic(auto, using(crate::proofs::Elements::map_same))]
 fn value_of(alloc: Global, plan: &Plan) -> Result<Value, AllocError>
     ensures { IfOk result (λ v. view v ≡ plan_value plan.now) }
 {
     match plan {
         Plan::Schedule { flowspan, offsets } => {
-            let offsets = document::array_of_numbers(alloc, offsets.list())?;
+            let offsets = array_of::<u64>(alloc, offsets.list())?;
             json!(in alloc; {"flowspan": *flowspan, "offsets": offsets})
         }
         Plan::None => json!(in alloc; {"flowspan": null, "offsets": null}),

@@ -1,60 +1,23 @@
-//! The parts of an argument, read from tokens.
-ghost use Rattle.std.specs.Prelude.{◌≡◌};
+//! Moves of an argument, and their frames, read and printed.
+ghost use Rattle.std.specs.Prelude.{◌≡◌, IfOk, OnOk, Some};
+ghost use Rattle.serde_json.specs.View.{view};
+ghost use Rattle.tsn_cert.specs.declared.motion.Move.TheVariants as form;
 ghost use Rattle.tsn_cert.specs.Form.{row_of};
+ghost use Rattle.tsn_cert.specs.Json.{worded_value};
+ghost use Rattle.tsn_cert.specs.Move.{later_row, frame_form, frame_value, frames_form, frames_of, frames_value, placing_row, placing_parts, placing_items, pack_row, round_row, follow_row, motions, move_form, move_in, move_value};
+ghost use Rattle.tsn_codec.specs.ArgumentSays.{frame_element, move_element};
 ghost use Rattle.tsn_codec.specs.Takes.{Takes};
-ghost use Rattle.tsn_cert.specs.Argument.{order_row, order_form, bound_row, number_row, facts, fact_form, later_row, frame_form, frames_form, orders_form, placing_row, pack_row, round_row, follow_row, motions, move_form, step_form, steps_form, goal_form, goal_named};
-ghost use Rattle.tsn_codec.specs.ArgumentSays.{order_element, frame_element, fact_element, move_element, step_element};
 
-use crate::list::{Element, few, list};
+use crate::argument::parts::{last_number, order, order_behind, orders, orders_value};
+use crate::list::{Element, array_of, few};
 use crate::tokens::{Tokens, Unread};
-use tsn_cert::order::MAX_ORDERS;
+use serde_json::{Value, json};
+use std::alloc::{AllocError, Global};
 use tsn_cert::step::MAX_FRAMES;
-use tsn_cert::{Clause, Fact, Frames, Goal, Move, Moves, Order, Orders, Placing, Step, Steps};
+use tsn_cert::{Frames, Move, Order, Orders, Placing};
 use tsn_model::Frame;
 
-// ---- orders and frames
-
-// Two streams, a link and a lag, with the end of their array.
-fn order(tokens: &mut Tokens<'_>) -> Result<Order, Unread>
-    ensures { Takes (λ order. order) result (order_row.rest tokens.old) tokens.new }
-{
-    let first = tokens.index()?;
-    let second = tokens.index()?;
-    let link = tokens.index()?;
-    let lag = tokens.lag_and_end()?;
-    Ok(Order {
-        first,
-        second,
-        link,
-        lag,
-    })
-}
-
-impl Element for Order {
-    ghost use Rattle.tsn_cert.specs.declared.order.Order.{Order};
-
-    ghost Said = { Order };
-
-    ghost seen = { λ order. order };
-
-    ghost form = { order_form };
-
-    fn take(tokens: &mut Tokens<'_>) -> Result<Order, Unread> {
-        tokens.open_array()?;
-        order(tokens)
-    }
-
-    ghost says = { order_element };
-}
-
-// Orders of a round.
-#[tactic(auto, using(crate::proofs::Elements::map_same))]
-fn orders(tokens: &mut Tokens<'_>) -> Result<Orders, Unread>
-    ensures { Takes (λ orders. orders) result (orders_form.taken tokens.old) tokens.new }
-{
-    let found = few::<Order>(tokens, MAX_ORDERS)?;
-    Ok(Orders::of(found))
-}
+// ---- frames
 
 // A stream and a shift above 0, with the end of their array.
 fn later_frame(tokens: &mut Tokens<'_>) -> Result<Frame, Unread>
@@ -88,6 +51,17 @@ impl Element for Frame {
         }
     }
 
+    ghost written = { frame_value };
+
+    #[tactic(auto, using(tsn_cert::proofs::MoveLemmas::frame_back))]
+    fn print(&self, alloc: Global) -> Result<Value, AllocError> {
+        if self.shift == 0 {
+            Ok(Value::from(self.stream))
+        } else {
+            json!(in alloc; [self.stream, self.shift])
+        }
+    }
+
     ghost says = { frame_element };
 }
 
@@ -100,67 +74,15 @@ fn frames(tokens: &mut Tokens<'_>) -> Result<Frames, Unread>
     Ok(Frames::of(found))
 }
 
-// ---- facts
-
-// A number alone, with the end of its array.
-fn last_number(tokens: &mut Tokens<'_>) -> Result<u64, Unread>
-    ensures { Takes (λ n. n) result (number_row.rest tokens.old) tokens.new }
+#[tactic(auto, using(crate::proofs::Elements::map_same))]
+fn frames_value(alloc: Global, frames: &Frames) -> Result<Value, AllocError>
+    ensures value { IfOk result (λ v. view v ≡ frames_value frames.now) }
+    ensures reads_back { OnOk result (frames_of (frames_value frames.now) ≡ Some frames.now) }
 {
-    let number = tokens.number()?;
-    tokens.close_array()?;
-    Ok(number)
+    array_of::<Frame>(alloc, frames.list())
 }
 
-// A stream and a time, with the end of their array.
-fn bound(tokens: &mut Tokens<'_>) -> Result<(usize, u64), Unread>
-    ensures { Takes (λ b. b) result (bound_row.rest tokens.old) tokens.new }
-{
-    let stream = tokens.index()?;
-    let time = tokens.number()?;
-    tokens.close_array()?;
-    Ok((stream, time))
-}
-
-// What stands behind the word of a fact.
-fn fact(tokens: &mut Tokens<'_>, word: &str) -> Result<Fact, Unread>
-    ensures { Takes (λ fact. fact) result ((row_of facts word.now).rest tokens.old) tokens.new }
-{
-    if word == "from" {
-        let (stream, time) = bound(tokens)?;
-        Ok(Fact::From(stream, time))
-    } else if word == "until" {
-        let (stream, time) = bound(tokens)?;
-        Ok(Fact::Until(stream, time))
-    } else if word == "order" {
-        Ok(Fact::Order(order(tokens)?))
-    } else if word == "done_from" {
-        Ok(Fact::DoneFrom(last_number(tokens)?))
-    } else if word == "done_until" {
-        Ok(Fact::DoneUntil(last_number(tokens)?))
-    } else {
-        Err(Unread::OtherForm)
-    }
-}
-
-impl Element for Fact {
-    ghost use Rattle.tsn_cert.specs.declared.fact.Fact.{Fact};
-
-    ghost Said = { Fact };
-
-    ghost seen = { λ fact. fact };
-
-    ghost form = { fact_form };
-
-    fn take(tokens: &mut Tokens<'_>) -> Result<Fact, Unread> {
-        tokens.open_array()?;
-        let word = tokens.word()?;
-        fact(tokens, word)
-    }
-
-    ghost says = { fact_element };
-}
-
-// ---- moves
+// ---- what stands behind the word of a move
 
 // A link, a frame, others and some of these, with the end of their array.
 fn placing(tokens: &mut Tokens<'_>) -> Result<Placing, Unread>
@@ -208,6 +130,48 @@ fn follow(tokens: &mut Tokens<'_>) -> Result<(Order, Order), Unread>
     Ok((known, weaker))
 }
 
+// An array of a word and a placing.
+#[tactic(auto, using(tsn_cert::proofs::MoveLemmas::placing_back))]
+fn placing_behind(alloc: Global, word: &str, placing: &Placing) -> Result<Value, AllocError>
+    ensures value { IfOk result (λ v. view v ≡ worded_value word.now (placing_items placing.now)) }
+    ensures reads_back { OnOk result (placing_parts (placing_items placing.now) ≡ Some placing.now) }
+{
+    let frame = placing.frame.print(alloc)?;
+    let others = frames_value(alloc, &placing.others)?;
+    let some = frames_value(alloc, &placing.some)?;
+    json!(in alloc; [word, placing.link, frame, others, some])
+}
+
+#[tactic(auto, using(tsn_cert::proofs::MoveLemmas::pack_back))]
+fn pack_value(alloc: Global, link: usize, frames: &Frames) -> Result<Value, AllocError>
+    ensures value { IfOk result (λ v. view v ≡ move_value (form.Pack link frames.now)) }
+    ensures reads_back { OnOk result (move_in (move_value (form.Pack link frames.now)) ≡ Some (form.Pack link frames.now)) }
+{
+    let frames = frames_value(alloc, frames)?;
+    json!(in alloc; ["pack", link, frames])
+}
+
+#[tactic(auto, using(tsn_cert::proofs::MoveLemmas::round_back))]
+fn round_value(alloc: Global, orders: &Orders) -> Result<Value, AllocError>
+    ensures value { IfOk result (λ v. view v ≡ move_value (form.Round orders.now)) }
+    ensures reads_back { OnOk result (move_in (move_value (form.Round orders.now)) ≡ Some (form.Round orders.now)) }
+{
+    let orders = orders_value(alloc, orders)?;
+    json!(in alloc; ["round", orders])
+}
+
+#[tactic(auto, using(tsn_cert::proofs::MoveLemmas::follow_back))]
+fn follow_value(alloc: Global, known: Order, weaker: Order) -> Result<Value, AllocError>
+    ensures value { IfOk result (λ v. view v ≡ move_value (form.Follow known weaker)) }
+    ensures reads_back { OnOk result (move_in (move_value (form.Follow known weaker)) ≡ Some (form.Follow known weaker)) }
+{
+    let known = known.print(alloc)?;
+    let weaker = weaker.print(alloc)?;
+    json!(in alloc; ["follow", known, weaker])
+}
+
+// ---- moves
+
 // What stands behind the word of a move.
 fn motion(tokens: &mut Tokens<'_>, word: &str) -> Result<Move, Unread>
     ensures { Takes (λ motion. motion) result ((row_of motions word.now).rest tokens.old) tokens.new }
@@ -252,63 +216,32 @@ impl Element for Move {
         motion(tokens, word)
     }
 
+    ghost written = { move_value };
+
+    #[tactic(auto, using(tsn_cert::proofs::MoveLemmas::go_back, tsn_cert::proofs::MoveLemmas::turn_back, tsn_cert::proofs::MoveLemmas::last_back, tsn_cert::proofs::MoveLemmas::first_back))]
+    fn print(&self, alloc: Global) -> Result<Value, AllocError> {
+        match self {
+            Move::Go(order) => order_behind(alloc, "go", *order),
+            Move::Turn(order) => order_behind(alloc, "turn", *order),
+            Move::Use(number) => json!(in alloc; ["use", *number]),
+            Move::Arrive(stream) => json!(in alloc; ["arrive", *stream]),
+            Move::Last(placing) => placing_behind(alloc, "last", placing),
+            Move::First(placing) => placing_behind(alloc, "first", placing),
+            Move::Pack(link, frames) => pack_value(alloc, *link, frames),
+            Move::Round(orders) => round_value(alloc, orders),
+            Move::Follow(known, weaker) => follow_value(alloc, *known, *weaker),
+        }
+    }
+
     ghost says = { move_element };
 }
 
-// ---- steps
-
-impl Element for Step {
-    ghost use Rattle.tsn_cert.specs.declared.step.Step.{Step};
-
-    ghost Said = { Step };
-
-    ghost seen = { λ step. step };
-
-    ghost form = { step_form };
-
-    #[tactic(auto, using(crate::proofs::Elements::map_same))]
-    fn take(tokens: &mut Tokens<'_>) -> Result<Step, Unread> {
-        tokens.open_array()?;
-        let clause = list::<Fact>(tokens)?;
-        let moves = list::<Move>(tokens)?;
-        tokens.close_array()?;
-        Ok(Step {
-            clause: Clause::of(clause),
-            moves: Moves::of(moves),
-        })
+/// Whether a lag stands in the move.
+pub(super) fn has_lag(motion: &Move) -> bool {
+    match motion {
+        Move::Go(order) | Move::Turn(order) => order.lag != 0,
+        Move::Round(orders) => orders.list().iter().any(|order| order.lag != 0),
+        Move::Follow(known, weaker) => known.lag != 0 || weaker.lag != 0,
+        _ => false,
     }
-
-    ghost says = { step_element };
-}
-
-/// The steps of an argument.
-#[tactic(auto, using(crate::proofs::Elements::map_same))]
-pub(super) fn steps(tokens: &mut Tokens<'_>) -> Result<Steps, Unread>
-    ensures { Takes (λ steps. steps) result (steps_form.taken tokens.old) tokens.new }
-{
-    Ok(Steps::of(list::<Step>(tokens)?))
-}
-
-// ---- the goal
-
-/// The goal of this word.
-pub(super) fn goal_named(word: &str) -> Option<Goal>
-    ensures { result ≡ goal_named word.now }
-{
-    if word == "first" {
-        Some(Goal::First)
-    } else if word == "least" {
-        Some(Goal::Least)
-    } else if word == "none" {
-        Some(Goal::None)
-    } else {
-        None
-    }
-}
-
-pub(super) fn goal(tokens: &mut Tokens<'_>) -> Result<Goal, Unread>
-    ensures { Takes (λ goal. goal) result (goal_form.taken tokens.old) tokens.new }
-{
-    let word = tokens.word()?;
-    goal_named(word).ok_or(Unread::OtherForm)
 }

@@ -1,15 +1,60 @@
-//! Which part of a step isn't of the form.
+//! Steps of an argument, read and printed; which part of one isn't of the form.
+ghost use Rattle.tsn_cert.specs.Argument.{step_form, step_value, steps_form};
+ghost use Rattle.tsn_codec.specs.ArgumentSays.{step_element};
+ghost use Rattle.tsn_codec.specs.Takes.{Takes};
 
-use crate::list::{Unlisted, list_or_why};
+use crate::list::{Element, Unlisted, array_of, list, list_or_why};
 use crate::refused::{Misfit, Part};
 use crate::tokens::{Tokens, Unread};
 use json::Scratch;
-use std::alloc::Global;
-use tsn_cert::{Fact, Move};
+use serde_json::{Value, json};
+use std::alloc::{AllocError, Global};
+use tsn_cert::{Clause, Fact, Move, Moves, Step, Steps};
 use tsn_model::NoMemory;
 
 // How deep the values of a step nest at most.
 const LEVELS: usize = 126;
+
+impl Element for Step {
+    ghost use Rattle.tsn_cert.specs.declared.step.Step.{Step};
+
+    ghost Said = { Step };
+
+    ghost seen = { λ step. step };
+
+    ghost form = { step_form };
+
+    #[tactic(auto, using(crate::proofs::Elements::map_same))]
+    fn take(tokens: &mut Tokens<'_>) -> Result<Step, Unread> {
+        tokens.open_array()?;
+        let clause = list::<Fact>(tokens)?;
+        let moves = list::<Move>(tokens)?;
+        tokens.close_array()?;
+        Ok(Step {
+            clause: Clause::of(clause),
+            moves: Moves::of(moves),
+        })
+    }
+
+    ghost written = { step_value };
+
+    #[tactic(auto, using(tsn_cert::proofs::ArgumentLemmas::step_back, crate::proofs::Elements::map_same))]
+    fn print(&self, alloc: Global) -> Result<Value, AllocError> {
+        let clause = array_of::<Fact>(alloc, self.clause.list())?;
+        let moves = array_of::<Move>(alloc, self.moves.list())?;
+        json!(in alloc; [clause, moves])
+    }
+
+    ghost says = { step_element };
+}
+
+/// The steps of an argument.
+#[tactic(auto, using(crate::proofs::Elements::map_same))]
+pub(super) fn steps(tokens: &mut Tokens<'_>) -> Result<Steps, Unread>
+    ensures { Takes (λ steps. steps) result (steps_form.taken tokens.old) tokens.new }
+{
+    Ok(Steps::of(list::<Step>(tokens)?))
+}
 
 /// What isn't of the form of the step of this number, of the text of that step alone or else of a file in written form.
 pub(super) fn misfit(

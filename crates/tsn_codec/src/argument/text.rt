@@ -2,7 +2,8 @@
 ghost use Rattle.std.specs.Prelude.{◌≡◌, IfOk, string_bytes};
 ghost use Rattle.tsn_cert.specs.ArgumentText.{head_text, step_text, tail_text, ArgumentTextHasParts};
 
-use crate::argument::print;
+use crate::argument::goal;
+use crate::list::Element;
 use std::alloc::Global;
 use tsn_cert::{Goal, Step};
 use tsn_model::NoMemory;
@@ -16,7 +17,7 @@ pub fn argument_text_has_parts()
 pub fn head_to_json(alloc: Global, goal: Goal) -> Result<String, NoMemory>
     ensures { IfOk result (λ s. string_bytes s ≡ head_text goal) }
 {
-    let word = print::goal_word(goal);
+    let word = goal::goal_word(goal);
     Ok(format!(in alloc; "{{\"format\":3,\"goal\":\"{word}\",\"steps\":[")?)
 }
 
@@ -24,7 +25,7 @@ pub fn head_to_json(alloc: Global, goal: Goal) -> Result<String, NoMemory>
 pub fn step_to_json(alloc: Global, later: bool, step: &Step) -> Result<String, NoMemory>
     ensures { IfOk result (λ s. string_bytes s ≡ step_text later step.now) }
 {
-    let value = print::step_value(alloc, step)?;
+    let value = step.print(alloc)?;
     let text = value.to_string(alloc)?;
     drop(value);
     if later {

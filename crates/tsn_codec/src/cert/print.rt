@@ -10,6 +10,7 @@ ghost use Rattle.tsn_cert.specs.Node.{tree_node};
 ghost use Rattle.tsn_cert.specs.Cert.{chain_list, chains_of, chains_value, entry_of, entry_list, entries_of, entry_value, entries_value, node_of, nodes_of, chain_value, leaf_value, tie_value, node_value, nodes_value};
 
 use crate::document;
+use crate::list::array_of;
 use serde_json::{ToValue, Value, json};
 use std::alloc::{AllocError, Global};
 use tsn_cert::chain::{Chain, MAX_CHAIN};
@@ -29,18 +30,6 @@ pub(super) fn cert_value(
         (member (codes "target") (number_value target) no_members)))) }
 {
     json!(in alloc; {"format": format, "nodes": nodes, "target": target})
-}
-
-pub(super) fn nodes_value(alloc: Global, nodes: &[Node]) -> Result<Value, AllocError>
-    ensures value { IfOk result (λ v. view v ≡ nodes_value (map tree_node nodes.now)) }
-    ensures reads_back { OnOk result
-        (nodes_of (nodes_value (map tree_node nodes.now)) ≡ Some (map tree_node nodes.now)) }
-{
-    let mut items = Vec::with_capacity(alloc, nodes.len())?;
-    for node in nodes {
-        items.push(node_value(alloc, node)?)?;
-    }
-    Ok(Value::Array(items))
 }
 
 pub(super) fn node_value(alloc: Global, node: &Node) -> Result<Value, AllocError>
@@ -142,23 +131,12 @@ fn one_part_value(
     Ok(Value::Array(document::with_item(document::first_items(alloc, word, number), part)?))
 }
 
-#[tactic(auto, using(crate::proofs::CertLemmas::chains_back))]
+#[tactic(auto, using(crate::proofs::CertLemmas::chains_back, crate::proofs::Elements::map_same))]
 fn chains_value(alloc: Global, chains: &Chains) -> Result<Value, AllocError>
     ensures value { IfOk result (λ v. view v ≡ chains_value chains.now) }
     ensures reads_back { OnOk result (chains_of (chains_value chains.now) ≡ Some chains.now) }
 {
-    chain_values(alloc, chains.list())
-}
-
-fn chain_values(alloc: Global, chains: &[Chain]) -> Result<Value, AllocError>
-    ensures value { IfOk result (λ v. view v ≡ chains_value chains.now) }
-    ensures reads_back { OnOk result (chain_list (chains_value chains.now) ≡ Some chains.now) }
-{
-    let mut items = Vec::with_capacity(alloc, chains.len())?;
-    for chain in chains {
-        items.push(chain_value(alloc, chain)?)?;
-    }
-    Ok(Value::Array(items))
+    array_of::<Chain>(alloc, chains.list())
 }
 
 #[tactic(auto, using(crate::proofs::CertLemmas::entries_back))]
@@ -166,22 +144,10 @@ fn entries_value(alloc: Global, entries: &Entries) -> Result<Value, AllocError>
     ensures value { IfOk result (λ v. view v ≡ entries_value entries.now) }
     ensures reads_back { OnOk result (entries_of (entries_value entries.now) ≡ Some entries.now) }
 {
-    entry_values(alloc, entries.list())
+    array_of::<(Frame, Chain)>(alloc, entries.list())
 }
 
-fn entry_values(alloc: Global, entries: &[(Frame, Chain)]) -> Result<Value, AllocError>
-    ensures value { IfOk result (λ v. view v ≡ entries_value (map tree_entry entries.now)) }
-    ensures reads_back { OnOk result
-        (entry_list (entries_value (map tree_entry entries.now)) ≡ Some (map tree_entry entries.now)) }
-{
-    let mut items = Vec::with_capacity(alloc, entries.len())?;
-    for entry in entries {
-        items.push(entry_value(alloc, entry)?)?;
-    }
-    Ok(Value::Array(items))
-}
-
-fn entry_value(alloc: Global, entry: &(Frame, Chain)) -> Result<Value, AllocError>
+pub(super) fn entry_value(alloc: Global, entry: &(Frame, Chain)) -> Result<Value, AllocError>
     ensures value { IfOk result (λ v. view v ≡ entry_value (tree_entry entry.now)) }
     ensures reads_back { OnOk result
         (entry_of (entry_value (tree_entry entry.now)) ≡ Some (tree_entry entry.now)) }
@@ -208,7 +174,7 @@ fn branch_value(alloc: Global, triple: &Triple) -> Result<Value, AllocError>
     }
 }
 
-fn chain_value(alloc: Global, chain: &Chain) -> Result<Value, AllocError>
+pub(super) fn chain_value(alloc: Global, chain: &Chain) -> Result<Value, AllocError>
     ensures value { IfOk result (λ v. view v ≡ chain_value chain.now) }
     ensures short { length chain.now ≤ MAX_CHAIN }
 {

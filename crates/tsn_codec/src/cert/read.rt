@@ -3,12 +3,15 @@ ghost use Rattle.std.specs.Prelude.{◌≡◌};
 ghost use Rattle.tsn_cert.specs.Form.{either_row, row_of};
 ghost use Rattle.tsn_cert.specs.Entry.{tree_entry};
 ghost use Rattle.tsn_cert.specs.Node.{tree_node};
-ghost use Rattle.tsn_cert.specs.Cert.{chain_form, chains_form, reason_row, triple_row, cycle_row, first_entry_row, later_entry_row, entry_form, entries_form, load_row, tie_row, tie_load_row, node_rows, node_form, nodes_form, format_form, format_numbered};
+ghost use Rattle.tsn_cert.specs.Cert.{chain_form, chains_form, reason_row, triple_row, cycle_row, first_entry_row, later_entry_row, entry_form, entries_form, chain_value, entry_value, node_value, load_row, tie_row, tie_load_row, node_rows, node_form, nodes_form, format_form, format_numbered};
 ghost use Rattle.tsn_codec.specs.Takes.{Takes};
 ghost use Rattle.tsn_codec.specs.CertSays.{chain_element, entry_element, node_element};
 
+use crate::cert::print;
 use crate::list::{Element, few, list};
 use crate::tokens::{Tokens, Unread};
+use serde_json::Value;
+use std::alloc::{AllocError, Global};
 use tsn_cert::chain::Chain;
 use tsn_cert::chains::{Chains, MAX_CHAINS};
 use tsn_cert::entries::{Entries, MAX_ENTRIES};
@@ -28,6 +31,13 @@ impl Element for Chain {
 
     fn take(tokens: &mut Tokens<'_>) -> Result<Chain, Unread> {
         tokens.chain()
+    }
+
+    ghost written = { chain_value };
+
+    #[tactic(auto, using(crate::proofs::CertLemmas::chain_back))]
+    fn print(&self, alloc: Global) -> Result<Value, AllocError> {
+        print::chain_value(alloc, self)
     }
 
     ghost says = { chain_element };
@@ -73,6 +83,12 @@ impl Element for (Frame, Chain) {
         tokens.open_array()?;
         let stream = tokens.index()?;
         entry(tokens, stream)
+    }
+
+    ghost written = { entry_value };
+
+    fn print(&self, alloc: Global) -> Result<Value, AllocError> {
+        print::entry_value(alloc, self)
     }
 
     ghost says = { entry_element };
@@ -201,6 +217,12 @@ impl Element for Node {
         tokens.open_array()?;
         let word = tokens.word()?;
         node(tokens, word)
+    }
+
+    ghost written = { node_value };
+
+    fn print(&self, alloc: Global) -> Result<Value, AllocError> {
+        print::node_value(alloc, self)
     }
 
     ghost says = { node_element };

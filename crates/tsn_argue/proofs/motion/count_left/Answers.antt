@@ -1,6 +1,6 @@
 use Rattle.std.proofs.Common.{◌≡◌, true, false, get_or, refl, sym, ap, ◌∙◌, arith}
 use Rattle.tsn_model.specs.Argument.{contradicts, left_open}
-use Rattle.tsn_cert.specs.Meaning.{fact_of}
+use Rattle.tsn_cert.specs.Fact.{fact_of}
 use Rattle.tsn_cert.specs.declared.fact.Fact.{Fact}
 use Rattle.tsn_cert.specs.declared.fact.Fact.TheVariants.{From}
 use Rattle.tsn_argue.specs.State.{view_of}

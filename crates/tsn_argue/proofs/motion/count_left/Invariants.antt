@@ -1,6 +1,6 @@
 use Rattle.std.proofs.Common.{◌≡◌, ◌≤◌, length, take}
 use Rattle.tsn_model.specs.Argument.{left_open}
-use Rattle.tsn_cert.specs.Meaning.{clause_of}
+use Rattle.tsn_cert.specs.Fact.{clause_of}
 use Rattle.tsn_argue.specs.State.{view_of}
 use Rattle.tsn_argue.proofs.motion.count_left.Given as goal
 

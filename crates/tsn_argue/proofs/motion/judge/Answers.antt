@@ -2,7 +2,8 @@ use Rattle.std.proofs.Common.{◌≡◌, List, map, sym, ap, ◌∙◌, subst}
 use Rattle.std.specs.Prelude.{Result}
 use Rattle.tsn_model.specs.Network.{Network}
 use Rattle.tsn_model.specs.Argument.{Fact as ModelFact, Move as ModelMove, View, go, turn, pack, round, follow}
-use Rattle.tsn_cert.specs.Meaning.{decision_of, move_of}
+use Rattle.tsn_cert.specs.Order.{decision_of}
+use Rattle.tsn_cert.specs.Move.{move_of}
 use Rattle.tsn_argue.specs.Motion.{clauses_of, JudgesMove}
 use Rattle.tsn_argue.specs.declared.wrong.Wrong.{Wrong}
 use Rattle.tsn_argue.specs.declared.motion.Shown.{Shown}

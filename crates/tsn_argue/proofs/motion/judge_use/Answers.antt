@@ -2,7 +2,7 @@ use Rattle.std.proofs.Common.{◌≡◌, ◌<◌, [], ◌∷◌, length, Ok, Som
 use Rattle.std.proofs.lemmas.List.{length-map}
 use Rattle.std.proofs.lemmas.List.Elements.{All-contains}
 use Rattle.tsn_model.specs.Argument.{Fact as ModelFact, IsFact, left_open, clause_at}
-use Rattle.tsn_cert.specs.Meaning.{clause_of, fact_of}
+use Rattle.tsn_cert.specs.Fact.{clause_of, fact_of}
 use Rattle.tsn_argue.specs.Motion.{facts_of, clauses_of, FindsUnit}
 use Rattle.tsn_argue.specs.State.{view_of}
 use Rattle.tsn_argue.proofs.MotionLemmas.{clause_there, clause_facts, use_shown, use_refutes, one_fact, refutes, few_open}

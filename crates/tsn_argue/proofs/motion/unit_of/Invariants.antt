@@ -1,5 +1,5 @@
 use Rattle.std.proofs.Common.{take, Ok}
-use Rattle.tsn_cert.specs.Meaning.{clause_of}
+use Rattle.tsn_cert.specs.Fact.{clause_of}
 use Rattle.tsn_argue.specs.State.{view_of}
 use Rattle.tsn_argue.specs.Motion.{FindsUnit}
 use Rattle.tsn_argue.proofs.motion.unit_of.Given as goal

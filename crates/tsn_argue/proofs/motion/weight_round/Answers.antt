@@ -2,7 +2,7 @@ use Rattle.std.proofs.Common.{◌≡◌, ◌+ℤ◌, ◌≤◌, length, map, pos
 use Rattle.std.proofs.lemmas.Result.{err_from_is_err_and}
 use Rattle.std.proofs.lemmas.Int.{ints}
 use Rattle.tsn_model.specs.Argument.{LeadsBy}
-use Rattle.tsn_cert.specs.Meaning.{decision_of}
+use Rattle.tsn_cert.specs.Order.{decision_of}
 use Rattle.tsn_cert.specs.declared.order.Order.{Order}
 use Rattle.tsn_argue.specs.State.{view_of}
 use Rattle.tsn_argue.proofs.MotionLemmas.{arc_leads, walk_none, order_wrong, order_apart, walk_more, walk_done, leads_same}

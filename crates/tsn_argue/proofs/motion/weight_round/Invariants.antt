@@ -1,5 +1,5 @@
 use Rattle.std.proofs.Common.{map}
-use Rattle.tsn_cert.specs.Meaning.{decision_of}
+use Rattle.tsn_cert.specs.Order.{decision_of}
 use Rattle.tsn_argue.specs.State.{view_of}
 use Rattle.tsn_argue.proofs.MotionLemmas.{IsWalked}
 use Rattle.tsn_argue.proofs.motion.weight_round.Given as goal

@@ -1,5 +1,5 @@
 use Rattle.std.proofs.Common.{◌≡◌, ◌⊎◌, inr, sym, subst}
-use Rattle.tsn_cert.specs.Meaning.{steps_of}
+use Rattle.tsn_cert.specs.Argument.{steps_of}
 use Rattle.tsn_argue.specs.declared.fault.ArgumentFault.{ArgumentFault}
 use Rattle.tsn_argue.specs.declared.fault.ArgumentFault.TheVariants.{Memory}
 use Rattle.tsn_argue.specs.Faults.{IsArgumentFault}

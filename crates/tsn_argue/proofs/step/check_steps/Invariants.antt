@@ -1,5 +1,5 @@
 use Rattle.std.proofs.Common.{◌≡◌, map, take}
-use Rattle.tsn_cert.specs.Meaning.{step_of}
+use Rattle.tsn_cert.specs.Argument.{step_of}
 use Rattle.tsn_argue.specs.Faults.{first_known}
 use Rattle.tsn_argue.specs.Told.{with_told, told_steps}
 use Rattle.tsn_argue.specs.Steps.{goal_of}

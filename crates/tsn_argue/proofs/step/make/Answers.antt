@@ -1,5 +1,5 @@
 use Rattle.std.proofs.Common.{refl}
-use Rattle.tsn_cert.specs.Meaning.{move_of}
+use Rattle.tsn_cert.specs.Move.{move_of}
 use Rattle.tsn_argue.specs.Motion.{clauses_of}
 use Rattle.tsn_argue.proofs.Taking.{possible}
 use Rattle.tsn_argue.proofs.TakingAll.{late_move, wrong_one}

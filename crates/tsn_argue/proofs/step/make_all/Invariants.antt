@@ -1,6 +1,6 @@
 use Rattle.std.proofs.Common.{◌≡◌, map, take}
 use Rattle.tsn_model.specs.Argument.{narrowed, AreAllowed}
-use Rattle.tsn_cert.specs.Meaning.{move_of}
+use Rattle.tsn_cert.specs.Move.{move_of}
 use Rattle.tsn_argue.specs.State.{view_of, Becomes}
 use Rattle.tsn_argue.specs.Motion.{clauses_of}
 use Rattle.tsn_argue.specs.Told.{with_told, told_moves}

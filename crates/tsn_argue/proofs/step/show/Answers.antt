@@ -1,7 +1,9 @@
 use Rattle.std.proofs.Common.{List, map, length, ap, ◌∙◌, inl, inr}
 use Rattle.std.specs.Prelude.{Ok, Err, ◌==◌}
 use Rattle.std.proofs.lemmas.Result.{err_from_is_err_and}
-use Rattle.tsn_cert.specs.Meaning.{fact_of, move_of, step_of}
+use Rattle.tsn_cert.specs.Fact.{fact_of}
+use Rattle.tsn_cert.specs.Move.{move_of}
+use Rattle.tsn_cert.specs.Argument.{step_of}
 use Rattle.tsn_cert.specs.declared.fact.Fact.{Fact}
 use Rattle.tsn_argue.specs.Motion.{clauses_of}
 use Rattle.tsn_argue.proofs.Taking.{wrong_fact_step, right_step, failed_step}

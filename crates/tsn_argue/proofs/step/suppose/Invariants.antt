@@ -1,6 +1,6 @@
 use Rattle.std.proofs.Common.{map, take}
 use Rattle.tsn_model.specs.Argument.{opposite, learned_all}
-use Rattle.tsn_cert.specs.Meaning.{clause_of}
+use Rattle.tsn_cert.specs.Fact.{clause_of}
 use Rattle.tsn_argue.specs.State.{view_of, Becomes}
 use Rattle.tsn_argue.proofs.step.suppose.Given as goal
 

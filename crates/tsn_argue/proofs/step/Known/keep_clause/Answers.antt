@@ -1,6 +1,6 @@
 use Rattle.std.proofs.Common.{List, All, sym, subst, arith}
 use Rattle.tsn_model.specs.Argument.{IsFact}
-use Rattle.tsn_cert.specs.Meaning.{clause_of}
+use Rattle.tsn_cert.specs.Fact.{clause_of}
 use Rattle.tsn_cert.specs.declared.fact.Fact.{Fact}
 use Rattle.tsn_argue.proofs.StepParts.{known_fact}
 use Rattle.tsn_argue.proofs.step.Known.keep_clause.Goals as goal

@@ -2,7 +2,8 @@ use Rattle.std.proofs.Common.{◌≡◌, List, length, refl, sym, ap, ◌∙◌,
 use Rattle.std.specs.Prelude.{Ok, Err}
 use Rattle.std.proofs.lemmas.Result.{err_from_is_err_and}
 use Rattle.std.proofs.lemmas.List.{length-map}
-use Rattle.tsn_cert.specs.Meaning.{fact_of, clause_of, step_of}
+use Rattle.tsn_cert.specs.Fact.{fact_of, clause_of}
+use Rattle.tsn_cert.specs.Argument.{step_of}
 use Rattle.tsn_cert.specs.declared.fact.Fact.{Fact}
 use Rattle.tsn_argue.specs.Motion.{clauses_of}
 use Rattle.tsn_argue.specs.Steps.{goal_of}

@@ -1,5 +1,5 @@
 use Rattle.std.proofs.Common.{◌∙◌, sym}
-use Rattle.tsn_cert.proofs.PlainArguments.{argument_read_again}
+use Rattle.tsn_cert.proofs.ArgumentLemmas.{argument_read_again}
 use Rattle.tsn_cert.proofs.argument.Argument.is_within_limits.Goals as goal
 
 pub returns-clause-reads_back : goal.returns-clause-reads_back

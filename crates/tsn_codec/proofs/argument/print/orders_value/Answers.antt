@@ -1,9 +1,0 @@
-use Rattle.std.proofs.lemmas.Result.{on_ok_weaker}
-use Rattle.tsn_cert.proofs.Parts.{orders_back}
-use Rattle.tsn_codec.proofs.argument.print.orders_value.Goals as goal
-
-pub returns-clause-reads_back : goal.returns-clause-reads_back
-returns-clause-reads_back c =
-    let is = c.list.ensures.orders in
-    on_ok_weaker c.order_list_value.result
-    (orders_back c.args.orders.now (rw is at c.list.ensures.some_order) (rw is at c.list.ensures.few_orders)) (rw is at c.order_list_value.ensures.reads_back)
