@@ -82,19 +82,7 @@ module _ (network : Network) (offsets : List ℕ) (cycles : ℕ) (run : BridgeRu
   same_id : (other : ℕ) → ((frame_in set_frames other).stream ≡ (frame_in frames other).stream)
       × ((frame_in set_frames other).shift ≡ (frame_in frames other).shift)
       × ((frame_in set_frames other).cycle ≡ (frame_in frames other).cycle)
-  same_id other = elim (cases_eq number other) [
-    | inl same ↦
-        let is : frame_in set_frames other ≡ advanced network (frame_in frames number) time = ap (frame_in set_frames) (sym same) ∙ frame_set_same frames number (advanced network (frame_in frames number) time) below in
-        let old : frame_in frames number ≡ frame_in frames other = ap (frame_in frames) same in (
-          ap (λ (f : Frame). f.stream) is ∙ ap (λ (f : Frame). f.stream) old,
-          ap (λ (f : Frame). f.shift) is
-              ∙ ap (λ (f : Frame). f.shift) old,
-          ap (λ (f : Frame). f.cycle) is ∙ ap (λ (f : Frame). f.cycle) old,
-        )
-    | inr differ ↦
-        let is = frame_set_other frames number other (advanced network (frame_in frames number) time) differ in
-        (ap (λ (f : Frame). f.stream) is, ap (λ (f : Frame). f.shift) is, ap (λ (f : Frame). f.cycle) is)
-  ]
+  same_id other = grind (arith, frame_set_same, frame_set_other)
 
   long : length set_frames ≡ length frames
   long = length-set frames number (advanced network (frame_in frames number) time)
@@ -117,9 +105,5 @@ module _ (network : Network) (offsets : List ℕ) (cycles : ℕ) (run : BridgeRu
         let size = long in
         let id = same_id at.0 in
         (at.0, omega (arith, at.1), id.0 ∙ at.2, id.1 ∙ at.3, id.2 ∙ at.4);
-    distinct = λ a b a_below b_below stream shift cycle.
-        let size = long in
-        let id_a = same_id a in
-        let id_b = same_id b in
-        tracked.distinct a b (omega arith) (omega arith) (sym id_a.0 ∙ (stream ∙ id_b.0)) (sym id_a.1 ∙ (shift ∙ id_b.1)) (sym id_a.2 ∙ (cycle ∙ id_b.2));
+    distinct = grind (arith, long, same_id);
   }

@@ -1,10 +1,10 @@
 -- A stream's frames come one after another.
-use Rattle.std.proofs.Common.{ℕ, ◌+◌, ◌*◌, ◌≤◌, ◌<◌, List, map, length, get_or, All, AllPairs, arith}
+use Rattle.std.proofs.Common.{ℕ, ◌+◌, ◌*◌, ◌≤◌, ◌<◌, List, map, get_or, All, AllPairs, arith}
 use Rattle.std.specs.List.{range_with_len}
 use Rattle.tsn_model.specs.Network.{Network, IsWellFormed, period_of, burst_of, turns_of}
 use Rattle.tsn_model.specs.Timing.{pace, shifts, UsesLink}
 use Rattle.tsn_model.specs.Schedule.{IsValid}
-use Rattle.tsn_model.proofs.Lists.{All-range, All-map-range, AllPairs-range, AllPairs-map, AllPairs-flat_map}
+use Rattle.tsn_model.proofs.Lists.{All-map-range, AllPairs-range, AllPairs-map, AllPairs-flat_map}
 use Rattle.tsn_model.proofs.Routes.{UsesLink-counted, occupancy-pos, occupancy-le-pace, burst-le-period}
 use Rattle.tsn_model.proofs.Shifts.{part_below}
 

@@ -1,8 +1,8 @@
 -- How many frames the streams send in a cycle, and where each of them stands.
 use Rattle.std.proofs.Common.{◌≡◌, ℕ, zero, suc, ◌+◌, ◌-◌, ◌*◌, ◌≤◌, ◌<◌, ◌==◌, List, [], ◌∷◌, ◌++◌, map, take, sum_by, length, get_or, AllPairs, true, false, ltb, ltb-true, refl, sym, ap, ◌∙◌, subst, arith, inl, inr, suc-mul, mul-le-mul, eqb-true, eq-eqb}
-use Rattle.std.specs.List.{flat_map, range_with_len, position_or_len}
+use Rattle.std.specs.List.{flat_map, range_with_len}
 use Rattle.std.specs.List.Sorted.{IsPartitionedBy, IsPartitionPoint}
-use Rattle.std.proofs.lemmas.Bool.{cases_lt, cases_eq, cases_order, ne_eqb, ltb-false, lt-ltb, false≢true}
+use Rattle.std.proofs.lemmas.Bool.{cases_lt, cases_order, ne_eqb, ltb-false, lt-ltb, false≢true}
 use Rattle.std.proofs.lemmas.List.{length-append, length-map, get_or_default}
 use Rattle.std.proofs.lemmas.List.FromFn.{length-range_with_len}
 use Rattle.std.proofs.Math.ListN.{get_or-append}
@@ -19,7 +19,6 @@ pub length_pieces : {X Y : Type 0} (f : X → List Y) (size : ℕ) → ((x : X) 
 length_pieces f size same [] = omega arith
 length_pieces f size same (x ∷ xs) =
     let rest = length_pieces f size same xs in
-    let here = same x in
     let whole = length-append (f x) (flat_map f xs) in
     let product = suc-mul (length xs) size in
     omega arith
@@ -27,9 +26,7 @@ length_pieces f size same (x ∷ xs) =
 module _ (network : Network) where
   pub below-more : (i : ℕ) → frames_below network (i + 1) ≡ frames_below network i + length (shifts network i)
   unfolding frames_below
-  below-more i =
-      let range : range_with_len 0 (i + 1) ≡ range_with_len 0 i ++ i ∷ [] = range_more 0 i ∙ ap (λ n. range_with_len 0 i ++ n ∷ []) (omega arith) in
-      ap (sum_by (λ j. length (shifts network j))) range ∙ sum_by_push (λ j. length (shifts network j)) (range_with_len 0 i) i
+  below-more i = grind (arith, range_more, sum_by_push)
 
   pub below-zero : frames_below network 0 ≡ 0
   unfolding frames_below
@@ -51,20 +48,12 @@ module _ (network : Network) where
 
   -- so many frames of each of the streams make blocks that come one after another
   pub blocks-le : (cycles i j : ℕ) → i ≤ j → frames_below network i * cycles ≤ frames_below network j * cycles
-  blocks-le cycles i j order =
-      let same : cycles ≤ cycles = omega arith in
-      mul-le-mul (below-le i j order) same
+  blocks-le cycles i j order = grind (arith, mul-le-mul, below-le)
 
   -- a number is in one block alone
   pub one_block : (cycles i j number : ℕ) → frames_below network i * cycles ≤ number → number < frames_below network (i + 1) * cycles
       → frames_below network j * cycles ≤ number → number < frames_below network (j + 1) * cycles → i ≡ j
-  one_block cycles i j number from_i upto_i from_j upto_j = elim (cases_order i j) [
-    | inl same ↦ same
-    | inr differ ↦ elim differ [
-      | inl less ↦ let order = blocks-le cycles (i + 1) j (omega arith) in absurd (omega arith)
-      | inr more ↦ let order = blocks-le cycles (j + 1) i (omega arith) in absurd (omega arith)
-    ]
-  ]
+  one_block cycles i j number from_i upto_i from_j upto_j = grind (arith, cases_order, blocks-le)
 
   -- ---- how many there are
 
@@ -96,34 +85,20 @@ module _ (network : Network) where
 
   pub frames_few : IsWellFormed network → frames_of network ≤ 1024
   unfolding frame_count
-  frames_few formed =
-      let is = below_is (stream_count network) (omega arith) in
-      let part = sum_by-take-le frames_in network.streams (stream_count network) in
-      let few = formed.few_frames in
-      omega arith
+  frames_few formed = grind (arith, below_is, sum_by-take-le)
 
   pub shifts-few : IsWellFormed network → (i : ℕ) → i < stream_count network → frames_below network (i + 1) ≤ 1024
-  shifts-few formed i counted =
-      let few = frames_few formed in
-      let order = below-le (i + 1) (stream_count network) (omega arith) in
-      omega arith
+  shifts-few formed i counted = grind (arith, frames_few, below-le)
 
   -- ---- where they stand
 
   pub place-below : (i shift : ℕ) → Sends network i shift → place_of network i shift < length (shifts network i)
   unfolding place_of
-  place-below i shift (k, inside, is) = elim (cases_lt (position_or_len (λ s. s == shift) (shifts network i)) (length (shifts network i))) [
-    | inl below ↦ below
-    | inr past ↦
-        let fails = fails_before_first (λ s. s == shift) (shifts network i) k shift (omega arith) in
-        absurd (false≢true (sym fails ∙ eq-eqb _ _ is))
-  ]
+  place-below i shift (k, inside, is) = grind (arith, fails_before_first, false≢true, eq-eqb)
 
   pub place-is : (i shift : ℕ) → Sends network i shift → get_or (shifts network i) (place_of network i shift) 0 ≡ shift
   unfolding place_of
-  place-is i shift sent =
-      let below : position_or_len (λ s. s == shift) (shifts network i) < length (shifts network i) = place-below i shift sent in
-      eqb-true _ _ (passes_at_first (λ s. s == shift) (shifts network i) 0 below)
+  place-is i shift sent = grind (arith, place-below, eqb-true, passes_at_first)
 
   -- the first place whose shift isn't less
   pub place_found : (i shift point : ℕ) → AllPairs ◌<◌ (shifts network i) → Sends network i shift
@@ -135,10 +110,7 @@ module _ (network : Network) where
       let not_past : point ≤ j = elim (cases_lt j point) [ inl less ↦ let low = before j less in absurd (omega arith) | inr not_less ↦ not_less ] in
       let within : point < length (shifts network i) = omega arith in
       let from = stops within in
-      let same : get_or (shifts network i) point 0 ≡ shift = elim (cases_lt point j) [
-        | inl less ↦ let gap = ascend point j 0 less inside in absurd (omega arith)
-        | inr not_less ↦ let here : point ≡ j = omega arith in ap (λ n. get_or (shifts network i) n 0) here ∙ at
-      ] in (
+      let same : get_or (shifts network i) point 0 ≡ shift = grind arith in (
         sym (position_or_len_is (λ s. s == shift) (shifts network i) point 0 (omega arith)
             (λ k less. ne_eqb _ _ (let low = before k less in λ one. omega arith)) (λ _. eq-eqb _ _ same)),
         within,
@@ -160,13 +132,7 @@ module _ (network : Network) where
       let other_place = place-below j other other_sent in
       let next = below-more i in
       let other_next = below-more j in
-      let stream : i ≡ j = elim (cases_order i j) [
-        | inl is ↦ is
-        | inr differ ↦ elim differ [
-          | inl less ↦ let order = below-le (i + 1) j (omega arith) in absurd (omega arith)
-          | inr more ↦ let order = below-le (j + 1) i (omega arith) in absurd (omega arith)
-        ]
-      ] in
+      let stream : i ≡ j = grind (arith, cases_order, below-le) in
       let moved : index_of network j shift ≡ index_of network j other = ap (λ k. index_of network k shift) (sym stream) ∙ same in
       let places : place_of network j shift ≡ place_of network j other = omega arith in (
         stream,
@@ -182,13 +148,7 @@ module _ (network : Network) where
     pub last : first ≡ frames_below network n
 
   pub firsts_none : AreFirstsUpto 0 (0 ∷ []) 0
-  firsts_none = record {
-    count = omega arith;
-    each = λ i within.
-        let same : 0 ≡ i = omega arith in
-        subst (λ k. get_or (0 ∷ []) k 0 ≡ frames_below network k) same (sym below-zero);
-    last = sym below-zero;
-  }
+  firsts_none = grind (arith, below-zero)
 
   pub firsts_more : (n : ℕ) (firsts : List ℕ) (first : ℕ) → AreFirstsUpto n firsts first
       → AreFirstsUpto (n + 1) (firsts ++ (first + length (shifts network n)) ∷ []) (first + length (shifts network n))
@@ -201,12 +161,7 @@ module _ (network : Network) where
         count = let long = length-append firsts (next ∷ []) in omega arith;
         each = λ i within. elim (cases_lt i (n + 1)) [
           | inl old ↦ get_or-append firsts (next ∷ []) 0 i (omega arith) ∙ are.each i (omega arith)
-          | inr new ↦
-              let at : length firsts ≡ i = omega arith in
-              let this : n + 1 ≡ i = omega arith in
-              let here : frames_below network (n + 1) ≡ frames_below network i = ap (frames_below network) this in
-              let same : next ≡ frames_below network i = omega arith in
-              ap (λ k. get_or (firsts ++ next ∷ []) k 0) (sym at) ∙ (get_or-append_seam firsts next [] 0 ∙ same)
+          | inr new ↦ grind (arith, get_or-append_seam)
         ];
         last = omega arith;
       }
@@ -214,30 +169,14 @@ module _ (network : Network) where
   pub firsts_all : (n : ℕ) (firsts : List ℕ) (first : ℕ) → n ≡ stream_count network → AreFirstsUpto n firsts first → AreFirsts network firsts
   firsts_all n firsts first whole are = record { count = let count = are.count in omega arith; each = λ i within. are.each i (omega arith) }
 
-  -- a table of cells for so many cycles has those of each cycle
-  pub cells-le : (cycle cycles : ℕ) → cycle < cycles → (cycle + 1) * frames_of network * 16 ≤ cycles * frames_of network * 16
-  cells-le cycle cycles below =
-      let upto : cycle + 1 ≤ cycles = omega arith in
-      let same : frames_of network ≤ frames_of network = omega arith in
-      let product : (cycle + 1) * frames_of network ≤ cycles * frames_of network = mul-le-mul upto same in
-      omega arith
-
   -- and few of them
   pub cells-few : IsWellFormed network → (cycles : ℕ) → cycles ≤ 16 → cycles * frames_of network ≤ 16384
-  cells-few formed cycles few =
-      let frames = frames_few formed in
-      let product : cycles * frames_of network ≤ 16 * 1024 = mul-le-mul few frames in
-      omega arith
+  cells-few formed cycles few = grind (arith, frames_few, mul-le-mul)
 
   -- ---- the place of a shift, as it is searched for
 
   pub shifts_parted : (i shift : ℕ) → AllPairs ◌<◌ (shifts network i) → IsPartitionedBy (λ s. ltb s shift) (shifts network i)
-  shifts_parted i shift ascend k l d order below passes =
-      let less = ltb-true (get_or (shifts network i) l d) shift passes in
-      lt-ltb (get_or (shifts network i) k d) shift (elim (cases_eq k l) [
-        | inl same ↦ let is = ap (λ n. get_or (shifts network i) n d) same in omega arith
-        | inr differ ↦ let gap = ascend k l d (omega arith) below in omega arith
-      ])
+  shifts_parted i shift ascend k l d order below passes = grind (arith, ltb-true, lt-ltb)
 
   pub place_searched : (i shift point : ℕ) → AllPairs ◌<◌ (shifts network i) → Sends network i shift → point ≤ length (shifts network i)
       → IsPartitionPoint (λ s. ltb s shift ≡ true) (λ s. ltb s shift ≡ false) (shifts network i) point
@@ -260,13 +199,4 @@ module _ (network : Network) where
       → i < stream_count network
       → Sends network i shift → place ≡ place_of network i shift → streams ≡ stream_count network
       → CellNumbers cycle (get_or firsts i 0) place (get_or firsts streams 0)
-  cell_numbers formed firsts are cycle i shift place streams early counted sent place_is streams_is =
-      let all = are.each streams (omega arith) ∙ ap (frames_below network) streams_is in
-      let first = are.each i (omega arith) in
-      let below = index-below i shift counted sent in
-      let frames = frames_few formed in
-      let upto : cycle ≤ 16 = omega arith in
-      let product : cycle * frames_of network ≤ 16 * 1024 = mul-le-mul upto frames in
-      let same : cycle * get_or firsts streams 0 ≡ cycle * frames_of network = ap (λ n. cycle * n) all in
-      let gap = cycle_below cycle (cycle + 1) (frames_of network) (omega arith) in
-      record { all = all; inside = omega arith; few = omega arith; before = omega arith; here = omega arith }
+  cell_numbers formed firsts are cycle i shift place streams early counted sent place_is streams_is = grind (arith, index-below, frames_few, mul-le-mul, cycle_below)

@@ -1,5 +1,5 @@
 -- Entries of a gate control list, one more of them, and the octets that they show.
-use Rattle.std.proofs.Common.{◌≡◌, ◌≢◌, ℕ, suc, ◌+◌, ◌-◌, ◌≤◌, ◌<◌, ◌⊎◌, List, [], ◌∷◌, ◌++◌, length, get_or, set, Some, nat_lt, refl, sym, ap, ◌∙◌, subst, arith, inl, inr}
+use Rattle.std.proofs.Common.{◌≡◌, ◌≢◌, ℕ, suc, ◌+◌, ◌-◌, ◌≤◌, ◌<◌, List, [], ◌∷◌, ◌++◌, length, get_or, set, Some, nat_lt, refl, sym, ap, ◌∙◌, subst, arith, inl, inr}
 use Rattle.std.proofs.lemmas.List.{length-append, set-get_or}
 use Rattle.std.proofs.lemmas.List.Sums.{sum_by-cons, sum_by_push}
 use Rattle.std.proofs.lemmas.List.Elements.{All-nil, All-cons, All-append, All-pop}
@@ -56,37 +56,14 @@ pub NeighboursDiffer-nil : NeighboursDiffer []
 NeighboursDiffer-nil = λ k d below. absurd (omega arith)
 
 pub NeighboursDiffer-push : (xs : List GateEntry) (entry : GateEntry) → NeighboursDiffer xs → ((d : GateEntry) → 0 < length xs → (get_or xs (length xs - 1) d).octet ≢ entry.octet) → NeighboursDiffer (xs ++ entry ∷ [])
-NeighboursDiffer-push xs entry differ last k d below =
-    let long = length-append xs (entry ∷ []) in
-    elim (cases_lt (k + 1) (length xs)) [
-      | inl inside ↦
-          let low : k < length xs = omega arith in
-          λ same. differ k d inside (sym (ap (λ (e : GateEntry). e.octet) (get_or-append xs (entry ∷ []) d k low)) ∙ (same ∙ ap (λ (e : GateEntry). e.octet) (get_or-append xs (entry ∷ []) d (k + 1) inside)))
-      | inr past ↦
-          let at : k ≡ length xs - 1 = omega arith in
-          let next : k + 1 ≡ length xs = omega arith in
-          let low : k < length xs = omega arith in
-          λ same. last d (omega arith) (
-          ap (λ n. (get_or xs n d).octet) (sym at)
-          ∙ (sym (ap (λ (e : GateEntry). e.octet) (get_or-append xs (entry ∷ []) d k low)) ∙ (same
-          ∙ (ap (λ n. (get_or (xs ++ entry ∷ []) n d).octet) next ∙ ap (λ (e : GateEntry). e.octet) (get_or-append_seam xs entry [] d)))))
-    ]
+NeighboursDiffer-push xs entry differ last k d below = grind (arith, length-append, get_or-append, get_or-append_seam)
 
 -- all but the last entry, and that it differs from its neighbour
 pub NeighboursDiffer-front : (xs : List GateEntry) (entry : GateEntry) → NeighboursDiffer (xs ++ entry ∷ []) → NeighboursDiffer xs
-NeighboursDiffer-front xs entry differ k d below =
-    let long = length-append xs (entry ∷ []) in
-    let low : k < length xs = omega arith in
-    λ same. differ k d (omega arith) (ap (λ (e : GateEntry). e.octet) (get_or-append xs (entry ∷ []) d k low) ∙ (same ∙ sym (ap (λ (e : GateEntry). e.octet) (get_or-append xs (entry ∷ []) d (k + 1) below))))
+NeighboursDiffer-front xs entry differ k d below = grind (arith, length-append, get_or-append)
 
 pub NeighboursDiffer-last : (xs : List GateEntry) (entry : GateEntry) → NeighboursDiffer (xs ++ entry ∷ []) → (d : GateEntry) → 0 < length xs → (get_or xs (length xs - 1) d).octet ≢ entry.octet
-NeighboursDiffer-last xs entry differ d some =
-    let long = length-append xs (entry ∷ []) in
-    let low : length xs - 1 < length xs = omega arith in
-    let next : length xs - 1 + 1 ≡ length xs = omega arith in
-    λ same. differ (length xs - 1) d (omega arith) (
-    ap (λ (e : GateEntry). e.octet) (get_or-append xs (entry ∷ []) d (length xs - 1) low)
-    ∙ (same ∙ (sym (ap (λ (e : GateEntry). e.octet) (get_or-append_seam xs entry [] d)) ∙ ap (λ n. (get_or (xs ++ entry ∷ []) n d).octet) (sym next))))
+NeighboursDiffer-last xs entry differ d some = grind (arith, length-append, get_or-append, get_or-append_seam)
 
 -- ---- one more entry
 
@@ -117,10 +94,7 @@ Appends-lengthen_front front last interval =
     let old = cycle_of-push front last in
     let new = cycle_of-push front longer in record {
       whole = omega arith;
-      before = λ t below. elim (cases_lt t (cycle_of front)) [
-        | inl early ↦ octet_at-append_left front (longer ∷ []) t early ∙ sym (octet_at-append_left front (last ∷ []) t early)
-        | inr late ↦ octet_at-push front longer [] t late (omega arith) ∙ sym (octet_at-push front last [] t late (omega arith))
-      ];
+      before = grind (arith, octet_at-append_left, octet_at-push);
       shown = λ t low high. octet_at-push front longer [] t (omega arith) (omega arith);
       positive = λ all.
           let kept = All-pop (λ (e : GateEntry). 1 ≤ e.interval) (front ++ last ∷ []) front (Some last) refl all in
@@ -151,9 +125,7 @@ ends_in (y ∷ z ∷ zs) x some is =
 
 -- the last entry is written back
 pub set_same : {X : Type 0} (xs : List X) (n : ℕ) (x : X) → n ≡ length xs → 0 < n → x ≡ get_or xs (n - 1) x → set xs (n - 1) x ≡ xs
-set_same xs n x long some is =
-    let below : n - 1 < length xs = omega arith in
-    ap (λ y. set xs (n - 1) y) is ∙ set-get_or xs (n - 1) x
+set_same xs n x long some is = grind (arith, set-get_or)
 
 -- the last entry shows the same octet
 pub Appends-lengthen : (old : List GateEntry) (n : ℕ) (last : GateEntry) (interval octet : ℕ) → n ≡ length old → 0 < n → last ≡ get_or old (n - 1) last → last.octet ≡ octet

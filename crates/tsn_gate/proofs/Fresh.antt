@@ -1,5 +1,5 @@
 -- The frames with which a replay begins.
-use Rattle.std.proofs.Common.{◌≡◌, ℕ, zero, suc, ◌+◌, ◌-◌, ◌*◌, ◌^◌, ◌≤◌, ◌<◌, ◌⊎◌, List, [], ◌∷◌, ◌++◌, map, flat_map, length, get_or, All, AllPairs, Contains, refl, sym, ap, ◌∙◌, subst, arith, inl, inr, append-nil, mul-le-mul, add-mul}
+use Rattle.std.proofs.Common.{◌≡◌, ℕ, zero, suc, ◌+◌, ◌-◌, ◌*◌, ◌^◌, ◌≤◌, ◌<◌, ◌⊎◌, List, ◌++◌, map, flat_map, length, get_or, All, AllPairs, Contains, refl, sym, ap, ◌∙◌, subst, arith, inl, inr, append-nil, mul-le-mul, add-mul}
 use Rattle.std.specs.List.{range_with_len}
 use Rattle.std.proofs.lemmas.Bool.{cases_lt, cases_order}
 use Rattle.std.proofs.lemmas.Grind.{flat_map-append}
@@ -22,9 +22,7 @@ use Rattle.tsn_gate.proofs.Counting.{length_pieces, below-more, below-zero}
 
 -- one more piece
 pub pieces_next : {X : Type 0} (f : ℕ → List X) (n : ℕ) → flat_map f (range_with_len 0 (n + 1)) ≡ flat_map f (range_with_len 0 n) ++ f n
-pieces_next f n =
-    let more : range_with_len 0 (n + 1) ≡ range_with_len 0 n ++ n ∷ [] = range_more 0 n ∙ ap (λ m. range_with_len 0 n ++ m ∷ []) (omega arith) in
-    ap (flat_map f) more ∙ (flat_map-append f (range_with_len 0 n) (n ∷ []) ∙ ap (λ ys. flat_map f (range_with_len 0 n) ++ ys) (append-nil (f n)))
+pieces_next f n = grind (arith, range_more, flat_map-append, append-nil)
 
 module _ (network : Network) (offsets : List ℕ) (cycles : ℕ) where
   -- a stream's frames of a cycle, those of all cycles, and those of the streams below n
@@ -116,13 +114,7 @@ module _ (network : Network) (offsets : List ℕ) (cycles : ℕ) where
       let inside : number < length (frames_upto (n + 1)) = subst (λ m. number < length (frames_upto m)) (sym one) below in
       let right : StandsRight number (get_or (frames_upto n ++ stream_frames n) number none) = elim (cases_lt number (length (frames_upto n))) [
         | inl old ↦ subst (StandsRight number) (sym (get_or-append (frames_upto n) (stream_frames n) none number old)) (stands n number old)
-        | inr new ↦
-            let size = ap length pieces ∙ length-append (frames_upto n) (stream_frames n) in
-            let at = get_or-append_right (frames_upto n) (stream_frames n) number none new in
-            let stream : (get_or (stream_frames n) (number - length (frames_upto n)) none).stream ≡ n = of_stream n (number - length (frames_upto n)) none
-            (omega arith) in
-            subst (StandsRight number) (sym at)
-            (subst (λ i. (frames_below network i * cycles ≤ number) × (number < frames_below network (i + 1) * cycles)) (sym stream) (omega arith, omega arith))
+        | inr new ↦ grind (arith, length-append, get_or-append_right, of_stream)
       ] in
       subst (λ m. StandsRight number (get_or (frames_upto m) number none)) one (subst (λ xs. StandsRight number (get_or xs number none)) (sym pieces) right)
 
@@ -159,12 +151,6 @@ module _ (network : Network) (offsets : List ℕ) (cycles : ℕ) where
         AllPairs-flat_map ◌<◌ IsEarlier (cycle_frames stream) (range_with_len 0 cycles) (AllPairs-range cycles 0) (in_cycle stream counted)
         (λ cycle later less. across_cycles stream counted cycle later less)
 
-    across_streams : (stream later : ℕ) → stream < later → All (λ a. All (IsEarlier a) (stream_frames later)) (stream_frames stream)
-    across_streams stream later less k d inside l e there =
-        let first = of_stream stream k d inside in
-        let second = of_stream later l e there in
-        inl (omega arith)
-
     below_stream : (n : ℕ) → All (λ (frame : Frame). frame.stream < n) (frames_upto n)
     below_stream n =
         All-flat_map (λ (frame : Frame). frame.stream < n) stream_frames (range_with_len 0 n)
@@ -196,12 +182,7 @@ module _ (network : Network) (offsets : List ℕ) (cycles : ℕ) where
     ready_together : (a b : ℕ) → a < length frames → b < length frames → (frame_in frames a).stream ≡ (frame_in frames b).stream
         → (frame_in frames a).shift ≡ (frame_in frames b).shift → (frame_in frames a).cycle ≡ (frame_in frames b).cycle
         → (frame_in frames a).ready ≡ (frame_in frames b).ready
-    ready_together a b a_below b_below stream shift cycle =
-        let offset : offset_of offsets (frame_in frames a).stream ≡ offset_of offsets (frame_in frames b).stream = ap (offset_of offsets) stream in
-        let begin : (frame_in frames a).cycle * network.cycle ≡ (frame_in frames b).cycle * network.cycle = ap (λ n. n * network.cycle) cycle in
-        let a_ready = (fresh a a_below).ready in
-        let b_ready = (fresh b b_below).ready in
-        omega arith
+    ready_together a b a_below b_below stream shift cycle = grind (arith, fresh)
 
     listed : (stream shift cycle : ℕ) → Contains frames (fresh_frame stream cycle (cycle * network.cycle + offset_of offsets stream) shift)
         → (number : ℕ) × (number < length frames) × ((frame_in frames number).stream ≡ stream) × ((frame_in frames number).shift ≡ shift)
@@ -219,35 +200,16 @@ module _ (network : Network) (offsets : List ℕ) (cycles : ℕ) where
           let is = fresh number below in
           let first = is.hop in
           let ready = is.ready in
-          record {
-            stream = is.stream;
-            sent = is.sent;
-            cycle = is.cycle;
-            hop = omega arith;
-            started = λ k earlier. absurd (omega arith);
-            unstarted = λ k s past at. absurd (Contains-nil _ at);
-            ready = λ waits. inl (is.hop, is.ready);
-          };
+          grind (arith, earlier, Contains-nil);
       complete = λ stream shift cycle counted sent below. listed stream shift cycle (has stream shift cycle counted sent below);
-      distinct = λ a b a_below b_below stream shift cycle.
-          let together = ready_together a b a_below b_below stream shift cycle in
-          elim (cases_order a b) [
-            | inl same ↦ same
-            | inr differ ↦ elim differ [
-              | inl less ↦ let sooner = later a b less b_below stream in absurd (omega arith)
-              | inr more ↦ let sooner = later b a more a_below (sym stream) in absurd (omega arith)
-            ]
-          ];
+      distinct = grind (arith, ready_together, cases_order, later);
     }
 
     pub fresh_line : AreInLine network cycles frames
     fresh_line = record {
       count = upto_long (stream_count network);
       place = stands (stream_count network);
-      hops = λ a b less below same.
-          let a_hop = (fresh a (omega arith)).hop in
-          let b_hop = (fresh b below).hop in
-          omega arith;
+      hops = grind (arith, fresh);
       readies = λ a b less below same hop waits. later a b less below same;
     }
 
@@ -255,9 +217,6 @@ module _ (network : Network) (offsets : List ℕ) (cycles : ℕ) where
         → All (λ (frame : Frame). frame.ready ≤ 2 ^ 50) frames
     fresh_early formed small count few k d below =
         let is = all_fresh k d below in
-        let counted = is.stream in
-        let cycle = is.cycle in
-        let ready = is.ready in
         let short = formed.short_cycle in
         let offset = small (get_or frames k d).stream 0 (omega arith) in
         let shift = spaced.within (get_or frames k d).stream (get_or frames k d).shift is.stream is.sent in

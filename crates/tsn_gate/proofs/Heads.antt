@@ -1,11 +1,10 @@
 -- The first frame of a queue, as the frames are gone through.
-use Rattle.std.proofs.Common.{◌≡◌, ℕ, ◌+◌, ◌<◌, ◌⊎◌, List, length, get_or, All, Option, Some, None, sym, ap, ◌∙◌, subst, arith, inl, inr}
+use Rattle.std.proofs.Common.{◌≡◌, ℕ, ◌+◌, ◌<◌, ◌⊎◌, List, length, get_or, All, Option, Some, None, sym, subst, arith, inl, inr}
 use Rattle.std.proofs.lemmas.List.{get_or_default}
-use Rattle.std.proofs.lemmas.Bool.{cases_lt}
 use Rattle.tsn_model.specs.Network.{Network, stream_count}
 use Rattle.tsn_gate.specs.declared.queue.Frame.{Frame}
 use Rattle.tsn_gate.specs.declared.visits.Visit.{Visit}
-use Rattle.tsn_gate.specs.Queue.{Waits, Precedes, IsHead, IsFirstAmong, AreVisits, frame_in, visit_of}
+use Rattle.tsn_gate.specs.Queue.{Waits, Precedes, IsHead, IsFirstAmong, AreVisits, frame_in}
 
 pub from_frame : (P : Frame → Type 0) (frames : List Frame) (number : ℕ) (d : Frame) → number < length frames → P (frame_in frames number)
     → P (get_or frames number d)
@@ -30,46 +29,21 @@ module _ (network : Network) (frames : List Frame) (link : ℕ) (P Q R : Frame �
   pub head_skip : (first : Option ℕ) → IsFirstAmong network frames link P first → IsFirstAmong network frames link Q None
       → IsFirstAmong network frames link R first
   head_skip None none not_here = both (λ number. Waits network link (frame_in frames number) → ⊥) none not_here
-  head_skip (Some best) (below, waits, first) not_here = (
-    below,
-    waits,
-    both (λ number. Waits network link (frame_in frames number) → Precedes (frame_in frames best) (frame_in frames number)) first
-        (λ number within is here. absurd (not_here number within is here)),
-  )
+  head_skip (Some best) (below, waits, first) not_here = grind (arith, both)
 
   pub head_only : (first : Option ℕ) (next : ℕ) → first ≡ None → IsFirstAmong network frames link P first → IsFirstAmong network frames link Q (Some next)
       → IsFirstAmong network frames link R (Some next)
-  head_only first next is before (below, waits, here) =
-      let none = subst (IsFirstAmong network frames link P) is before in (
-        below,
-        waits,
-        both (λ number. Waits network link (frame_in frames number) → Precedes (frame_in frames next) (frame_in frames number))
-            (λ number within old waits. absurd (none number within old waits)) here,
-      )
+  head_only first next is before (below, waits, here) = grind (arith, both)
 
   pub head_kept : (first : Option ℕ) (best next : ℕ) → first ≡ Some best → IsFirstAmong network frames link P first
       → IsFirstAmong network frames link Q (Some next) → Precedes (frame_in frames best) (frame_in frames next)
       → IsFirstAmong network frames link R (Some best)
-  head_kept first best next is before (below, waits, here) sooner =
-      let some = subst (IsFirstAmong network frames link P) is before in (
-        some.0,
-        some.1,
-        both (λ number. Waits network link (frame_in frames number) → Precedes (frame_in frames best) (frame_in frames number)) some.2
-            (λ number within new waits. precedes_further (frame_in frames best) (frame_in frames next) (frame_in frames number) sooner
-            (here number within new waits)),
-      )
+  head_kept first best next is before (below, waits, here) sooner = grind (arith, both, precedes_further)
 
   pub head_new : (first : Option ℕ) (best next : ℕ) → first ≡ Some best → IsFirstAmong network frames link P first
       → IsFirstAmong network frames link Q (Some next) → Precedes (frame_in frames next) (frame_in frames best)
       → IsFirstAmong network frames link R (Some next)
-  head_new first best next is before (below, waits, here) sooner =
-      let some = subst (IsFirstAmong network frames link P) is before in (
-        below,
-        waits,
-        both (λ number. Waits network link (frame_in frames number) → Precedes (frame_in frames next) (frame_in frames number))
-            (λ number within old waits. precedes_further (frame_in frames next) (frame_in frames best) (frame_in frames number) sooner
-            (some.2 number within old waits)) here,
-      )
+  head_new first best next is before (below, waits, here) sooner = grind (arith, both, precedes_further)
 
 -- ---- the hops on the link
 
@@ -83,25 +57,14 @@ IsVisited visits count frame = (k : ℕ) × (k < count) × ((get_or visits k no_
 
 pub visited_more : (visits : List Visit) (count : ℕ) (frame : Frame) → IsVisited visits (count + 1) frame
     → IsVisited visits count frame ⊎ (frame.stream ≡ (get_or visits count no_visit).stream)
-visited_more visits count frame (k, below, same) = elim (cases_lt k count) [
-  | inl earlier ↦ inl (k, earlier, same)
-  | inr last ↦ let is : k ≡ count = omega arith in inr (sym same ∙ ap (λ n. (get_or visits n no_visit).stream) is)
-]
+visited_more visits count frame (k, below, same) = grind arith
 
 -- a frame that waits on the link is of a stream that has a hop there
 module _ (network : Network) (frames : List Frame) (link : ℕ) (streams : All (λ (frame : Frame). frame.stream < stream_count network) frames)
     (visits : List Visit) (are : AreVisits network link visits) where
   visited : (number : ℕ) → number < length frames → Waits network link (frame_in frames number) → IsVisited visits (length visits) (frame_in frames number)
   unfolding frame_in
-  visited number below waits =
-      let counted = streams number (record { stream = 0; shift = 0; cycle = 0; hop = 0; ready = 0 }) below in
-      let has = are.complete (frame_in frames number).stream (frame_in frames number).hop counted waits.waits waits.on in (
-        has.0,
-        has.1,
-        ap (λ (v : Visit). v.stream)
-            (get_or_default visits has.0 no_visit
-            (visit_of network (frame_in frames number).stream (frame_in frames number).hop) has.1 ∙ has.2),
-      )
+  visited number below waits = grind (arith, get_or_default)
 
   pub head_all : (first : Option ℕ) → IsFirstAmong network frames link (IsVisited visits (length visits)) first → IsHead network frames link first
   head_all None none = λ number below waits. none number below (visited number below waits) waits

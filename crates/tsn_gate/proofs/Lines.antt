@@ -1,5 +1,5 @@
 -- The frames of a list stay in line, by each start and by each step of time.
-use Rattle.std.proofs.Common.{◌≡◌, ◌≢◌, ℕ, ◌+◌, ◌*◌, ◌≤◌, ◌<◌, ◌⊎◌, List, [], ◌∷◌, ◌++◌, map, length, get_or, Option, Some, None, All, Any, Contains, zero, suc, refl, sym, ap, ◌∙◌, subst, arith, inl, inr, mul-pos}
+use Rattle.std.proofs.Common.{◌≡◌, ◌≢◌, ℕ, ◌+◌, ◌*◌, ◌≤◌, ◌<◌, ◌⊎◌, List, [], ◌∷◌, ◌++◌, map, length, get_or, Option, Some, None, All, Any, Contains, zero, suc, refl, sym, ap, ◌∙◌, subst, arith, inl, inr}
 use Rattle.std.specs.List.{AllPairs}
 use Rattle.std.proofs.lemmas.Bool.{cases_lt, cases_order}
 use Rattle.std.proofs.lemmas.List.{get_or_default}
@@ -46,19 +46,7 @@ not_before_itself list a before = elim before.order [ inl less ↦ omega arith |
 
 -- of two frames of one link
 pub number_cases : (list : List BackgroundFrame) (a b : ℕ) → a < length list → b < length list → (frame_at list a).link ≡ (frame_at list b).link → IsBefore list a b ⊎ (a ≡ b) ⊎ IsBefore list b a
-number_cases list a b a_below b_below same = elim (cases_order (frame_at list a).wanted (frame_at list b).wanted) [
-  | inl tie ↦ elim (cases_order a b) [
-    | inl is ↦ inr (inl is)
-    | inr differ ↦ elim differ [
-      | inl less ↦ inl (record { listed = a_below; same_link = same; order = inr (tie, less) })
-      | inr more ↦ inr (inr (record { listed = b_below; same_link = sym same; order = inr (sym tie, more) }))
-    ]
-  ]
-  | inr differ ↦ elim differ [
-    | inl less ↦ inl (record { listed = a_below; same_link = same; order = inl less })
-    | inr more ↦ inr (inr (record { listed = b_below; same_link = sym same; order = inl more }))
-  ]
-]
+number_cases list a b a_below b_below same = grind (arith, cases_order)
 
 -- ---- the uses of wires by background frames
 
@@ -81,7 +69,6 @@ module _ (network : Network) (formed : IsWellFormed network) (offsets : List ℕ
       let until : begun.time + (begun.octets + 20) * (link_at network begun.link).octet_time ≤ free begun.link =
       All-contains (λ (wire : WireUse). wire.until ≤ free wire.link) (wire_uses network run) (background_use network begun) so_far.uses_end (has_use begun has) in
       let rate = rate-pos network formed begun.link exists in
-      let some : 0 < (begun.octets + 20) * (link_at network begun.link).octet_time = mul-pos (omega arith) rate in
       omega arith
 
   -- what has started has so before any later instant
@@ -152,9 +139,7 @@ module _ (network : Network) (formed : IsWellFormed network) (offsets : List ℕ
         | inl held ↦ inl (held_more network offsets gates cycles run new now extends (frame_at list number).link t held)
         | inr (earlier, before, unstarted) ↦ inr (earlier, before, λ begun. unstarted (less earlier (t + 1) (omega arith) begun))
       ]
-      | inr present ↦
-          let soon : t < after (frame_at list number).link = elim when [ inl past ↦ absurd (omega arith) | inr soon ↦ soon ] in
-          inl (inr (busy (frame_at list number).link t present soon))
+      | inr present ↦ grind arith
     ]
 
     pub list_kept : new.background ≡ run.background → IsListSoFar network gates cycles list after now new
@@ -178,11 +163,7 @@ module _ (network : Network) (formed : IsWellFormed network) (offsets : List ℕ
     -- it hasn't started, and each that has on its link has before now
     unstarted : (old : BackgroundStart) → Contains run.background old → old.number ≡ waiting.number → ⊥
     unfolding waiting_at
-    unstarted old has same =
-        let facts = All-contains (λ (b : BackgroundStart). (b.number < length list) × (b.link ≡ (frame_at list b.number).link) × (b.octets ≡ (frame_at list b.number).octets)) run.background old steady.listed has in
-        let old_link : old.link ≡ link = facts.1 ∙ (ap (λ n. (frame_at list n).link) same ∙ (sym (ap (λ (w : Waiting). w.link) line.0.is) ∙ line.0.on)) in
-        let itself = All-contains (λ (b : BackgroundStart). b.link ≡ link → IsBefore list b.number waiting.number) run.background old line.2 has old_link in
-        not_before_itself list waiting.number (subst (λ n. IsBefore list n waiting.number) same itself)
+    unstarted old has same = grind (arith, All-contains, not_before_itself)
 
     earlier_started : (earlier : ℕ) → IsBefore list earlier waiting.number → FrameStartedBefore new earlier now
     unfolding waiting_at

@@ -1,10 +1,9 @@
 -- The gates of a link are those of its list.
-use Rattle.std.proofs.Common.{◌≡◌, ◌≢◌, ℕ, ◌<◌, List, length, get_or, refl, sym, ap, ◌∙◌, subst, inl, inr}
+use Rattle.std.proofs.Common.{arith, ◌≡◌, ◌≢◌, ℕ, ◌<◌, List, length, get_or, refl, sym, ◌∙◌, subst}
 use Rattle.std.specs.List.{AllPairs}
 use Rattle.std.proofs.lemmas.Bool.{cases_order}
 use Rattle.std.proofs.lemmas.List.{get_or_default}
 use Rattle.tsn_model.specs.Network.{Network}
-use Rattle.tsn_model.specs.Gates.{IsOctetAt}
 use Rattle.tsn_model.specs.Bridge.{LinkGates, GatesAt, Passage, link_of, length_of, FitsAt}
 use Rattle.tsn_gate.specs.Openings.{OctetHas, OpensScheduled, IsOpenFor}
 
@@ -12,15 +11,7 @@ module _ (gates : List LinkGates) (distinct : AllPairs (λ (a b : LinkGates). a.
   pub opens_less : (t : ℕ) (P : ℕ → Type 0) → GatesAt gates (get_or gates number d).link t P → OctetHas (get_or gates number d).entries t P
   opens_less t P (k, item, k_below, is, (link, (octet, at, has))) =
       let at_k : get_or gates k d ≡ item = get_or_default gates k d item k_below ∙ is in
-      elim (cases_order k number) [
-        | inl same ↦
-            let item_is : item ≡ get_or gates number d = sym at_k ∙ ap (λ n. get_or gates n d) same in
-            record { octet = octet; at = subst (λ (g : LinkGates). IsOctetAt g.entries t octet) item_is at; has = has }
-        | inr differ ↦ elim differ [
-          | inl before ↦ absurd (distinct k number d before below (ap (λ (g : LinkGates). g.link) at_k ∙ link))
-          | inr after ↦ absurd (distinct number k d after k_below (sym (ap (λ (g : LinkGates). g.link) at_k ∙ link)))
-        ]
-      ]
+      grind (arith, cases_order)
 
   pub opens_more : (t : ℕ) (P : ℕ → Type 0) → OctetHas (get_or gates number d).entries t P → GatesAt gates (get_or gates number d).link t P
   opens_more t P open' = (number, get_or gates number d, below, get_or_default gates number (get_or gates number d) d below, (refl, (open'.octet, open'.at, open'.has)))

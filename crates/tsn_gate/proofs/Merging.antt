@@ -1,5 +1,5 @@
 -- Merged lists keep the wanted gates.
-use Rattle.std.proofs.Common.{◌≡◌, ℕ, ◌+◌, ◌%◌, ◌≤◌, ◌<◌, ◌⊎◌, min, List, [], ◌∷◌, length, get_or, take, All, AllPairs, IsBitSet, bit_and, refl, sym, ap, ap₂, ◌∙◌, subst, arith, inl, inr, suc-ne-zero}
+use Rattle.std.proofs.Common.{◌≡◌, ℕ, ◌%◌, ◌≤◌, ◌<◌, ◌⊎◌, min, List, [], ◌∷◌, length, get_or, take, All, AllPairs, IsBitSet, bit_and, refl, sym, ap, ap₂, ◌∙◌, subst, arith, inl, inr, suc-ne-zero}
 use Rattle.std.specs.List.{Any}
 use Rattle.std.proofs.lemmas.Bool.{cases_lt}
 use Rattle.std.proofs.lemmas.List.{get_or_default}
@@ -29,17 +29,10 @@ kept_octet least wanted kept t octet plain background (inl (spared, open_octet))
     let same : octet ≡ octet_at wanted t = open_octet ∙ sym (background spared) in
     record { scheduled = subst (λ o. IsBitSet o 7) (sym same); others = subst (λ o. bit_and o 127 ≡ 0 → ⊥) same }
 kept_octet least wanted kept t octet plain background (inr (inl (taken, stays, closed))) = record {
-  scheduled = λ is. elim plain [
-    | inl shut ↦ absurd (subst (λ o. IsBitSet o 7) shut is refl)
-    | inr (inl window) ↦ absurd (stays.not_scheduled t stays.begun stays.not_ended window)
-    | inr (inr others) ↦ absurd (subst (λ o. IsBitSet o 7) others is refl)
-  ];
+  scheduled = grind arith;
   others = λ is. absurd (is (ap (λ o. bit_and o 127) closed));
 }
-kept_octet least wanted kept t octet plain background (inr (inr (taken, outside, scheduled))) = record {
-  scheduled = λ is. subst (λ o. IsBitSet o 7) (sym scheduled) (λ never. suc-ne-zero _ never);
-  others = λ is. absurd (is (ap (λ o. bit_and o 127) scheduled));
-}
+kept_octet least wanted kept t octet plain background (inr (inr (taken, outside, scheduled))) = grind (arith, suc-ne-zero)
 
 merged_plain : (least : ℕ) (wanted : List GateEntry) (kept : List Window) (t octet : ℕ) → IsMergedOctet least wanted kept t octet → IsPlainOctet octet
 merged_plain least wanted kept t octet (inl (spared, background)) = inr (inr background)
@@ -51,7 +44,6 @@ plain_entries : (entries : List GateEntry) → AllPositive entries → ((t : ℕ
     → All (λ (e : GateEntry). IsPlainOctet e.octet) entries
 plain_entries entries positive plain k d below =
     let part = cycle_of_part entries k d below in
-    let lasts : 1 ≤ (get_or entries k d).interval = positive k d below in
     let at : octet_at entries (cycle_of (take k entries)) ≡ (get_or entries k d).octet = octet_at-entry entries k d (cycle_of (take k entries)) below
     (omega arith) (omega arith) in
     subst IsPlainOctet at (plain (cycle_of (take k entries)) (omega arith))
@@ -79,13 +71,7 @@ some_entry [] lasts = absurd (omega arith)
 some_entry (entry ∷ entries) lasts = omega arith
 
 pub IsGateList-merged : (wanted entries : List GateEntry) → IsGateList wanted → IsTimeline entries (cycle_of wanted) → IsGateList entries
-IsGateList-merged wanted entries is timeline =
-    let whole = timeline.whole in
-    let lasts = cycle_of-pos wanted is.some_entry is.positive in record {
-      some_entry = some_entry entries (omega arith);
-      positive = timeline.positive;
-      short = let short = is.short in omega arith;
-    }
+IsGateList-merged wanted entries is timeline = grind (arith, cycle_of-pos, some_entry)
 
 module _ (network : Network) (offsets : List ℕ) (formed : IsWellFormed network) where
   wanted_plain : (link t octet : ℕ) → IsWanted network offsets link t octet → IsPlainOctet octet
@@ -142,19 +128,11 @@ module _ (network : Network) (offsets : List ℕ) (formed : IsWellFormed network
           plain_entries list.entries stays.positive (λ t below.
           let inside : t < network.cycle = subst (λ n. t < n) stays.whole below in
           wanted_plain list.link t (octet_at list.entries t) (shows_wanted network offsets list stays t inside))
-      | inr not_all ↦
-          let widened = merged.widened not_all in
-          plain_entries list.entries widened.timeline.positive (λ t below.
-          let inside : t < cycle_of wanted.entries = subst (λ n. t < n) widened.timeline.whole below in
-          merged_plain least wanted.entries (times_kept least wanted.entries) t (octet_at list.entries t) (widened.shown t inside))
+      | inr not_all ↦ grind (arith, plain_entries, merged_plain)
     ]
 
     pub long_entries : AllLast (min least network.cycle) list.entries
-    long_entries = elim (all_or_not least wanted.entries) [
-      | inl all ↦ subst (AllLast (min least network.cycle)) (sym (merged.same all)) (λ k d below. let lasts : least ≤ (get_or wanted.entries k d).interval =
-          all k d below in omega arith)
-      | inr not_all ↦ subst (λ n. AllLast (min least n) list.entries) is.whole (merged.widened not_all).long
-    ]
+    long_entries = grind (arith, all_or_not)
 
   -- a kept list keeps the wanted gates in each cycle
   kept_at : (list : LinkGates) → IsKeptList network offsets list → (t octet : ℕ) → IsOctetAt list.entries t octet
@@ -199,7 +177,6 @@ module _ (network : Network) (offsets : List ℕ) (formed : IsWellFormed network
     all_listed : (link : ℕ) → IsUsed network link → Any (λ list. list.link ≡ link) lists
     all_listed link used =
         let has = are.all_used link used in
-        let count = merged.count in
         let below : has.0 < length lists = (let inside = has.2 in omega arith) in
         let d = has.1 in (
           has.0,
@@ -211,7 +188,6 @@ module _ (network : Network) (offsets : List ℕ) (formed : IsWellFormed network
 
     ordered : AllPairs (λ (a b : LinkGates). a.link < b.link) lists
     ordered j k d order below =
-        let count = merged.count in
         let first = same_link j d (omega arith) in
         let second = same_link k d below in
         let rise = are.in_order j k d order (inside_wanted k below) in

@@ -1,7 +1,7 @@
 -- What starts next, from the ports of all lists.
 use Rattle.std.proofs.Common.{◌≡◌, ◌≢◌, ℕ, ◌≤◌, ◌<◌, List, max, length, get_or, Option, Some, None, sym, subst, arith}
 use Rattle.std.specs.List.{AllPairs}
-use Rattle.std.proofs.Math.Nat.{max-le, le-max_left, le-max_right, min-le_left, min-le_right, le-min}
+use Rattle.std.proofs.Math.Nat.{max-le, min-le_left, min-le_right}
 use Rattle.tsn_model.specs.Network.{Network}
 use Rattle.tsn_model.specs.Bridge.{LinkGates, BackgroundOpen, link_of}
 use Rattle.tsn_gate.specs.declared.queue.Frame.{Frame}
@@ -43,26 +43,16 @@ module _ (network : Network) (gates : List LinkGates) (distinct : AllPairs (λ (
   pub idle_before : (t : ℕ) → now ≤ t → free ≤ t → t < port_time port → t < end → IsIdle network gates frames line (get_or gates number d).link t
   idle_before t present open' before in_time =
       let facts = time_facts port in
-      let by_scheduled = facts.0 in
-      let by_background = facts.1 in
       record {
         scheduled = silent_before t (later t present open') (omega arith) in_time;
         background = closed_before t (later t present open') (omega arith) in_time;
       }
 
   pub free_le : (free ≤ port.scheduled) × (free ≤ port.background)
-  free_le =
-      let most = le-max_left free now in
-      let scheduled = is.scheduled.forward in
-      let background = is.background.forward in
-      (omega arith, omega arith)
+  free_le = omega arith
 
   pub now_le : (now ≤ port.scheduled) × (now ≤ port.background)
-  now_le =
-      let most = le-max_right free now in
-      let scheduled = is.scheduled.forward in
-      let background = is.background.forward in
-      (omega arith, omega arith)
+  now_le = omega arith
 
   pub can_schedule : port.scheduled < end → CanStart network gates frames line (record { link = (get_or gates number d).link; time = port.scheduled; frame = port.head }) port.head
   can_schedule in_time =
@@ -106,7 +96,6 @@ module _ (network : Network) (gates : List LinkGates) (lists : HasLists network 
     next_scheduled order =
         let port = port_at number in
         let is = ports number d below in
-        let first : (port_at number).scheduled ≤ port_time (port_at number) = le-min refl_le order in
         let present = now_le network gates lists.distinct frames line number d below (free_on free (get_or gates number d).link) now end port is in
         let open' = free_le network gates lists.distinct frames line number d below (free_on free (get_or gates number d).link) now end port is in
         record {
@@ -123,7 +112,6 @@ module _ (network : Network) (gates : List LinkGates) (lists : HasLists network 
     next_background order =
         let port = port_at number in
         let is = ports number d below in
-        let first : (port_at number).background ≤ port_time (port_at number) = le-min (omega arith) refl_le in
         let present = now_le network gates lists.distinct frames line number d below (free_on free (get_or gates number d).link) now end port is in
         let open' = free_le network gates lists.distinct frames line number d below (free_on free (get_or gates number d).link) now end port is in
         record {

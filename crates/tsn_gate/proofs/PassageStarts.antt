@@ -2,11 +2,11 @@
 use Rattle.std.proofs.Common.{◌≡◌, ℕ, ◌+◌, ◌≤◌, ◌<◌, ◌⊎◌, List, [], ◌∷◌, ◌++◌, map, refl, sym, ap, ◌∙◌, subst, arith, inl, inr, get_or}
 use Rattle.std.proofs.lemmas.List.Elements.{All-push, All-weaker, Contains-push, Contains-push_cases, Contains-append_left}
 use Rattle.std.proofs.lemmas.List.{map-append}
-use Rattle.tsn_model.specs.Network.{Network, IsWellFormed, stream_count, hop_count}
-use Rattle.tsn_model.specs.Bridge.{LinkGates, Passage, ScheduledStart, BridgeRun, WireUse, link_of, length_of, scheduled_use, background_use, wire_uses, IsPassage, StartedAt, NotStartedBefore, IsReady, FitsAt, IsBlocked}
+use Rattle.tsn_model.specs.Network.{Network, IsWellFormed}
+use Rattle.tsn_model.specs.Bridge.{LinkGates, Passage, ScheduledStart, BridgeRun, link_of, length_of, scheduled_use, background_use, wire_uses, IsPassage, StartedAt, NotStartedBefore, IsReady, FitsAt, IsBlocked}
 use Rattle.tsn_model.proofs.OnTime.{hop_delay-pos, passage_cases}
 use Rattle.tsn_gate.specs.Progress.{IsRunSoFar, IsGreedySoFar, IsDue}
-use Rattle.tsn_gate.proofs.Progress.{Extends, ready_more, waits_more, greedy_more, uses_kept, begin_more, end_more, shared_more, busy_more}
+use Rattle.tsn_gate.proofs.Progress.{Extends, AddsUse, ready_more, waits_more, greedy_more, adds_use}
 
 -- the run with one more start, of a passage or of a background frame
 abbrev pub with_passage : BridgeRun → Passage → ℕ → BridgeRun
@@ -20,8 +20,8 @@ new_start run p now q s at = elim (Contains-push_cases run.scheduled (record { p
 ]
 
 uses_with_passage : (network : Network) (run : BridgeRun) (p : Passage) (now : ℕ)
-    → wire_uses network (with_passage run p now) ≡ (map (scheduled_use network) run.scheduled ++ scheduled_use network (record { passage = p; time = now }) ∷ []) ++ map (background_use network) run.background
-unfolding wire_uses
+    → wire_uses network (with_passage run p now) ≡ (map (scheduled_use network) run.scheduled ++ (record { link = link_of network p; from = now; until = now + length_of network p }) ∷ []) ++ map (background_use network) run.background
+unfolding wire_uses scheduled_use
 uses_with_passage network run p now = ap (λ uses. uses ++ map (background_use network) run.background) (map-append (scheduled_use network) run.scheduled ((record { passage = p; time = now }) ∷ []))
 
 uses_split : (network : Network) (run : BridgeRun) → wire_uses network run ≡ map (scheduled_use network) run.scheduled ++ map (background_use network) run.background
@@ -34,44 +34,13 @@ module _ (network : Network) (formed : IsWellFormed network) (offsets : List ℕ
   abbrev new : BridgeRun
   new = with_passage run p now
 
-  abbrev wire : WireUse
-  wire = scheduled_use network (record { passage = p; time = now })
-
-  -- the new use, as its parts
-  wire_link : wire.link ≡ link_of network p
-  unfolding scheduled_use
-  wire_link = refl
-
-  wire_from : wire.from ≡ now
-  unfolding scheduled_use
-  wire_from = refl
-
-  wire_until : wire.until ≡ now + length_of network p
-  unfolding scheduled_use
-  wire_until = refl
-
-  abbrev scheduled_uses : List WireUse
-  scheduled_uses = map (scheduled_use network) run.scheduled
-
-  abbrev background_uses : List WireUse
-  background_uses = map (background_use network) run.background
-
-  is_free : free wire.link ≤ now
-  is_free = let is = due.wire in subst (λ m. free m ≤ now) (sym wire_link) is
-
-  until_after : after wire.link ≡ wire.until
-  until_after = ap after wire_link ∙ (here ∙ sym wire_until)
-
-  elsewhere_wire : (m : ℕ) → (m ≡ wire.link → ⊥) → after m ≡ free m
-  elsewhere_wire m differ = elsewhere m (λ same. differ (same ∙ sym wire_link))
-
-  forward : now ≤ wire.until
-  forward = let until = wire_until in omega arith
+  added : AddsUse network cycles after now run new
+  added = adds_use network offsets gates cycles free after now run new so_far (link_of network p) (now + length_of network p) (map (scheduled_use network) run.scheduled)
+      (map (background_use network) run.background) (uses_split network run) (uses_with_passage network run p now) due.wire due.in_time (omega arith) here elsewhere
 
   pub passage_extends : Extends network run new now
   passage_extends = record {
-    uses = uses_kept network offsets gates cycles free after now run new so_far wire scheduled_uses background_uses (uses_split network run) (uses_with_passage network run p now)
-        is_free wire_from due.in_time forward until_after elsewhere_wire;
+    uses = added.kept;
     starts = λ q s at. Contains-append_left run.scheduled _ _ at;
     fresh = λ q s at. elim (new_start run p now q s at) [ inl old ↦ inl old | inr is ↦ let same = is.1 in inr (omega arith) ];
   }
@@ -81,13 +50,7 @@ module _ (network : Network) (formed : IsWellFormed network) (offsets : List ℕ
   passage_ready_less q t (inl first) = inl (inl first)
   passage_ready_less q t (inr (before, s, next, at, after_it)) = elim (new_start run p now (record q { hop = before }) s at) [
     | inl old ↦ inl (inr (before, s, next, old, after_it))
-    | inr (is, time) ↦
-        let stream : p.stream ≡ q.stream = ap (λ (x : Passage). x.stream) is in
-        let hop : p.hop ≡ before = ap (λ (x : Passage). x.hop) is in
-        let counted : q.stream < stream_count network = subst (λ i. i < stream_count network) stream due.passage_is.stream in
-        let below : before < hop_count network q.stream = subst (λ i. before < hop_count network i) stream (subst (λ k. k < hop_count network p.stream) hop due.passage_is.hop) in
-        let delay = hop_delay-pos network formed q.stream counted before below in
-        inr (omega arith)
+    | inr (is, time) ↦ grind (arith, hop_delay-pos)
   ]
 
   passage_once : (q : Passage) (s t : ℕ) → StartedAt new q s → StartedAt new q t → s ≡ t
@@ -120,37 +83,28 @@ module _ (network : Network) (formed : IsWellFormed network) (offsets : List ℕ
   ]
 
   pub passage_begins : IsRunSoFar network offsets gates cycles after now new
-  passage_begins =
-      let begin = begin_more network offsets gates cycles free after now run new so_far wire scheduled_uses background_uses (uses_split network run) (uses_with_passage network run p now)
-      is_free wire_from due.in_time forward until_after elsewhere_wire in
-      let busy = busy_more network offsets gates cycles free after now run new so_far wire scheduled_uses background_uses (uses_split network run) (uses_with_passage network run p now)
-      is_free wire_from due.in_time forward until_after elsewhere_wire in
-      record {
-        wires_shared = shared_more network offsets gates cycles free after now run new so_far wire scheduled_uses background_uses (uses_split network run) (uses_with_passage network run p now)
-            is_free wire_from due.in_time forward until_after elsewhere_wire;
-        uses_begin = begin;
-        uses_end = end_more network offsets gates cycles free after now run new so_far wire scheduled_uses background_uses (uses_split network run) (uses_with_passage network run p now)
-            is_free wire_from due.in_time forward until_after elsewhere_wire;
-        busy = busy;
-        background_length = so_far.background_length;
-        background_open = so_far.background_open;
-        passages = All-push (λ (begun : ScheduledStart). IsPassage network cycles begun.passage) run.scheduled (record { passage = p; time = now }) so_far.passages due.passage_is;
-        once = passage_once;
-        ready = All-push (λ (begun : ScheduledStart). (t : ℕ) × IsReady network offsets new begun.passage t × (t ≤ begun.time)) run.scheduled (record { passage = p; time = now })
-            (All-weaker (λ (begun : ScheduledStart). (t : ℕ) × IsReady network offsets run begun.passage t × (t ≤ begun.time)) (λ (begun : ScheduledStart). (t : ℕ) × IsReady network offsets new begun.passage t × (t ≤ begun.time))
-            (λ begun found. (found.0, ready_more network offsets gates cycles run new now passage_extends begun.passage found.0 found.1, found.2)) run.scheduled so_far.ready)
-            (ready, ready_more network offsets gates cycles run new now passage_extends p ready due.ready_at, due.since);
-        fits = All-push (λ (begun : ScheduledStart). FitsAt network gates begun.passage begun.time) run.scheduled (record { passage = p; time = now }) so_far.fits due.fits;
-        waits = waits_more network offsets gates cycles run new now passage_extends free after so_far (link_of network p) passage_others passage_ready_less elsewhere busy begin;
-      }
+  passage_begins = record {
+    wires_shared = added.shared;
+    uses_begin = added.begin;
+    uses_end = added.ends;
+    busy = added.busy;
+    background_length = so_far.background_length;
+    background_open = so_far.background_open;
+    passages = All-push (λ (begun : ScheduledStart). IsPassage network cycles begun.passage) run.scheduled (record { passage = p; time = now }) so_far.passages due.passage_is;
+    once = passage_once;
+    ready = All-push (λ (begun : ScheduledStart). (t : ℕ) × IsReady network offsets new begun.passage t × (t ≤ begun.time)) run.scheduled (record { passage = p; time = now })
+        (All-weaker (λ (begun : ScheduledStart). (t : ℕ) × IsReady network offsets run begun.passage t × (t ≤ begun.time)) (λ (begun : ScheduledStart). (t : ℕ) × IsReady network offsets new begun.passage t × (t ≤ begun.time))
+        (λ begun found. (found.0, ready_more network offsets gates cycles run new now passage_extends begun.passage found.0 found.1, found.2)) run.scheduled so_far.ready)
+        (ready, ready_more network offsets gates cycles run new now passage_extends p ready due.ready_at, due.since);
+    fits = All-push (λ (begun : ScheduledStart). FitsAt network gates begun.passage begun.time) run.scheduled (record { passage = p; time = now }) so_far.fits due.fits;
+    waits = waits_more network offsets gates cycles run new now passage_extends free after so_far (link_of network p) passage_others passage_ready_less elsewhere added.busy added.begin;
+  }
 
   pub passage_greedy : IsGreedySoFar network gates cycles free now run → IsGreedySoFar network gates cycles after now new
   passage_greedy steady = record {
     greatest = steady.greatest;
     held = λ t in_time k d below when.
         let item = get_or gates k d in
-        greedy_more network offsets gates cycles run new now passage_extends free after so_far (link_of network p) elsewhere
-        (busy_more network offsets gates cycles free after now run new so_far wire scheduled_uses background_uses (uses_split network run) (uses_with_passage network run p now)
-        is_free wire_from due.in_time forward until_after elsewhere_wire)
+        greedy_more network offsets gates cycles run new now passage_extends free after so_far (link_of network p) elsewhere added.busy
         (get_or gates k d).link t (steady.held t in_time k d below) when;
   }

@@ -1,5 +1,5 @@
 -- Which entry of a list stands at an instant.
-use Rattle.std.proofs.Common.{◌≡◌, ℕ, ◌+◌, ◌-◌, ◌≤◌, ◌<◌, ◌%◌, List, [], ◌∷◌, ◌++◌, length, get_or, take, drop, refl, sym, ap, ◌∙◌, subst, arith, add-one, drop-cons, inl, inr}
+use Rattle.std.proofs.Common.{◌≡◌, ℕ, ◌+◌, ◌-◌, ◌≤◌, ◌<◌, ◌%◌, List, [], ◌∷◌, ◌++◌, length, get_or, take, drop, refl, ap, ◌∙◌, arith, add-one, drop-cons, inl, inr}
 use Rattle.std.proofs.lemmas.List.{take-append-drop, get_or_default}
 use Rattle.std.proofs.lemmas.Bool.{cases_lt}
 use Rattle.std.proofs.lemmas.List.Elements.{All-head}
@@ -12,9 +12,7 @@ use Rattle.tsn_gate.proofs.Entries.{cycle_of-nil, cycle_of-cons, octet_at-push}
 
 pub cycle_of-pos : (entries : List GateEntry) → 0 < length entries → AllPositive entries → 1 ≤ cycle_of entries
 cycle_of-pos [] some positive = absurd (omega arith)
-cycle_of-pos (entry ∷ entries) some positive =
-    let first : 1 ≤ entry.interval = All-head (λ (e : GateEntry). 1 ≤ e.interval) entry entries positive in
-    omega (arith, cycle_of-cons entry entries)
+cycle_of-pos (entry ∷ entries) some positive = grind (arith, All-head, cycle_of-cons)
 
 -- how long the entries up to i and entry i last
 pub cycle_of_more : (entries : List GateEntry) (i : ℕ) (d : GateEntry) → i < length entries → cycle_of (take (i + 1) entries) ≡ cycle_of (take i entries) + (get_or entries i d).interval
@@ -28,9 +26,7 @@ cycle_of_part entries i d inside = sum_by_more_le (λ (e : GateEntry). e.interva
 
 -- the list around entry i
 split_at : (entries : List GateEntry) (i : ℕ) (entry : GateEntry) → i < length entries → entry ≡ get_or entries i entry → entries ≡ take i entries ++ entry ∷ drop (i + 1) entries
-split_at entries i entry inside is =
-    let rest : drop i entries ≡ get_or entries i entry ∷ drop (i + 1) entries = rw add-one (drop-cons entries i entry inside) in
-    sym (take-append-drop i entries) ∙ (ap (λ xs. take i entries ++ xs) rest ∙ ap (λ e. take i entries ++ e ∷ drop (i + 1) entries) (sym is))
+split_at entries i entry inside is = grind (arith, add-one, drop-cons, take-append-drop)
 
 -- entry i's octet at its instants
 pub octet_at-entry : (entries : List GateEntry) (i : ℕ) (d : GateEntry) (t : ℕ) → i < length entries → cycle_of (take i entries) ≤ t → t < cycle_of (take i entries) + (get_or entries i d).interval
@@ -54,11 +50,7 @@ IsOctetAt-entry entries t i left d inside at below = record {
 
 -- the octet of the entry that stands at an instant of the cycle
 pub octet_at-is : (entries : List GateEntry) (cycle t octet : ℕ) → cycle_of entries ≡ cycle → t < cycle → IsOctetAt entries t octet → octet_at entries t ≡ octet
-octet_at-is entries cycle t octet whole below at =
-    let here : t % cycle_of entries ≡ t = mod-eq_of_lt (subst (λ n. t < n) (sym whole) below) in
-    let begun = at.begun in
-    let not_ended = at.not_ended in
-    ap (λ xs. octet_at xs t) at.split ∙ (octet_at-push at.before at.entry at.after t (omega arith) (omega arith) ∙ at.octet_is)
+octet_at-is entries cycle t octet whole below at = grind (arith, mod-eq_of_lt, octet_at-push)
 
 -- the entry that stands at instant t of the list
 record Found (entries : List GateEntry) (t : ℕ) : Type 0 where
@@ -79,14 +71,7 @@ find (entry ∷ entries) t below = elim (cases_lt t entry.interval) [
   found_later entry entries t past found =
       let begun = found.begun in
       let not_ended = found.not_ended in
-      let whole = cycle_of-cons entry found.before in record {
-        before = entry ∷ found.before;
-        after = found.after;
-        entry = found.entry;
-        split = ap (λ xs. entry ∷ xs) found.split;
-        begun = omega arith;
-        not_ended = omega arith;
-      }
+      let whole = cycle_of-cons entry found.before in grind arith
 
 -- at each instant some octet stands
 pub octet_exists : (entries : List GateEntry) (t : ℕ) → 1 ≤ cycle_of entries → (octet : ℕ) × IsOctetAt entries t octet
@@ -96,14 +81,4 @@ octet_exists entries t some =
 
 -- the octet depends on the instant of the cycle alone
 pub IsOctetAt-mod : (entries : List GateEntry) (t octet : ℕ) → 1 ≤ cycle_of entries → IsOctetAt entries t octet → IsOctetAt entries (t % cycle_of entries) octet
-IsOctetAt-mod entries t octet some at =
-    let same : t % cycle_of entries % cycle_of entries ≡ t % cycle_of entries = mod-eq_of_lt (mod-lt t some) in
-    record {
-      before = at.before;
-      after = at.after;
-      entry = at.entry;
-      split = at.split;
-      begun = subst (λ n. cycle_of at.before ≤ n) (sym same) at.begun;
-      not_ended = subst (λ n. n < cycle_of at.before + at.entry.interval) (sym same) at.not_ended;
-      octet_is = at.octet_is;
-    }
+IsOctetAt-mod entries t octet some at = grind (arith, mod-eq_of_lt, mod-lt)

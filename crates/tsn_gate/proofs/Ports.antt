@@ -1,6 +1,5 @@
 -- A port stays right while time passes, and while frames of other links change.
-use Rattle.std.proofs.Common.{◌≡◌, ℕ, ◌≤◌, ◌<◌, List, length, slice_set, Option, Some, None, sym, subst, arith, inl, inr}
-use Rattle.std.proofs.lemmas.Bool.{cases_eq}
+use Rattle.std.proofs.Common.{◌≡◌, ℕ, ◌≤◌, ◌<◌, List, length, slice_set, Option, Some, None, sym, subst, arith}
 use Rattle.std.proofs.lemmas.List.{length-set}
 use Rattle.tsn_model.specs.declared.GateEntry.{GateEntry}
 use Rattle.tsn_model.specs.Network.{Network}
@@ -9,7 +8,7 @@ use Rattle.tsn_gate.specs.declared.queue.Frame.{Frame}
 use Rattle.tsn_gate.specs.declared.feed.Waiting.{Waiting}
 use Rattle.tsn_gate.specs.declared.port.Port.{Port}
 use Rattle.tsn_gate.specs.Openings.{IsOpenFor}
-use Rattle.tsn_gate.specs.Queue.{Waits, Precedes, IsHead, frame_in, passage_of}
+use Rattle.tsn_gate.specs.Queue.{Waits, IsHead, frame_in, passage_of}
 use Rattle.tsn_gate.specs.Ports.{IsScheduledNext, IsBackgroundNext, IsPort}
 use Rattle.tsn_gate.proofs.Advances.{frame_set_same, frame_set_other}
 
@@ -35,22 +34,11 @@ module _ (network : Network) (frames : List Frame) (link number : ℕ) (moved : 
   same_frame p waits = frame_set_other frames number p moved (λ same. not_old (subst (λ n. Waits network link (frame_in frames n)) (sym same) waits))
 
   waited : (p : ℕ) → Waits network link (frame_in (slice_set frames number moved) p) → Waits network link (frame_in frames p)
-  waited p waits = elim (cases_eq number p) [
-    | inl same ↦ absurd (not_new (subst (Waits network link) (frame_set_same frames number moved below) (subst (λ n. Waits network link (frame_in (slice_set frames number moved) n)) (sym same) waits)))
-    | inr differ ↦ subst (Waits network link) (frame_set_other frames number p moved differ) waits
-  ]
+  waited p waits = grind (arith, frame_set_same, frame_set_other)
 
   head_kept : (head : Option ℕ) → IsHead network frames link head → IsHead network (slice_set frames number moved) link head
   head_kept None none = λ p p_below waits. let size = length-set frames number moved in none p (omega arith) (waited p waits)
-  head_kept (Some h) (h_below, h_waits, first) =
-      let size = length-set frames number moved in (
-        omega arith,
-        subst (Waits network link) (sym (same_frame h h_waits)) h_waits,
-        λ p p_below waits.
-            let before = waited p waits in
-            subst (λ f. Precedes (frame_in (slice_set frames number moved) h) f) (sym (same_frame p before))
-            (subst (λ f. Precedes f (frame_in frames p)) (sym (same_frame h h_waits)) (first p (omega arith) before)),
-      )
+  head_kept (Some h) (h_below, h_waits, first) = grind (arith, length-set, same_frame, waited)
 
   head_waits : (head : Option ℕ) (h : ℕ) → head ≡ Some h → IsHead network frames link head → Waits network link (frame_in frames h)
   head_waits head h is head_is = (subst (IsHead network frames link) is head_is).1

@@ -59,7 +59,6 @@ module _ (network : Network) (offsets : List ℕ) (gates : List LinkGates) (cycl
           let soon : t < after (link_of network q) = elim when [ inl past ↦ absurd (omega arith) | inr soon ↦ soon ] in
           let taken = busy (link_of network q) t (omega arith) soon in
           let from = All-contains (λ (wire : WireUse). (wire.from ≤ now) × (wire.from < cycles * network.cycle)) (wire_uses network new) taken.1 begin (taken.0, taken.2, taken.3) in
-          let from_le = from.0 in
           inr (inl (taken.0, taken.1, taken.2, taken.3, (taken.4.0, omega arith, taken.4.2)))
       | inr upto ↦ elim (ready_less q ready is_ready) [
         | inr late ↦ absurd (omega arith)
@@ -92,17 +91,24 @@ module _ (network : Network) (offsets : List ℕ) (gates : List LinkGates) (cycl
 
 -- ---- one more use of a wire that is free
 
+pub record AddsUse (network : Network) (cycles : ℕ) (after : ℕ → ℕ) (now : ℕ) (old new : BridgeRun) : Type 0 where
+  pub kept : (held : WireUse) → Contains (wire_uses network old) held → Contains (wire_uses network new) held
+  pub begin : All (λ (held : WireUse). (held.from ≤ now) × (held.from < cycles * network.cycle)) (wire_uses network new)
+  pub ends : All (λ (held : WireUse). held.until ≤ after held.link) (wire_uses network new)
+  pub shared : AllPairs AreDisjoint (wire_uses network new)
+  pub busy : (m t : ℕ) → now ≤ t → t < after m → IsTaken network new m t
+
 module _ (network : Network) (offsets : List ℕ) (gates : List LinkGates) (cycles : ℕ) (free after : ℕ → ℕ) (now : ℕ) (old new : BridgeRun) (so_far : IsRunSoFar network offsets gates cycles free now old)
-    (wire : WireUse) (xs ys : List WireUse) (old_is : wire_uses network old ≡ xs ++ ys) (new_is : wire_uses network new ≡ (xs ++ wire ∷ []) ++ ys)
-    (is_free : free wire.link ≤ now) (from_is : wire.from ≡ now) (in_time : now < cycles * network.cycle) (forward : now ≤ wire.until) (here : after wire.link ≡ wire.until)
-    (elsewhere : (m : ℕ) → (m ≡ wire.link → ⊥) → after m ≡ free m) where
-  abbrev pub Begins : WireUse → Type 0
-  Begins held = (held.from ≤ now) × (held.from < cycles * network.cycle)
+    (link until : ℕ) (xs ys : List WireUse) (old_is : wire_uses network old ≡ xs ++ ys) (new_is : wire_uses network new ≡ (xs ++ (record { link = link; from = now; until = until }) ∷ []) ++ ys)
+    (is_free : free link ≤ now) (in_time : now < cycles * network.cycle) (forward : now ≤ until) (here : after link ≡ until)
+    (elsewhere : (m : ℕ) → (m ≡ link → ⊥) → after m ≡ free m) where
+  abbrev wire : WireUse
+  wire = record { link = link; from = now; until = until }
 
   has_new : Contains (wire_uses network new) wire
   has_new = subst (λ uses. Contains uses wire) (sym new_is) (Contains-append_left (xs ++ wire ∷ []) ys wire (Contains-push xs wire))
 
-  pub uses_kept : (held : WireUse) → Contains (wire_uses network old) held → Contains (wire_uses network new) held
+  uses_kept : (held : WireUse) → Contains (wire_uses network old) held → Contains (wire_uses network new) held
   uses_kept held has = subst (λ uses. Contains uses held) (sym new_is)
       (elim (Contains-append_cases xs ys held (subst (λ uses. Contains uses held) old_is has)) [
         | inl left ↦ Contains-append_left (xs ++ wire ∷ []) ys held (Contains-append_left xs (wire ∷ []) held left)
@@ -113,35 +119,24 @@ module _ (network : Network) (offsets : List ℕ) (gates : List LinkGates) (cycl
   with_new : (P : WireUse → Type 0) → All P (wire_uses network old) → P wire → All P (wire_uses network new)
   with_new P all one = subst (All P) (sym new_is) (All-insert P xs ys wire (subst (All P) old_is all) one)
 
-  pub begin_more : All Begins (wire_uses network new)
-  begin_more = with_new Begins so_far.uses_begin (omega arith, omega arith)
-
   free_less : (m : ℕ) → free m ≤ after m
-  free_less m = elim (cases_eq m wire.link) [
-    | inl same ↦
-        let before : free m ≡ free wire.link = ap free same in
-        let later : after m ≡ after wire.link = ap after same in
-        omega arith
-    | inr differ ↦ let still = elsewhere m differ in omega arith
-  ]
+  free_less m = grind arith
 
-  pub end_more : All (λ (held : WireUse). held.until ≤ after held.link) (wire_uses network new)
+  end_more : All (λ (held : WireUse). held.until ≤ after held.link) (wire_uses network new)
   end_more = with_new (λ (held : WireUse). held.until ≤ after held.link)
       (All-weaker (λ (held : WireUse). held.until ≤ free held.link) (λ (held : WireUse). held.until ≤ after held.link) (λ held below. let less = free_less held.link in omega arith) (wire_uses network old) so_far.uses_end)
       (omega arith)
 
   before_new : (held : WireUse) → held.until ≤ free held.link → AreDisjoint held wire
-  before_new held ends same t begun still from until =
-      let link : free held.link ≡ free wire.link = ap free same in
-      absurd (omega arith)
+  before_new held ends same t begun still from until = grind arith
 
-  pub shared_more : AllPairs AreDisjoint (wire_uses network new)
+  shared_more : AllPairs AreDisjoint (wire_uses network new)
   shared_more = subst (AllPairs AreDisjoint) (sym new_is)
       (AllPairs-insert AreDisjoint xs ys wire (subst (AllPairs AreDisjoint) old_is so_far.wires_shared)
       (subst (All (λ held. AreDisjoint held wire)) old_is (All-weaker (λ (held : WireUse). held.until ≤ free held.link) (λ held. AreDisjoint held wire) before_new (wire_uses network old) so_far.uses_end))
       (λ held apart same t from until begun still. apart (sym same) t begun still from until))
 
-  pub busy_more : (m t : ℕ) → now ≤ t → t < after m → IsTaken network new m t
+  busy_more : (m t : ℕ) → now ≤ t → t < after m → IsTaken network new m t
   busy_more m t since soon = elim (cases_eq m wire.link) [
     | inl same ↦
         let has = has_new in
@@ -153,6 +148,15 @@ module _ (network : Network) (offsets : List ℕ) (gates : List LinkGates) (cycl
         (has.0, taken.1, has.1, has.2, taken.4)
   ]
 
+  pub adds_use : AddsUse network cycles after now old new
+  adds_use = record {
+    kept = uses_kept;
+    begin = with_new (λ (held : WireUse). (held.from ≤ now) × (held.from < cycles * network.cycle)) so_far.uses_begin (omega arith, omega arith);
+    ends = end_more;
+    shared = shared_more;
+    busy = busy_more;
+  }
+
 -- ---- time that passes
 
 module _ (network : Network) (offsets : List ℕ) (gates : List LinkGates) (cycles : ℕ) (free : ℕ → ℕ) (now later : ℕ) (run : BridgeRun) (forward : now ≤ later) where
@@ -161,8 +165,7 @@ module _ (network : Network) (offsets : List ℕ) (gates : List LinkGates) (cycl
       → IsRunSoFar network offsets gates cycles free later run
   time_passes so_far quiet = record {
     wires_shared = so_far.wires_shared;
-    uses_begin = All-weaker (λ (wire : WireUse). (wire.from ≤ now) × (wire.from < cycles * network.cycle)) (λ (wire : WireUse). (wire.from ≤ later) × (wire.from < cycles * network.cycle))
-        (λ wire begins. let before = begins.0 in (omega arith, begins.1)) (wire_uses network run) so_far.uses_begin;
+    uses_begin = omega arith;
     uses_end = so_far.uses_end;
     busy = λ link t since soon. so_far.busy link t (omega arith) soon;
     background_length = so_far.background_length;
@@ -204,8 +207,7 @@ pub run_ends : (network : Network) (offsets : List ℕ) (gates : List LinkGates)
     → IsBridgeRun network offsets gates cycles run
 run_ends network offsets gates cycles free run so_far = record {
   wires_shared = so_far.wires_shared;
-  uses_begin = All-weaker (λ (wire : WireUse). (wire.from ≤ cycles * network.cycle) × (wire.from < cycles * network.cycle)) (λ (wire : WireUse). wire.from < cycles * network.cycle)
-      (λ wire begins. begins.1) (wire_uses network run) so_far.uses_begin;
+  uses_begin = omega arith;
   background_length = so_far.background_length;
   background_open = so_far.background_open;
   passages = so_far.passages;

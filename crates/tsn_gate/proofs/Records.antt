@@ -1,7 +1,7 @@
 -- What is kept of a run while it goes on.
-use Rattle.std.proofs.Common.{◌≡◌, ℕ, List, [], ◌∷◌, ◌++◌, Bool, true, false, IsTrue, All, Contains, true≢false, refl, sym, ap, subst}
+use Rattle.std.proofs.Common.{arith, ◌≡◌, ℕ, List, [], ◌∷◌, ◌++◌, Bool, true, false, IsTrue, Contains, true≢false, refl, sym, ap, subst}
 use Rattle.tsn_model.specs.Network.{Network}
-use Rattle.tsn_model.specs.Bridge.{Passage, ScheduledStart, BackgroundStart, BridgeRun, StartedAt}
+use Rattle.tsn_model.specs.Bridge.{Passage, BackgroundStart, BridgeRun, StartedAt}
 use Rattle.tsn_gate.specs.declared.trace.Row.{Row}
 use Rattle.tsn_gate.specs.Rows.{AreRows}
 use Rattle.tsn_gate.specs.Progress.{Setting, AreStarts}
@@ -10,10 +10,7 @@ use Rattle.tsn_gate.proofs.PassageStarts.{with_passage}
 use Rattle.tsn_gate.proofs.BackgroundStarts.{with_background}
 
 pub record_started : (keeps : Bool) (run starts : BridgeRun) (passage : Passage) (time : ℕ) → IsRecord keeps run starts → (trace : BridgeRun) → trace ≡ with_passage starts passage time → IsRecord keeps (with_passage run passage time) trace
-record_started keeps run starts passage time is trace trace_is = subst (IsRecord keeps (with_passage run passage time)) (sym trace_is) (record {
-  scheduled = ap (λ all. all ++ record { passage = passage; time = time } ∷ []) is.scheduled;
-  background = is.background;
-})
+record_started keeps run starts passage time is trace trace_is = grind (arith, with_passage)
 
 noted_is : (keeps : Bool) (run starts : BridgeRun) (begun : BackgroundStart) → IsRecord keeps run starts → IsRecord keeps (with_background run begun) (noted keeps starts begun)
 noted_is true run starts begun is = record { scheduled = is.scheduled; background = λ kept. ap (λ all. all ++ begun ∷ []) (is.background kept) }
@@ -33,9 +30,6 @@ module _ (keeps : Bool) (run starts : BridgeRun) (is : IsRecord keeps run starts
 
   started_made : (passage : Passage) (t : ℕ) → StartedAt run passage t → StartedAt starts passage t
   started_made passage t = subst (λ all. Contains all (record { passage = passage; time = t })) (sym is.scheduled)
-
-  pub passages_kept : (P : ScheduledStart → Type 0) → All P run.scheduled → All P starts.scheduled
-  passages_kept P = subst (All P) (sym is.scheduled)
 
   rows_made : (network : Network) (offsets : List ℕ) (cycles : ℕ) (rows : List Row) → AreRows network offsets cycles starts rows → AreRows network offsets cycles run rows
   rows_made network offsets cycles rows are = record {

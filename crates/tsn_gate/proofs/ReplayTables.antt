@@ -1,15 +1,15 @@
 -- The table of starts, and the rows that it gives.
-use Rattle.std.proofs.Common.{◌≡◌, ℕ, ◌+◌, ◌*◌, ◌≤◌, ◌<◌, ◌↔◌, List, [], ◌∷◌, ◌++◌, map, take, drop, length, get_or, slice_set, replicate, Option, Some, None, All, Contains, refl, sym, ap, ◌∙◌, subst, arith, inl, inr, append-nil, mul-le-mul}
+use Rattle.std.proofs.Common.{◌≡◌, ℕ, ◌+◌, ◌*◌, ◌<◌, ◌↔◌, List, [], ◌∷◌, ◌++◌, map, take, drop, length, get_or, slice_set, Option, Some, None, All, Contains, refl, sym, ap, ◌∙◌, subst, arith, inl, inr, append-nil, mul-le-mul}
 use Rattle.std.specs.List.{flat_map, range_with_len}
 use Rattle.std.proofs.lemmas.Grind.{flat_map-append}
-use Rattle.std.proofs.lemmas.List.{map-append, take_more, take-append-drop, get_or_default, get_or-set_same, get_or-set_other, length-set, get_or-replicate, length-replicate}
+use Rattle.std.proofs.lemmas.List.{map-append, take_more, take-append-drop, get_or_default, get_or-set_same, get_or-set_other, length-set}
 use Rattle.std.proofs.lemmas.List.FromFn.{map-range_with_len_more}
 use Rattle.std.proofs.lemmas.List.Elements.{All-map, All-weaker, All-contains_itself, Contains-push, Contains-push_cases, Contains-append_left}
 use Rattle.tsn_model.specs.Network.{Network, IsWellFormed, stream_count, hop_count}
 use Rattle.tsn_model.specs.Timing.{shifts}
 use Rattle.tsn_model.specs.Bridge.{Passage, ScheduledStart, BridgeRun, IsPassage, StartedAt}
 use Rattle.tsn_model.proofs.Limits.{hops-le}
-use Rattle.tsn_model.proofs.Lists.{All-flat_map, All-range, All-unmap, Contains-nil, range_more}
+use Rattle.tsn_model.proofs.Lists.{All-flat_map, All-range, All-unmap, range_more}
 use Rattle.tsn_model.proofs.OnTime.{passage_cases, same_cycle, cycle_below}
 use Rattle.tsn_gate.specs.declared.trace.Row.{Row}
 use Rattle.tsn_gate.specs.Frames.{frames_of, index_of}
@@ -40,28 +40,16 @@ pieces_more f g n =
 module _ (network : Network) (formed : IsWellFormed network) (cycles : ℕ) where
   pub cell_below : (p : Passage) → IsPassage network cycles p → cell_of network p < (p.cycle + 1) * frames_of network * 16
   unfolding cell_of
-  cell_below p is =
-      let few = hops-le network formed p.stream is.stream in
-      let hop = is.hop in
-      let index = index-below network p.stream p.shift is.stream is.sent in
-      let gap = cycle_below p.cycle (p.cycle + 1) (frames_of network) (omega arith) in
-      omega arith
+  cell_below p is = grind (arith, hops-le, index-below, cycle_below)
 
   pub cell_inside : (p : Passage) → IsPassage network cycles p → cell_of network p < cycles * frames_of network * 16
-  cell_inside p is =
-      let below = cell_below p is in
-      let cycle : p.cycle + 1 ≤ cycles = let c = is.cycle in omega arith in
-      let same : frames_of network ≤ frames_of network = omega arith in
-      let product : (p.cycle + 1) * frames_of network ≤ cycles * frames_of network = mul-le-mul cycle same in
-      omega arith
+  cell_inside p is = grind (arith, cell_below, mul-le-mul)
 
   pub cell_once : (p q : Passage) → IsPassage network cycles p → IsPassage network cycles q → cell_of network p ≡ cell_of network q → p ≡ q
   unfolding cell_of
   cell_once p q is_p is_q same =
       let few_p = hops-le network formed p.stream is_p.stream in
       let few_q = hops-le network formed q.stream is_q.stream in
-      let hop_p = is_p.hop in
-      let hop_q = is_q.hop in
       let index_p = index_of network p.stream p.shift in
       let index_q = index_of network q.stream q.shift in
       let below_p : index_p < frames_of network = index-below network p.stream p.shift is_p.stream is_p.sent in
@@ -73,20 +61,6 @@ module _ (network : Network) (formed : IsWellFormed network) (cycles : ℕ) wher
       let product : p.cycle * frames_of network ≡ q.cycle * frames_of network = ap (λ n. n * frames_of network) cycle in
       let frame = one_index network p.stream p.shift q.stream q.shift is_p.sent is_q.sent (omega arith) in
       λ i. record { stream = frame.0 i; shift = frame.1 i; cycle = cycle i; hop = hop i }
-
-  -- nothing has started
-  pub no_table : (table : List (Option ℕ)) → table ≡ replicate (cycles * frames_of network * 16) None → IsTable network cycles [] table
-  no_table table is = record {
-    count = ap length is ∙ length-replicate (cycles * frames_of network * 16) None;
-    has = λ p t passage. (
-      λ some.
-          let none : get_or table (cell_of network p) None ≡ None = ap (λ xs. get_or xs (cell_of network p) None) is
-          ∙ get_or-replicate (cycles * frames_of network * 16) (cell_of network p) None None (cell_inside p passage) in
-          let never : None ≡ Some t = sym none ∙ some in
-          cc,
-      λ has. absurd (Contains-nil _ has),
-    );
-  }
 
   -- one more start
   module _ (starts : List ScheduledStart) (index : ℕ) (begun : ScheduledStart) (below : index < length starts) (is : get_or starts index begun ≡ begun)
@@ -114,7 +88,6 @@ module _ (network : Network) (formed : IsWellFormed network) (cycles : ℕ) wher
       count = length-set table (cell_of network begun.passage) (Some begun.time) ∙ before.count;
       has = λ p t passage. elim (passage_cases begun.passage p) [
         | inl same ↦
-            let size = before.count in
             let inside = cell_inside begun.passage begun_passage in
             let read : get_or (slice_set table (cell_of network begun.passage) (Some begun.time)) (cell_of network begun.passage) None ≡ Some begun.time =
             get_or-set_same table (cell_of network begun.passage) (Some begun.time) None (omega arith) in

@@ -1,5 +1,5 @@
 -- What is kept of the background's time lies apart, and leaves room.
-use Rattle.std.proofs.Common.{◌≡◌, ℕ, ◌+◌, ◌-◌, ◌*◌, ◌≤◌, ◌<◌, ◌⊎◌, ◌==◌, min, max, nat_le, List, [], ◌∷◌, ◌++◌, get_or, length, All, AllPairs, refl, sym, ap, ap₂, ◌∙◌, subst, append_assoc, arith, inl, inr}
+use Rattle.std.proofs.Common.{◌≡◌, ℕ, ◌+◌, ◌-◌, ◌*◌, ◌≤◌, ◌<◌, ◌⊎◌, List, [], ◌∷◌, ◌++◌, get_or, All, AllPairs, refl, sym, ap, ◌∙◌, subst, append_assoc, arith, inl, inr}
 use Rattle.std.proofs.lemmas.Bool.{cases_lt, cases_eq, cond-true, cond-false, eq-eqb, ne_eqb, le-leb, lt-leb}
 use Rattle.std.proofs.lemmas.List.Elements.{All-nil, All-cons}
 use Rattle.std.proofs.lemmas.List.Kept.{AllPairs-cons}
@@ -7,9 +7,9 @@ use Rattle.tsn_model.specs.declared.GateEntry.{GateEntry}
 use Rattle.tsn_model.specs.Gates.{cycle_of, background_octet}
 use Rattle.tsn_gate.specs.declared.windows.Window.{Window}
 use Rattle.tsn_gate.specs.Entries.{octet_at}
-use Rattle.tsn_gate.specs.Merged.{background_times, earliest, latest, kept_times, times_kept}
+use Rattle.tsn_gate.specs.Merged.{background_times, earliest, latest, kept_times}
 use Rattle.tsn_gate.specs.Widened.{Keeps}
-use Rattle.tsn_gate.proofs.Entries.{cycle_of-nil, cycle_of-cons, octet_at-first, octet_at-later}
+use Rattle.tsn_gate.proofs.Entries.{cycle_of-cons, octet_at-first, octet_at-later}
 
 -- ---- the definitions, case by case
 
@@ -20,16 +20,12 @@ background_times-nil start = refl
 pub background_times-yes : (start : ℕ) (e : GateEntry) (es : List GateEntry) → e.octet ≡ 127
     → background_times start (e ∷ es) ≡ record { start = start; end = start + e.interval } ∷ background_times (start + e.interval) es
 unfolding background_times
-background_times-yes start e es is =
-    cond-true (e.octet == 127) (record { start = start; end = start + e.interval } ∷ background_times (start + e.interval) es)
-    (background_times (start + e.interval) es) (eq-eqb e.octet 127 is)
+background_times-yes start e es is = grind (arith, cond-true, eq-eqb)
 
 pub background_times-no : (start : ℕ) (e : GateEntry) (es : List GateEntry) → (e.octet ≡ 127 → ⊥)
     → background_times start (e ∷ es) ≡ background_times (start + e.interval) es
 unfolding background_times
-background_times-no start e es isnt =
-    cond-false (e.octet == 127) (record { start = start; end = start + e.interval } ∷ background_times (start + e.interval) es)
-    (background_times (start + e.interval) es) (ne_eqb e.octet 127 isnt)
+background_times-no start e es isnt = grind (arith, cond-false, ne_eqb)
 
 pub kept_times-nil : (least cycle from : ℕ) → kept_times least cycle from [] ≡ []
 unfolding kept_times
@@ -42,24 +38,12 @@ pub kept_times-yes : (least cycle from : ℕ) (time : Window) (times : List Wind
       end = latest least cycle time;
     } ∷ kept_times least cycle (earliest least from time + 2 * least) times
 unfolding kept_times
-kept_times-yes least cycle from time times fits =
-    cond-true (nat_le (earliest least from time + least) (latest least cycle time)) (record {
-      start =
-          earliest least from time;
-      end = latest least cycle time;
-    } ∷ kept_times least cycle (earliest least from time + 2 * least) times)
-    (kept_times least cycle from times) (le-leb (earliest least from time + least) (latest least cycle time) fits)
+kept_times-yes least cycle from time times fits = grind (arith, cond-true, le-leb)
 
 pub kept_times-no : (least cycle from : ℕ) (time : Window) (times : List Window) → latest least cycle time < earliest least from time + least
     → kept_times least cycle from (time ∷ times) ≡ kept_times least cycle from times
 unfolding kept_times
-kept_times-no least cycle from time times short =
-    cond-false (nat_le (earliest least from time + least) (latest least cycle time)) (record {
-      start =
-          earliest least from time;
-      end = latest least cycle time;
-    } ∷ kept_times least cycle (earliest least from time + 2 * least) times)
-    (kept_times least cycle from times) (lt-leb (earliest least from time + least) (latest least cycle time) short)
+kept_times-no least cycle from time times short = grind (arith, cond-false, lt-leb)
 
 -- ---- the ends of a time that is kept
 
@@ -68,22 +52,7 @@ record Ends (least cycle from : ℕ) (time : Window) : Type 0 where
   last : ((time.end ≡ cycle) × (latest least cycle time ≡ cycle)) ⊎ ((latest least cycle time ≤ time.end) × (latest least cycle time ≤ cycle - least))
 
 ends_of : (least cycle from : ℕ) (time : Window) → Ends least cycle from time
-ends_of least cycle from time = record {
-  first = elim (cases_eq time.start 0) [
-    | inl none ↦ inl (none, cond-true (time.start == 0) 0 (max time.start (max least from)) (eq-eqb time.start 0 none))
-    | inr some ↦
-        let is : earliest least from time ≡ max time.start (max least from) = cond-false (time.start == 0) 0 (max time.start (max least from))
-        (ne_eqb time.start 0 some) in
-        inr (omega arith, omega arith, omega arith, omega arith)
-  ];
-  last = elim (cases_eq time.end cycle) [
-    | inl whole ↦ inl (whole, cond-true (time.end == cycle) cycle (min time.end (cycle - least)) (eq-eqb time.end cycle whole))
-    | inr other ↦
-        let is : latest least cycle time ≡ min time.end (cycle - least) = cond-false (time.end == cycle) cycle (min time.end (cycle - least))
-        (ne_eqb time.end cycle other) in
-        inr (omega arith, omega arith)
-  ];
-}
+ends_of least cycle from time = grind (arith, cond-true, eq-eqb, cond-false, ne_eqb)
 
 module _ (least cycle : ℕ) where
   -- a time that is kept, of a list whose first entry begins at `start`
@@ -110,16 +79,7 @@ module _ (least cycle : ℕ) where
   no_rooms entries start from = record { each = All-nil (IsFrom entries start from); apart = λ i j d order below. absurd (omega arith) }
 
   room_before : (e : GateEntry) (es : List GateEntry) (start : ℕ) (time : Window) → IsRoom es (start + e.interval) time → IsRoom (e ∷ es) start time
-  room_before e es start time room =
-      let later = room.later in record {
-        long = room.long;
-        at_end = room.at_end;
-        at_start = room.at_start;
-        later = omega arith;
-        background = λ t low high.
-            let less : t - start - e.interval ≡ t - (start + e.interval) = omega arith in
-            octet_at-later e es (t - start) (omega arith) ∙ (ap (octet_at es) less ∙ room.background t low high);
-      }
+  room_before e es start time room = grind (arith, octet_at-later)
 
   rooms_before : (e : GateEntry) (es : List GateEntry) (start from : ℕ) (kept : List Window) → AreRooms es (start + e.interval) from kept
       → AreRooms (e ∷ es) start from kept
@@ -137,21 +97,7 @@ module _ (least cycle : ℕ) where
       }
       → earliest least from time + least ≤ latest least cycle time
       → IsRoom (e ∷ es) start (record { start = earliest least from time; end = latest least cycle time })
-  own_room e es start from time some within is at fits =
-      let begins : time.start ≡ start = ap (λ (w : Window). w.start) at in
-      let stops : time.end ≡ start + e.interval = ap (λ (w : Window). w.end) at in
-      let ends = ends_of least cycle from time in
-      let first = ends.first in
-      let last = ends.last in record {
-        long = fits;
-        at_end = elim last [ inl whole ↦ inl whole.1 | inr other ↦ let low = other.1 in inr (omega arith) ];
-        at_start = elim first [ inl none ↦ inl none.1 | inr more ↦ inr more.2 ];
-        later = elim first [ inl none ↦ let here = none.0 in omega arith | inr more ↦ let after = more.1 in omega arith ];
-        background = λ t low high.
-            let begun : start ≤ t = elim first [ inl none ↦ let here = none.0 in omega arith | inr more ↦ let after = more.1 in omega arith ] in
-            let not_ended : t < start + e.interval = elim last [ inl whole ↦ let here = whole.0 in let there = whole.1 in omega arith | inr other ↦ let low = other.0 in omega arith ] in
-            octet_at-first e es (t - start) (omega arith) ∙ is;
-      }
+  own_room e es start from time some within is at fits = grind (arith, ends_of, octet_at-first)
 
   more_rooms : (e : GateEntry) (es : List GateEntry) (start from : ℕ) (time : Window) (kept : List Window) → 1 ≤ least → start + e.interval ≤ cycle
       → (start ≡ 0 → from ≡ 0) → e.octet ≡ 127
@@ -168,10 +114,7 @@ module _ (least cycle : ℕ) where
       let behind = rooms_before e es start (earliest least from time + 2 * least) kept rooms in record {
         each = All-cons (IsFrom (e ∷ es) start from) own kept (own_room e es start from time some within is at fits, low)
             (λ k d below. ((behind.each k d below).0, (let far = (behind.each k d below).1 in omega arith)));
-        apart = AllPairs-cons IsPastRoom own kept (λ k d below. record {
-          far = (rooms.each k d below).1;
-          past = let later = (rooms.each k d below).0.later in omega arith;
-        }) rooms.apart;
+        apart = AllPairs-cons IsPastRoom own kept (λ k d below. (grind arith)) rooms.apart;
       }
 
   pub rooms_of : (entries : List GateEntry) (start from : ℕ) → 1 ≤ least → start + cycle_of entries ≡ cycle → (start ≡ 0 → from ≡ 0)
@@ -203,10 +146,7 @@ module _ (least cycle : ℕ) where
             start;
         end = start + e.interval;
       }) + least ≤ latest least cycle (record { start = start; end = start + e.interval }) → start + e.interval ≡ 0 → ⊥
-      no_time e start from some fits none =
-          let time : Window = record { start = start; end = start + e.interval } in
-          let ends = ends_of least cycle from time in
-          elim ends.last [ inl whole ↦ let here = whole.0 in let there = whole.1 in omega arith | inr other ↦ let below = other.0 in omega arith ]
+      no_time e start from some fits none = grind (arith, ends_of)
 
 -- ---- one more entry, in order
 
@@ -217,25 +157,10 @@ keeps_other least cycle e start from old isnt rest = ap (λ ts. old ++ kept_time
 pub keeps_short : (least cycle : ℕ) (e : GateEntry) (start from : ℕ) (old : List Window) → e.octet ≡ 127
     → latest least cycle (record { start = start; end = start + e.interval }) < earliest least from
     (record { start = start; end = start + e.interval }) + least → Keeps least cycle e start from old old from
-keeps_short least cycle e start from old is short rest =
-    ap (λ ts. old ++ kept_times least cycle from ts) (background_times-yes start e rest is)
-    ∙ ap (λ ts. old ++ ts) (kept_times-no least cycle from (record {
-      start =
-          start;
-      end = start + e.interval;
-    }) (background_times (start + e.interval) rest) short)
+keeps_short least cycle e start from old is short rest = grind (arith, background_times-yes, kept_times-no)
 
 pub keeps_time : (least cycle : ℕ) (e : GateEntry) (start from : ℕ) (old : List Window) (time : Window) (next : ℕ) → e.octet ≡ 127
     → time.start ≡ earliest least from (record { start = start; end = start + e.interval })
     → time.end ≡ latest least cycle (record { start = start; end = start + e.interval })
     → time.start + least ≤ time.end → next ≡ time.start + 2 * least → Keeps least cycle e start from old (old ++ time ∷ []) next
-keeps_time least cycle e start from old time next is begins ends fits after rest =
-    let whole : Window = record { start = start; end = start + e.interval } in
-    let made : ℕ → ℕ → Window = λ a b. record { start = a; end = b } in
-    let same : record { start = earliest least from whole; end = latest least cycle whole } ≡ time = ap₂ made (sym begins) (sym ends) in
-    let times = background_times (start + e.interval) rest in
-    ap (λ ts. old ++ kept_times least cycle from ts) (background_times-yes start e rest is)
-    ∙ (ap (λ ts. old ++ ts) (kept_times-yes least cycle from whole times (omega arith))
-    ∙ (ap (λ w. old ++ w ∷ kept_times least cycle (earliest least from whole + 2 * least) times) same
-    ∙ (ap (λ n. old ++ time ∷ kept_times least cycle n times) (omega arith)
-    ∙ sym (append_assoc old (time ∷ []) (kept_times least cycle next times)))))
+keeps_time least cycle e start from old time next is begins ends fits after rest = grind (arith, background_times-yes, kept_times-yes, append_assoc)

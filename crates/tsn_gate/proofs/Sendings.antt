@@ -54,10 +54,7 @@ module _ (setting : Setting) (state : State) (can : IsSetting setting) (is : IsS
       until_few =
           let short = until_short setting state can is number first port port_is order waiting waits_here (port.background + (waiting.octets + 20) * rate) (ap (λ r. port.background + (waiting.octets + 20) * r) rate_here)
           (subst (λ r. 1 ≤ r) rate_here some) (subst (λ r. r ≤ 800) rate_here few) in
-          let upto = short.1 in
           let soon = send_in_time setting state can is number first port port_is order in
-          let end_is = is.under_way.end in
-          let small = is.under_way.small in
           omega arith
 
       pub is_sending : IsSending setting state number port (record { link = at; waiting = waiting; until = port.background + (waiting.octets + 20) * rate })

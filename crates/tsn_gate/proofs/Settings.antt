@@ -1,5 +1,5 @@
 -- What is handed in can be replayed, where it has no fault.
-use Rattle.std.proofs.Common.{◌≡◌, ◌≢◌, ℕ, ◌*◌, ◌≤◌, ◌<◌, List, map, length, get_or, Option, Some, None, MatchOption, All, refl, ap, ◌∙◌, subst, arith, mul-le-mul}
+use Rattle.std.proofs.Common.{◌≡◌, ◌≢◌, ℕ, ◌*◌, ◌≤◌, ◌<◌, List, map, length, get_or, Option, Some, None, MatchOption, All, refl, ap, ◌∙◌, arith, mul-le-mul}
 use Rattle.std.proofs.Math.Dec.{eqb}
 use Rattle.std.proofs.lemmas.Bool.Decides.{Decides-eqb}
 use Rattle.std.proofs.lemmas.List.{get_or_default, length-map}
@@ -34,9 +34,7 @@ listed_at : (lists : List LinkGates) (link : ℕ) → IsListed lists link → (n
 listed_at lists link (number, list, below, is, same) = (number, below, λ d. ap (λ (g : LinkGates). g.link) (get_or_default lists number d list below ∙ is) ∙ same)
 
 listed_exists : (network : Network) (lists : List LinkGates) (link : ℕ) → All (λ (list : LinkGates). list.link < length network.links) lists → IsListed lists link → link < length network.links
-listed_exists network lists link exist (number, list, below, is, same) =
-    let here = exist number list below in
-    subst (λ n. n < length network.links) (ap (λ (g : LinkGates). g.link) is ∙ same) here
+listed_exists network lists link exist (number, list, below, is, same) = grind arith
 
 given_frame : (network : Network) (formed : IsWellFormed network) (lists : List LinkGates) (cycles : ℕ) (few : cycles ≤ 16) (list : List BackgroundFrame) → NamesLinks network lists (frames list) → KeepsLimits network lists cycles (frames list)
     → (number : ℕ) → number < length list → IsGivenFrame network lists (frame_at list number)
@@ -48,12 +46,7 @@ given_frame network formed lists cycles few list names keeps number below =
     let soon = within.2 in
     let short = formed.short_cycle in
     let end : cycles * network.cycle ≤ 16 * 1000000000 = mul-le-mul few short in
-    record {
-      exists = listed_exists network lists (get_or list number none).link names.exist listed;
-      listed = listed_at lists (get_or list number none).link listed;
-      early = omega arith;
-      short = within.1;
-    }
+    grind (arith, listed_exists, listed_at)
 
 has_background : (network : Network) (formed : IsWellFormed network) (lists : List LinkGates) (cycles : ℕ) (few : cycles ≤ 16) (background : Background) → NamesLinks network lists background → KeepsLimits network lists cycles background
     → HasBackground network lists background
@@ -96,5 +89,4 @@ lists_few network formed gates lists =
     let few = length-le_from_distinct_below links (length network.links) distinct
     (λ link found. All-contains (λ l. l < length network.links) links link exist (Contains-from_any {eq = eqb} (λ x y same. (Decides-eqb x y).0 same) link links found)) in
     let size = length-map gates (λ (item : LinkGates). item.link) in
-    let limit = formed.few_links in
     omega arith

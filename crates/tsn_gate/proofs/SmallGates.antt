@@ -1,10 +1,10 @@
 -- The gates of the small network.
-use Rattle.std.proofs.Common.{◌≡◌, ◌≢◌, ℕ, zero, suc, ◌+◌, ◌*◌, ◌≤◌, ◌<◌, ◌⊎◌, IsBitSet, bit_and, refl, sym, ap, ◌∙◌, subst, arith, inl, inr, suc-ne-zero}
+use Rattle.std.proofs.Common.{◌≡◌, ℕ, zero, suc, ◌+◌, ◌*◌, ◌≤◌, ◌<◌, ◌⊎◌, IsBitSet, bit_and, refl, sym, ap, subst, arith, inl, inr, suc-ne-zero}
 use Rattle.tsn_model.specs.Network.{stream_at, octets_of, turns_of, burst_of, route_of, link_at}
 use Rattle.tsn_model.specs.Timing.{occupancy, transfer, hop_delay, Sends, hop_on, start_on, UsesLink}
-use Rattle.tsn_model.specs.Schedule.{Occupies, offset_of}
+use Rattle.tsn_model.specs.Schedule.{offset_of}
 use Rattle.tsn_model.specs.Gates.{guard_of, InWindow, InGuard, IsWanted, closed_octet, scheduled_octet, background_octet}
-use Rattle.tsn_model.specs.Kept.{KeepsOctet, IsKept}
+use Rattle.tsn_model.specs.Kept.{IsKept}
 use Rattle.tsn_model.specs.Examples.{small_network, small_offsets}
 use Rattle.tsn_gate.specs.Examples.{SmallGates, SmallKeptGates}
 use Rattle.tsn_gate.proofs.SingleFrames.{one_shift, sent_from_one}
@@ -64,8 +64,6 @@ second_frame = sent_from_one small_network 1 refl refl
 in_windows : (t : ℕ) → InWindow small_network small_offsets 4 t → (1626 ≤ t) × (t < 2970)
 in_windows t (i, uses, occupies) =
     let long = lasts i uses in
-    let begun = occupies.frame.begun in
-    let not_ended = occupies.frame.not_ended in
     let at_offset = sent_at i occupies.shift uses occupies.sent in
     elim (begins i uses) [ inl first ↦ let at = first.1 in (omega arith, omega arith) | inr second ↦ let at = second.1 in (omega arith, omega arith) ]
 
@@ -85,23 +83,13 @@ in_guards t below guard =
     let whole = guard_is in
     let at_offset = sent_at guard.stream guard.shift guard.uses guard.sent in
     let cycles : guard.cycles * small_network.cycle ≡ guard.cycles * 1000000 = ap (λ n. guard.cycles * n) cycle_is in
-    elim (begins guard.stream guard.uses) [
-      | inl first ↦ let at = first.1 in grind arith
-      | inr second ↦ let at = second.1 in grind arith
-    ]
+    grind (arith, begins)
 
 this_guard : (t : ℕ) → t < 1626 → InGuard small_network small_offsets 4 t
-this_guard t high =
-    let at = first_begins in
-    let long = guard_is in
-    record { stream = 0; shift = 0; cycles = 0; sent = first_frame; uses = first_uses; not_begun = omega arith; guarded = omega arith }
+this_guard t high = grind (arith, first_begins, guard_is, first_frame, first_uses)
 
 next_guard : (t : ℕ) → 989290 ≤ t → t < 1000000 → InGuard small_network small_offsets 4 t
-next_guard t low high =
-    let at = first_begins in
-    let long = guard_is in
-    let whole = cycle_is in
-    record { stream = 0; shift = 0; cycles = 1; sent = first_frame; uses = first_uses; not_begun = omega arith; guarded = omega arith }
+next_guard t low high = grind (arith, first_begins, guard_is, cycle_is, first_frame, first_uses)
 
 pub small_gates : SmallGates
 small_gates = record {

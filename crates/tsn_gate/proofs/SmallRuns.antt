@@ -159,18 +159,11 @@ any_nil P (k, y, below, is, has) = omega arith
 -- none of these uses has the property
 none_has : (P : WireUse → Type 0) (first second : ℕ) (rest : List WireUse) → (P (use_on 0 0) → ⊥) → (P (use_on 2 0) → ⊥) → (P (use_on 4 first) → ⊥)
     → (P (use_on 4 second) → ⊥) → (Any P rest → ⊥) → Any P (uses first second rest) → ⊥
-none_has P first second rest a b c d others =
-    any_cons P (use_on 0 0) (use_on 2 0 ∷ use_on 4 first ∷ use_on 4 second ∷ rest) a
-    (any_cons P (use_on 2 0) (use_on 4 first ∷ use_on 4 second ∷ rest) b
-    (any_cons P (use_on 4 first) (use_on 4 second ∷ rest) c (any_cons P (use_on 4 second) rest d others)))
+none_has P first second rest a b c d others = grind (arith, any_cons)
 
 each_use : (P : WireUse → Type 0) (first second time : ℕ) → P (use_on 0 0) → P (use_on 2 0) → P (use_on 4 first) → P (use_on 4 second) → P (use_on 4 time)
     → All P (uses first second (use_on 4 time ∷ []))
-each_use P first second time a b c d e =
-    All-cons P (use_on 0 0) (use_on 2 0 ∷ use_on 4 first ∷ use_on 4 second ∷ use_on 4 time ∷ []) a
-    (All-cons P (use_on 2 0) (use_on 4 first ∷ use_on 4 second ∷ use_on 4 time ∷ []) b
-    (All-cons P (use_on 4 first) (use_on 4 second ∷ use_on 4 time ∷ []) c
-    (All-cons P (use_on 4 second) (use_on 4 time ∷ []) d (All-cons P (use_on 4 time) [] e (All-nil P)))))
+each_use P first second time a b c d e = grind (arith, All-cons, All-nil)
 
 each_start : (P : ScheduledStart → Type 0) (first second : ℕ) → P (record { passage = passage 0 0; time = 0 })
     → P (record { passage = passage 1 0; time = 0 }) → P (record { passage = passage 0 1; time = first })
@@ -242,9 +235,7 @@ cycle_is = refl
 right_run : IsBridgeRun small_network at_once open_gates 1 right
 right_run = record {
   wires_shared = subst (AllPairs AreDisjoint) (sym (uses_with 1626 2298 2970)) disjoint;
-  uses_begin = subst (All (λ (wire : WireUse). wire.from < 1 * small_network.cycle)) (sym (uses_with 1626 2298 2970))
-      (let end = cycle_is in each_use (λ (wire : WireUse). wire.from < 1 * small_network.cycle) 1626 2298 2970 (omega arith) (omega arith) (omega arith)
-      (omega arith) (omega arith));
+  uses_begin = grind (arith, uses_with, cycle_is, each_use);
   background_length = each_sent (λ (begun : BackgroundStart). begun.octets ≤ 1522) 2970 (omega arith);
   background_open = each_sent (λ (begun : BackgroundStart). BackgroundOpen open_gates begun.link begun.time) 2970 (background_open 2970);
   passages = each_start (λ (begun : ScheduledStart). IsPassage small_network 1 begun.passage) 1626 2298
@@ -402,12 +393,7 @@ late_sent fed =
     ]
   where
     untaken : IsTaken small_network (run_of 1626 2298 (sent_at 2971)) 4 2970 → ⊥
-    untaken wire = none_has (λ (wire : WireUse). (wire.link ≡ 4) × (wire.from ≤ 2970) × (2970 < wire.until)) 1626 2298 (use_on 4 2971 ∷ [])
-        (λ has. let until = has.2 in omega arith) (λ has. let until = has.2 in omega arith) (λ has. let until = has.2 in omega arith)
-        (λ has. let until = has.2 in omega arith)
-        (any_cons (λ (wire : WireUse). (wire.link ≡ 4) × (wire.from ≤ 2970) × (2970 < wire.until)) (use_on 4 2971) [] (λ has. let from = has.1 in omega arith)
-        (any_nil (λ (wire : WireUse). (wire.link ≡ 4) × (wire.from ≤ 2970) × (2970 < wire.until))))
-        (subst (Any (λ (wire : WireUse). (wire.link ≡ 4) × (wire.from ≤ 2970) × (2970 < wire.until))) (uses_with 1626 2298 2971) wire)
+    untaken wire = grind (arith, none_has, any_cons, any_nil, uses_with)
 
 left_out : IsFedByList small_network open_gates 1 (wanted_from 2000) (run_of 1626 2298 []) → ⊥
 unfolding frame_at
@@ -419,11 +405,7 @@ left_out fed =
     ]
   where
     untaken : IsTaken small_network (run_of 1626 2298 []) 4 2970 → ⊥
-    untaken wire = none_has (λ (wire : WireUse). (wire.link ≡ 4) × (wire.from ≤ 2970) × (2970 < wire.until)) 1626 2298 []
-        (λ has. let until = has.2 in omega arith) (λ has. let until = has.2 in omega arith) (λ has. let until = has.2 in omega arith)
-        (λ has. let until = has.2 in omega arith)
-        (any_nil (λ (wire : WireUse). (wire.link ≡ 4) × (wire.from ≤ 2970) × (2970 < wire.until)))
-        (subst (Any (λ (wire : WireUse). (wire.link ≡ 4) × (wire.from ≤ 2970) × (2970 < wire.until))) (uses_alone 1626 2298) wire)
+    untaken wire = grind (arith, none_has, any_nil, uses_alone)
 
 unwanted : IsFedByList small_network open_gates 1 (wanted_from 3000) (run_of 1626 2298 (sent_at 2999)) → ⊥
 unfolding frame_at

@@ -1,5 +1,5 @@
 -- The octet of a gate list from one change to the next.
-use Rattle.std.proofs.Common.{◌≡◌, ℕ, zero, suc, inl, inr, ◌+◌, ◌-◌, ◌*◌, ◌/◌, ◌%◌, ◌≤◌, ◌<◌, List, [], ◌∷◌, ◌++◌, length, get_or, take, drop, refl, sym, ap, ap₂, ◌∙◌, subst, arith, add-one}
+use Rattle.std.proofs.Common.{◌≡◌, ℕ, zero, suc, inl, inr, ◌+◌, ◌-◌, ◌%◌, ◌≤◌, ◌<◌, List, [], ◌∷◌, ◌++◌, length, get_or, take, drop, refl, sym, ap, ap₂, ◌∙◌, subst, arith, add-one}
 use Rattle.std.proofs.Math.Nat.{mod-add-div'}
 use Rattle.std.proofs.Math.Seq.{drop-cons}
 use Rattle.std.proofs.lemmas.Nat.{mod-mul-add}
@@ -41,16 +41,13 @@ same_entry (x ∷ xs) (y ∷ ys) a b after rest t same a_begun a_ends b_begun b_
     same_entry xs ys a b after rest (t - x.interval) tail (omega arith) (omega arith) (omega arith) (omega arith)
 
 pub octet_once : (entries : List GateEntry) (t a b : ℕ) → IsOctetAt entries t a → IsOctetAt entries t b → a ≡ b
-octet_once entries t a b x y =
-    let same = same_entry x.before y.before x.entry y.entry x.after y.after (t % cycle_of entries) (sym x.split ∙ y.split) x.begun x.not_ended y.begun y.not_ended in
-    sym x.octet_is ∙ (ap (λ (e : GateEntry). e.octet) same ∙ y.octet_is)
+octet_once entries t a b x y = grind (arith, same_entry)
 
 -- ---- the octet stays until its entry ends
 
 pub cycle-pos : (entries : List GateEntry) → IsGateList entries → 0 < cycle_of entries
 unfolding cycle_of
 cycle-pos entries formed =
-    let none : GateEntry = record { interval = 0; octet = 0 } in
     let some = formed.some_entry in
     let first : 1 ≤ (get_or entries 0 (record { interval = 0; octet = 0 })).interval = formed.positive 0 (record { interval = 0; octet = 0 }) (omega arith) in
     let within = get_or-le-sum_by (λ (e : GateEntry). e.interval) entries 0 (record { interval = 0; octet = 0 }) (omega arith) in
@@ -61,10 +58,7 @@ unfolding cycle_of
 cycle_none entries = refl
 
 later_phase : (at u size : ℕ) → at ≤ u → at % size + (u - at) < size → u % size ≡ at % size + (u - at)
-later_phase at u size since within =
-    let split : at % size + at / size * size ≡ at = mod-add-div' at size in
-    let whole : u ≡ at / size * size + (at % size + (u - at)) = omega arith in
-    ap (λ n. n % size) whole ∙ mod-mul-add (at / size) size (at % size + (u - at)) within
+later_phase at u size since within = grind (arith, mod-add-div', mod-mul-add)
 
 pub span_octet : (entries : List GateEntry) (index : ℕ) (entry : GateEntry) (at u : ℕ) → index < length entries → entry ≡ get_or entries index entry
     → cycle_of (take index entries) ≤ at % cycle_of entries → at % cycle_of entries < cycle_of (take index entries) + entry.interval
@@ -88,7 +82,6 @@ span_octet entries index entry at u below is begun ends since until =
 pub ends_rise : (entries : List GateEntry) (ends : List ℕ) → AreEnds entries ends → IsNonDecreasingBy (λ (end : ℕ). end) ends
 ends_rise entries ends are = IsNonDecreasingBy-from_all_adjacent (λ (end : ℕ). end) ends
     (λ k d below.
-    let counted = are.count in
     let here : get_or ends k d ≡ cycle_of (take (k + 1) entries) = get_or_default ends k d 0 (omega arith) ∙ are.each k (omega arith) in
     let next : get_or ends (k + 1) d ≡ cycle_of (take (k + 1 + 1) entries) = get_or_default ends (k + 1) d 0 (omega arith) ∙ are.each (k + 1) (omega arith) in
     let more = cycle_of_more entries (k + 1) (record { interval = 0; octet = 0 }) (omega arith) in
@@ -112,15 +105,7 @@ entry_from_ends entries ends phase (suc before) are below upto passed later =
     let last = passed before (omega arith) in
     let value = are.each before (omega arith) in
     let one : cycle_of (take (before + 1) entries) ≡ cycle_of (take (suc before) entries) = ap (λ n. cycle_of (take n entries)) (add-one before) in
-    elim (cases_lt (suc before) (length entries)) [
-      | inl within ↦
-          let after = later (omega arith) in
-          let end = are.each (suc before) within in
-          record { within = within; begun = omega arith; not_ended = omega arith }
-      | inr all ↦
-          let whole : cycle_of (take (suc before) entries) ≡ cycle_of entries = ap cycle_of (take_all (suc before) entries all) in
-          absurd (omega arith)
-    ]
+    grind (arith, take_all)
 
 -- ---- openings
 

@@ -1,5 +1,5 @@
 -- Of each long time of the background no more is taken than the least interval at each end.
-use Rattle.std.proofs.Common.{◌≡◌, ℕ, zero, suc, ◌+◌, ◌-◌, ◌*◌, ◌==◌, ◌≤◌, ◌<◌, min, max, List, [], ◌∷◌, length, get_or, take, refl, sym, ap, ◌∙◌, subst, arith, inl, inr}
+use Rattle.std.proofs.Common.{◌≡◌, ℕ, zero, suc, ◌+◌, ◌-◌, ◌*◌, ◌≤◌, ◌<◌, List, [], ◌∷◌, length, get_or, take, refl, sym, ap, subst, arith, inl, inr}
 use Rattle.std.proofs.lemmas.Bool.{cases_lt, cases_eq, cond-true, cond-false, eq-eqb, ne_eqb}
 use Rattle.std.proofs.lemmas.List.{get_or_default}
 use Rattle.tsn_model.specs.declared.GateEntry.{GateEntry}
@@ -12,21 +12,10 @@ use Rattle.tsn_gate.proofs.Playing.{cycle_of_part}
 use Rattle.tsn_gate.proofs.Rooms.{background_times-yes, background_times-no, kept_times-yes, kept_times-no, AreRooms, rooms_of}
 
 early : (least from : ℕ) (time : Window) → from ≤ time.start + least → earliest least from time ≤ time.start + least
-early least from time near = elim (cases_eq time.start 0) [
-  | inl none ↦ let is : earliest least from time ≡ 0 = cond-true (time.start == 0) 0 (max time.start (max least from)) (eq-eqb time.start 0 none) in omega arith
-  | inr some ↦ let is : earliest least from time ≡ max time.start (max least from) =
-      cond-false (time.start == 0) 0 (max time.start (max least from)) (ne_eqb time.start 0 some) in omega arith
-]
+early least from time near = grind (arith, cond-true, eq-eqb, cond-false, ne_eqb)
 
 late : (least cycle : ℕ) (time : Window) → time.end ≤ cycle → (time.end ≤ latest least cycle time + least) × (latest least cycle time ≤ time.end)
-late least cycle time within = elim (cases_eq time.end cycle) [
-  | inl whole ↦ let is : latest least cycle time ≡ cycle =
-      cond-true (time.end == cycle) cycle (min time.end (cycle - least)) (eq-eqb time.end cycle whole) in (omega arith, omega arith)
-  | inr other ↦
-      let is : latest least cycle time ≡ min time.end (cycle - least) = cond-false (time.end == cycle) cycle (min time.end (cycle - least))
-      (ne_eqb time.end cycle other) in
-      (omega arith, omega arith)
-]
+late least cycle time within = grind (arith, cond-true, eq-eqb, cond-false, ne_eqb)
 
 -- a time that is kept of the interval, but for `least` at each end; those behind it begin after the interval
 pub record IsSparedIn (least start end : ℕ) (kept : List Window) : Type 0 where
@@ -57,15 +46,7 @@ later_spared least start end w kept spared =
 first_spared : (least start end from : ℕ) (w : Window) (kept : List Window) → w.start ≤ start + least → end ≤ w.end + least
     → ((j : ℕ) (e : Window) → j < length kept → end ≤ (get_or kept j e).start)
     → IsSparedIn least start end (w ∷ kept)
-first_spared least start end from w kept begins ends all_behind = record {
-  number = 0;
-  time = w;
-  below = omega arith;
-  is = refl;
-  begins = begins;
-  ends = ends;
-  behind = λ j e order within. behind_first j e order within;
-}
+first_spared least start end from w kept begins ends all_behind = grind arith
   where
     behind_first : (j : ℕ) (e : Window) → 0 < j → j < length (w ∷ kept) → end ≤ (get_or (w ∷ kept) j e).start
     behind_first zero e order within = absurd (omega arith)
@@ -86,7 +67,6 @@ module _ (least cycle : ℕ) (some : 1 ≤ least) where
       let begins : earliest least from time ≤ start + least = early least from time near in
       let ends = late least cycle time (omega arith) in
       let low = ends.0 in
-      let high = ends.1 in
       let fits : earliest least from time + least ≤ latest least cycle time = omega arith in
       let next = earliest least from time + 2 * least in
       let rooms : AreRooms least cycle es (start + e.interval) next (kept_times least cycle next times) = rooms_of least cycle es
@@ -147,10 +127,7 @@ spared_at least start end t kept wanted some rooms spared low high =
               let apart = (rooms.apart j spared.number e before spared.below).far in
               let same = ap (λ (w : Window). w.start) (get_or_default kept spared.number e spared.time spared.below) in
               absurd (omega arith)
-          | inr here ↦
-              let at : j ≡ spared.number = omega arith in
-              let same = ap (λ (w : Window). w.start) (ap (λ n. get_or kept n e) at ∙ get_or_default kept spared.number e spared.time spared.below) in
-              absurd (omega arith)
+          | inr here ↦ grind (arith, get_or_default)
         ]
       ];
     }

@@ -1,5 +1,5 @@
 -- The state of a replay, but for its steps.
-use Rattle.std.proofs.Common.{◌≡◌, ℕ, ◌<◌, List, length, get_or, slice_set, Some, None, sym, ap, ◌∙◌, subst}
+use Rattle.std.proofs.Common.{arith, ◌≡◌, ℕ, ◌<◌, List, length, get_or, slice_set, Some, None, sym, ap, ◌∙◌, subst}
 use Rattle.std.proofs.lemmas.List.{get_or_default, get_or-set_same, get_or-set_other, length-set}
 use Rattle.tsn_model.specs.Network.{stream_count}
 use Rattle.tsn_gate.specs.declared.feed.Waiting.{Waiting}
@@ -29,23 +29,7 @@ port_set_other ports number other port differ = get_or-set_other ports number ot
 -- ---- what is under way
 
 pub under_way_ports : (setting : Setting) (state : State) (ports : List Port) → IsUnderWay setting state → IsUnderWay setting (record state { ports = ports })
-under_way_ports setting state ports is = record {
-  end = is.end;
-  time = is.time;
-  small = is.small;
-  made = is.made;
-  records = is.records;
-  run = is.run;
-  fed = is.fed;
-  tracked = is.tracked;
-  line = is.line;
-  feed = is.feed;
-  wires = is.wires;
-  numbers = is.numbers;
-  visits = is.visits;
-  frees = is.frees;
-  readies = is.readies;
-}
+under_way_ports setting state ports is = grind arith
 
 pub streams_below : (setting : Setting) (state : State) → IsUnderWay setting state → (k : ℕ) (d : Frame) → k < length state.frames.items → (get_or state.frames.items k d).stream < stream_count setting.network
 streams_below setting state is k d below = from_frame (λ (frame : Frame). frame.stream < stream_count setting.network) state.frames.items k d below (is.tracked.each k below).stream
@@ -70,9 +54,3 @@ module _ (setting : Setting) (number : ℕ) (old new : State) (is : IsRenewed se
   pub renewed_other : (other : ℕ) → (number ≡ other → ⊥) → IsPortAt setting old other (port_in old.ports other) → IsPortAt setting new other (port_in new.ports other)
   renewed_other other differ before = subst (λ (state : State). IsPortAt setting state other (port_in state.ports other)) (sym is.ports)
       (subst (IsPortAt setting old other) (sym (port_set_other old.ports number other is.port differ)) before)
-
-  pub renewed_end : new.end ≡ old.end
-  renewed_end = ap (λ (state : State). state.end) is.ports
-
-  pub renewed_free : new.free ≡ old.free
-  renewed_free = ap (λ (state : State). state.free) is.ports

@@ -1,6 +1,6 @@
 -- A step of a replay keeps its state.
 use Rattle.std.proofs.Common.{◌≡◌, ℕ, ◌+◌, ◌*◌, ◌≤◌, ◌<◌, ◌^◌, ◌-◌, List, [], length, get_or, slice_set, max, Option, Some, None, Vec, Global, All, sum_by, refl, sym, ap, ◌∙◌, subst, arith, inl, inr, mul-le-mul, mul-pos}
-use Rattle.std.proofs.Math.Nat.{max-le, le-max_left, le-max_right, le-min}
+use Rattle.std.proofs.Math.Nat.{max-le, le-max_left, le-min}
 use Rattle.std.proofs.lemmas.Bool.{cases_lt, cases_eq}
 use Rattle.std.proofs.lemmas.List.{get_or_default, get_or-set_same, get_or-set_other, length-set}
 use Rattle.std.proofs.lemmas.List.Elements.{All-set}
@@ -12,11 +12,11 @@ use Rattle.tsn_gate.specs.declared.feed.Waiting.{Waiting}
 use Rattle.tsn_gate.specs.declared.feed.Feed.{Feed}
 use Rattle.tsn_gate.specs.declared.port.Port.{Port}
 use Rattle.tsn_gate.specs.declared.engine.State.{State}
-use Rattle.tsn_gate.specs.Queue.{Waits, IsHead, AreInLine, Next, CanStart, IsNextOf, frame_in, passage_of, free_on}
+use Rattle.tsn_gate.specs.Queue.{Waits, AreInLine, Next, CanStart, IsNextOf, frame_in, passage_of, free_on}
 use Rattle.tsn_gate.specs.Feeding.{waiting_on, IsFeedOf, IsSent}
 use Rattle.tsn_gate.specs.Ports.{IsPort, IsScheduledNext, IsFirstPort, port_time, port_in}
 use Rattle.tsn_gate.specs.Records.{IsRecord, noted}
-use Rattle.tsn_gate.specs.Progress.{IsRunSoFar, IsFedSoFar, IsTracked, Setting, IsSetting, IsUnderWay, IsPortAt, IsState, AreStarts, advanced, time_left}
+use Rattle.tsn_gate.specs.Progress.{IsRunSoFar, IsFedSoFar, IsTracked, Setting, IsSetting, IsUnderWay, IsPortAt, IsState, AreStarts, advanced}
 use Rattle.tsn_gate.proofs.PassageStarts.{with_passage}
 use Rattle.tsn_gate.proofs.BackgroundStarts.{with_background}
 use Rattle.tsn_gate.proofs.InLine.{line_kept}
@@ -60,23 +60,16 @@ module _ (setting : Setting) (state : State) (can : IsSetting setting) (is : IsS
   module _ (late : (number : ℕ) → number < length state.ports → state.end ≤ port_time (port_at number)) where
     none : IsNextOf network setting.gates state.frames.items line state.free.items state.time end (record { link = 0; time = end; frame = None })
     none =
-        let end_is = is.under_way.end in
-        let upto = is.under_way.time in
-        let count = is.ports.count in
         none_next network setting.gates can.lists state.frames.items line state.free.items state.time end port_at ports (omega arith) (λ other below. let after = late other (omega arith) in omega arith)
 
     ends_as_run : IsBridgeRun network setting.offsets setting.gates setting.cycles made
     ends_as_run =
-        let end_is = is.under_way.end in
-        let upto = is.under_way.time in
         ends_run network can.formed can.spaced setting.offsets setting.gates can.lists setting.cycles setting.background can.background line state.time
         state.free.items made state.frames.items is.under_way.run is.under_way.fed is.under_way.tracked
         (record { link = 0; time = end; frame = None }) none (omega arith) (omega arith)
 
     ends_as_fed : IsFed network setting.gates setting.cycles setting.background made
     ends_as_fed =
-        let end_is = is.under_way.end in
-        let upto = is.under_way.time in
         ends_fed network can.formed can.spaced setting.offsets setting.gates can.lists setting.cycles setting.background can.background line state.time
         state.free.items made state.frames.items is.under_way.run is.under_way.fed is.under_way.tracked
         (record { link = 0; time = end; frame = None }) none (omega arith) (omega arith)
@@ -97,10 +90,7 @@ module _ (setting : Setting) (state : State) (can : IsSetting setting) (is : IsS
 
     -- another list's link is another one
     apart : (other : ℕ) (d : LinkGates) → other < length setting.gates → (number ≡ other → ⊥) → (get_or setting.gates other d).link ≡ link → ⊥
-    apart other d other_below differ same = elim (cases_lt number other) [
-      | inl before ↦ can.lists.distinct number other no_list before other_below (sym same ∙ link_is other d other_below)
-      | inr not_before ↦ can.lists.distinct other number no_list (omega arith) below (sym (link_is other d other_below) ∙ same)
-    ]
+    apart other d other_below differ same = grind (arith, link_is, below)
 
     -- another list's port stays right until then, where neither its wire nor its queue changes
     other_later : (time other : ℕ) (d : LinkGates) (frames : List Frame) (free : List ℕ) (feed : Feed) → state.time ≤ time → time ≤ port_time (port_at other)
@@ -110,14 +100,6 @@ module _ (setting : Setting) (state : State) (can : IsSetting setting) (is : IsS
     other_later time other d frames free feed forward upto same_free same_line before =
         let at = (get_or setting.gates other d).link in
         let facts = time_facts (port_at other) in
-        let by_scheduled = facts.0 in
-        let by_background = facts.1 in
-        let scheduled = before.scheduled.forward in
-        let background = before.background.forward in
-        let free_le = le-max_left (free_on state.free.items at) state.time in
-        let now_le = le-max_right (free_on state.free.items at) state.time in
-        let new_free = le-max_left (free_on state.free.items at) time in
-        let new_now = le-max_right (free_on state.free.items at) time in
         let low : max (free_on state.free.items at) state.time ≤ max (free_on state.free.items at) time = max-le (omega arith) (omega arith) in
         let one : max (free_on state.free.items at) time ≤ (port_at other).scheduled = max-le (omega arith) (omega arith) in
         let two : max (free_on state.free.items at) time ≤ (port_at other).background = max-le (omega arith) (omega arith) in
@@ -128,13 +110,6 @@ module _ (setting : Setting) (state : State) (can : IsSetting setting) (is : IsS
     -- ---- a scheduled frame
 
     module _ (waiting : ℕ) (head : (port_at number).head ≡ Some waiting) (time : ℕ) (time_is : (port_at number).scheduled ≡ time) (order : time ≤ (port_at number).background) where
-      scheduled_time : port_time (port_at number) ≡ time
-      scheduled_time =
-          let facts = time_facts (port_at number) in
-          let by_scheduled = facts.0 in
-          let low : time ≤ port_time (port_at number) = le-min (omega arith) order in
-          omega arith
-
       abbrev next : Next
       next = record { link = link; time = time; frame = Some waiting }
 
@@ -145,16 +120,10 @@ module _ (setting : Setting) (state : State) (can : IsSetting setting) (is : IsS
           (next_scheduled network setting.gates can.lists state.frames.items line state.free.items state.time end port_at ports number no_list below least (omega arith)))
 
       pub in_time : time < end
-      in_time =
-          let soon = first.in_time in
-          let end_is = is.under_way.end in
-          let at = scheduled_time in
-          omega arith
+      in_time = omega arith
 
       can_start_here : CanStart network setting.gates state.frames.items line next (Some waiting)
-      can_start_here = can_start network can.formed can.spaced setting.offsets setting.gates can.lists setting.cycles setting.background can.background line
-          state.time state.free.items made state.frames.items is.under_way.run is.under_way.fed is.under_way.tracked
-          next is_next in_time waiting refl
+      can_start_here = grind (arith, can_start, is_next, in_time)
 
       pub waiting_below : waiting < length state.frames.items
       waiting_below = can_start_here.0.0
@@ -182,9 +151,6 @@ module _ (setting : Setting) (state : State) (can : IsSetting setting) (is : IsS
             let step = passage_step network can.formed can.spaced setting.offsets setting.gates can.lists setting.cycles setting.background can.background
             line state.time state.free.items made state.frames.items is.under_way.run is.under_way.fed is.under_way.tracked
             next is_next in_time waiting refl frame frame_is run refl duration duration_is moved moved_is is.under_way.wires in
-            let end_is = is.under_way.end in
-            let limit = is.under_way.small in
-            let soon = in_time in
             record {
               end = is.under_way.end;
               time = omega arith;
@@ -213,19 +179,8 @@ module _ (setting : Setting) (state : State) (can : IsSetting setting) (is : IsS
             let kept = port_kept network state.frames.items at waiting moved waiting_below not_old (silent d) (get_or setting.gates other d).entries (line at) (max (free_on state.free.items at) state.time) state.end (port_at other)
             (is.ports.each other other_below d) in
             let soon = least other other_below in
-            let here = scheduled_time in
             other_later time other d frames.items free.items state.feed forward (omega arith) (ap (λ fs. free_on fs at) free_is ∙ get_or-set_other state.free.items link at (time + duration) 0 away) refl
             (subst (λ fs. IsPort network (get_or setting.gates other d).entries fs (line at) at (max (free_on state.free.items at) state.time) state.end (port_at other)) (sym frames_are) kept)
-
-        pub started_falls : time_left started < time_left state
-        started_falls =
-            let end_is = is.under_way.end in
-            let soon = in_time in
-            let wire = is_next.wire in_time in
-            let exists = is_next.link in_time in
-            let wires = is.under_way.wires in
-            subst (λ fs. sum_by (λ t. state.end - t) fs < sum_by (λ t. state.end - t) state.free.items) (sym free_is)
-            (time_falls state.free.items link (time + duration) state.end (omega arith) (omega arith) (omega arith))
 
     -- ---- a background frame
 
@@ -236,18 +191,13 @@ module _ (setting : Setting) (state : State) (can : IsSetting setting) (is : IsS
           (max (free_on state.free.items (get_or setting.gates number d).link) state.time) end) port_is (ports number d below)
 
       port_soon : port_time port < end
-      port_soon =
-          let soon = first.in_time in
-          let end_is = is.under_way.end in
-          let same : port_time (port_at number) ≡ port_time port = ap port_time port_is in
-          omega arith
+      port_soon = grind arith
 
       -- the background comes first, since no head could start
       sooner : port.background < port.scheduled
       sooner = elim (cases_lt port.background port.scheduled) [
         | inl less ↦ less
         | inr upto ↦
-            let low : port.scheduled ≤ port_time port = le-min (omega arith) upto in
             let soon = port_soon in
             let here = (is_port no_list).scheduled.here (omega arith) in
             let none : None ≡ Some here.0 = sym (order upto) ∙ here.1 in
@@ -255,12 +205,7 @@ module _ (setting : Setting) (state : State) (can : IsSetting setting) (is : IsS
       ]
 
       port_first : port_time port ≡ port.background
-      port_first =
-          let facts = time_facts port in
-          let by_background = facts.1 in
-          let less = sooner in
-          let low : port.background ≤ port_time port = le-min (omega arith) (omega arith) in
-          omega arith
+      port_first = grind (arith, time_facts, sooner, le-min)
 
       abbrev send_next : Next
       send_next = record { link = link; time = port.background; frame = None }
@@ -272,30 +217,17 @@ module _ (setting : Setting) (state : State) (can : IsSetting setting) (is : IsS
       pub send_in_time : port.background < end
       send_in_time = let soon = port_soon in let at = port_first in omega arith
 
-      pub some_waits : (waiting : Waiting) × (line link ≡ Some waiting)
-      some_waits = let here = (is_send_next.can send_in_time).0 in (here.0, here.1)
-
-      pub send_head : (d : LinkGates) → IsHead network state.frames.items (get_or setting.gates number d).link port.head
-      send_head d = (is_port d).head
-
       module _ (waiting : Waiting) (waits : line link ≡ Some waiting) where
         pub given : IsGiven network link waiting
         given = line_given network setting.gates setting.cycles (free_on state.free.items) state.time line made setting.background can.background is.under_way.fed link (can.lists.links number no_list below) waiting waits
 
         module _ (until : ℕ) (until_is : until ≡ port.background + (waiting.octets + 20) * (link_at network link).octet_time) (some : 1 ≤ (link_at network link).octet_time) (few : (link_at network link).octet_time ≤ 800) where
           pub until_short : (port.background < until) × (until ≤ port.background + 1542 * 800)
-          until_short =
-              let limit = given.short in
-              let octets : waiting.octets + 20 ≤ 1542 = omega arith in
-              let product : (waiting.octets + 20) * (link_at network link).octet_time ≤ 1542 * 800 = mul-le-mul octets few in
-              let sent : 0 < waiting.octets + 20 = omega arith in
-              let pos : 0 < (waiting.octets + 20) * (link_at network link).octet_time = mul-pos sent some in
-              (omega arith, omega arith)
+          until_short = grind (arith, given, mul-le-mul, mul-pos)
 
           pub send_still : (d : LinkGates) → until ≤ port.scheduled → IsScheduledNext network (get_or setting.gates number d).entries state.frames.items port.head until state.end port.scheduled
           send_still d upto =
               let short = until_short in
-              let longer = short.0 in
               let from = (is_port d).background.forward in
               subst (λ n. IsScheduledNext network (get_or setting.gates number d).entries state.frames.items port.head until n port.scheduled) (sym is.under_way.end)
               (scheduled_later network (get_or setting.gates number d).entries state.frames.items port.head (max (free_on state.free.items (get_or setting.gates number d).link) state.time) until end port.scheduled (omega arith) upto (is_port d).scheduled)
@@ -315,7 +247,6 @@ module _ (setting : Setting) (state : State) (can : IsSetting setting) (is : IsS
 
             pub sent_under_way : IsUnderWay setting sent
             sent_under_way =
-                let end_is = is.under_way.end in
                 let limit = is.under_way.small in
                 let soon = send_in_time in
                 let short = until_short in
@@ -346,10 +277,7 @@ module _ (setting : Setting) (state : State) (can : IsSetting setting) (is : IsS
                 }
 
             free_here : free_on free.items link ≡ until
-            free_here =
-                let exists = can.lists.links number no_list below in
-                let wires = is.under_way.wires in
-                ap (λ fs. free_on fs link) free_is ∙ get_or-set_same state.free.items link until 0 (omega arith)
+            free_here = grind (arith, below, get_or-set_same)
 
             -- with the port of its link made anew
             module _ (new : Port) (new_is : (d : LinkGates) → IsPort network (get_or setting.gates number d).entries state.frames.items (waiting_on feed (get_or setting.gates number d).link) (get_or setting.gates number d).link until state.end new)
@@ -359,7 +287,6 @@ module _ (setting : Setting) (state : State) (can : IsSetting setting) (is : IsS
               sent_port d =
                   let at : free_on free.items (get_or setting.gates number d).link ≡ until = ap (free_on free.items) (link_is number d below) ∙ free_here in
                   let short = until_short in
-                  let longer = short.0 in
                   let least_of = le-max_left (free_on free.items (get_or setting.gates number d).link) port.background in
                   let most : max (free_on free.items (get_or setting.gates number d).link) port.background ≤ until = max-le (omega arith) (omega arith) in
                   let same : until ≡ max (free_on free.items (get_or setting.gates number d).link) port.background = omega arith in
@@ -381,20 +308,14 @@ module _ (setting : Setting) (state : State) (can : IsSetting setting) (is : IsS
                 ports = record {
                   count = ap length all_are ∙ (length-set state.ports number new ∙ is.ports.count);
                   each = λ other other_below. elim (cases_eq number other) [
-                    | inl same ↦
-                        let count = is.ports.count in
-                        let read : new ≡ port_in all number = sym (port_set_same state.ports number new (let b = below in omega arith)) ∙ ap (λ ps. port_in ps number) (sym all_are) in
-                        subst (λ n. IsPortAt setting sent n (port_in all n)) same (subst (IsPortAt setting sent number) read sent_port)
-                    | inr differ ↦
-                        let read : port_at other ≡ port_in all other = sym (port_set_other state.ports number other new differ) ∙ ap (λ ps. port_in ps other) (sym all_are) in
-                        subst (IsPortAt setting sent other) read (sent_other other other_below differ)
+                    | inl same ↦ grind (arith, port_set_same, below, sent_port)
+                    | inr differ ↦ grind (arith, port_set_other, sent_other)
                   ];
                 };
               }
 
             pub sent_falls : sum_by (λ t. state.end - t) free.items < sum_by (λ t. state.end - t) state.free.items
             sent_falls =
-                let end_is = is.under_way.end in
                 let soon = send_in_time in
                 let short = until_short in
                 let longer = short.0 in

@@ -1,14 +1,14 @@
 -- One step of a replay: the time until the next start passes, and it starts.
-use Rattle.std.proofs.Common.{◌≡◌, ℕ, zero, ◌+◌, ◌-◌, ◌*◌, ◌≤◌, ◌<◌, List, [], ◌^◌, Option, length, get_or, slice_set, replicate, Some, None, sum_by, refl, sym, ap, ◌∙◌, subst, arith, inl, inr}
+use Rattle.std.proofs.Common.{◌≡◌, ℕ, ◌+◌, ◌-◌, ◌*◌, ◌≤◌, ◌<◌, List, [], ◌^◌, Option, length, get_or, slice_set, replicate, Some, None, sum_by, refl, sym, ap, ◌∙◌, subst, arith, inl, inr}
 use Rattle.std.proofs.lemmas.List.{get_or-set_same, get_or-set_other, get_or_default, get_or-replicate, length-replicate}
 use Rattle.std.proofs.Math.ListN.{get_or-eq_default}
-use Rattle.std.proofs.lemmas.Bool.{cases_lt, cases_eq}
+use Rattle.std.proofs.lemmas.Bool.{cases_eq}
 use Rattle.std.proofs.lemmas.List.Sums.{sum_by-set}
 use Rattle.std.proofs.lemmas.List.Elements.{All-nil}
 use Rattle.tsn_model.proofs.Lists.{Contains-nil}
 use Rattle.tsn_model.specs.Network.{Network, IsWellFormed, link_at}
 use Rattle.tsn_model.specs.Timing.{occupancy}
-use Rattle.tsn_model.specs.Bridge.{LinkGates, BackgroundOpen, ScheduledStart, BackgroundStart, BackgroundFrame, Background, BridgeRun, WireUse, wire_uses, link_of, length_of, IsPassage, IsReady, FitsAt, IsTaken, IsBefore, FrameStartedBefore, frame_at, IsBridgeRun, IsFed}
+use Rattle.tsn_model.specs.Bridge.{LinkGates, BackgroundOpen, BackgroundStart, BackgroundFrame, Background, BridgeRun, wire_uses, link_of, length_of, IsTaken, frame_at, IsBridgeRun, IsFed}
 use Rattle.tsn_model.specs.Bridge.Background.{nothing, greedy, frames as listed}
 use Rattle.tsn_gate.specs.declared.queue.Frame.{Frame}
 use Rattle.tsn_gate.specs.declared.feed.Waiting.{Waiting}
@@ -136,9 +136,7 @@ module _ (network : Network) (formed : IsWellFormed network) (spaced : AreSpaced
 
       module _ (until : ℕ) (until_is : until ≡ next.time + length_of network (passage_of (frame_in frames number))) (wires : length free ≡ length network.links) where
         set_here : free_on (slice_set free next.link until) (link_of network (passage_of (frame_in frames number))) ≡ next.time + length_of network (passage_of (frame_in frames number))
-        set_here =
-            let exists = is.link in_time in
-            ap (free_on (slice_set free next.link until)) on ∙ (get_or-set_same free next.link until 0 (omega arith) ∙ until_is)
+        set_here = grind (arith, on, get_or-set_same)
 
         set_elsewhere : (m : ℕ) → (m ≡ link_of network (passage_of (frame_in frames number)) → ⊥) → free_on (slice_set free next.link until) m ≡ free_on free m
         set_elsewhere m differ = get_or-set_other free next.link m until 0 (λ same. differ (same ∙ sym on))
@@ -199,10 +197,7 @@ module _ (network : Network) (formed : IsWellFormed network) (spaced : AreSpaced
 
       -- the frame that waits is the one that can start
       wanted : waiting.wanted ≤ next.time
-      wanted =
-          let some : Some can_send.0.0 ≡ Some waiting = sym can_send.0.1 ∙ first in
-          let same : can_send.0.0 ≡ waiting = cc some in
-          subst (λ (w : Waiting). w.wanted ≤ next.time) same can_send.0.2
+      wanted = grind (arith, can_send)
 
       send_due : IsBackgroundDue network offsets gates cycles (free_on free) next.time run next.link
       send_due = record {
@@ -237,10 +232,7 @@ module _ (network : Network) (formed : IsWellFormed network) (spaced : AreSpaced
         fed_send nothing (before, never) still = let none : None ≡ Some waiting = sym (never next.link (is.link in_time)) ∙ first in cc
         fed_send greedy (before, always) still = (
           background_greedy network offsets gates cycles (free_on free) (free_on (slice_set free next.link until)) next.time run here_so_far next.link waiting.octets waiting.number send_due is_given.short sent_here sent_elsewhere greatest before,
-          λ m exists. elim (cases_eq m next.link) [
-            | inl same ↦ subst (λ l. line' l ≡ Some (greatest_on l)) (sym same) (still ∙ always next.link (is.link in_time))
-            | inr differ ↦ others m differ ∙ always m exists
-          ],
+          λ m exists. (grind arith),
         ) where
           greatest : waiting.octets ≡ 1522
           greatest =
@@ -277,37 +269,16 @@ time_falls free link until end below before longer = let sums = sum_by-set (λ (
 
 pub no_run : (network : Network) (offsets : List ℕ) (gates : List LinkGates) (cycles : ℕ) (free : List ℕ) → ((link : ℕ) → free_on free link ≡ 0) → IsRunSoFar network offsets gates cycles (free_on free) 0 no_start
 unfolding wire_uses
-no_run network offsets gates cycles free empty = record {
-  wires_shared = λ i j d order below. absurd (omega arith);
-  uses_begin = All-nil (λ (wire : WireUse). (wire.from ≤ 0) × (wire.from < cycles * network.cycle));
-  uses_end = All-nil (λ (wire : WireUse). wire.until ≤ free_on free wire.link);
-  busy = λ link t since soon. let none = empty link in absurd (omega arith);
-  background_length = All-nil (λ (begun : BackgroundStart). begun.octets ≤ 1522);
-  background_open = All-nil (λ (begun : BackgroundStart). BackgroundOpen gates begun.link begun.time);
-  passages = All-nil (λ (begun : ScheduledStart). IsPassage network cycles begun.passage);
-  once = λ passage s t at. absurd (Contains-nil _ at);
-  ready = All-nil (λ (begun : ScheduledStart). (t : ℕ) × IsReady network offsets no_start begun.passage t × (t ≤ begun.time));
-  fits = All-nil (λ (begun : ScheduledStart). FitsAt network gates begun.passage begun.time);
-  waits = λ passage ready t is at since in_time when none. let empty_here = empty (link_of network passage) in elim when [ inl past ↦ absurd (omega arith) | inr soon ↦ absurd (omega arith) ];
-}
+no_run network offsets gates cycles free empty = grind (arith, All-nil, Contains-nil)
 
 no_list : (network : Network) (gates : List LinkGates) (cycles : ℕ) (free : List ℕ) → ((link : ℕ) → free_on free link ≡ 0) → (list : List BackgroundFrame) → IsListSoFar network gates cycles list (free_on free) 0 no_start
-no_list network gates cycles free empty list = record {
-  listed = All-nil (λ (begun : BackgroundStart). (begun.number < length list) × (begun.link ≡ (frame_at list begun.number).link) × (begun.octets ≡ (frame_at list begun.number).octets));
-  once = λ i j d order below. absurd (omega arith);
-  wanted = All-nil (λ (begun : BackgroundStart). (frame_at list begun.number).wanted ≤ begun.time);
-  in_order = All-nil (λ (begun : BackgroundStart). (earlier : ℕ) → IsBefore list earlier begun.number → FrameStartedBefore no_start earlier begun.time);
-  waits = λ number t below wanted in_time when never. let none = empty (frame_at list number).link in elim when [ inl past ↦ absurd (omega arith) | inr soon ↦ absurd (omega arith) ];
-}
+no_list network gates cycles free empty list = grind (arith, All-nil, wanted)
 
 pub no_fed : (network : Network) (gates : List LinkGates) (cycles : ℕ) (free : List ℕ) → ((link : ℕ) → free_on free link ≡ 0) → (background : Background) (line : ℕ → Option Waiting)
     → ((link : ℕ) → link < length network.links → IsFirstOn background link (line link)) → IsFedSoFar network gates cycles (free_on free) 0 background line no_start
 no_fed network gates cycles free empty nothing line first = (refl, first)
 no_fed network gates cycles free empty greedy line first = (
-  record {
-    greatest = All-nil (λ (begun : BackgroundStart). begun.octets ≡ 1522);
-    held = λ t in_time k d below when. let none = empty (get_or gates k d).link in elim when [ inl past ↦ absurd (omega arith) | inr soon ↦ absurd (omega arith) ];
-  },
+  grind (arith, All-nil),
   first,
 )
 no_fed network gates cycles free empty (listed list) line first = (no_list network gates cycles free empty list, first)
@@ -319,22 +290,11 @@ unfolding frame_in
 read_frame frames number frame below is = is ∙ get_or_default frames number frame (record { stream = 0; shift = 0; cycle = 0; hop = 0; ready = 0 }) below
 
 still_frame : (network : Network) (offsets : List ℕ) (cycles : ℕ) (run : BridgeRun) (frame : Frame) (begun : BackgroundStart) → IsFrame network offsets cycles run frame → IsFrame network offsets cycles (with_background run begun) frame
-still_frame network offsets cycles run frame begun is = record {
-  stream = is.stream;
-  sent = is.sent;
-  cycle = is.cycle;
-  hop = is.hop;
-  started = is.started;
-  unstarted = is.unstarted;
-  ready = is.ready;
-}
+still_frame network offsets cycles run frame begun is = grind arith
 
 -- a background start changes nothing for the frames
 pub still_tracked : (network : Network) (offsets : List ℕ) (cycles : ℕ) (run : BridgeRun) (frames : List Frame) (begun : BackgroundStart) → IsTracked network offsets cycles run frames → IsTracked network offsets cycles (with_background run begun) frames
 still_tracked network offsets cycles run frames begun tracked = record { each = λ number below. still_frame network offsets cycles run (frame_in frames number) begun (tracked.each number below); complete = tracked.complete; distinct = tracked.distinct }
 
 pub zeros : (n link : ℕ) → free_on (replicate n 0) link ≡ 0
-zeros n link = elim (cases_lt link n) [
-  | inl below ↦ get_or-replicate n link 0 0 below
-  | inr past ↦ let size : length (replicate n zero) ≡ n = length-replicate n zero in get_or-eq_default (replicate n 0) 0 (omega arith)
-]
+zeros n link = grind (arith, get_or-replicate, replicate, length-replicate, get_or-eq_default)

@@ -75,9 +75,7 @@ module _ (network : Network) (formed : IsWellFormed network) (offsets : List ℕ
 
   one_hop : (p q : Passage) → IsPassage network cycles p → IsPassage network cycles q → link_of network p ≡ link_of network q → p.stream ≡ q.stream → p.hop ≡ q.hop
   unfolding link_of
-  one_hop p q passage q_passage link stream =
-      hop_once network formed q.stream q_passage.stream p.hop q.hop (subst (λ i. p.hop < hop_count network i) stream passage.hop) q_passage.hop
-      (ap (λ i. route_link network i p.hop) (sym stream) ∙ link)
+  one_hop p q passage q_passage link stream = grind (arith, hop_once)
 
   same_link : (p q : Passage) (j k : ℕ) → p.stream ≡ q.stream → j ≡ k → link_of network (record p { hop = j }) ≡ link_of network (record q { hop = k })
   unfolding link_of
@@ -102,18 +100,8 @@ module _ (network : Network) (formed : IsWellFormed network) (offsets : List ℕ
       elim (passage_cases (record p { hop = before }) (record q { hop = before_too })) [
         | inl is ↦ (ap (λ (x : Passage). x.cycle) is, ap (λ (x : Passage). x.shift) is)
         | inr differ ↦
-            let p_passage : IsPassage network cycles (record p { hop = before }) = record {
-              stream = passage.stream;
-              sent = passage.sent;
-              cycle = passage.cycle;
-              hop = let b = passage.hop in omega arith;
-            } in
-            let u_passage : IsPassage network cycles (record q { hop = before_too }) = record {
-              stream = q_passage.stream;
-              sent = q_passage.sent;
-              cycle = q_passage.cycle;
-              hop = let b = q_passage.hop in omega arith;
-            } in
+            let p_passage : IsPassage network cycles (record p { hop = before }) = grind arith in
+            let u_passage : IsPassage network cycles (record q { hop = before_too }) = grind arith in
             absurd (starts_apart (record p { hop = before }) (record q { hop = before_too }) s started (subst (λ v. StartedAt run (record q { hop = before_too }) v) (sym together_at) started_too)
             (same_link p q before before_too stream same) (long (record p { hop = before }) p_passage) (long (record q { hop = before_too }) u_passage) differ)
       ]
@@ -160,9 +148,7 @@ module _ (network : Network) (formed : IsWellFormed network) (offsets : List ℕ
           shift = (frame_in frames at.0).shift;
           cycle = (frame_in frames at.0).cycle;
           hop = k;
-        }) s =
-        λ k s started. subst (λ (x : Passage). StartedAt run x s) (λ i. record { stream = sym at.2 i; shift = sym at.3 i; cycle = sym at.4 i; hop = k })
-        started in
+        }) s = grind arith in
         let not_past : (frame_in frames at.0).hop ≤ q.hop = elim (cases_lt q.hop (frame_in frames at.0).hop) [
           | inl past ↦ let started = frame.started q.hop past in absurd (never started.0 (same_at q.hop started.0 started.1))
           | inr not_past ↦ not_past
@@ -219,7 +205,6 @@ module _ (network : Network) (formed : IsWellFormed network) (offsets : List ℕ
         let late = none s started in
         let begins = All-contains (λ (wire : WireUse). (wire.from ≤ now) × (wire.from < cycles * network.cycle)) (wire_uses network run) (scheduled_use network (record { passage = q; time = s })) so_far.uses_begin
         (Contains-append_left (map (scheduled_use network) run.scheduled) (map (background_use network) run.background) _ (Contains-map (scheduled_use network) run.scheduled (record { passage = q; time = s }) started)) in
-        let early = begins.0 in
         absurd (omega arith)
 
     one_number : (a b : ℕ) → a < length frames → b < length frames → passage_of (frame_in frames a) ≡ passage_of (frame_in frames b) → a ≡ b
@@ -242,11 +227,9 @@ module _ (network : Network) (formed : IsWellFormed network) (offsets : List ℕ
     blocked_by (Some head) link t q ready passage on at since is_head closed not_yet =
         let waits = subst (λ l. Waits network l (frame_in frames at.number)) on at.waits in
         let head_below = is_head.0 in
-        let ready_is = at.ready_is in
         elim (cases_eq head at.number) [
           | inl same ↦
               let is : passage_of (frame_in frames head) ≡ q = ap (λ n. passage_of (frame_in frames n)) same ∙ at.is in
-              let early : (frame_in frames head).ready ≡ ready = ap (λ n. (frame_in frames n).ready) same ∙ at.ready_is in
               inl (λ fits. closed head refl (omega arith) (subst (λ x. FitsAt network gates x t) (sym is) fits))
           | inr differ ↦ elim (passage_cases (passage_of (frame_in frames at.number)) (passage_of (frame_in frames head))) [
             | inl is ↦ absurd (differ (sym (one_number at.number head at.below head_below is)))

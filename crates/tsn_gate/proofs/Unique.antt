@@ -20,10 +20,7 @@ pub record AreAlike (xs ys : List GateEntry) : Type 0 where
   pub shown : (t : ℕ) → t < cycle_of xs → octet_at xs t ≡ octet_at ys t
 
 alike_back : (xs ys : List GateEntry) → AreAlike xs ys → AreAlike ys xs
-alike_back xs ys alike = record {
-  whole = sym alike.whole;
-  shown = λ t below. sym (alike.shown t (subst (λ n. t < n) (sym alike.whole) below));
-}
+alike_back xs ys alike = omega arith
 
 differ_tail : (x : GateEntry) (xs : List GateEntry) → NeighboursDiffer (x ∷ xs) → NeighboursDiffer xs
 differ_tail x xs differ k d below =
@@ -42,10 +39,7 @@ others_last x xs positive = All-tail (λ (e : GateEntry). 1 ≤ e.interval) x xs
 -- the first entries show the same
 same_octet : (x : GateEntry) (xs : List GateEntry) (y : GateEntry) (ys : List GateEntry) → 1 ≤ x.interval → 1 ≤ y.interval → AreAlike (x ∷ xs) (y ∷ ys)
     → x.octet ≡ y.octet
-same_octet x xs y ys x_lasts y_lasts alike =
-    let whole = cycle_of-cons x xs in
-    let some : 0 < cycle_of (x ∷ xs) = omega arith in
-    sym (octet_at-first x xs 0 (omega arith)) ∙ (alike.shown 0 some ∙ octet_at-first y ys 0 (omega arith))
+same_octet x xs y ys x_lasts y_lasts alike = grind (arith, cycle_of-cons, octet_at-first)
 
 -- the first entry doesn't end before the other
 not_shorter : (x : GateEntry) (xs : List GateEntry) (y : GateEntry) (ys : List GateEntry) → AllPositive xs → NeighboursDiffer (x ∷ xs) → x.octet ≡ y.octet
@@ -54,7 +48,6 @@ not_shorter x [] y ys positive differ same alike shorter =
     let none = cycle_of-nil in
     let left = cycle_of-cons x [] in
     let right = cycle_of-cons y ys in
-    let whole = alike.whole in
     omega arith
 not_shorter x (z ∷ xs) y ys positive differ same alike shorter =
     let lasts = first_lasts z xs positive in
@@ -78,9 +71,7 @@ same_interval x xs y ys x_positive y_positive x_differ y_differ same alike = eli
 
 -- behind the first entries
 shown_behind : (x : GateEntry) (xs : List GateEntry) (t : ℕ) → octet_at (x ∷ xs) (t + x.interval) ≡ octet_at xs t
-shown_behind x xs t =
-    let left : t + x.interval - x.interval ≡ t = omega arith in
-    octet_at-later x xs (t + x.interval) (omega arith) ∙ ap (octet_at xs) left
+shown_behind x xs t = grind (arith, octet_at-later)
 
 alike_behind : (x : GateEntry) (xs : List GateEntry) (y : GateEntry) (ys : List GateEntry) → x.interval ≡ y.interval → AreAlike (x ∷ xs) (y ∷ ys)
     → AreAlike xs ys
@@ -93,9 +84,7 @@ alike_behind x xs y ys same alike =
     }
 
 same_entry : (x y : GateEntry) → x.interval ≡ y.interval → x.octet ≡ y.octet → x ≡ y
-same_entry x y intervals octets =
-    let made : ℕ → ℕ → GateEntry = λ interval octet. record { interval = interval; octet = octet } in
-    ap₂ made intervals octets
+same_entry x y intervals octets = grind arith
 
 pub same_entries : (xs ys : List GateEntry) → AllPositive xs → AllPositive ys → NeighboursDiffer xs → NeighboursDiffer ys → AreAlike xs ys → xs ≡ ys
 same_entries [] [] x_positive y_positive x_differ y_differ alike = refl
@@ -103,7 +92,6 @@ same_entries [] (y ∷ ys) x_positive y_positive x_differ y_differ alike =
     let none = cycle_of-nil in
     let some = cycle_of-cons y ys in
     let lasts = first_lasts y ys y_positive in
-    let whole = alike.whole in
     absurd (omega arith)
 same_entries (x ∷ xs) [] x_positive y_positive x_differ y_differ alike =
     let none = cycle_of-nil in
@@ -157,25 +145,13 @@ IsBefore a b = a.link < b.link
 
 same_head : (x : LinkGates) (xs : List LinkGates) (y : LinkGates) (ys : List LinkGates) → All (IsBefore x) xs → All (IsBefore y) ys → Contains (y ∷ ys) x
     → Contains (x ∷ xs) y → x ≡ y
-same_head x xs y ys x_first y_first x_there y_there = elim (Contains-cons_cases y ys x x_there) [
-  | inl same ↦ sym same
-  | inr behind ↦ elim (Contains-cons_cases x xs y y_there) [
-    | inl same ↦ same
-    | inr after ↦
-        let lower = All-contains (IsBefore y) ys x y_first behind in
-        let higher = All-contains (IsBefore x) xs y x_first after in
-        absurd (omega arith)
-  ]
-]
+same_head x xs y ys x_first y_first x_there y_there = grind (arith, Contains-cons_cases, All-contains)
 
 there_behind : (x : LinkGates) (xs : List LinkGates) (y : LinkGates) (ys : List LinkGates) → All (IsBefore x) xs → x ≡ y
     → ((l : LinkGates) → Contains (x ∷ xs) l → Contains (y ∷ ys) l)
     → (l : LinkGates) → Contains xs l → Contains ys l
 there_behind x xs y ys x_first same to l there = elim (Contains-cons_cases y ys l (to l (Contains-more x xs l there))) [
-  | inl first ↦
-      let higher = All-contains (IsBefore x) xs l x_first there in
-      let links = ap (λ (m : LinkGates). m.link) (same ∙ first) in
-      absurd (omega arith)
+  | inl first ↦ grind (arith, All-contains)
   | inr behind ↦ behind
 ]
 

@@ -1,16 +1,13 @@
 -- The merged lists of a schedule are one list of lists alone.
-use Rattle.std.proofs.Common.{◌≡◌, ℕ, ◌<◌, List, All, sym, ap, ap₂, ◌∙◌, subst, inl, inr}
+use Rattle.std.proofs.Common.{arith, ◌≡◌, ℕ, List, sym, ap₂, ◌∙◌, subst, inl, inr}
 use Rattle.std.specs.Prelude.{Option, Some, None}
 use Rattle.tsn_model.specs.declared.GateEntry.{GateEntry}
 use Rattle.tsn_model.specs.Network.{Network}
-use Rattle.tsn_model.specs.Gates.{cycle_of}
 use Rattle.tsn_model.specs.Bridge.{LinkGates}
 use Rattle.tsn_gate.specs.declared.windows.Window.{Window}
-use Rattle.tsn_gate.specs.Entries.{octet_at, AllLast}
-use Rattle.tsn_gate.specs.GateLists.{IsWantedList}
-use Rattle.tsn_gate.specs.Merged.{IsMergedOctet, IsWidened, IsMerged, IsMergedList, AreMergedLists, AreListsBy, times_kept}
+use Rattle.tsn_gate.specs.Merged.{IsMergedOctet, IsWidened, IsMerged, IsMergedList, AreMergedLists, AreListsBy}
 use Rattle.tsn_gate.proofs.Merging.{all_or_not}
-use Rattle.tsn_gate.proofs.Unique.{AreAlike, AreListed, same_entries, same_list, listed_once, one_list_of_lists}
+use Rattle.tsn_gate.proofs.Unique.{same_entries, same_list, listed_once, one_list_of_lists}
 
 merged_once : (least : ℕ) (wanted : List GateEntry) (kept : List Window) (t a b : ℕ) → IsMergedOctet least wanted kept t a
     → IsMergedOctet least wanted kept t b → a ≡ b
@@ -25,13 +22,7 @@ merged_once least wanted kept t a b (inr (inr (_, outside, p))) (inr (inl (_, st
 merged_once least wanted kept t a b (inr (inr (_, _, p))) (inr (inr (_, _, q))) = p ∙ sym q
 
 same_widened : (least : ℕ) (wanted a b : List GateEntry) → IsWidened least wanted a → IsWidened least wanted b → a ≡ b
-same_widened least wanted a b first second =
-    same_entries a b first.timeline.positive second.timeline.positive first.timeline.differ second.timeline.differ (record {
-      whole = first.timeline.whole ∙ sym second.timeline.whole;
-      shown = λ t below.
-          let inside : t < cycle_of wanted = subst (λ n. t < n) first.timeline.whole below in
-          merged_once least wanted (times_kept least wanted) t (octet_at a t) (octet_at b t) (first.shown t inside) (second.shown t inside);
-    })
+same_widened least wanted a b first second = grind (arith, same_entries, merged_once)
 
 same_merged : (least : ℕ) (wanted a b : LinkGates) → IsMerged least wanted a → IsMerged least wanted b → a ≡ b
 same_merged least wanted a b first second =

@@ -1,5 +1,5 @@
 -- The hops of the streams on each link.
-use Rattle.std.proofs.Common.{◌≡◌, ℕ, ◌+◌, ◌<◌, List, [], ◌∷◌, ◌++◌, length, get_or, All, Contains, Some, None, is_some, false, Vec, Global, refl, sym, ap, ◌∙◌, subst, arith, inl, inr}
+use Rattle.std.proofs.Common.{◌≡◌, ℕ, ◌+◌, ◌<◌, List, [], ◌∷◌, ◌++◌, get_or, All, Contains, Some, None, is_some, false, Vec, Global, refl, sym, ap, ◌∙◌, subst, arith, inl, inr}
 use Rattle.std.proofs.lemmas.Bool.{cases_lt}
 use Rattle.std.proofs.lemmas.List.{length-append}
 use Rattle.std.proofs.Math.ListN.{get_or-append}
@@ -20,10 +20,7 @@ pub record AreVisitsBelow (network : Network) (link count : ℕ) (visits : List 
 
 module _ (network : Network) (link : ℕ) where
   pub visits_none : AreVisitsBelow network link 0 []
-  visits_none = record {
-    right = All-nil (IsVisit network link);
-    complete = λ stream hop below. absurd (omega arith);
-  }
+  visits_none = grind (arith, All-nil)
 
   pub visits_whole : (count : ℕ) (visits : List Visit) → count ≡ stream_count network → AreVisitsBelow network link count visits → AreVisits network link visits
   visits_whole count visits same are = record { right = are.right; complete = λ stream hop below. are.complete stream hop (omega arith) }
@@ -73,12 +70,10 @@ all_visits_more network link visits here are is = record {
   count = let count = are.count in length-append visits (here ∷ []) ∙ omega arith;
   each = λ other d below. elim (cases_lt other link) [
     | inl earlier ↦
-        let count = are.count in
         subst (λ (v : Vec Visit Global). AreVisits network other v.items) (sym (get_or-append visits (here ∷ []) d other (omega arith)))
         (are.each other d earlier)
     | inr last ↦
         let count = are.count in
-        let same : length visits ≡ other = omega arith in
         let at : link ≡ other = omega arith in
         subst (λ n. AreVisits network n (get_or (visits ++ here ∷ []) n d).items) at
         (subst (λ n. AreVisits network link (get_or (visits ++ here ∷ []) n d).items) count

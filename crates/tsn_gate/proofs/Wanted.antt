@@ -76,7 +76,6 @@ pub none_used : (network : Network) (offsets : List ℕ) (link : ℕ) (windows :
 none_used network offsets link windows formed all none (i, uses) =
     let sent = first_sent network i formed (UsesLink-counted network i link uses) in
     let has = all.all_uses (record { stream = i; shift = 0 }) (record { sent = sent; uses = uses }) in
-    let inside = has.1 in
     omega arith
 
 some_entries : (entries : List GateEntry) → 1 ≤ cycle_of entries → 0 < length entries
@@ -84,11 +83,7 @@ some_entries [] lasts = absurd (omega (arith, cycle_of-nil))
 some_entries (entry ∷ entries) lasts = omega arith
 
 pub IsGateList-timeline : (network : Network) (entries : List GateEntry) → IsWellFormed network → IsTimeline entries network.cycle → IsGateList entries
-IsGateList-timeline network entries formed timeline = record {
-  some_entry = let whole = timeline.whole in let some = formed.some_cycle in some_entries entries (omega arith);
-  positive = timeline.positive;
-  short = let short = formed.short_cycle in let whole = timeline.whole in omega arith;
-}
+IsGateList-timeline network entries formed timeline = grind (arith, some_entries)
 
 -- ---- the lists of all links
 
@@ -103,14 +98,7 @@ module _ (network : Network) (offsets : List ℕ) where
     pub in_order : AllPairs (λ a b. a.link < b.link) lists
 
   pub AreListsBelow-skip : (n : ℕ) (lists : List LinkGates) → AreListsBelow n lists → ¬ IsUsed network n → AreListsBelow (n + 1) lists
-  AreListsBelow-skip n lists below unused = record {
-    each = λ k d inside. let had = below.each k d inside in let low = had.0 in (omega arith, had.1);
-    all_used = λ link lower used. elim (cases_lt link n) [
-      | inl before ↦ below.all_used link before used
-      | inr past ↦ let same : link ≡ n = omega arith in absurd (unused (subst (IsUsed network) same used))
-    ];
-    in_order = below.in_order;
-  }
+  AreListsBelow-skip n lists below unused = grind arith
 
   pub AreListsBelow-more : (n : ℕ) (lists : List LinkGates) (list : LinkGates) → AreListsBelow n lists → IsListOf network offsets n list → AreListsBelow (n + 1) (lists ++ list ∷ [])
   AreListsBelow-more n lists list below is = record {

@@ -1,5 +1,5 @@
 -- The entries of a merged list show what is kept of the background's time, and the guards that stay closed.
-use Rattle.std.proofs.Common.{◌≡◌, ◌≢◌, ℕ, ◌+◌, ◌-◌, ◌*◌, ◌≤◌, ◌<◌, ◌⊎◌, ◌↔◌, ◌==◌, min, Bool, IsTrue, List, length, get_or, refl, sym, ap, ◌∙◌, subst, arith, inl, inr}
+use Rattle.std.proofs.Common.{◌≡◌, ℕ, ◌+◌, ◌-◌, ◌≤◌, ◌<◌, ◌⊎◌, ◌↔◌, ◌==◌, min, Bool, IsTrue, List, length, get_or, refl, sym, ap, ◌∙◌, subst, arith, inl, inr}
 use Rattle.std.proofs.lemmas.Bool.{cases_lt, cases_eq, eqb-true, eq-eqb}
 use Rattle.std.proofs.lemmas.List.{get_or_default}
 use Rattle.tsn_model.specs.declared.GateEntry.{GateEntry}
@@ -9,7 +9,7 @@ use Rattle.tsn_gate.specs.Windows.{InSomeWindow}
 use Rattle.tsn_gate.specs.Entries.{octet_at, AllLast, LastsOrNone, KeepsOctets, HasOctet}
 use Rattle.tsn_gate.specs.Merged.{IsSpared, FollowsBackground, LeavesEnough, StaysClosed, IsMergedOctet, times_kept}
 use Rattle.tsn_gate.specs.Widened.{NoneScheduled, IsOpening, IsFilled}
-use Rattle.tsn_gate.proofs.Rooms.{AreRooms, IsRoom, IsPastRoom, rooms_of}
+use Rattle.tsn_gate.proofs.Rooms.{AreRooms, IsRoom, rooms_of}
 
 -- the instant up to which time k is kept
 pub record IsEnd (least : ℕ) (kept : List Window) (k end : ℕ) : Type 0 where
@@ -80,12 +80,7 @@ module _ (least : ℕ) (wanted : List GateEntry) (kept : List Window) (some : 1 
 
   module _ (k end : ℕ) (is : IsEnd least kept k end) (d : Window) where
     pub end_long : (get_or kept k d).start + least ≤ end
-    end_long =
-        let long = (room k d is.below).long in
-        elim (cases_lt (k + 1) (length kept)) [
-          | inl more ↦ let cut = is.inner d more in let far = (rooms.apart k (k + 1) d (omega arith) more).far in omega arith
-          | inr none ↦ let whole = is.last d none in omega arith
-        ]
+    end_long = grind (arith, room, d)
 
     end_low : end ≤ (get_or kept k d).end
     end_low =
@@ -111,7 +106,6 @@ module _ (least : ℕ) (wanted : List GateEntry) (kept : List Window) (some : 1 
   spared_within k end t is d low high = record {
     inside = (k, get_or kept k d, is.below, get_or_default kept k (get_or kept k d) d is.below, (low, (let below = end_low k end is d in omega arith)));
     far = λ j e below ahead.
-        let begins = ap (λ (w : Window). w.start) (get_or_default kept j e d below) in
         let own = ap (λ (w : Window). w.start) (get_or_default kept k e d is.below) in
         far_from k end t is e (omega arith) high j below ahead;
   }
@@ -130,18 +124,7 @@ module _ (least : ℕ) (wanted : List GateEntry) (kept : List Window) (some : 1 
             | inl before ↦
                 let is = stands.later (count - 1) (omega arith) in
                 let rise = end-le j (count - 1) x (omega arith) is.below in
-                elim (cases_lt count (length kept)) [
-                  | inl more ↦
-                      let next : count - 1 + 1 ≡ count = omega arith in
-                      let inside : count - 1 + 1 < length kept = omega arith in
-                      let cut = is.inner x inside in
-                      let following = ap (λ n. (get_or kept n x).start) next in
-                      let stop = stops.next x more in
-                      let apart = (rooms.apart j count x before more).past in
-                      let away = spared.far count x more (omega arith) in
-                      omega arith
-                  | inr none ↦ let end_is = is.last x (omega arith) in omega arith
-                ]
+                grind arith
             | inr past ↦
                 let more : count < length kept = omega arith in
                 let stop = stops.next x more in
@@ -163,23 +146,12 @@ module _ (least : ℕ) (wanted : List GateEntry) (kept : List Window) (some : 1 
   spared_start count more = elim (cases_lt (count + 1) (length kept)) [
     | inl inside ↦
         let end : ℕ = min (get_or kept count d).end ((get_or kept (count + 1) d).start - least) in
-        let is : IsEnd least kept count end = record {
-          below = more;
-          last = λ e none. absurd (omega arith);
-          inner = λ e _.
-              let own = ap (λ (w : Window). w.end) (get_or_default kept count e d more) in
-              let next = ap (λ (w : Window). w.start) (get_or_default kept (count + 1) e d inside) in
-              omega arith;
-        } in
+        let is : IsEnd least kept count end = grind (arith, get_or_default, d) in
         let long = end_long count end is d in
         spared_within count end (get_or kept count d).start is d (omega arith) (omega arith)
     | inr none ↦
         let end : ℕ = (get_or kept count d).end in
-        let is : IsEnd least kept count end = record {
-          below = more;
-          last = λ e _. ap (λ (w : Window). w.end) (sym (get_or_default kept count e d more));
-          inner = λ e inside. absurd (omega arith);
-        } in
+        let is : IsEnd least kept count end = grind (arith, get_or_default, d) in
         let long = end_long count end is d in
         spared_within count end (get_or kept count d).start is d (omega arith) (omega arith)
   ]
@@ -190,7 +162,6 @@ module _ (least : ℕ) (wanted : List GateEntry) (kept : List Window) (some : 1 
       → (end ≤ until) × LastsOrNone bound (until - end)
   bare_long count end until bound stands stops small short = elim (cases_lt count (length kept)) [
     | inl more ↦
-        let stop = stops.next d more in
         elim (cases_eq count 0) [
           | inl none ↦ let from =
               stands.first none in (omega arith, elim (room count d more).at_start [ inl here ↦ inr (omega arith) | inr far ↦ inl (omega arith) ])
@@ -236,8 +207,6 @@ module _ (least : ℕ) (wanted : List GateEntry) (kept : List Window) (some : 1 
       (opens : ℕ) (opening : IsOpening wanted u v least closes opens) where
     stays_closed : (t : ℕ) → u ≤ t → t < opens → StaysClosed least wanted kept t
     stays_closed t low high =
-        let below = opening.high in
-        let end_of_bare = bare.high in
         elim opening.long [
           | inl none ↦ absurd (omega arith)
           | inr long ↦ record {
@@ -264,9 +233,6 @@ module _ (least : ℕ) (wanted : List GateEntry) (kept : List Window) (some : 1 
     module _ (t : ℕ) (low : opens ≤ t) (high : t < v) (stays : StaysClosed least wanted kept t) where
       from_here : stays.from ≡ u
       from_here =
-          let begun = stays.begun in
-          let not_ended = stays.not_ended in
-          let after = opening.low in
           elim (cases_lt stays.from u) [
             | inl early ↦ elim bare.before [ inl none ↦ absurd (omega arith) | inr (b, next, spared) ↦ absurd (stays.not_spared b (omega arith) (omega arith) spared) ]
             | inr late ↦ elim stays.follows [
@@ -277,8 +243,6 @@ module _ (least : ℕ) (wanted : List GateEntry) (kept : List Window) (some : 1 
 
       until_within : stays.until ≤ v
       until_within =
-          let begun = stays.begun in
-          let within = stays.within in
           elim (cases_lt v stays.until) [
             | inl past ↦ elim bare.after [ inl whole ↦ absurd (omega arith) | inr spared ↦ absurd (stays.not_spared v (omega arith) past spared) ]
             | inr fits ↦ fits
@@ -286,11 +250,7 @@ module _ (least : ℕ) (wanted : List GateEntry) (kept : List Window) (some : 1 
 
       enough_there : (stays.until ≡ v) ⊎ (stays.until + least ≤ v)
       enough_there =
-          let begun = stays.begun in
-          let not_ended = stays.not_ended in
-          let after = opening.low in
           let fits = until_within in
-          let end_of_bare = bare.high in
           elim stays.enough [
             | inl whole ↦ inl (omega arith)
             | inr (inl spared) ↦ elim (cases_lt stays.until v) [ inl inside ↦ absurd (bare.none stays.until (omega arith) inside spared) | inr all ↦ inl (omega arith) ]
@@ -303,8 +263,6 @@ module _ (least : ℕ) (wanted : List GateEntry) (kept : List Window) (some : 1 
       not_closed : ⊥
       not_closed =
           let here = from_here in
-          let not_ended = stays.not_ended in
-          let lasts = stays.long in
           let long : u + least ≤ stays.until = omega arith in
           let shut : NoneScheduled wanted u stays.until = subst (λ n. NoneScheduled wanted n stays.until) here stays.not_scheduled in
           let last = opening.last (must (subst (FollowsBackground least wanted kept) here stays.follows)) stays.until long until_within enough_there shut in
@@ -332,14 +290,7 @@ module _ (least : ℕ) (wanted : List GateEntry) (kept : List Window) (some : 1 
               let long = end_long (length kept - 1) last is d in
               let spared : IsSpared least kept (last - 1) = spared_within (length kept - 1) last (last - 1) is d (omega arith) (omega arith) in (
                 last - 1,
-                elim (cases_lt t (last - 1)) [
-                  | inl inside ↦ inside
-                  | inr at_end ↦
-                      let here : last - 1 ≡ t = omega arith in
-                      let background = spared_background (last - 1) spared in
-                      let both : background_octet ≡ scheduled_octet = sym background ∙ (ap (octet_at wanted) here ∙ scheduled) in
-                      absurd (omega arith)
-                ],
+                (grind (arith, spared_background)),
                 spared,
               )
           | inr after ↦ absurd (none t after below scheduled)
@@ -357,7 +308,6 @@ module _ (least : ℕ) (wanted : List GateEntry) (kept : List Window) (some : 1 
       not_later : (later : ℕ) → window < later → InSomeWindow kept later → ⊥
       not_later later order (j, x, below, at, (begun, not_ended)) =
           let ends = ap (λ (w : Window). w.end) at in
-          let end_is = lasts.some_time x (omega arith) in
           let rise = end-le j (length kept - 1) x (omega arith) (omega arith) in
           omega arith
 
@@ -368,33 +318,21 @@ module _ (least : ℕ) (wanted : List GateEntry) (kept : List Window) (some : 1 
   pub round_is : (last window : ℕ) → LastsUntil kept last → last ≤ window → window ≤ cycle_of wanted → NoneScheduled wanted last window
       → (window < cycle_of wanted → octet_at wanted window ≡ scheduled_octet)
       → IsTrue (window == cycle_of wanted) ↔ FollowsBackground least wanted kept 0
-  round_is last window lasts after within none found = (
-    λ yes. let whole : window ≡ cycle_of wanted =
-        eqb-true window (cycle_of wanted) yes in follows_round last lasts (subst (NoneScheduled wanted last) whole none),
-    λ follows. eq-eqb window (cycle_of wanted) (elim (cases_lt window (cycle_of wanted)) [ inl inside ↦ absurd (not_round last window lasts after inside (found inside) follows) | inr past ↦ omega arith ]),
-  )
+  round_is last window lasts after within none found = grind (arith, eqb-true, follows_round, eq-eqb, not_round)
 
   -- whether a guard may stay closed from `end` on
   pub closes_is : (count end : ℕ) → StandsAt least kept count end → (round closes : Bool) → IsTrue closes ↔ ((1 ≤ count) ⊎ IsTrue round)
       → IsTrue round ↔ FollowsBackground least wanted kept 0
       → IsTrue closes ↔ FollowsBackground least wanted kept end
   closes_is count end stands round closes closes_if round_if = elim (cases_eq count 0) [
-    | inl none ↦
-        let first = stands.first none in (
-          λ closed. elim (closes_if.0 closed) [ inl some_time ↦ absurd (omega arith) | inr goes ↦ subst (FollowsBackground least wanted kept) (sym first) (round_if.0 goes) ],
-          λ follows. closes_if.1 (inr (round_if.1 (subst (FollowsBackground least wanted kept) first follows))),
-        )
+    | inl none ↦ grind arith
     | inr some_time ↦ (λ closed. follows_time count end stands (omega arith), λ follows. closes_if.1 (inl (omega arith)))
   ]
 
   -- ---- the steps
 
   pub shown_none : (entries : List GateEntry) → length entries ≡ 0 → IsShown least wanted kept 0 entries 0
-  shown_none entries none = record {
-    stands = record { within = omega arith; first = λ _. refl; later = λ k next. absurd (omega arith) };
-    shown = λ t below. absurd (omega arith);
-    long = λ k d below. absurd (omega arith);
-  }
+  shown_none entries none = grind (arith, d)
 
   module _ (count end : ℕ) (old mid : List GateEntry) (swept : IsShown least wanted kept count old end) (until : ℕ)
       (stops : StopsAt wanted kept count until) (closes : Bool)
@@ -414,7 +352,6 @@ module _ (least : ℕ) (wanted : List GateEntry) (kept : List Window) (some : 1 
     pub shown_more : (new : List GateEntry) (stop : ℕ) → IsEnd least kept count stop → KeepsOctets mid new until → HasOctet new until stop 0x7F
         → ((bound : ℕ) → LastsOrNone bound (stop - until) → AllLast bound mid → AllLast bound new) → IsShown least wanted kept (count + 1) new stop
     shown_more new stop is kept_more shown lasts =
-        let stop_at = stops.next d is.below in
         let begun = end_long count stop is d in
         let after = is.below in record {
           stands = record { within = omega arith; first = λ zero. absurd (omega arith); later = λ k next. let same : count ≡ k = omega arith in subst (λ n. IsEnd least kept n stop) same is };
@@ -433,36 +370,13 @@ module _ (entries : List GateEntry) (from until least first last : ℕ) (order :
   -- no guard can stay closed for longer
   no_later : (end : ℕ) → from + least ≤ end → end ≤ until → (end ≡ until) ⊎ (end + least ≤ until)
       → NoneScheduled entries from end → end ≤ last
-  no_later end lasts within room shut = elim (cases_eq first until) [
-    | inl all ↦ let is = whole all in omega arith
-    | inr part ↦
-        let is = cut part in
-        let before : end ≤ first = elim (cases_lt first end) [ inl past ↦ absurd (shut first low past (found (omega arith))) | inr fits ↦ fits ] in
-        elim room [ inl here ↦ absurd (omega arith) | inr fits ↦ omega arith ]
-  ]
+  no_later end lasts within room shut = grind (arith, room)
 
   last_high : last ≤ first
   last_high = elim (cases_eq first until) [ inl all ↦ let is = whole all in omega arith | inr part ↦ let is = cut part in omega arith ]
 
   pub opens_late : (closes : Bool) → IsTrue closes → from ≤ last → least ≤ last - from → IsOpening entries from until least closes last
-  opens_late closes may begun lasts =
-      let within = last_high in record {
-        low = begun;
-        high = omega arith;
-        long = inr (may, omega arith);
-        enough = elim (cases_eq first until) [ inl all ↦ inr (inl (whole all)) | inr part ↦ let is = cut part in inr (inr (omega arith)) ];
-        shut = λ t after before. none t after (omega arith);
-        last = λ _ end long fits room shut. no_later end long fits room shut;
-      }
+  opens_late closes may begun lasts = grind (arith, last_high, room, no_later)
 
   pub opens_at_once : (closes : Bool) → (IsTrue closes → from ≤ last → least ≤ last - from → ⊥) → IsOpening entries from until least closes from
-  opens_at_once closes cant = record {
-    low = omega arith;
-    high = order;
-    long = inl refl;
-    enough = inl refl;
-    shut = λ t after before. absurd (omega arith);
-    last = λ may end long fits room shut.
-        let later = no_later end long fits room shut in
-        absurd (cant may (omega arith) (omega arith));
-  }
+  opens_at_once closes cant = grind (arith, room, no_later)

@@ -5,7 +5,6 @@ use Rattle.tsn_gate.proofs.conditions.all_used_listed.Goals as goal
 
 pub returns-then-not-is_route_listed : goal.returns-then-not-is_route_listed
 returns-then-not-is_route_listed c =
-    let below = c.loop-stream-test.true in
     let last = c.loop-stream.invariant.last in (
       λ never. absurd (true≢false (sym never)),
       λ all.

@@ -7,11 +7,10 @@ use Rattle.tsn_gate.proofs.conditions.all_waited_listed.Goals as goal
 
 pub returns-then-not-is_listed : goal.returns-then-not-is_listed
 returns-then-not-is_listed c =
-    let below = c.loop-frame-test.true in
     let here : c.frame.inside.link ≡ (get_or c.args.frames.now c.loop-frame.frame-index c.frame-item.result).link = ap (λ (f : FrameValue). f.link) (c.frame.view_is ∙ c.frame-item.is) in (
       λ never. absurd (true≢false (sym never)),
       λ all.
-          let listed = c.is_listed.ensures.1 (subst (IsListed c.args.lists.now) (sym here) (all c.loop-frame.frame-index c.frame-item.result below)) in
+          let listed = c.is_listed.ensures.1 (subst (IsListed c.args.lists.now) (sym here) (all c.loop-frame.frame-index c.frame-item.result c.loop-frame-test.true)) in
           sym c.if-not-is_listed.true ∙ listed,
     )
 

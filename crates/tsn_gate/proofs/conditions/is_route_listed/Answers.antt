@@ -6,7 +6,6 @@ use Rattle.tsn_gate.proofs.conditions.is_route_listed.Goals as goal
 
 pub returns-then-not-is_listed : goal.returns-then-not-is_listed
 returns-then-not-is_listed c =
-    let below = c.loop-hop-test.true in
     let last = c.loop-hop.invariant.last in (
       λ never. absurd (true≢false (sym never)),
       λ all.

@@ -1,8 +1,6 @@
 -- proofs/kept/keep/Answers.antt
-use Rattle.std.proofs.Common.{◌≡◌, ◌≤◌, ◌<◌, ◌+◌, ◌*◌, ◌++◌, ◌∷◌, [], refl, sym, ◌∙◌, ap, subst, arith}
-use Rattle.std.proofs.lemmas.Bool.{leb-true, leb-false, not-true, not-false}
-use Rattle.tsn_gate.specs.declared.windows.Window.{Window}
-use Rattle.tsn_gate.specs.Merged.{earliest, latest}
+use Rattle.std.proofs.Common.{◌+◌, ◌*◌, refl, sym, ◌∙◌, subst, arith}
+use Rattle.std.proofs.lemmas.Bool.{leb-true, leb-false}
 use Rattle.tsn_gate.specs.Widened.{Keeps}
 use Rattle.tsn_gate.proofs.Rooms.{keeps_other, keeps_short, keeps_time}
 use Rattle.tsn_gate.proofs.kept.keep.Goals as goal
@@ -14,8 +12,6 @@ returns-then-entry-ne-BACKGROUND c =
 pub returns-then-not-holds : goal.returns-then-not-holds
 returns-then-not-holds c =
     let short = leb-false (c.room-time.result.start + c.args.least) c.room-time.result.end (sym c.holds.ensures ∙ c.if-not-holds.true) in
-    let begins = c.room-time.ensures.start in
-    let ends = c.room-time.ensures.end in
     keeps_short c.args.least c.args.cycle c.args.entry c.args.start c.args.from c.args.kept.now.items c.if-entry-ne-BACKGROUND.false (omega arith)
 
 pub returns : goal.returns

@@ -1,8 +1,7 @@
 -- proofs/kept/times_kept/Answers.antt
-use Rattle.std.proofs.Common.{◌≡◌, ◌+◌, ◌++◌, ◌∷◌, [], List, take, drop, get_or, sym, ap, ◌∙◌, subst, arith, add-one, drop-cons, append-nil}
+use Rattle.std.proofs.Common.{◌≡◌, ◌+◌, ◌++◌, ◌∷◌, drop, get_or, sym, ap, ◌∙◌, arith, add-one, drop-cons, append-nil}
 use Rattle.std.proofs.lemmas.List.{drop_all}
 use Rattle.tsn_model.specs.declared.GateEntry.{GateEntry}
-use Rattle.tsn_model.specs.Gates.{cycle_of}
 use Rattle.tsn_gate.specs.Merged.{background_times, kept_times}
 use Rattle.tsn_gate.proofs.Entries.{cycle_of-nil}
 use Rattle.tsn_gate.proofs.Rooms.{background_times-nil, kept_times-nil}
@@ -12,13 +11,11 @@ use Rattle.tsn_gate.proofs.kept.times_kept.Goals as goal
 pub keep-requires-clause-within : goal.keep-requires-clause-within
 keep-requires-clause-within c =
     let part = cycle_of_part c.args.entries.now c.loop-entry.entry-index (record { interval = 0; octet = 0 }) c.loop-entry-test.true in
-    let so_far = c.loop-entry.invariant.start in
     omega arith
 
 pub overflow_add-start : goal.overflow_add-start
 overflow_add-start c =
     let part = cycle_of_part c.args.entries.now c.loop-entry.entry-index (record { interval = 0; octet = 0 }) c.loop-entry-test.true in
-    let so_far = c.loop-entry.invariant.start in
     omega arith
 
 pub loop-entry-init : goal.loop-entry-init
@@ -34,7 +31,6 @@ loop-entry-preserved c =
     let first : GateEntry = record { interval = 0; octet = 0 } in
     let inside = c.loop-entry-test.true in
     let more = cycle_of_more entries at first inside in
-    let so_far = c.loop-entry.invariant.start in
     let rest : drop at entries ≡ get_or entries at first ∷ drop (at + 1) entries = rw add-one (drop-cons entries at first inside) in record {
       start = omega arith;
       kept = c.loop-entry.invariant.kept

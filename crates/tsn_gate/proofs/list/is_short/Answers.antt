@@ -14,7 +14,6 @@ returns-then-left-entry c =
     let none : GateEntry = record { interval = 0; octet = 0 } in
     let part = cycle_of_part entries c.loop-entry.entry-index none c.loop-entry-test.true in
     let so_far : cycle_of (take c.loop-entry.entry-index entries) + c.loop-entry.left ≡ 1000000000 = c.loop-entry.invariant in
-    let greater = c.if-left-entry.true in
     (λ yes. absurd (cc yes), λ short. absurd (omega arith))
 
 pub loop-entry-preserved : goal.loop-entry-preserved
@@ -23,5 +22,4 @@ loop-entry-preserved c =
     let none : GateEntry = record { interval = 0; octet = 0 } in
     let more = cycle_of_more entries c.loop-entry.entry-index none c.loop-entry-test.true in
     let so_far : cycle_of (take c.loop-entry.entry-index entries) + c.loop-entry.left ≡ 1000000000 = c.loop-entry.invariant in
-    let fits = c.if-left-entry.false in
     omega arith

@@ -9,16 +9,12 @@ pub node_name-from-requires : goal.node_name-from-requires
 node_name-from-requires c =
     let joins = (IsLink-at c.args.problem.now.network (subst IsWellFormed c.deref.ensures c.cycle-limits.ensures.well_formed) c.args.link c.requires).from in
     let from = ap (λ (l : Link). l.from) (c.link-joined.ensures ∙ ap (λ n. link_at n c.args.link) c.deref-2.ensures) in
-    let count = c.nodes-nodes.ensures.count in
-    let named = c.nodes-nodes.ensures.named in
     omega arith
 
 pub node_name-to-requires : goal.node_name-to-requires
 node_name-to-requires c =
     let joins = (IsLink-at c.args.problem.now.network (subst IsWellFormed c.deref.ensures c.cycle-limits.ensures.well_formed) c.args.link c.requires).to in
     let to = ap (λ (l : Link). l.to) (c.link-joined.ensures ∙ ap (λ n. link_at n c.args.link) c.deref-2.ensures) in
-    let count = c.nodes-nodes.ensures.count in
-    let named = c.nodes-nodes.ensures.named in
     omega arith
 
 pub returns : goal.returns

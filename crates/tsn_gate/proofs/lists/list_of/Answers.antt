@@ -15,7 +15,6 @@ pub returns-then-is_empty : goal.returns-then-is_empty
 returns-then-is_empty c used =
     let windows = c.in_ok-windows.windows in
     let none : vec_len windows ≡ 0 = eqb-true _ _ (sym c.is_empty.ensures ∙ c.if-is_empty.true) in
-    let long = windows.ok.0 in
     none_used c.args.timing.now c.args.offsets.now c.args.link windows.items c.requires.formed c.in_ok-windows.ensures.of_streams (omega arith) used
 
 pub returns : goal.returns

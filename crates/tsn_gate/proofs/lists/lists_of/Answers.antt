@@ -25,7 +25,6 @@ loop-link-preserved c =
 
 wanted : (c : goal.After-loop-link) → AreWantedLists c.args.timing.now c.args.offsets.now c.loop-link.lists.items
 wanted c =
-    let end = c.links-link-end.ensures in
     AreWantedLists-below c.args.timing.now c.args.offsets.now c.cycle-cycle.ensures.well_formed c.loop-link.link c.loop-link.lists.items (omega arith) c.loop-link.invariant
 
 pub returns : goal.returns

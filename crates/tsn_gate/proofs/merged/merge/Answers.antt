@@ -1,5 +1,5 @@
 -- proofs/merged/merge/Answers.antt
-use Rattle.std.proofs.Common.{◌≡◌, sym, ◌∙◌, subst}
+use Rattle.std.proofs.Common.{sym, ◌∙◌, subst}
 use Rattle.std.proofs.lemmas.Bool.{true≢false}
 use Rattle.tsn_gate.specs.Entries.{AllLast}
 use Rattle.tsn_gate.specs.Merged.{IsMerged, IsWidened}

@@ -13,20 +13,14 @@ loop-entry-init c = record { count = ap length c.new-ends.ensures.items; each = 
 
 pub overflow_add-end : goal.overflow_add-end
 overflow_add-end c =
-    let below = c.loop-entry-test.true in
-    let last = c.loop-entry.invariant.last in
     let less = cycle_of_part c.args.entries.now c.loop-entry.entry-index (record { interval = 0; octet = 0 }) (omega arith) in
-    let end = c.loop-entry.invariant.end in
-    let short = c.requires in
     omega arith
 
 pub loop-entry-preserved : goal.loop-entry-preserved
 loop-entry-preserved c =
-    let below = c.loop-entry-test.true in
     let last = c.loop-entry.invariant.last in
     let more = cycle_of_more c.args.entries.now c.loop-entry.entry-index (record { interval = 0; octet = 0 }) (omega arith) in
     let end = c.loop-entry.invariant.end in
-    let counted = c.loop-entry.invariant.count in
     let sum = c.loop-entry.end + (get_or c.args.entries.now c.loop-entry.entry-index (record { interval = 0; octet = 0 })).interval in
     let items = c.in_ok-push.ensures.items in
     record {
@@ -45,8 +39,4 @@ loop-entry-preserved c =
     }
 
 pub returns : goal.returns
-returns c =
-    let past = c.loop-entry-test.false in
-    let last = c.loop-entry.invariant.last in
-    let counted = c.loop-entry.invariant.count in
-    record { count = omega arith; each = λ k below. c.loop-entry.invariant.each k (omega arith) }
+returns c = record { count = omega arith; each = λ k below. c.loop-entry.invariant.each k (omega arith) }

@@ -11,7 +11,6 @@ unfolding length_of link_of passage_of
 returns-clause-none c u since ready before in_time fits =
     let long = c.occupancy.ensures.value ∙ ap (occupancy c.args.network.now c.args.frame.now.stream) c.route_link-link.ensures.value in
     let later : max c.args.from c.args.frame.now.ready ≤ u = max-le since ready in
-    let from = c.max.ensures in
     c.first_fit.ensures.none u (omega arith) before in_time (subst (λ n. IsOpenFor c.args.list.now.entries n u) (sym long) fits)
 
 pub returns-clause-here : goal.returns-clause-here

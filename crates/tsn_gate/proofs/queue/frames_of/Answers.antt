@@ -40,8 +40,6 @@ loop-stream-preserved c =
     let network = c.args.network.now in
     let offsets = c.args.offsets.now in
     let stream = c.loop-stream.stream in
-    let ended = c.loop-cycle-test.false in
-    let done = c.loop-cycle.auto.cycle-end in
     let all : c.loop-cycle.cycle ≡ c.args.cycles = omega arith in
     record {
       so_far =
@@ -53,9 +51,6 @@ loop-stream-preserved c =
 
 pub returns-clause-tracked : goal.returns-clause-tracked
 returns-clause-tracked c =
-    let ended = c.loop-stream-test.false in
-    let last = c.loop-stream.invariant.last in
-    let done = c.loop-stream.auto.stream-end in
     let all : c.loop-stream.stream ≡ stream_count c.args.network.now = omega arith in
     subst (IsTracked c.args.network.now c.args.offsets.now c.args.cycles no_start)
     (sym (c.loop-stream.invariant.so_far ∙ ap (frames_upto c.args.network.now c.args.offsets.now c.args.cycles) all))
@@ -63,9 +58,6 @@ returns-clause-tracked c =
 
 pub returns-clause-line : goal.returns-clause-line
 returns-clause-line c =
-    let ended = c.loop-stream-test.false in
-    let last = c.loop-stream.invariant.last in
-    let done = c.loop-stream.auto.stream-end in
     let all : c.loop-stream.stream ≡ stream_count c.args.network.now = omega arith in
     subst (AreInLine c.args.network.now c.args.cycles)
     (sym (c.loop-stream.invariant.so_far ∙ ap (frames_upto c.args.network.now c.args.offsets.now c.args.cycles) all))
@@ -73,9 +65,6 @@ returns-clause-line c =
 
 pub returns-clause-ready : goal.returns-clause-ready
 returns-clause-ready c =
-    let ended = c.loop-stream-test.false in
-    let last = c.loop-stream.invariant.last in
-    let done = c.loop-stream.auto.stream-end in
     let all : c.loop-stream.stream ≡ stream_count c.args.network.now = omega arith in
     subst (All (λ (frame : Frame). frame.ready ≤ 2 ^ 50))
     (sym (c.loop-stream.invariant.so_far ∙ ap (frames_upto c.args.network.now c.args.offsets.now c.args.cycles) all))

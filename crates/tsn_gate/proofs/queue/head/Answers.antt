@@ -40,8 +40,6 @@ loop-visit-preserved c =
 
 pub returns : goal.returns
 returns c =
-    let past = c.loop-visit-test.false in
-    let upto = c.loop-visit.auto.visit-index-end in
     let ended : c.loop-visit.visit-index ≡ length c.args.visits.now = omega arith in
     head_all c.args.network.now c.args.frames.now c.args.link c.requires.streams c.args.visits.now c.requires.visits c.loop-visit.first
     (subst (λ n. IsFirstAmong c.args.network.now c.args.frames.now c.args.link (IsVisited c.args.visits.now n) c.loop-visit.first) ended c.loop-visit.invariant)

@@ -41,9 +41,7 @@ loop-turn-preserved c =
     let network = c.args.network.now in
     let i = c.args.stream in
     let turn = c.loop-turn.turn in
-    let ended = c.loop-place-test.false in
     let last = c.loop-place.invariant.last in
-    let done = c.loop-place.auto.place-end in
     let all : c.loop-place.place ≡ burst_of network i = omega arith in
     let whole : of_turns network i turn ++ of_turn network i c.loop-place.place turn ≡ of_turns network i (turn + 1) =
     ap (λ places. of_turns network i turn ++ of_turn network i places turn) all ∙ sym (turns_more network i turn) in
@@ -56,9 +54,6 @@ pub returns : goal.returns
 returns c =
     let network = c.args.network.now in
     let i = c.args.stream in
-    let ended = c.loop-turn-test.false in
-    let last = c.loop-turn.invariant.last in
-    let done = c.loop-turn.auto.turn-end in
     let all : c.loop-turn.turn ≡ turns_of network i = omega arith in
     c.loop-turn.invariant.so_far
     ∙ ap (λ shifts. c.args.frames.now.items ++ map (fresh_frame i c.args.cycle c.args.begin) shifts) (ap (of_turns network i) all ∙ all_turns network i)

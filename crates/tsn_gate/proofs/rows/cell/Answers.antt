@@ -10,7 +10,6 @@ overflow_add-index c =
     c.streams.result
     c.requires.few c.requires.stream c.requires.sent c.place_of.ensures.value c.streams.ensures.value in
     let few = hops-le c.args.timing.now formed c.args.stream c.requires.stream in
-    let hop = c.requires.hop in
     omega arith
 
 pub overflow_mul-result : goal.overflow_mul-result
@@ -20,7 +19,6 @@ overflow_mul-result c =
     c.streams.result
     c.requires.few c.requires.stream c.requires.sent c.place_of.ensures.value c.streams.ensures.value in
     let few = hops-le c.args.timing.now formed c.args.stream c.requires.stream in
-    let hop = c.requires.hop in
     omega arith
 
 pub overflow_add-result : goal.overflow_add-result
@@ -30,7 +28,6 @@ overflow_add-result c =
     c.streams.result
     c.requires.few c.requires.stream c.requires.sent c.place_of.ensures.value c.streams.ensures.value in
     let few = hops-le c.args.timing.now formed c.args.stream c.requires.stream in
-    let hop = c.requires.hop in
     omega arith
 
 pub overflow_mul-result-2 : goal.overflow_mul-result-2
@@ -40,7 +37,6 @@ overflow_mul-result-2 c =
     c.streams.result
     c.requires.few c.requires.stream c.requires.sent c.place_of.ensures.value c.streams.ensures.value in
     let few = hops-le c.args.timing.now formed c.args.stream c.requires.stream in
-    let hop = c.requires.hop in
     omega arith
 
 pub overflow_add-result-2 : goal.overflow_add-result-2
@@ -50,7 +46,6 @@ overflow_add-result-2 c =
     c.streams.result
     c.requires.few c.requires.stream c.requires.sent c.place_of.ensures.value c.streams.ensures.value in
     let few = hops-le c.args.timing.now formed c.args.stream c.requires.stream in
-    let hop = c.requires.hop in
     omega arith
 
 pub returns-clause-within : goal.returns-clause-within
@@ -60,5 +55,4 @@ returns-clause-within c =
     c.streams.result
     c.requires.few c.requires.stream c.requires.sent c.place_of.ensures.value c.streams.ensures.value in
     let few = hops-le c.args.timing.now formed c.args.stream c.requires.stream in
-    let hop = c.requires.hop in
     omega arith

@@ -13,9 +13,7 @@ loop-stream-init c = record {
 pub overflow_add-first : goal.overflow_add-first
 overflow_add-first c =
     let network = c.args.timing.now in
-    let end = c.loop-stream.invariant.last in
     let counted : c.loop-stream.stream < stream_count network = let below = c.loop-stream-test.true in omega arith in
-    let last = c.loop-stream.invariant.firsts.last in
     let long = ap length c.shifts.ensures.value in
     let more = below-more network c.loop-stream.stream in
     let few = shifts-few network c.cycle-limits.ensures.well_formed c.loop-stream.stream counted in
@@ -35,8 +33,4 @@ loop-stream-preserved c =
     }
 
 pub returns : goal.returns
-returns c =
-    let ended = c.loop-stream-test.false in
-    let done = c.loop-stream.auto.stream-end in
-    let last = c.loop-stream.invariant.last in
-    firsts_all c.args.timing.now c.loop-stream.stream c.loop-stream.firsts.items c.loop-stream.first (omega arith) c.loop-stream.invariant.firsts
+returns c = firsts_all c.args.timing.now c.loop-stream.stream c.loop-stream.firsts.items c.loop-stream.first (omega arith) c.loop-stream.invariant.firsts

@@ -7,11 +7,8 @@ overflow_add-result-2 c =
     let cycle : c.args.cycle ≤ 16 = let few = times.few in let below = c.requires.cycle in omega arith in
     let size : c.cycle.result ≤ 1000000000 = c.cycle.ensures.bound in
     let begin : c.args.cycle * c.cycle.result ≤ 16 * 1000000000 = mul-le-mul cycle size in
-    let counted = times.count in
-    let stream = c.requires.stream in
-    let short = times.formed.short_cycle in
     let offset = times.small c.args.stream 0 (omega arith) in
-    let shift = times.spaced.within c.args.stream c.args.shift stream c.requires.sent in
+    let shift = times.spaced.within c.args.stream c.args.shift c.requires.stream c.requires.sent in
     omega arith
 
 pub overflow_add-result-3 : goal.overflow_add-result-3
@@ -20,9 +17,6 @@ overflow_add-result-3 c =
     let cycle : c.args.cycle ≤ 16 = let few = times.few in let below = c.requires.cycle in omega arith in
     let size : c.cycle.result ≤ 1000000000 = c.cycle.ensures.bound in
     let begin : c.args.cycle * c.cycle.result ≤ 16 * 1000000000 = mul-le-mul cycle size in
-    let counted = times.count in
-    let stream = c.requires.stream in
-    let short = times.formed.short_cycle in
     let offset = times.small c.args.stream 0 (omega arith) in
-    let shift = times.spaced.within c.args.stream c.args.shift stream c.requires.sent in
+    let shift = times.spaced.within c.args.stream c.args.shift c.requires.stream c.requires.sent in
     omega arith

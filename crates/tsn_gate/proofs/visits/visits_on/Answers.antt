@@ -21,10 +21,7 @@ loop-stream-init c = record {
 pub overflow_add-first : goal.overflow_add-first
 overflow_add-first c =
     let network = c.args.network.now in
-    let last = c.loop-stream.invariant.last in
     let counted : c.loop-stream.stream < stream_count network = let below = c.loop-stream-test.true in omega arith in
-    let first = c.loop-stream.invariant.first in
-    let count = c.frame_count-count.ensures in
     let more = below-more network c.loop-stream.stream in
     let few = shifts-few network c.cycle-limits.ensures.well_formed c.loop-stream.stream counted in
     omega arith
@@ -61,8 +58,4 @@ loop-stream-preserved c =
     ]
 
 pub returns : goal.returns
-returns c =
-    let past = c.loop-stream-test.false in
-    let upto = c.loop-stream.auto.stream-end in
-    let last = c.loop-stream.invariant.last in
-    visits_whole c.args.network.now c.args.link c.loop-stream.stream c.loop-stream.visits.items (omega arith) c.loop-stream.invariant.visits
+returns c = visits_whole c.args.network.now c.args.link c.loop-stream.stream c.loop-stream.visits.items (omega arith) c.loop-stream.invariant.visits

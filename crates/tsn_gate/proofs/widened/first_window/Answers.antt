@@ -1,5 +1,5 @@
 -- proofs/widened/first_window/Answers.antt
-use Rattle.std.proofs.Common.{◌≡◌, ◌≤◌, ◌<◌, ◌+◌, ◌↔◌, ℕ, inl, inr, Bool, IsTrue, false, nat_lt, take, get_or, sym, ◌∙◌, ap, subst, arith}
+use Rattle.std.proofs.Common.{◌≡◌, ◌<◌, ◌+◌, ◌↔◌, ℕ, inl, inr, Bool, IsTrue, false, nat_lt, get_or, sym, ◌∙◌, ap, arith}
 use Rattle.std.proofs.lemmas.Bool.{cases_lt, true≢false, lt-ltb, ltb-true}
 use Rattle.std.proofs.lemmas.List.{take_all}
 use Rattle.tsn_model.specs.declared.GateEntry.{GateEntry}
@@ -11,7 +11,6 @@ use Rattle.tsn_gate.proofs.widened.first_window.Goals as goal
 pub overflow_add-end : goal.overflow_add-end
 overflow_add-end c =
     let part = cycle_of_part c.args.entries.now c.loop-entry.entry-index (record { interval = 0; octet = 0 }) c.loop-entry-test.true in
-    let so_far = c.loop-entry.invariant.start in
     omega arith
 
 pub loop-entry-init : goal.loop-entry-init
@@ -45,7 +44,6 @@ returns-then-is_window c =
     let entries = c.args.entries.now in
     let at = c.loop-entry.entry-index in
     let first : GateEntry = record { interval = 0; octet = 0 } in
-    let so_far = c.loop-entry.invariant.start in
     let window = c.is_window.ensures.0 c.if-is_window.true in
     let before = ltb-true c.max-first.result (c.loop-entry.start + (get_or entries at first).interval) window.1 in
     let begins = ltb-true c.loop-entry.start c.args.until window.2 in record {

@@ -1,5 +1,5 @@
 -- proofs/widened/goes_round/Answers.antt
-use Rattle.std.proofs.Common.{◌≡◌, ◌==◌, ◌≤◌, ◌<◌, ◌↔◌, ◌-◌, IsTrue, inl, inr, length, get_or, sym, subst, arith}
+use Rattle.std.proofs.Common.{◌==◌, ◌≤◌, ◌↔◌, ◌-◌, IsTrue, inl, inr, length, sym, subst, arith}
 use Rattle.std.proofs.lemmas.Bool.{cases_eq}
 use Rattle.tsn_model.specs.Gates.{cycle_of}
 use Rattle.tsn_gate.specs.declared.windows.Window.{Window}

@@ -1,11 +1,11 @@
 -- proofs/widened/widened/Answers.antt
-use Rattle.std.proofs.Common.{◌≡◌, ℕ, ◌+◌, ◌-◌, ◌≤◌, ◌<◌, min, List, length, get_or, refl, sym, ap, ◌∙◌, subst, arith}
+use Rattle.std.proofs.Common.{◌≡◌, ℕ, ◌+◌, ◌-◌, ◌<◌, List, length, get_or, refl, sym, ap, ◌∙◌, subst, arith}
 use Rattle.std.proofs.lemmas.List.{get_or_default}
 use Rattle.tsn_model.specs.declared.GateEntry.{GateEntry}
 use Rattle.tsn_model.specs.Gates.{cycle_of}
 use Rattle.tsn_gate.specs.declared.windows.Window.{Window}
 use Rattle.tsn_gate.specs.Entries.{octet_at, AllLast, LastsOrNone, KeepsOctets, HasOctet, IsTimeline}
-use Rattle.tsn_gate.specs.Merged.{IsMergedOctet, IsWidened, times_kept}
+use Rattle.tsn_gate.specs.Merged.{IsMergedOctet}
 use Rattle.tsn_gate.proofs.Widening.{rooms_kept, IsEnd, StopsAt, IsShown, shown_none, shown_more, fills_shown, fills_long, bare_long, is_bare, end_long, closes_is}
 use Rattle.tsn_gate.proofs.widened.widened.Goals as goal
 

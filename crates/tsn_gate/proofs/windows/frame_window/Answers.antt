@@ -8,13 +8,11 @@ use Rattle.tsn_gate.proofs.windows.frame_window.Goals as goal
 pub start-requires-clause-hop : goal.start-requires-clause-hop
 start-requires-clause-hop c =
     let found = hop_on_found c.args.timing.now c.args.stream c.args.link c.in_ok-hop.hop (sym c.hop_on.ensures ∙ c.in_ok-hop.was) in
-    let below = found.1 in
     omega arith
 
 pub occupancy-requires-clause-hop : goal.occupancy-requires-clause-hop
 occupancy-requires-clause-hop c =
     let found = hop_on_found c.args.timing.now c.args.stream c.args.link c.in_ok-hop.hop (sym c.hop_on.ensures ∙ c.in_ok-hop.was) in
-    let below = found.1 in
     omega arith
 
 pub returns-clause-window : goal.returns-clause-window
@@ -26,16 +24,10 @@ returns-clause-window c =
 
 pub overflow_add-start : goal.overflow_add-start
 overflow_add-start c =
-    let counted = c.requires.valid.count in
-    let below = c.requires.stream in
-    let short = c.requires.formed.short_cycle in
     let offset = offsets_within c.args.timing.now c.args.offsets.now c.requires.valid c.args.stream 0 (omega arith) in
     omega arith
 
 pub overflow_add-result : goal.overflow_add-result
 overflow_add-result c =
-    let counted = c.requires.valid.count in
-    let below = c.requires.stream in
-    let short = c.requires.formed.short_cycle in
     let offset = offsets_within c.args.timing.now c.args.offsets.now c.requires.valid c.args.stream 0 (omega arith) in
     omega arith

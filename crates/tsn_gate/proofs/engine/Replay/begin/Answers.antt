@@ -15,10 +15,7 @@ renew_all-requires-clause-state c =
     let setting = setting_of c.args.self.now in
     let items : c.in_ok-vec.field-0.items ≡ replicate c.links-links.result 0 = c.in_ok-vec.ensures.items_if_clones_equal (λ y same. same) in
     let zero : (link : ℕ) → free_on c.in_ok-vec.field-0.items link ≡ 0 = λ link. ap (λ xs. get_or xs link 0) items ∙ zeros c.links-links.result link in
-    let trace = c.new-2.ensures in
-    let few = c.requires.few in
-    let short = c.cycle.ensures.bound in
-    let product : c.args.self.now.cycles * c.cycle.result ≤ 16 * 1000000000 = mul-le-mul few short in
+    let product : c.args.self.now.cycles * c.cycle.result ≤ 16 * 1000000000 = mul-le-mul c.requires.few c.cycle.ensures.bound in
     let line = waiting_on c.in_ok-of.field-0 in
     let first : (link : ℕ) → link < length setting.network.links → IsFirstOn setting.background link (line link) = λ link below. c.in_ok-of.ensures.first link (let links = c.links-links.ensures.value in omega arith) in
     record {
@@ -26,7 +23,7 @@ renew_all-requires-clause-state c =
       time = omega arith;
       small = omega arith;
       made = no_start;
-      records = subst (IsRecord setting.keeps no_start) (sym trace) (record { scheduled = refl; background = λ kept. refl });
+      records = subst (IsRecord setting.keeps no_start) (sym c.new-2.ensures) (record { scheduled = refl; background = λ kept. refl });
       run = no_run setting.network setting.offsets setting.gates setting.cycles c.in_ok-vec.field-0.items zero;
       fed = no_fed setting.network setting.gates setting.cycles c.in_ok-vec.field-0.items zero setting.background line first;
       tracked = c.in_ok-frames_of.ensures.tracked;

@@ -7,7 +7,6 @@ pub returns-then-frame-hops-clause-list : goal.returns-then-frame-hops-clause-li
 returns-then-frame-hops-clause-list c number is =
     let d : LinkGates = record { link = 0; entries = [] } in
     let link = c.route_link-link.ensures.value in
-    let exists = c.route_link-link.ensures.exists in
     let used = c.requires.setting.lists.used c.args.frame.now.stream c.args.frame.now.hop c.requires.stream (let few = c.if-frame-hops.true in let hops = c.hops.ensures.value in omega arith) in
     let read : c.index.result.now ≡ get_or c.args.state.now.numbers.items c.route_link-link.result 0 =
     c.index.ensures ∙ get_or_default c.args.state.now.numbers.items c.route_link-link.result c.index.result.now 0 (let count = c.requires.state.numbers.count in omega arith) in

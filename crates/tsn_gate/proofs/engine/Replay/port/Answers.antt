@@ -13,7 +13,6 @@ of-requires-clause-streams c k d below =
 
 pub of-requires-clause-wanted : goal.of-requires-clause-wanted
 of-requires-clause-wanted c frame is =
-    let link = c.link-link.ensures in
     let given = given_on (setting_of c.args.self.now) c.args.state.now c.requires.setting c.requires.state c.link-link.result
     (subst (λ n. n < length c.args.self.now.network.now.links) (sym c.link-link.ensures) c.requires.exists) frame
     (sym c.waiting.ensures ∙ is) in

@@ -16,7 +16,6 @@ returns-in-Some-clause-state c =
     let one = c.renew_port.ensures in
     let two = c.renew_port-in-Some.ensures in
     let count = c.requires.count in
-    let list = c.requires.list in
     let between = renewed_count setting number old first one in
     let within = c.list_of.ensures.list next c.in-Some.is in
     record {
@@ -42,7 +41,6 @@ returns-in_default-clause-state c =
     let number = c.args.number in
     let one = c.renew_port.ensures in
     let count = c.requires.count in
-    let list = c.requires.list in
     record {
       under_way = renewed_under_way setting number old new one c.requires.state;
       ports = record {

@@ -12,7 +12,6 @@ loop-number-preserved c =
     let new = c.renew_port.new.state in
     let number = c.loop-number.number in
     let is = c.renew_port.ensures in
-    let below = c.loop-number-test.true in
     let count = c.loop-number.invariant.count in
     record {
       under_way = renewed_under_way setting number old new is c.loop-number.invariant.under_way;

@@ -6,6 +6,5 @@ use Rattle.tsn_gate.proofs.list.GateList.cycle.Goals as goal
 pub returns-clause-some : goal.returns-clause-some
 returns-clause-some c =
     let some = cycle_of-pos c.self.inside.entries.items c.self.invariant.some_entry c.self.invariant.positive in
-    let value = c.total.ensures in
     let same = ap cycle_of c.deref.ensures.value in
     omega arith

@@ -15,7 +15,6 @@ returns-then-opens_background c =
 
 pub loop-at-preserved : goal.loop-at-preserved
 loop-at-preserved c =
-    let ahead = c.span_at-span.ensures.forward in
     let forward = c.loop-at.invariant.forward in
     record {
       forward = omega arith;
@@ -27,7 +26,6 @@ loop-at-preserved c =
 
 pub returns : goal.returns
 returns c =
-    let late = c.loop-at-test.false in
     record {
       forward = c.loop-at.invariant.forward;
       none = λ u since before in_time. c.loop-at.invariant.closed u since before;

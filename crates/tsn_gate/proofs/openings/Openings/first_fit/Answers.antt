@@ -6,7 +6,6 @@ use Rattle.tsn_gate.proofs.openings.Openings.first_fit.Goals as goal
 
 pub returns-then-start-length : goal.returns-then-start-length
 returns-then-start-length c =
-    let enough = c.if-start-length.true in
     record {
       forward = c.loop-start.invariant.forward;
       none = λ u since before in_time. c.loop-start.invariant.none u since before;
@@ -18,11 +17,9 @@ returns-then-start-length c =
 
 pub loop-start-preserved-then-not-opens_scheduled : goal.loop-start-preserved-then-not-opens_scheduled
 loop-start-preserved-then-not-opens_scheduled c =
-    let ahead = c.span_at-span.ensures.forward in
     let forward = c.loop-start.invariant.forward in
     let order = c.loop-start.invariant.order in
     let near = c.loop-start.invariant.near in
-    let some = c.requires.some in
     let closed : (u : ℕ) → c.loop-start.at ≤ u → u < c.span_at-span.result.until → OctetHas c.args.self.now.entries u OpensScheduled → ⊥ =
     λ u present before. closed_at c.args.self.now.entries u c.span_at-span.result.octet OpensScheduled (c.span_at-span.ensures.octet u present before) (λ opens. true≢false (sym (c.opens_scheduled.ensures.1 opens) ∙ c.if-not-opens_scheduled.true)) in
     record {
@@ -33,7 +30,7 @@ loop-start-preserved-then-not-opens_scheduled c =
       none = λ u since before fits. elim (cases_lt u c.loop-start.start) [
         | inl past ↦ c.loop-start.invariant.none u since past fits
         | inr here ↦ elim (cases_lt u c.loop-start.at) [
-          | inl early ↦ closed c.loop-start.at (omega arith) ahead (fits c.loop-start.at (omega arith) (omega arith))
+          | inl early ↦ closed c.loop-start.at (omega arith) c.span_at-span.ensures.forward (fits c.loop-start.at (omega arith) (omega arith))
           | inr late ↦ closed u late before (fits u (omega arith) (omega arith))
         ]
       ];
@@ -41,9 +38,7 @@ loop-start-preserved-then-not-opens_scheduled c =
 
 pub loop-start-preserved : goal.loop-start-preserved
 loop-start-preserved c =
-    let ahead = c.span_at-span.ensures.forward in
     let order = c.loop-start.invariant.order in
-    let short = c.if-start-length.false in
     record {
       forward = c.loop-start.invariant.forward;
       order = omega arith;

@@ -13,7 +13,6 @@ use Rattle.tsn_gate.proofs.openings.Openings.span_at.Goals as goal
 pub nonzero_rem-phase : goal.nonzero_rem-phase
 nonzero_rem-phase c =
     let pos = cycle-pos c.self.inside.entries.items c.self.invariant.0 in
-    let size = c.self.invariant.1 in
     omega arith
 
 pub entry_at-index-requires : goal.entry_at-index-requires
@@ -29,13 +28,9 @@ overflow_add-result c =
     let formed = subst IsGateList entries c.self.invariant.0 in
     let are = subst (λ es. AreEnds es c.self.inside.ends.items) entries c.self.invariant.2 in
     let at = c.entry_at-index.ensures in
-    let counted = are.count in
     let value = get_or_default c.self.inside.ends.items c.entry_at-index.result c.index-2.result.now 0 (let within = at.within in omega arith) ∙ are.each c.entry_at-index.result at.within in
-    let is = c.index-2.ensures in
     let more = cycle_of_more c.args.self.now.entries c.entry_at-index.result (record { interval = 0; octet = 0 }) at.within in
     let less = cycle_of_part c.args.self.now.entries c.entry_at-index.result (record { interval = 0; octet = 0 }) at.within in
-    let short = formed.short in
-    let early = c.requires in
     omega arith
 
 pub returns-clause-near : goal.returns-clause-near
@@ -44,12 +39,9 @@ returns-clause-near c =
     let formed = subst IsGateList entries c.self.invariant.0 in
     let are = subst (λ es. AreEnds es c.self.inside.ends.items) entries c.self.invariant.2 in
     let at = c.entry_at-index.ensures in
-    let counted = are.count in
     let value = get_or_default c.self.inside.ends.items c.entry_at-index.result c.index-2.result.now 0 (let within = at.within in omega arith) ∙ are.each c.entry_at-index.result at.within in
-    let is = c.index-2.ensures in
     let more = cycle_of_more c.args.self.now.entries c.entry_at-index.result (record { interval = 0; octet = 0 }) at.within in
     let less = cycle_of_part c.args.self.now.entries c.entry_at-index.result (record { interval = 0; octet = 0 }) at.within in
-    let short = formed.short in
     omega arith
 
 pub returns-clause-octet : goal.returns-clause-octet
@@ -58,13 +50,9 @@ returns-clause-octet c u since until =
     let size : c.self.inside.cycle ≡ cycle_of c.args.self.now.entries = c.self.invariant.1 ∙ ap cycle_of entries in
     let are = subst (λ es. AreEnds es c.self.inside.ends.items) entries c.self.invariant.2 in
     let at = c.entry_at-index.ensures in
-    let counted = are.count in
     let value = get_or_default c.self.inside.ends.items c.entry_at-index.result c.index-2.result.now 0 (let within = at.within in omega arith) ∙ are.each c.entry_at-index.result at.within in
-    let is = c.index-2.ensures in
     let item : c.index.result.now ≡ get_or c.args.self.now.entries c.entry_at-index.result c.index.result.now = c.index.ensures ∙ ap (λ es. get_or es c.entry_at-index.result c.index.result.now) entries in
     let more = cycle_of_more c.args.self.now.entries c.entry_at-index.result c.index.result.now at.within in
     let long : c.index.result.now.interval ≡ (get_or c.args.self.now.entries c.entry_at-index.result c.index.result.now).interval = ap (λ (e : GateEntry). e.interval) item in
     let phase : c.args.at % c.self.inside.cycle ≡ c.args.at % cycle_of c.args.self.now.entries = ap (λ n. c.args.at % n) size in
-    let begun = at.begun in
-    let not_ended = at.not_ended in
     span_octet c.args.self.now.entries c.entry_at-index.result c.index.result.now c.args.at u at.within item (omega arith) (omega arith) since (omega arith)

@@ -6,11 +6,7 @@ use Rattle.tsn_gate.proofs.tournament.PortQueue.first.Goals as goal
 
 pub returns-then-index-end : goal.returns-then-index-end
 returns-then-index-end c =
-    let some = c.self.invariant.some in
-    let count = c.self.invariant.count in
     let root : c.index.result.now ≡ get_or c.self.inside.times.items 1 0 = c.index.ensures ∙ get_or_default c.self.inside.times.items 1 c.index.result.now 0 (omega arith) in
-    let soon = c.if-index-end.true in
-    let limit = c.ranges.end.fits in
     let leaf : get_or c.self.inside.times.items c.first_leaf.result 0 ≡ get_or c.self.inside.times.items 1 0 =
     subst (λ ts. get_or ts c.first_leaf.result 0 ≡ get_or ts 1 0) c.deref.ensures.value c.first_leaf.ensures.least in
     subst (λ ps. IsFirstPort ps c.args.end (c.first_leaf.result - c.self.inside.leaves)) c.self.view_is
@@ -18,9 +14,6 @@ returns-then-index-end c =
 
 pub returns-else-index-end : goal.returns-else-index-end
 returns-else-index-end c =
-    let some = c.self.invariant.some in
-    let count = c.self.invariant.count in
     let root : c.index.result.now ≡ get_or c.self.inside.times.items 1 0 = c.index.ensures ∙ get_or_default c.self.inside.times.items 1 c.index.result.now 0 (omega arith) in
-    let late = c.if-index-end.false in
     subst (λ ps. (number : ℕ) → number < length ps → c.args.end ≤ port_time (port_in ps number)) c.self.view_is
     (root_late c.self.inside.ports.items c.self.inside.leaves c.self.inside.times.items c.self.invariant c.args.end (omega arith))

@@ -18,10 +18,8 @@ invariant_of-self c =
     let written : c.deref_mut.result.now ≡ slice_set c.self.inside.times.items (c.self.inside.leaves + c.args.number) (port_time c.args.port) =
     c.deref_mut.ensures.value ∙ ap (slice_set c.self.inside.times.items (c.self.inside.leaves + c.args.number)) c.time.ensures in
     let rest = drop (length c.carry.new.times) (slice_set c.self.inside.times.items (c.self.inside.leaves + c.args.number) c.time.result) in
-    let len = c.deref_mut.ensures.len in
-    let count = c.carry.ensures.count in
     let long : c.self.inside.times.len ≡ length c.carry.new.times = omega arith in
     let whole : take c.self.inside.times.len (c.carry.new.times ++ rest) ≡ c.carry.new.times = ap (λ n. take n (c.carry.new.times ++ rest)) long ∙ take-append_seam c.carry.new.times rest in
     subst (IsTournament (slice_set c.self.inside.ports.items c.args.number c.args.port) c.self.inside.leaves) (sym whole)
     (set_tournament c.self.inside.ports.items c.self.inside.leaves c.self.inside.times.items c.self.invariant c.args.number below c.args.port c.carry.new.times
-    (count ∙ ap length written) c.carry.ensures.lesser (λ k leaf. c.carry.ensures.leaves k leaf ∙ ap (λ ts. get_or ts k 0) written))
+    (c.carry.ensures.count ∙ ap length written) c.carry.ensures.lesser (λ k leaf. c.carry.ensures.leaves k leaf ∙ ap (λ ts. get_or ts k 0) written))
