@@ -24,19 +24,17 @@ numbers_first triples stream n = filter (λ number. has_stream stream (triple_at
 
 numbers_first-more : (triples : List Triple) (stream n : ℕ)
     → numbers_first triples stream (n + 1) ≡ numbers_first triples stream n ++ cond (has_stream stream (triple_at triples n)) (n ∷ []) []
-numbers_first-more triples stream n =
-    let more : range_with_len 0 (n + 1) ≡ range_with_len 0 n ++ n ∷ [] = range_more 0 n ∙ ap (λ m. range_with_len 0 n ++ m ∷ []) (omega arith) in
-    ap (filter (λ number. has_stream stream (triple_at triples number))) more ∙ filter-append (λ number. has_stream stream (triple_at triples number)) (range_with_len 0 n) (n ∷ [])
+numbers_first-more triples stream n = grind (arith, range_more, filter-append)
 
 pub number_taken : (triples : List Triple) (stream n : ℕ) → has_stream stream (triple_at triples n) ≡ true → numbers_first triples stream (n + 1) ≡ numbers_first triples stream n ++ n ∷ []
-number_taken triples stream n has =
-    numbers_first-more triples stream n ∙ ap (λ (ns : List ℕ). numbers_first triples stream n ++ ns) (cond-true (has_stream stream (triple_at triples n)) (n ∷ []) [] has)
+number_taken triples stream n has = cc (numbers_first-more triples stream n, cond-true (has_stream stream (triple_at triples n)) (n ∷ []) [] has)
 
 pub number_skipped : (triples : List Triple) (stream n : ℕ) → has_stream stream (triple_at triples n) ≡ false → numbers_first triples stream (n + 1) ≡ numbers_first triples stream n
-number_skipped triples stream n lacks =
-    numbers_first-more triples stream n
-    ∙ ap (λ (ns : List ℕ). numbers_first triples stream n ++ ns) (cond-false (has_stream stream (triple_at triples n)) (n ∷ []) [] lacks)
-    ∙ append-nil (numbers_first triples stream n)
+number_skipped triples stream n lacks = cc (
+  numbers_first-more triples stream n,
+  cond-false (has_stream stream (triple_at triples n)) (n ∷ []) [] lacks,
+  append-nil (numbers_first triples stream n),
+)
 
 pub numbers_with_is : (triples : List Triple) (stream : ℕ) → numbers_with triples stream ≡ numbers_first triples stream (length triples)
 unfolding numbers_with
@@ -50,9 +48,11 @@ pub list_of : (lists : List Numbers) (triples : List Triple) (streams stream : �
     → (get_or lists stream none).numbers.items ≡ numbers_with triples stream
 list_of lists triples streams stream none made below =
     let long = lists_long lists triples streams made in
-    sym (get_or-map (λ (list : Numbers). list.numbers.items) lists stream none [] (omega arith))
-    ∙ ap (λ (all : List (List ℕ)). get_or all stream []) made
-    ∙ get_or-map-range_with_len (numbers_with triples) 0 streams stream stream [] below (omega arith)
+    cc (
+      get_or-map (λ (list : Numbers). list.numbers.items) lists stream none [] (omega arith),
+      get_or-map-range_with_len (numbers_with triples) 0 streams
+          stream stream [] below (omega arith),
+    )
 
 -- ---- what is among them
 
@@ -79,12 +79,8 @@ module _ (triples : List Triple) (stream : ℕ) where
       elim (cases_lt k n) [
         | inl earlier ↦ apart k earlier (subst (λ p. Meets uses offsets (triple_at triples p)) (sym at) meets)
         | inr later ↦
-            let bound = beyond (omega arith) in
             elim (cases_lt n k) [
               | inl less ↦ let above = order n k 0 less inside in omega arith
-              | inr same ↦
-                  let is : n ≡ k = omega arith in
-                  let here = ap (λ m. get_or numbers m 0) is in
-                  omega arith
+              | inr same ↦ grind arith
             ]
       ]

@@ -1,8 +1,7 @@
 -- Numbers put among others, one at a time.
-use Rattle.std.proofs.Common.{◌≡◌, ℕ, ◌+◌, ◌≤◌, ◌<◌, zero, suc, ℤ, pos, true, false, Bool, List, [], ◌∷◌, ◌++◌, length, map, take, drop, get_or, fold, filter, flat_map, refl, sym, ap, ◌∙◌, arith, append-nil}
+use Rattle.std.proofs.Common.{◌≡◌, ℕ, ◌+◌, ◌≤◌, ◌<◌, zero, suc, ℤ, pos, true, false, Bool, List, [], ◌∷◌, ◌++◌, length, map, take, drop, get_or, fold, filter, flat_map, refl, sym, ap, ◌∙◌, arith}
 use Rattle.std.specs.Prelude.{◌&&◌, ◌+ℤ◌, ◌-ℤ◌, ◌≤ℤ◌, ◌<ℤ◌, int_lt}
 use Rattle.std.proofs.lemmas.Bool.{cond-true, cond-false, and_from}
-use Rattle.std.proofs.lemmas.Grind.{flat_map-append}
 use Rattle.std.proofs.lemmas.Int.{ints}
 use Rattle.std.proofs.lemmas.List.{take_all, take_more, map-append}
 use Rattle.std.proofs.lemmas.List.Elements.{filter-append}
@@ -67,8 +66,7 @@ module _ (network : Network) (i j : ℕ) where
   pub after_taken : (old : List ℤ) (first n second : ℕ) → n < length (shifts network j) → second ≡ get_or (shifts network j) n second
       → may_meet network i j (later first second) ≡ true
       → after_first old first (n + 1) ≡ put_in (after_first old first n) (later first second)
-  after_taken old first n second inside is meet =
-      after_more old first n second inside is ∙ ap (fold put_in (after_first old first n)) (cond-true (may_meet network i j (later first second)) _ _ meet)
+  after_taken old first n second inside is meet = cc (after_more old first n second inside is, cond-true (may_meet network i j (later first second)) _ _ meet)
 
   pub after_left : (old : List ℤ) (first n second : ℕ) → n < length (shifts network j) → second ≡ get_or (shifts network j) n second
       → may_meet network i j (later first second) ≡ false
@@ -82,15 +80,6 @@ module _ (network : Network) (i j : ℕ) where
 
   abbrev pub lags_first : ℕ → List ℤ
   lags_first n = fold put_in [] (filter (may_meet network i j) (flat_map after_all (take n (shifts network i))))
-
-  pub lags_more : (n first : ℕ) → n < length (shifts network i) → first ≡ get_or (shifts network i) n first
-      → lags_first (n + 1) ≡ fold put_in (lags_first n) (filter (may_meet network i j) (after_all first))
-  lags_more n first inside is =
-      ap (λ xs. fold put_in [] (filter (may_meet network i j) (flat_map after_all xs)))
-      (take_more (shifts network i) n first inside ∙ ap (λ s. take n (shifts network i) ++ s ∷ []) (sym is))
-      ∙ ap (λ xs. fold put_in [] (filter (may_meet network i j) xs)) (flat_map-append after_all (take n (shifts network i)) (first ∷ []) ∙ ap (λ ys. flat_map after_all (take n (shifts network i)) ++ ys) (append-nil (after_all first)))
-      ∙ ap (fold put_in []) (filter-append (may_meet network i j) (flat_map after_all (take n (shifts network i))) (after_all first))
-      ∙ fold-append put_in [] (filter (may_meet network i j) (flat_map after_all (take n (shifts network i)))) (filter (may_meet network i j) (after_all first))
 
   lags_all : fold put_in [] (filter (may_meet network i j) (flat_map after_all (shifts network i))) ≡ lags_of network i j
   unfolding lags_of differences

@@ -1,5 +1,5 @@
 -- Where the two frames of a triple meet, by the uses that are kept: an overlap of any network that they are kept of.
-use Rattle.std.proofs.Common.{◌≡◌, ℕ, ◌<◌, ℤ, pos, List, length, get_or, All, ap, ◌∙◌, arith}
+use Rattle.std.proofs.Common.{◌≡◌, ℕ, ◌<◌, ℤ, pos, List, length, get_or, All, arith}
 use Rattle.std.specs.Prelude.{◌-ℤ◌, ◌<ℤ◌}
 use Rattle.std.proofs.lemmas.Int.{ints}
 use Rattle.std.proofs.lemmas.List.Elements.{Contains-get_or}
@@ -36,34 +36,14 @@ module _ (network : Network) (kept : Kept) (is : AreConflictsOf network kept) wh
   read triple conflict =
       let left = Reads-used network kept.uses triple.left triple.link is.formed is.uses conflict.left_uses in
       let right = Reads-used network kept.uses triple.right triple.link is.formed is.uses conflict.right_uses in
-      record {
-        left = left;
-        right = right;
-        left_start = ap (λ (u : Use). u.start) left.value;
-        left_occupancy = ap (λ (u : Use). u.occupancy) left.value;
-        right_start = ap (λ (u : Use). u.start) right.value;
-        right_occupancy = ap (λ (u : Use). u.occupancy) right.value;
-      }
+      grind arith
 
   pub in_uses : (triple : Triple) → IsConflict network triple → IsInUses kept.uses triple
   in_uses triple conflict =
       let found = read triple conflict in
-      let streams = is.streams in
       let few = is.formed.few_streams in
       let bounds = lag_bounds network triple is.formed conflict in
-      record {
-        few = omega arith;
-        left_row = found.left.row_kept;
-        left_link = found.left.link_kept;
-        left_early = omega arith;
-        left_short = omega arith;
-        right_row = found.right.row_kept;
-        right_link = found.right.link_kept;
-        right_early = omega arith;
-        right_short = omega arith;
-        not_before = bounds.0;
-        not_after = bounds.1;
-      }
+      grind arith
 
   pub all_in_uses : All (IsInUses kept.uses) kept.triples
   all_in_uses = λ k d below. in_uses _ (conflict_kept network kept _ is (Contains-get_or kept.triples k d below))
@@ -129,10 +109,7 @@ module _ (uses : List (List Use)) (offsets : List ℕ) (triple : Triple) (gap : 
 -- the gap that is computed of a pair's offsets
 pub IsGap-from : (uses : List (List Use)) (offsets : List ℕ) (triple : Triple) (pair : Pair) → pair ≡ pair_in uses triple
     → IsGap uses offsets triple (pos (get_or offsets pair.left 0) -ℤ pos (get_or offsets pair.right 0))
-IsGap-from uses offsets triple pair is =
-    let left : pair.left ≡ triple.left = ap (λ (p : Pair). p.left) is ∙ pair_in-left uses triple in
-    let right : pair.right ≡ triple.right = ap (λ (p : Pair). p.right) is ∙ pair_in-right uses triple in
-    (λ k. pos (get_or offsets (left k) 0) -ℤ pos (get_or offsets (right k) 0))
+IsGap-from uses offsets triple pair is = grind (arith, pair_in-left, pair_in-right)
 
 pub pair_same : (pair other : Pair) → pair.left ≡ other.left → pair.right ≡ other.right → pair.above ≡ other.above → pair.below ≡ other.below → pair ≡ other
 pair_same pair other left right above below = λ k. record { left = left k; right = right k; above = above k; below = below k }

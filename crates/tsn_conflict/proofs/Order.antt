@@ -34,10 +34,7 @@ AreApartBefore network offsets n = (k : ℕ) (d : Triple) → k < n → k < leng
 
 module _ (network : Network) (offsets : List ℕ) (formed : IsWellFormed network) where
   pub all_apart : (n : ℕ) → length (conflicts_of network) ≤ n → AreApartBefore network offsets n → AreApart network offsets
-  all_apart n past apart triple conflict overlaps =
-      let listed = conflict_listed network formed triple conflict in
-      let below = listed.1 in
-      apart listed.0 triple (omega arith) below (subst (Overlaps network offsets) (sym listed.2) overlaps)
+  all_apart n past apart triple conflict overlaps = grind (arith, conflict_listed)
 
   pub first_from : (n : ℕ) (triple : Triple) → n < length (conflicts_of network) → get_or (conflicts_of network) n triple ≡ triple → Overlaps network offsets triple → AreApartBefore network offsets n → IsFirstOverlap network offsets triple
   first_from n triple below is overlaps apart = record {

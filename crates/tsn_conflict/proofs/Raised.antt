@@ -6,7 +6,7 @@ use Rattle.std.proofs.lemmas.List.{get_or_default}
 use Rattle.std.proofs.lemmas.List.Elements.{All-contains}
 use Rattle.tsn_model.specs.declared.Triple.{Triple}
 use Rattle.tsn_model.specs.Network.{Network}
-use Rattle.tsn_model.specs.Schedule.{IsFirstOverlap, Overlaps, TripleBefore, AreApart}
+use Rattle.tsn_model.specs.Schedule.{IsFirstOverlap, TripleBefore, AreApart}
 use Rattle.tsn_model.specs.Arcs.{conflicts_of}
 use Rattle.tsn_model.proofs.Conflicts.{conflicts_ordered}
 use Rattle.tsn_conflict.specs.Kept.{Kept, AreConflictsOf}
@@ -26,10 +26,7 @@ right_on_side triple = or_right _ _ (eq-eqb triple.right triple.right refl)
 
 module _ (network : Network) (kept : Kept) (is : AreConflictsOf network kept) (offsets : List ℕ) where
   apart_before : (n : ℕ) → ((number : ℕ) → number < n → Meets kept.uses offsets (triple_at kept.triples number) → ⊥) → AreApartBefore network offsets n
-  apart_before n apart k d before below overlaps =
-      let long = ap length is.triples in
-      let same : get_or (conflicts_of network) k d ≡ triple_at kept.triples k = get_or_default (conflicts_of network) k d _ below ∙ ap (λ ts. triple_at ts k) (sym is.triples) in
-      apart k before (meets_from network kept is offsets (triple_at kept.triples k) (conflict_at network kept is k (omega arith)) (subst (Overlaps network offsets) same overlaps))
+  apart_before n apart k d before below overlaps = grind (arith, get_or_default, meets_from, conflict_at)
 
   pub none_overlaps : ((number : ℕ) → number < length kept.triples → Meets kept.uses offsets (triple_at kept.triples number) → ⊥) → AreApart network offsets
   none_overlaps apart =

@@ -1,17 +1,14 @@
 -- What is known of a stream's use of a link.
-use Rattle.std.proofs.Common.{◌≡◌, ℕ, ◌+◌, ◌≤◌, ◌<◌, true, false, List, [], ◌∷◌, ◌++◌, length, map, get_or, Option, Some, None, is_some, refl, sym, ap, ◌∙◌, subst, arith}
+use Rattle.std.proofs.Common.{◌≡◌, ℕ, ◌+◌, ◌≤◌, ◌<◌, true, false, List, [], ◌∷◌, ◌++◌, length, map, get_or, Option, Some, None, is_some, refl, sym, ap, ◌∙◌, arith}
 use Rattle.std.specs.Prelude.{nat_lt}
 use Rattle.std.specs.List.{range_with_len}
 use Rattle.std.proofs.lemmas.Bool.{lt-ltb}
-use Rattle.std.proofs.lemmas.List.{length-map}
 use Rattle.std.proofs.lemmas.List.FromFn.{length-map-range_with_len, get_or-map-range_with_len, map-range_with_len_more}
 use Rattle.tsn_model.specs.Network.{Network, IsWellFormed, stream_count}
 use Rattle.tsn_model.specs.Timing.{occupancy, start, hop_on, UsesLink, start_on}
 use Rattle.tsn_model.proofs.Routes.{hop_on_found, UsesLink-counted, UsesLink-exists}
 use Rattle.tsn_model.proofs.Limits.{occupancy-le, occupancy-ge, start-le}
 use Rattle.tsn_conflict.specs.declared.uses.Use.{Use}
-use Rattle.tsn_conflict.specs.declared.uses.Row.{Row}
-use Rattle.tsn_conflict.specs.Rows.{uses_in}
 use Rattle.tsn_model.specs.Arcs.{conflicts_of}
 use Rattle.tsn_conflict.specs.Kept.{Kept, use_at, uses_of, use_in, AreConflictsOf}
 
@@ -58,9 +55,6 @@ uses_of_is network = refl
 
 -- ---- reading the uses that are kept
 
-pub length-uses_in : (rows : List Row) → length (uses_in rows) ≡ length rows
-length-uses_in rows = length-map rows (λ (row : Row). row.uses.items)
-
 module _ (network : Network) where
   pub length-uses_of : length (uses_of network) ≡ stream_count network
   unfolding uses_of
@@ -74,9 +68,7 @@ module _ (network : Network) where
   length-row i below = ap length (row_at i below) ∙ length-map-range_with_len (use_at network i) 0 (length network.links)
 
   pub use_in-uses_of : (i link : ℕ) → i < stream_count network → link < length network.links → use_in (uses_of network) i link ≡ use_at network i link
-  use_in-uses_of i link below inside =
-      ap (λ (row : List Use). get_or row link (record { start = 0; occupancy = 0 })) (row_at i below)
-      ∙ get_or-map-range_with_len (use_at network i) 0 (length network.links) link link (record { start = 0; occupancy = 0 }) inside (omega arith)
+  use_in-uses_of i link below inside = grind (arith, row_at, get_or-map-range_with_len)
 
 -- the uses of a network have a number for each stream and link
 pub row_kept : (network : Network) (uses : List (List Use)) (i : ℕ) → uses ≡ uses_of network → i < stream_count network → i < length uses
@@ -91,9 +83,7 @@ link_exists network uses i link same below inside = let long = ap (λ (us : List
 -- what they have there tells whether the stream uses the link
 pub occupied_in : (network : Network) (uses : List (List Use)) (i link : ℕ) (read : Use) → IsWellFormed network → uses ≡ uses_of network → i < stream_count network → link < length network.links
     → read ≡ use_in uses i link → nat_lt 0 read.occupancy ≡ is_some (hop_on network i link)
-occupied_in network uses i link read formed same below inside is =
-    let value : read ≡ use_at network i link = is ∙ ap (λ (us : List (List Use)). use_in us i link) same ∙ use_in-uses_of network i link below inside in
-    ap (λ (u : Use). nat_lt 0 u.occupancy) value ∙ use_at-occupied network i link formed inside
+occupied_in network uses i link read formed same below inside is = grind (arith, use_in-uses_of, use_at-occupied)
 
 -- a stream's use of a link, as it is read: where it is kept, what it is, and how large its numbers are
 pub record Reads (network : Network) (uses : List (List Use)) (i link : ℕ) : Type 0 where
@@ -110,13 +100,7 @@ Reads-used network uses i link formed same used =
     let rows = length-uses_of network in
     let long = length-row network i counted in
     let hop = start_hop in
-    subst (λ (us : List (List Use)). Reads network us i link) (sym same) (record {
-      row_kept = omega arith;
-      link_kept = omega arith;
-      value = use_in-uses_of network i link counted exists ∙ use_at-used network i link used;
-      early = hop;
-      short = occupancy-le network formed i link counted exists;
-    })
+    grind (arith, row_kept, link_kept, use_in-uses_of, use_at-used, occupancy-le)
   where
     start_hop : start_on network i link ≤ 51584000
     start_hop = start_by (hop_on network i link) refl

@@ -1,13 +1,12 @@
 -- The links that two streams share, and their conflicts there.
-use Rattle.std.proofs.Common.{◌≡◌, ℕ, ◌<◌, List, [], All, length, filter, flat_map, get_or, is_some, refl, sym, ◌∙◌, arith}
+use Rattle.std.proofs.Common.{◌≡◌, ℕ, ◌<◌, List, [], All, length, filter, flat_map, get_or, arith}
 use Rattle.std.specs.List.{range_with_len}
 use Rattle.std.proofs.lemmas.List.Elements.{All-filter}
 use Rattle.tsn_model.specs.Network.{Network, IsWellFormed, stream_count}
-use Rattle.tsn_model.specs.Timing.{hop_on}
 use Rattle.tsn_model.specs.Arcs.{is_conflict}
 use Rattle.tsn_model.proofs.Lists.{All-range}
 use Rattle.tsn_conflict.specs.declared.uses.Use.{Use}
-use Rattle.tsn_conflict.specs.Kept.{use_in, uses_of}
+use Rattle.tsn_conflict.specs.Kept.{uses_of}
 use Rattle.tsn_conflict.specs.Rows.{is_occupied, triples_on, triples_with}
 use Rattle.tsn_conflict.proofs.Reading.{link_kept, occupied_in}
 use Rattle.tsn_conflict.proofs.Triples.{Decide, both_pass, on_both, not_on_left, not_on_right}
@@ -25,14 +24,7 @@ module _ (network : Network) (uses : List (List Use)) (same : uses ≡ uses_of n
 
   module _ (formed : IsWellFormed network) (i j : ℕ) (order : i < j) (counted : j < stream_count network) where
     decide : (link : ℕ) → link < length network.links → Decide (is_occupied uses i) (is_occupied uses j) (is_conflict network) (triples_on network i j) link
-    decide link inside =
-        let first : is_occupied uses i link ≡ is_some (hop_on network i link) = occupied_in network uses i link (use_in uses i link) formed same (omega arith) inside refl in
-        let second : is_occupied uses j link ≡ is_some (hop_on network j link) = occupied_in network uses j link (use_in uses j link) formed same counted inside refl in
-        record {
-          both = λ one other. on_both network i j link order (sym first ∙ one) (sym second ∙ other);
-          no_second = λ one other. not_on_right network i j link order (sym first ∙ one) (sym second ∙ other);
-          no_first = λ one. not_on_left network i j link order (sym first ∙ one);
-        }
+    decide link inside = grind (arith, occupied_in, on_both, not_on_right, not_on_left)
 
     -- their conflicts are the triples on the links that both occupy
     pub pair_shared : flat_map (triples_on network i j) (filter (is_occupied uses j) (filter (is_occupied uses i) all_links))

@@ -14,11 +14,7 @@ use Rattle.tsn_conflict.specs.Rows.{triple_on, triples_on, triples_with, triples
 
 -- what passes of the pieces of the first numbers, with one number more
 pub listed_more : (p : Triple → Bool) (f : ℕ → List Triple) (n : ℕ) → filter p (flat_map f (range_with_len 0 (n + 1))) ≡ filter p (flat_map f (range_with_len 0 n)) ++ filter p (f n)
-listed_more p f n =
-    let more : range_with_len 0 (n + 1) ≡ range_with_len 0 n ++ n ∷ [] = range_more 0 n ∙ ap (λ m. range_with_len 0 n ++ m ∷ []) (omega arith) in
-    let pieces : flat_map f (range_with_len 0 (n + 1)) ≡ flat_map f (range_with_len 0 n) ++ f n =
-    ap (flat_map f) more ∙ flat_map-append f (range_with_len 0 n) (n ∷ []) ∙ ap (λ ys. flat_map f (range_with_len 0 n) ++ ys) (append-nil (f n)) in
-    ap (filter p) pieces ∙ filter-append p (flat_map f (range_with_len 0 n)) (f n)
+listed_more p f n = grind (arith, range_more, flat_map-append, append-nil, filter-append)
 
 none_pass : (p : Triple → Bool) (f : ℕ → List Triple) (xs : List ℕ) → ((x : ℕ) → filter p (f x) ≡ []) → filter p (flat_map f xs) ≡ []
 none_pass p f [] fail = refl
@@ -70,11 +66,13 @@ module _ (network : Network) where
   none_earlier i zero order = refl
   none_earlier i (suc n) order =
       let step : suc n ≡ n + 1 = omega arith in
-      ap (λ m. filter (is_conflict network) (triples_left network i m)) step
-      ∙ listed_more (is_conflict network) (triples_with network i) n
-      ∙ ap (λ ts. ts ++ filter (is_conflict network) (triples_with network i n)) (none_earlier i n (omega arith))
-      ∙ none_pass (is_conflict network) (triples_on network i n) (range_with_len 0 (length network.links))
-      (λ link. none_of_link (is_conflict network) (triple_on i n link) (lags_of network i n) (λ lag. disordered i n link lag (omega arith)))
+      cc (
+        listed_more (is_conflict network) (triples_with network i) n,
+        none_earlier i n (omega arith),
+        none_pass (is_conflict network)
+            (triples_on network i n) (range_with_len 0 (length network.links)) (λ link. none_of_link (is_conflict network) (triple_on i n link)
+            (lags_of network i n) (λ lag. disordered i n link lag (omega arith))),
+      )
 
   both_use : (i j link : ℕ) (lag : ℤ) → i < j
       → is_conflict network (triple_on i j link lag) ≡ is_some (hop_on network i link) && is_some (hop_on network j link)

@@ -18,16 +18,11 @@ returns-in_ok-insert c =
     let item : to_z w64 (of_z w64 lag) ≡ lag = omega (arith, ints) in
     let inside : place ≤ length xs = subst (λ ys. place ≤ length ys) same c.place_of-place.ensures.inside in
     let less = less_of _ xs _ lag place same item c.place_of-place.ensures.less in
-    let long = c.args.lags.now.ok in
-    let len = c.len.ensures in
     c.in_ok-insert.ensures.items ∙ ap (λ x. take place xs ++ x ∷ drop place xs) item
     ∙ sym (put_in-new xs lag place inside less
     (λ within. elim c.then-place-len.branch [
       | then-place-len-via-then-place-len w ↦ let at = w.if-place-len.true in absurd (omega arith)
-      | then-place-len-via-else-place-len+then-lag-index w ↦
-          let read : w.index.result.now ≡ get_or xs place (pos 0) = w.index.ensures ∙ get_or_default xs place w.index.result.now (pos 0) within in
-          let before = w.if-lag-index.true in
-          omega (arith, ints, before, read, item)
+      | then-place-len-via-else-place-len+then-lag-index w ↦ grind (arith, get_or_default, ints)
     ]))
 
 pub returns-else-lag-index : goal.returns-else-lag-index

@@ -1,4 +1,4 @@
-use Rattle.std.proofs.Common.{◌≡◌, All, inl, inr, subst, arith}
+use Rattle.std.proofs.Common.{◌≡◌, inl, inr, subst, arith}
 use Rattle.std.proofs.lemmas.Bool.{cases_lt}
 use Rattle.std.proofs.lemmas.List.{take_all}
 use Rattle.std.proofs.lemmas.List.Elements.{All-more, All-weaker}
@@ -28,5 +28,4 @@ loop-stream-preserved c =
     }
 
 pub returns-clause-apart : goal.returns-clause-apart
-returns-clause-apart c =
-    subst (All (IsApartBefore c.args.self.now c.args.offsets.now c.loop-stream.least)) (take_all c.loop-stream.stream-index c.args.raised.now c.loop-stream-test.false) c.loop-stream.invariant.apart
+returns-clause-apart c = rw (← (take_all c.loop-stream.stream-index c.args.raised.now c.loop-stream-test.false)) c.loop-stream.invariant.apart
