@@ -1,16 +1,14 @@
 //! The links that most of the steps of an argument use, in words.
-use crate::count::{count_up, most};
-use crate::load::{Load, least_tail};
-use crate::load_words::push_begin;
-use crate::mention::{Mention, add_step};
+use crate::count::{count_up, take_most};
+use crate::load::Load;
+use crate::marked::{Mention, mentions_of};
 use crate::needs::Part;
-use crate::network::{TimedNetwork, first_frame};
-use crate::number::{NONE, at, less, put, signed, sum};
-use crate::words::{push_count, push_time};
+use crate::network::TimedNetwork;
+use crate::words::Grouped;
+use crate::writer::Writer;
 use std::alloc::{AllocError, Global};
-use tsn_cert::{Argument, Goal, Step};
+use tsn_cert::{Argument, Goal};
 use tsn_model::Frame;
-use tsn_text::{ListBuilder, TextBuilder};
 
 // How many links are told.
 const MOST_LINKS: usize = 5;
@@ -18,172 +16,97 @@ const MOST_LINKS: usize = 5;
 // How many streams are told of a link.
 const MOST_STREAMS: usize = 6;
 
-/// Writes the links that most steps of a part use: how many steps, and the streams that are named most there.
-pub fn push_links(
-    alloc: Global,
-    text: &mut TextBuilder,
-    network: TimedNetwork<'_>,
-    argument: &Argument,
-    part: &Part,
-) -> Result<(), AllocError> {
-    let mut busy = Busy {
-        alloc,
-        network,
-        until: greatest_flowspan(network, argument),
-        steps: argument.steps.list(),
-        part,
-        mentions: ListBuilder::new(alloc),
-    };
-    push_time(
-        text,
-        "The links that most of these are about, if all is to be done by ",
-        busy.until,
-    );
-    text.push_str(":\n");
-    let mut uses = busy.uses_of(None, network.problem.links())?;
-    for _ in 0..MOST_LINKS {
-        let Some(link) = most(&uses) else {
-            break;
-        };
-        busy.push_link(text, link, at(&uses, link, 0));
-        put(&mut uses, link, 0);
+impl Writer<'_> {
+    /// Writes the links that most steps of a part use: how many steps, and the streams that are named most there.
+    pub fn push_busy(&mut self, argument: &Argument, part: &Part) -> Result<(), AllocError> {
+        let until = greatest_flowspan(self.network, argument);
+        let done = Grouped(until);
+        self.say(format_args!(
+            "The links that most of these are about, if all is to be done by {done}:\n"
+        ));
+        let named = mentions_of(self.alloc, argument, part).list.finish()?;
+        let mut uses = uses_of(self.alloc, &named, None, self.network.problem.links())?;
+        for _ in 0..MOST_LINKS {
+            let Some((link, count)) = take_most(&mut uses) else {
+                break;
+            };
+            let streams = self.network.timing.streams();
+            let on_link = uses_of(self.alloc, &named, Some(link), streams)?;
+            let frames = most_used(self.alloc, on_link)?;
+            let steps = if count == 1 { "step" } else { "steps" };
+            self.say(format_args!("{} {steps}: on ", Grouped(count as i128)));
+            self.push_busy_link(link, &frames, until);
+        }
+        Ok(())
     }
-    let Busy { mentions, .. } = busy;
-    drop(mentions.finish()?);
-    Ok(())
+
+    // Writes what frames come to on a link by the windows of their streams' offsets, where all is done by an instant.
+    fn push_busy_link(&mut self, link: usize, frames: &[Frame], until: i128) {
+        let mut load = Load::none();
+        for frame in frames {
+            let times = self.network.times(frame.stream);
+            let offsets = (times.release, times.latest_offset);
+            load = load.with(self.network, link, *frame, offsets);
+        }
+        self.push_begin(link, frames, load);
+        let end = Grouped(load.end.min(until.wrapping_sub(load.tail)));
+        self.say(format_args!(", and the last one has to be through by {end}.\n"))
+    }
 }
 
 // The greatest flowspan in question.
-fn greatest_flowspan(network: TimedNetwork<'_>, argument: &Argument) -> i64 {
+fn greatest_flowspan(network: TimedNetwork<'_>, argument: &Argument) -> i128 {
     match argument.goal {
-        Goal::First => signed(argument.target),
-        Goal::Least => less(signed(argument.target), 1),
+        Goal::First => argument.target as i128,
+        Goal::Least => argument.target as i128 - 1,
         Goal::None => network.cycle(),
     }
 }
 
-#[derive(Drop)]
-struct Busy<'a> {
+// How many steps name frames on each link, or each stream on one of them, of so many.
+fn uses_of(
     alloc: Global,
-    network: TimedNetwork<'a>,
-    // By when all is to be done.
-    until: i64,
-    steps: &'a [Step],
-    part: &'a Part,
-    mentions: ListBuilder<Mention>,
-}
-
-impl Busy<'_> {
-    // The frames that a step names.
-    fn name(&mut self, step: usize) {
-        self.mentions.clear();
-        add_step(&mut self.mentions, self.steps, self.part, step)
-    }
-
-    // How many steps name frames on each link, or each stream on one of them.
-    fn uses_of(&mut self, on: Option<usize>, places: usize) -> Result<Vec<usize>, AllocError> {
-        let mut uses = vec![in self.alloc; 0; places]?;
-        let mut last = vec![in self.alloc; NONE; places]?;
-        let part = self.part;
-        for step in &part.steps {
-            self.name(*step);
-            for mention in self.mentions.list() {
-                match on {
-                    None => count_once(&mut uses, &mut last, mention.link, *step),
-                    Some(link) if mention.link == link => {
-                        count_once(&mut uses, &mut last, mention.stream, *step)
-                    }
-                    Some(_) => {}
-                }
-            }
-        }
-        Ok(uses)
-    }
-
-    // The first frames of the streams that most steps name on a link, by their numbers: those that at least half as many name as the
-    // first.
-    fn frames_on(&mut self, link: usize, streams: usize) -> Result<Vec<Frame>, AllocError> {
-        let named = self.streams_on(link, streams)?;
-        let mut frames = ListBuilder::new(self.alloc);
-        for stream in &named {
-            frames.push(first_frame(*stream));
-        }
-        drop(named);
-        frames.finish()
-    }
-
-    fn streams_on(&mut self, link: usize, streams: usize) -> Result<Vec<usize>, AllocError> {
-        let mut uses = self.uses_of(Some(link), streams)?;
-        let mut found = ListBuilder::new(self.alloc);
-        let mut greatest = 0;
-        for _ in 0..MOST_STREAMS {
-            let Some(stream) = most(&uses) else {
-                break;
-            };
-            let count = at(&uses, stream, 0);
-            if greatest == 0 {
-                greatest = count;
-            }
-            if count < greatest / 2 {
-                break;
-            }
-            found.push(stream);
-            put(&mut uses, stream, 0);
-        }
-        let mut found = found.finish()?;
-        found.sort()?;
-        Ok(found)
-    }
-
-    fn push_link(&mut self, text: &mut TextBuilder, link: usize, uses: usize) {
-        let network = self.network;
-        let Ok(frames) = self.frames_on(link, network.timing.streams()) else {
-            return text.refuse();
+    named: &[Mention],
+    on: Option<usize>,
+    places: usize,
+) -> Result<Vec<usize>, AllocError> {
+    let mut uses = vec![in alloc; 0; places]?;
+    let mut last = vec![in alloc; None; places]?;
+    for mention in named {
+        let place = match on {
+            None => mention.link,
+            Some(link) if mention.link == link => mention.stream,
+            Some(_) => continue,
         };
-        push_count(text, "", uses);
-        text.push_str(if uses == 1 {
-            " step: on "
-        } else {
-            " steps: on "
-        });
-        let load = load_of(network, link, &frames);
-        push_begin(text, network, load);
-        let end = latest_end(network, link, &frames).min(less(self.until, load.tail));
-        push_time(text, ", and the last one has to be through by ", end);
-        text.push_str(".\n")
+        if let Some(last) = last.get_mut(place) {
+            if *last != Some(mention.step) {
+                *last = Some(mention.step);
+                count_up(&mut uses, place);
+            }
+        }
     }
+    Ok(uses)
 }
 
-// Counts one more at a place, where the last that counted there was another step.
-fn count_once(uses: &mut [usize], last: &mut [usize], place: usize, step: usize) {
-    if at(last, place, NONE) != step {
-        put(last, place, step);
-        count_up(uses, place);
+// The first frames of the streams of the greatest counts, by their numbers: of those of at least half the first one's.
+fn most_used(alloc: Global, mut uses: Vec<usize>) -> Result<Vec<Frame>, AllocError> {
+    let mut streams = Vec::new(alloc);
+    let mut greatest = 0;
+    for _ in 0..MOST_STREAMS {
+        let Some((stream, count)) = take_most(&mut uses) else {
+            break;
+        };
+        greatest = count.max(greatest);
+        if count < greatest / 2 {
+            break;
+        }
+        streams.push(stream)?;
     }
-}
-
-// What frames come to on a link, from their releases on.
-fn load_of<'a>(network: TimedNetwork<'_>, link: usize, frames: &'a [Frame]) -> Load<'a> {
-    let mut head = i64::MAX;
-    for frame in frames {
-        let release = network.times(frame.stream).release;
-        head = head.min(sum(release, network.begin(*frame, link)));
+    streams.sort()?;
+    let mut frames = Vec::new(alloc);
+    for stream in &streams {
+        let stream = *stream;
+        frames.push(Frame { stream, shift: 0 })?;
     }
-    Load {
-        link,
-        frames,
-        head,
-        work: network.work(link, frames),
-        tail: least_tail(network, link, frames),
-    }
-}
-
-// By when the last of some frames is through on a link, by their latest offsets.
-fn latest_end(network: TimedNetwork<'_>, link: usize, frames: &[Frame]) -> i64 {
-    let mut end = i64::MIN;
-    for frame in frames {
-        let offset = network.times(frame.stream).latest_offset;
-        end = end.max(sum(offset, network.end(*frame, link)));
-    }
-    end
+    Ok(frames)
 }

@@ -1,137 +1,116 @@
 //! The leaves of a tree of decisions, in words.
-use crate::argument::push_no_room;
-use crate::load_words::{push_begin, push_load, push_past};
-use crate::network::TimedNetwork;
-use crate::number::sum;
-use crate::path::{Path, frames_of, load_of};
-use crate::round::push_round;
-use crate::words::{push_joint, push_order, push_stream, push_time};
-use std::alloc::Global;
-use tsn_cert::{Chain, Leaf, LowerBound, Node};
-use tsn_text::TextBuilder;
+use crate::path::Path;
+use crate::words::Grouped;
+use crate::writer::Writer;
+use std::alloc::{AllocError, Global};
+use tsn_cert::{Chain, Entries, Leaf, LowerBound, Node};
+use tsn_model::Frame;
 
-/// Writes what a leaf shows, where the decisions of the path to it hold.
-pub fn push_leaf(
-    alloc: Global,
-    text: &mut TextBuilder,
-    network: TimedNetwork<'_>,
-    path: &Path,
-    node: &Node,
-) {
+/// The bound that a node shows for the flowspan, if it does.
+pub fn bound_of(node: &Node) -> Option<&LowerBound> {
     match node {
-        Node::Branch(_) => {}
-        Node::Leaf(leaf) => {
-            push_path(text, network, path);
-            push_shown(alloc, text, network, path, leaf);
-            text.push_str(".\n")
-        }
-        Node::Tie(bound, _) => {
-            push_path(text, network, path);
-            push_bound(alloc, text, network, path, bound);
-            text.push_str(
-                "; of the schedules done then, none comes before the plan in list order.\n",
-            )
-        }
+        Node::Leaf(Leaf::Bound(bound)) => Some(bound),
+        Node::Tie(bound, _) => Some(bound),
+        _ => None,
     }
 }
 
-// Writes the decisions of a path.
-fn push_path(text: &mut TextBuilder, network: TimedNetwork<'_>, path: &Path) {
-    let count = path.decided().len();
-    if count == 0 {
-        return text.push_str("In any order: ");
-    }
-    text.push_str("If ");
-    for (place, decided) in path.decided().iter().enumerate() {
-        if place > 0 {
-            push_joint(text, place, count, "and");
-        }
-        push_order(text, network, decided.order);
-    }
-    text.push_str(": ")
-}
-
-fn push_shown(
-    alloc: Global,
-    text: &mut TextBuilder,
-    network: TimedNetwork<'_>,
-    path: &Path,
-    leaf: &Leaf,
-) {
-    match leaf {
-        Leaf::Bound(bound) => push_bound(alloc, text, network, path, bound),
-        Leaf::Overrun(stream, chain) => {
-            let offset = path.offset(network, *stream, chain);
-            push_no_room(text, network, *stream, offset)
-        }
-        Leaf::Cycle(chain) => push_closed(alloc, text, network, path, chain),
-        Leaf::Overload(link, entries) => {
-            let Ok(frames) = frames_of(alloc, entries) else {
-                return text.refuse();
-            };
-            let load = load_of(network, path, *link, entries, &frames);
-            text.push_str("on ");
-            push_begin(text, network, load);
-            push_past(text, load, network.cycle());
-            drop(frames);
-        }
+/// The link and the entries of a node that is about a link's load.
+pub fn load_of(node: &Node) -> Option<(usize, &Entries)> {
+    match node {
+        Node::Leaf(Leaf::Overload(link, entries)) => Some((*link, entries)),
+        _ => match bound_of(node)? {
+            LowerBound::Load(link, entries) => Some((*link, entries)),
+            LowerBound::Late(..) => None,
+        },
     }
 }
 
-fn push_bound(
-    alloc: Global,
-    text: &mut TextBuilder,
-    network: TimedNetwork<'_>,
-    path: &Path,
-    bound: &LowerBound,
-) {
-    match bound {
-        LowerBound::Late(stream, chain) => {
-            let offset = path.offset(network, *stream, chain);
-            push_late(text, network, *stream, offset)
-        }
-        LowerBound::Load(link, entries) => {
-            let Ok(frames) = frames_of(alloc, entries) else {
-                return text.refuse();
-            };
-            text.push_str("on ");
-            push_load(
-                text,
-                network,
-                load_of(network, path, *link, entries, &frames),
-            );
-            drop(frames);
+/// The frames of entries.
+pub fn frames_of(alloc: Global, entries: &Entries) -> Result<Vec<Frame>, AllocError> {
+    let mut frames = Vec::new(alloc);
+    for (frame, _) in entries.list() {
+        frames.push(*frame)?;
+    }
+    Ok(frames)
+}
+
+impl Writer<'_> {
+    /// Writes what a node shows where the decisions of the path to it hold, if it is a leaf.
+    pub fn push_leaf(&mut self, path: &Path<'_>, node: &Node) {
+        match node {
+            Node::Branch(_) => {}
+            Node::Leaf(leaf) => {
+                self.push_path(path);
+                self.push_shown(path, leaf);
+                self.say(".\n")
+            }
+            Node::Tie(bound, _) => {
+                self.push_path(path);
+                self.push_bound(path, bound);
+                self.say(
+                    "; of the schedules done then, none comes before the plan in list order.\n",
+                )
+            }
         }
     }
-}
 
-// Writes when a stream arrives that can't start before an offset.
-fn push_late(text: &mut TextBuilder, network: TimedNetwork<'_>, stream: usize, offset: i64) {
-    push_stream(text, network, stream);
-    push_time(text, " can't start before ", offset);
-    push_time(
-        text,
-        " and arrives at ",
-        sum(offset, network.times(stream).arrival),
-    );
-    text.push_str(" or later")
-}
+    // Writes the decisions of a path.
+    fn push_path(&mut self, path: &Path<'_>) {
+        if path.decisions().is_empty() {
+            return self.say("In any order: ");
+        }
+        self.say("If ");
+        self.push_orders(path.decisions());
+        self.say(": ")
+    }
 
-// Writes that the orders of a closed chain can't all hold.
-fn push_closed(
-    alloc: Global,
-    text: &mut TextBuilder,
-    network: TimedNetwork<'_>,
-    path: &Path,
-    chain: &Chain,
-) {
-    let Ok(orders) = path.orders(alloc, chain) else {
-        return text.refuse();
-    };
-    let is_said = path
-        .decided()
-        .iter()
-        .all(|decided| orders.contains(&decided.order));
-    push_round(text, network, &orders, is_said);
-    drop(orders);
+    fn push_shown(&mut self, path: &Path<'_>, leaf: &Leaf) {
+        match leaf {
+            Leaf::Bound(bound) => self.push_bound(path, bound),
+            Leaf::Overrun(stream, chain) => {
+                self.push_no_room(*stream, path.offset(*stream, chain))
+            }
+            Leaf::Cycle(chain) => self.push_closed(path, chain),
+            Leaf::Overload(link, entries) => {
+                let load = path.load(*link, entries);
+                let frames = self.kept(frames_of(self.alloc, entries));
+                self.say("on ");
+                self.push_begin(*link, &frames, load);
+                let (free, cycle) = (Grouped(load.free()), Grouped(self.network.cycle()));
+                self.say(format_args!(
+                    ": so the link is taken up until {free}, past the cycle's end at {cycle}"
+                ))
+            }
+        }
+    }
+
+    fn push_bound(&mut self, path: &Path<'_>, bound: &LowerBound) {
+        match bound {
+            LowerBound::Late(stream, chain) => {
+                let offset = path.offset(*stream, chain);
+                let arrival = offset.wrapping_add(self.network.times(*stream).arrival);
+                let name = self.network.name(*stream);
+                let (offset, arrival) = (Grouped(offset), Grouped(arrival));
+                self.say(format_args!(
+                    "stream {name} can't start before {offset} and arrives at {arrival} or later"
+                ))
+            }
+            LowerBound::Load(link, entries) => {
+                self.say("on ");
+                let frames = self.kept(frames_of(self.alloc, entries));
+                self.push_load(*link, &frames, path.load(*link, entries))
+            }
+        }
+    }
+
+    // Writes that the decisions of a closed chain can't all hold.
+    fn push_closed(&mut self, path: &Path<'_>, chain: &Chain) {
+        let decisions = self.kept(path.chain(self.alloc, chain));
+        let is_said = path
+            .decisions()
+            .iter()
+            .all(|decision| decisions.contains(decision));
+        self.push_round(&decisions, is_said)
+    }
 }

@@ -7,31 +7,23 @@ mod argument;
 mod busy;
 mod count;
 mod leaf;
-mod least;
 mod load;
-mod load_words;
 mod marked;
-mod mention;
+mod motion;
+mod narrator;
 mod needs;
 mod network;
-mod number;
 mod path;
-mod placing;
-mod round;
-mod told;
 mod tree;
 mod words;
+mod writer;
 
-use crate::argument::push_argument;
 use crate::network::TimedNetwork;
-use crate::number::signed;
-use crate::tree::push_tree;
-use crate::words::push_time;
+use crate::writer::Writer;
 pub use marked::marked_frames;
-use std::alloc::{AllocError, Global};
+use std::alloc::Global;
 use tsn_cert::{Certificate, Plan};
 use tsn_model::NoMemory;
-use tsn_text::TextBuilder;
 use tsn_timing::Problem;
 
 /// Why no schedule is done before the plan is, or why there is none: lines that each end in a line feed. Instants are in
@@ -48,39 +40,11 @@ pub fn explanation(
         problem,
         timing: &timing,
     };
-    let mut text = TextBuilder::new(alloc);
-    push_explanation(alloc, &mut text, network, plan, certificate)?;
-    drop(timing);
-    Ok(text.finish()?)
-}
-
-fn push_explanation(
-    alloc: Global,
-    text: &mut TextBuilder,
-    network: TimedNetwork<'_>,
-    plan: &Plan,
-    certificate: &Certificate,
-) -> Result<(), AllocError> {
-    push_claim(text, network, plan);
+    let mut writer = Writer::new(alloc, network);
+    writer.push_claim(plan);
     match certificate {
-        Certificate::Tree(cert) => push_tree(alloc, text, network, cert),
-        Certificate::Argument(argument) => push_argument(alloc, text, network, plan, argument),
+        Certificate::Tree(cert) => writer.push_tree(cert)?,
+        Certificate::Argument(argument) => writer.push_argument(plan, argument)?,
     }
-}
-
-// Writes what is shown.
-fn push_claim(text: &mut TextBuilder, network: TimedNetwork<'_>, plan: &Plan) {
-    match plan {
-        Plan::Schedule { flowspan, .. } => {
-            push_time(text, "No schedule is done before ", signed(*flowspan));
-        }
-        Plan::None => {
-            push_time(
-                text,
-                "There is no schedule within the cycle of ",
-                network.cycle(),
-            );
-        }
-    }
-    text.push_str(" ns.\n")
+    Ok(writer.finish()?)
 }

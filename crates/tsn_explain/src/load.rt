@@ -1,74 +1,68 @@
 //! Frames that take a link up together.
 use crate::network::TimedNetwork;
-use crate::number::{less, sum, time};
 use tsn_argue::View;
 use tsn_model::Frame;
 
-/// Frames on a link: when the first of them can start there, how long they take it up together, and how long after its
-/// occupancy the last of them arrives, in nanoseconds.
+/// What frames come to on a link, in nanoseconds.
 #[derive(Clone, Copy)]
-pub struct Load<'a> {
-    pub link: usize,
-    pub frames: &'a [Frame],
-    pub head: i64,
-    pub work: i64,
-    pub tail: i64,
+pub struct Load {
+    /// The earliest start of one of them there.
+    pub head: i128,
+    /// How long they take it up together.
+    pub work: i128,
+    /// The latest end of their occupancy.
+    pub end: i128,
+    /// How long after its occupancy the last of them arrives at least.
+    pub tail: i128,
 }
 
-impl Load<'_> {
-    /// When the link is free again.
-    pub fn end(self) -> i64 {
-        sum(self.head, self.work)
+impl Load {
+    /// What no frames come to.
+    pub fn none() -> Load {
+        Load {
+            head: i128::MAX,
+            work: 0,
+            end: i128::MIN,
+            tail: i128::MAX,
+        }
+    }
+
+    /// With one more frame, whose stream has an offset from the least to the greatest one.
+    pub fn with(
+        self,
+        network: TimedNetwork<'_>,
+        link: usize,
+        frame: Frame,
+        (least, greatest): (i128, i128),
+    ) -> Load {
+        let visit = network.visit(frame, link);
+        let work = visit.end.wrapping_sub(visit.begin);
+        let tail = network.times(frame.stream).arrival.wrapping_sub(visit.end);
+        Load {
+            head: self.head.min(least.wrapping_add(visit.begin)),
+            work: self.work.wrapping_add(work),
+            end: self.end.max(greatest.wrapping_add(visit.end)),
+            tail: self.tail.min(tail),
+        }
+    }
+
+    /// What frames come to by the offsets of a view.
+    pub fn of(network: TimedNetwork<'_>, view: &View<'_>, link: usize, frames: &[Frame]) -> Load {
+        let mut load = Load::none();
+        for frame in frames {
+            let offsets = (view.least(frame.stream), view.greatest(frame.stream));
+            load = load.with(network, link, *frame, offsets);
+        }
+        load
+    }
+
+    /// The soonest that the link is free again.
+    pub fn free(self) -> i128 {
+        self.head.wrapping_add(self.work)
     }
 
     /// Before this not all of the frames have arrived.
-    pub fn bound(self) -> i64 {
-        sum(self.end(), self.tail)
+    pub fn bound(self) -> i128 {
+        self.free().wrapping_add(self.tail)
     }
-}
-
-/// What frames come to on a link, as a view has it.
-pub fn load_on<'a>(
-    network: TimedNetwork<'_>,
-    view: &View<'_>,
-    link: usize,
-    frames: &'a [Frame],
-) -> Load<'a> {
-    Load {
-        link,
-        frames,
-        head: head_on(network, view, link, frames),
-        work: network.work(link, frames),
-        tail: least_tail(network, link, frames),
-    }
-}
-
-/// The earliest start of one of the frames on a link.
-pub fn head_on(network: TimedNetwork<'_>, view: &View<'_>, link: usize, frames: &[Frame]) -> i64 {
-    let mut least = i64::MAX;
-    for frame in frames {
-        let offset = time(view.least(frame.stream));
-        least = least.min(sum(offset, network.begin(*frame, link)));
-    }
-    least
-}
-
-/// The latest end of one of the frames' occupancy of a link.
-pub fn end_on(network: TimedNetwork<'_>, view: &View<'_>, link: usize, frames: &[Frame]) -> i64 {
-    let mut greatest = i64::MIN;
-    for frame in frames {
-        let offset = time(view.greatest(frame.stream));
-        greatest = greatest.max(sum(offset, network.end(*frame, link)));
-    }
-    greatest
-}
-
-/// The least time between the frames' occupancy of a link and their streams' arrival.
-pub fn least_tail(network: TimedNetwork<'_>, link: usize, frames: &[Frame]) -> i64 {
-    let mut least = i64::MAX;
-    for frame in frames {
-        let arrival = network.times(frame.stream).arrival;
-        least = least.min(less(arrival, network.end(*frame, link)));
-    }
-    least
 }

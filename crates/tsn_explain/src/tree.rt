@@ -1,170 +1,151 @@
 //! What a tree of decisions shows, in words.
-use crate::count::{count_up, most};
-use crate::leaf::push_leaf;
-use crate::least::{bound_of, least_of};
-use crate::load_words::push_load;
-use crate::marked::MOST_TOLD;
+use crate::count::{count_up, take_most};
+use crate::leaf::{bound_of, frames_of, load_of};
+use crate::load::Load;
 use crate::network::TimedNetwork;
-use crate::number::{at, put};
-use crate::path::{Path, frames_of, load_of};
-use crate::words::{push_count, push_link};
+use crate::path::Path;
+use crate::words::Grouped;
+use crate::writer::Writer;
 use std::alloc::{AllocError, Global};
-use tsn_cert::{Cert, Format, Leaf, LowerBound, Node};
-use tsn_text::TextBuilder;
+use tsn_cert::{Cert, Entries, Format, Leaf, LowerBound, Node};
+
+/// The most nodes of a tree all of whose leaves are told.
+pub const MOST_TOLD: usize = 12;
 
 // How many links are told.
 const MOST_LINKS: usize = 5;
 
-/// Writes why the target of a tree is right.
-pub fn push_tree(
-    alloc: Global,
-    text: &mut TextBuilder,
-    network: TimedNetwork<'_>,
-    cert: &Cert,
-) -> Result<(), AllocError> {
-    if cert.nodes.list().len() <= MOST_TOLD {
-        push_leaves(alloc, text, network, cert.nodes.list())?;
-    } else {
-        push_counts(alloc, text, network, cert.nodes.list())?;
-    }
-    if cert.format == Format::Two && has_schedule(network, cert) {
-        text.push_str("Of the schedules of this flowspan the plan is the first in list order.\n");
-    }
-    Ok(())
-}
-
-fn has_schedule(network: TimedNetwork<'_>, cert: &Cert) -> bool {
-    cert.target <= network.timing.cycle()
-}
-
-fn push_leaves(
-    alloc: Global,
-    text: &mut TextBuilder,
-    network: TimedNetwork<'_>,
-    nodes: &[Node],
-) -> Result<(), AllocError> {
-    let mut path = Path::first(alloc);
-    for node in nodes {
-        push_leaf(alloc, text, network, &path, node);
-        path.go_on(node);
-    }
-    path.finish()
-}
-
-// All leaves, and the kinds of which there may be some, in the order in which they are told.
-const KINDS: [&str; 7] = [
-    " ways to order frames are ruled out",
-    " by a frame that arrives too late",
-    " by the load of a link",
-    " by a frame that is past the cycle's end or its latest instant",
-    " by a link that is taken up past the cycle's end",
-    " by orders that can't all hold",
-    " by the list order",
+// The kinds of leaves, in the order in which they are told.
+const KINDS: [&str; 6] = [
+    "by a frame that arrives too late",
+    "by the load of a link",
+    "by a frame that is past the cycle's end or its latest instant",
+    "by a link that is taken up past the cycle's end",
+    "by orders that can't all hold",
+    "by the list order",
 ];
 
-// Which kind a leaf is of; a branch counts as none.
-fn kind_of(node: &Node) -> usize {
+// Which kind a leaf is of.
+fn kind_of(node: &Node) -> Option<usize> {
     match node {
-        Node::Branch(_) => KINDS.len(),
-        Node::Leaf(Leaf::Bound(LowerBound::Late(..))) => 1,
-        Node::Leaf(Leaf::Bound(LowerBound::Load(..))) => 2,
-        Node::Leaf(Leaf::Overrun(..)) => 3,
-        Node::Leaf(Leaf::Overload(..)) => 4,
-        Node::Leaf(Leaf::Cycle(_)) => 5,
-        Node::Tie(..) => 6,
+        Node::Branch(_) => None,
+        Node::Leaf(Leaf::Bound(LowerBound::Late(..))) => Some(0),
+        Node::Leaf(Leaf::Bound(LowerBound::Load(..))) => Some(1),
+        Node::Leaf(Leaf::Overrun(..)) => Some(2),
+        Node::Leaf(Leaf::Overload(..)) => Some(3),
+        Node::Leaf(Leaf::Cycle(_)) => Some(4),
+        Node::Tie(..) => Some(5),
     }
 }
 
-// Writes how many leaves there are, and how many of each kind; then how many the load of each link rules out, and the load that comes
-// to the least.
-fn push_counts(
-    alloc: Global,
-    text: &mut TextBuilder,
-    network: TimedNetwork<'_>,
-    nodes: &[Node],
-) -> Result<(), AllocError> {
-    let mut kinds = vec![in alloc; 0; KINDS.len()]?;
-    for node in nodes {
-        let kind = kind_of(node);
-        if kind < KINDS.len() {
-            count_up(&mut kinds, 0);
+impl Writer<'_> {
+    /// Writes why the target of a tree is right.
+    pub fn push_tree(&mut self, cert: &Cert) -> Result<(), AllocError> {
+        let nodes = cert.nodes.list();
+        if nodes.len() <= MOST_TOLD {
+            let mut path = Path::new(self.alloc, self.network);
+            for node in nodes {
+                self.push_leaf(&path, node);
+                path.go_on(node);
+            }
+            path.finish()?;
+        } else {
+            self.push_kinds(nodes);
+            self.push_links(nodes)?;
+            self.push_tightest(nodes)?;
         }
-        count_up(&mut kinds, kind);
+        if cert.format == Format::Two && cert.target as i128 <= self.network.cycle() {
+            self.say("Of the schedules of this flowspan the plan is the first in list order.\n");
+        }
+        Ok(())
     }
-    push_kinds(text, &kinds);
-    drop(kinds);
-    push_links(alloc, text, network, nodes)?;
-    push_least(alloc, text, network, nodes)
-}
 
-fn push_kinds(text: &mut TextBuilder, kinds: &[usize]) {
-    let mut is_begun = false;
-    for (kind, words) in KINDS.iter().enumerate() {
-        let count = at(kinds, kind, 0);
-        if count > 0 {
-            let joint = if kind == 0 {
-                ""
-            } else if is_begun {
-                ", "
-            } else {
-                ": "
+    // Writes how many leaves there are, and how many of each kind.
+    fn push_kinds(&mut self, nodes: &[Node]) {
+        let mut counts = [0usize; 6];
+        let mut leaves: usize = 0;
+        for node in nodes {
+            if let Some(kind) = kind_of(node) {
+                count_up(&mut counts, kind);
+                leaves = leaves.wrapping_add(1);
+            }
+        }
+        let leaves = Grouped(leaves as i128);
+        self.say(format_args!("{leaves} ways to order frames are ruled out"));
+        let mut joint = ": ";
+        for (kind, count) in counts.iter().enumerate() {
+            if *count > 0 {
+                let count = Grouped(*count as i128);
+                self.say(format_args!("{joint}{count} {}", KINDS[kind]));
+                joint = ", ";
+            }
+        }
+        self.say(".\n")
+    }
+
+    // Writes how many leaves the load of each link rules out, of the links that rule out most.
+    fn push_links(&mut self, nodes: &[Node]) -> Result<(), AllocError> {
+        let mut counts = vec![in self.alloc; 0; self.network.problem.links()]?;
+        for node in nodes {
+            if let Some((link, _)) = load_of(node) {
+                count_up(&mut counts, link);
+            }
+        }
+        for _ in 0..MOST_LINKS {
+            let Some((link, count)) = take_most(&mut counts) else {
+                break;
             };
-            is_begun = kind > 0;
-            push_count(text, joint, count);
-            text.push_str(words);
+            let (from, to) = self.network.ends(link);
+            let count = Grouped(count as i128);
+            self.say(format_args!("The load of link {link}, {from} to {to}, rules out {count}.\n"));
         }
+        Ok(())
     }
-    text.push_str(".\n")
-}
 
-fn push_links(
-    alloc: Global,
-    text: &mut TextBuilder,
-    network: TimedNetwork<'_>,
-    nodes: &[Node],
-) -> Result<(), AllocError> {
-    let mut links = vec![in alloc; 0; network.problem.links()]?;
-    for node in nodes {
-        if let Some((link, _)) = bound_of(node) {
-            count_up(&mut links, link);
-        } else if let Node::Leaf(Leaf::Overload(link, _)) = node {
-            count_up(&mut links, *link);
-        }
-    }
-    for _ in 0..MOST_LINKS {
-        let Some(link) = most(&links) else {
-            break;
+    fn push_tightest(&mut self, nodes: &[Node]) -> Result<(), AllocError> {
+        let Some(found) = tightest(self.alloc, self.network, nodes)? else {
+            return Ok(());
         };
-        text.push_str("The load of ");
-        push_link(text, network, link);
-        push_count(text, ", rules out ", at(&links, link, 0));
-        text.push_str(".\n");
-        put(&mut links, link, 0);
+        let frames = frames_of(self.alloc, found.entries)?;
+        self.say("In the tightest of these ways, on ");
+        self.push_load(found.link, &frames, found.load);
+        self.say(".\n");
+        Ok(())
     }
-    Ok(())
 }
 
-fn push_least(
+/// The load of a leaf that bounds the flowspan.
+#[derive(Clone, Copy)]
+pub struct Bounding<'a> {
+    pub link: usize,
+    pub entries: &'a Entries,
+    load: Load,
+}
+
+/// The load that bounds the flowspan by the least, the first of equal ones.
+pub fn tightest<'a>(
     alloc: Global,
-    text: &mut TextBuilder,
     network: TimedNetwork<'_>,
-    nodes: &[Node],
-) -> Result<(), AllocError> {
-    let Some(number) = least_of(alloc, network, nodes)? else {
-        return Ok(());
-    };
-    let Some(node) = nodes.get(number) else {
-        return Ok(());
-    };
-    let Some((link, entries)) = bound_of(node) else {
-        return Ok(());
-    };
-    let path = Path::to(alloc, nodes, number);
-    let frames = frames_of(alloc, entries)?;
-    let load = load_of(network, &path, link, entries, &frames);
-    text.push_str("In the tightest of these ways, on ");
-    push_load(text, network, load);
-    text.push_str(".\n");
-    drop(frames);
-    path.finish()
+    nodes: &'a [Node],
+) -> Result<Option<Bounding<'a>>, AllocError> {
+    let mut path = Path::new(alloc, network);
+    let mut least = i128::MAX;
+    let mut found = None;
+    for node in nodes {
+        if let Some(LowerBound::Load(link, entries)) = bound_of(node) {
+            let link = *link;
+            let load = path.load(link, entries);
+            if load.bound() < least {
+                least = load.bound();
+                found = Some(Bounding {
+                    link,
+                    entries,
+                    load,
+                });
+            }
+        }
+        path.go_on(node);
+    }
+    path.finish()?;
+    Ok(found)
 }

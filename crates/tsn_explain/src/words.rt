@@ -1,159 +1,108 @@
-//! How streams, frames, links and orders are called, and how times are written. What isn't there is called by its number.
-use crate::network::{TimedNetwork, later_of};
-use crate::number::{less, signed};
-use tsn_cert::Order;
-use tsn_model::{Frame, Link};
-use tsn_text::TextBuilder;
+//! How streams, frames, links and facts are called, and how numbers are written.
+use crate::network::{TimedNetwork, sides};
+use std::fmt;
+use tsn_argue::News;
+use tsn_model::{Decision, Frame};
 
 // The most names that are told of a set of frames.
 const MOST_NAMED: usize = 12;
 
-/// Writes 'stream' and a stream's name.
-pub fn push_stream(text: &mut TextBuilder, network: TimedNetwork<'_>, stream: usize) {
-    text.push_str("stream ");
-    push_name(text, network, stream)
-}
+/// A number, as a time in nanoseconds, with commas between the thousands.
+#[derive(Clone, Copy)]
+pub struct Grouped(pub i128);
 
-// Writes a stream's name.
-fn push_name(text: &mut TextBuilder, network: TimedNetwork<'_>, stream: usize) {
-    if stream < network.problem.streams() {
-        text.push_str(network.problem.stream_name(stream))
-    } else {
-        text.push_count(stream);
-    }
-}
-
-// Writes the name of a frame's stream, and by how much it is later than the stream's first one.
-fn push_frame(text: &mut TextBuilder, network: TimedNetwork<'_>, frame: Frame) {
-    push_name(text, network, frame.stream);
-    if frame.shift > 0 {
-        push_time(text, " (", signed(frame.shift));
-        text.push_str(" ns later)");
-    }
-}
-
-// Writes the names of frames.
-fn push_names(text: &mut TextBuilder, network: TimedNetwork<'_>, frames: &[Frame]) {
-    let count = frames.len();
-    for (place, frame) in frames.iter().enumerate() {
-        if place == MOST_NAMED {
-            let others = count.wrapping_sub(place);
-            text.push_str(" and ");
-            text.push_count(others);
-            return text.push_str(" more");
+impl fmt::Display for Grouped {
+    fn fmt<W: fmt::Write>(&self, f: &mut fmt::Formatter<W>) -> fmt::Result {
+        if self.0 < 0 {
+            f.write_str("-")?;
         }
-        if place > 0 {
-            push_joint(text, place, count, "and");
+        let number = self.0.unsigned_abs();
+        let mut is_begun = false;
+        for unit in [1_000_000_000_000u128, 1_000_000_000, 1_000_000, 1000, 1] {
+            if unit > 0 && is_begun {
+                write!(f, ",{:03}", number / unit % 1000)?;
+            } else if unit > 0 && (number >= unit || unit == 1) {
+                write!(f, "{}", number / unit)?;
+                is_begun = true;
+            }
         }
-        push_frame(text, network, *frame);
+        Ok(())
     }
 }
 
-/// Writes 'the frame of' or 'the frames of' streams, and their names.
-pub fn push_frames(text: &mut TextBuilder, network: TimedNetwork<'_>, frames: &[Frame]) {
-    if frames.len() == 1 {
-        text.push_str("the frame of ");
+/// What stands before the element of this place of an enumeration of so many, whose last two a word joins.
+pub fn joint<'a>(place: usize, count: usize, word: &'a str) -> &'a str {
+    if place == 0 {
+        ""
+    } else if place.wrapping_add(1) < count {
+        ", "
     } else {
-        text.push_str("the frames of ");
+        word
     }
-    push_names(text, network, frames)
 }
 
-/// Writes a directed link by its number, and the nodes that it joins.
-pub fn push_link(text: &mut TextBuilder, network: TimedNetwork<'_>, number: usize) {
-    text.push_str("link ");
-    text.push_count(number);
-    push_ends(text, network, number, ", ", "")
+/// 'the frame of' or 'the frames of' streams, and their names; and by how much a frame is later than the stream's first one.
+#[derive(Clone, Copy)]
+pub struct Frames<'a, 'b>(pub TimedNetwork<'a>, pub &'b [Frame]);
+
+impl fmt::Display for Frames<'_, '_> {
+    fn fmt<W: fmt::Write>(&self, f: &mut fmt::Formatter<W>) -> fmt::Result {
+        let Frames(network, frames) = *self;
+        let count = frames.len();
+        let ending = if count == 1 { "" } else { "s" };
+        write!(f, "the frame{ending} of ")?;
+        for (place, frame) in frames.iter().enumerate() {
+            if place == MOST_NAMED {
+                return write!(f, " and {} more", count.wrapping_sub(place));
+            }
+            let name = network.name(frame.stream);
+            write!(f, "{}{name}", joint(place, count, " and "))?;
+            if frame.shift > 0 {
+                write!(f, " ({} ns later)", Grouped(frame.shift as i128))?;
+            }
+        }
+        Ok(())
+    }
 }
 
-// Writes the nodes that a link joins, between two texts.
-fn push_ends(
-    text: &mut TextBuilder,
+/// What a fact says.
+#[derive(Clone, Copy)]
+pub struct Fact<'a>(pub TimedNetwork<'a>, pub News);
+
+impl fmt::Display for Fact<'_> {
+    fn fmt<W: fmt::Write>(&self, f: &mut fmt::Formatter<W>) -> fmt::Result {
+        let Fact(network, news) = *self;
+        match news {
+            News::DoneFrom(from) => write!(f, "nothing is done before {}", Grouped(from)),
+            News::DoneUntil(until) => write!(f, "all is done by {}", Grouped(until)),
+            News::From(stream, from) => {
+                let name = network.name(stream);
+                write!(f, "stream {name} starts at {} or later", Grouped(from))
+            }
+            News::Until(stream, until) => {
+                let name = network.name(stream);
+                write!(f, "stream {name} starts at {} or earlier", Grouped(until))
+            }
+            News::Order(decision) => write_order(f, network, decision),
+        }
+    }
+}
+
+// Writes that one stream goes before another one on a link, and which of their frames.
+fn write_order<W: fmt::Write>(
+    f: &mut fmt::Formatter<W>,
     network: TimedNetwork<'_>,
-    number: usize,
-    before: &str,
-    behind: &str,
-) {
-    let problem = network.problem;
-    if number >= problem.links() {
-        return;
-    }
-    let Link { from, to, .. } = problem.link(number);
-    if from >= problem.nodes() || to >= problem.nodes() {
-        return;
-    }
-    let first = problem.node_name(from);
-    let second = problem.node_name(to);
-    text.push_str(before);
-    text.push_str(first);
-    text.push_str(" to ");
-    text.push_str(second);
-    text.push_str(behind);
-}
-
-/// Writes that one stream goes before another one on a link.
-pub fn push_order(text: &mut TextBuilder, network: TimedNetwork<'_>, order: Order) {
-    push_stream(text, network, order.first);
-    text.push_str(" goes before ");
-    push_stream(text, network, order.second);
-    push_later(text, later_of(order));
-    let link = order.link;
-    text.push_str(" on link ");
-    text.push_count(link);
-    push_ends(text, network, link, " (", ")")
-}
-
-// Writes which of a stream's frames it is, by how much it comes after another one.
-fn push_later(text: &mut TextBuilder, later: i64) {
+    decision: Decision,
+) -> fmt::Result {
+    let (first, second, later) = sides(decision);
+    let (first, second) = (network.name(first), network.name(second));
+    write!(f, "stream {first} goes before stream {second}")?;
     if later != 0 {
-        push_time(text, "'s frame ", later.max(less(0, later)));
-        text.push_str(if later > 0 { " ns later" } else { " ns sooner" });
+        let direction = if later > 0 { "later" } else { "sooner" };
+        let later = Grouped(later.max(later.wrapping_neg()));
+        write!(f, "'s frame {later} ns {direction}")?;
     }
-}
-
-/// Writes what stands between two elements of an enumeration, before the one at this place.
-pub fn push_joint(text: &mut TextBuilder, place: usize, count: usize, word: &str) {
-    if place.wrapping_add(1) < count {
-        text.push_str(", ")
-    } else {
-        text.push(' ');
-        text.push_str(word);
-        text.push(' ');
-    }
-}
-
-/// Writes words, and then a time in nanoseconds, with commas between the thousands.
-pub fn push_time(text: &mut TextBuilder, words: &str, time: i64) {
-    text.push_str(words);
-    if time < 0 {
-        text.push('-');
-    }
-    push_grouped(text, time.unsigned_abs())
-}
-
-/// Writes words, and then a number, with commas between the thousands.
-pub fn push_count(text: &mut TextBuilder, words: &str, count: usize) {
-    text.push_str(words);
-    push_grouped(text, count as u64)
-}
-
-fn push_grouped(text: &mut TextBuilder, number: u64) {
-    let mut is_begun = false;
-    for unit in [1_000_000_000_000u64, 1_000_000_000, 1_000_000, 1000, 1] {
-        if unit > 0 && (is_begun || number >= unit || unit == 1) {
-            push_group(text, is_begun, number / unit);
-            is_begun = true;
-        }
-    }
-}
-
-// Writes the last three digits of a number behind others, or else all of it.
-fn push_group(text: &mut TextBuilder, is_behind: bool, number: u64) {
-    if !is_behind {
-        return text.push_number(number);
-    }
-    text.push(',');
-    text.push_number(number / 100 % 10);
-    text.push_number(number / 10 % 10);
-    text.push_number(number % 10);
+    let link = decision.triple.link;
+    let (from, to) = network.ends(link);
+    write!(f, " on link {link} ({from} to {to})")
 }

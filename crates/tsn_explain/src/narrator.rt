@@ -1,0 +1,200 @@
+//! The steps of an argument in words, as they are checked.
+ghost use Rattle.std.specs.Prelude.{None};
+
+use crate::motion::Told;
+use crate::needs::Part;
+use crate::words::{Frames, Grouped, joint};
+use crate::writer::Writer;
+use std::alloc::AllocError;
+use tsn_argue::{Listener, News, Shown, View};
+use tsn_cert::{Argument, Clause, Fact, Goal, Move, Step};
+use tsn_model::Frame;
+use tsn_text::ListBuilder;
+
+/// Writes the steps of a part as it hears them: what is supposed, the moves that are of the part, and what follows.
+#[derive(Drop)]
+pub struct Narrator<'a, 'b> {
+    pub writer: &'b mut Writer<'a>,
+    pub argument: &'b Argument,
+    part: &'b Part,
+    /// The step under way.
+    pub step: usize,
+    // How many moves of it were made.
+    count: usize,
+    /// The last frames of the streams whose arrival was bounded and isn't told yet.
+    pub limited: ListBuilder<Frame>,
+    is_begun: bool,
+    /// Before when the last move lets nothing be done, if it says so.
+    pub said: Option<i128>,
+}
+
+impl Listener for Narrator<'_, '_> {
+    ghost heard = { λ _. None };
+
+    fn begin(&mut self, ground: &View<'_>, step: &Step) {
+        self.count = 0;
+        if self.is_told() {
+            self.push_begin(ground, step.clause.list());
+        }
+    }
+
+    fn make(&mut self, view: &View<'_>, _clauses: &[&Clause], motion: &Move, shown: Shown) {
+        let needs_first = self.part.has_first(self.step, self.count);
+        let needs_second = self.part.has_second(self.step, self.count);
+        self.count = self.count.wrapping_add(1);
+        if needs_first || needs_second {
+            let told = Told {
+                view,
+                shown,
+                needs_first,
+                needs_second,
+            };
+            self.push_move(&told, motion);
+        }
+    }
+
+    fn end(&mut self, view: &View<'_>, step: &Step) {
+        if self.is_told() {
+            self.push_end(view, step.clause.list());
+        }
+        self.step = self.step.wrapping_add(1);
+    }
+}
+
+impl<'a, 'b> Narrator<'a, 'b> {
+    /// Before the first step.
+    pub fn new(
+        writer: &'b mut Writer<'a>,
+        argument: &'b Argument,
+        part: &'b Part,
+    ) -> Narrator<'a, 'b> {
+        let limited = ListBuilder::new(writer.alloc);
+        Narrator {
+            writer,
+            argument,
+            part,
+            step: 0,
+            count: 0,
+            limited,
+            is_begun: false,
+            said: None,
+        }
+    }
+
+    /// Ends the telling, and says whether there was memory for all that it notes.
+    pub fn finish(self) -> Result<(), AllocError> {
+        let Narrator { limited, .. } = self;
+        drop(limited.finish()?);
+        Ok(())
+    }
+
+    // Whether the step under way is of the part.
+    fn is_told(&self) -> bool {
+        self.part.steps.contains(&self.step)
+    }
+
+    // Writes the opposites of the facts of a step, or which schedules it is about.
+    fn push_begin(&mut self, ground: &View<'_>, facts: &[Fact]) {
+        self.limited.clear();
+        self.is_begun = !facts.is_empty();
+        self.said = None;
+        self.writer
+            .say(format_args!("Step {}: ", Grouped(self.step as i128)));
+        if facts.is_empty() {
+            return self.push_schedules(ground);
+        }
+        self.writer.say("Suppose that ");
+        for (place, fact) in facts.iter().enumerate() {
+            self.writer.say(joint(place, facts.len(), " and "));
+            self.writer.push_fact(News::opposite_of(*fact));
+        }
+        for fact in facts {
+            if self.push_clash(ground, News::opposite_of(*fact)) {
+                break;
+            }
+        }
+    }
+
+    // Writes which schedules are in question.
+    fn push_schedules(&mut self, ground: &View<'_>) {
+        if self.argument.goal == Goal::None {
+            return self.writer.say("In any schedule, ");
+        }
+        let done = Grouped(ground.done.high);
+        self.writer
+            .say(format_args!("In a schedule that is done by {done}, "))
+    }
+
+    // Writes what a step shows.
+    fn push_end(&mut self, view: &View<'_>, facts: &[Fact]) {
+        self.push_limited(view);
+        if facts.is_empty() {
+            self.push_left(view);
+        } else if !self.has_said(facts) {
+            self.writer.say(". So ");
+            for (place, fact) in facts.iter().enumerate() {
+                self.writer.say(joint(place, facts.len(), " or "));
+                self.writer.push_fact(News::of(*fact));
+            }
+        }
+        self.writer.say(".\n")
+    }
+
+    // Whether the last move said the one fact.
+    fn has_said(&self, facts: &[Fact]) -> bool {
+        match (facts, self.said) {
+            ([Fact::DoneFrom(from)], Some(said)) => *from as i128 == said,
+            _ => false,
+        }
+    }
+
+    // Writes what a step without facts leaves.
+    fn push_left(&mut self, view: &View<'_>) {
+        let target = self.argument.target as i128;
+        if view.crossed {
+            self.writer.say(". So there is none")
+        } else if self.argument.goal == Goal::First && view.done.low >= target {
+            self.writer.say(format_args!(". So nothing is done before {}", Grouped(target)))
+        }
+    }
+
+    /// What goes before a move.
+    pub fn push_then(&mut self) {
+        if self.is_begun {
+            return self.writer.say(". Then ");
+        }
+        self.is_begun = true;
+    }
+
+    /// Writes which number of the view contradicts the fact, if one does.
+    pub fn push_clash(&mut self, view: &View<'_>, news: News) -> bool {
+        if !view.contradicts(news) {
+            return false;
+        }
+        let (words, end) = match news {
+            News::From(stream, _) => ("it can't start after", view.greatest(stream)),
+            News::Until(stream, _) => ("it can't start before", view.least(stream)),
+            News::DoneUntil(until) => ("all has to be done by", until),
+            News::DoneFrom(_) => ("all has to be done by", view.done.high),
+            News::Order(_) => return false,
+        };
+        self.writer
+            .say(format_args!(", but {words} {}", Grouped(end)));
+        true
+    }
+
+    /// Writes by when the frames have to arrive that aren't told yet.
+    pub fn push_limited(&mut self, view: &View<'_>) {
+        if self.limited.list().is_empty() {
+            return;
+        }
+        self.push_then();
+        let is_one = self.limited.list().len() == 1;
+        let have = if is_one { "has" } else { "have" };
+        let frames = Frames(self.writer.network, self.limited.list());
+        let done = Grouped(view.done.high);
+        self.writer
+            .say(format_args!("{frames} {have} to arrive by {done}"));
+        self.limited.clear();
+    }
+}
