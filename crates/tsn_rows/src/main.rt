@@ -1,5 +1,5 @@
-//! Runs the commands over tables of rows, as the program does over files, and tells each row that goes wrong. The words name
-//! the tables; docs/rows.md says how a table is written.
+//! Runs the commands over tables of rows, as the program does over files, and tells each row that goes wrong. The tables are those of the
+//! folder, or those that the words name; docs/rows.md says how a table is written.
 #![tactic(auto)]
 
 mod command;
@@ -32,11 +32,36 @@ fn main(rt: HostRuntime) -> Result<ExitCode> {
     })
 }
 
-// Runs the rows of each table that the words name.
-fn run<R: Env + Files + Print + AllocGlobal + Threads + Wait + Sync>(rt: &R) -> Result<Tally> {
-    let names: Vec<String> = env::args(rt)?.collect(rt.alloc())?;
+// Runs the rows of the tables that the words name, and else of each in the folder.
+fn run<R: Env + Files + Print + AllocGlobal + Threads + Wait + Sync + Clone + Drop>(
+    rt: &R,
+) -> Result<Tally> {
+    let words: Vec<String> = env::args(rt)?.collect(rt.alloc())?;
+    match words.as_slice() {
+        [] | [_] => run_tables(rt, &tables(rt)?),
+        [_, names @ ..] => run_tables(rt, names),
+    }
+}
+
+// The names of the folder's tables.
+fn tables<R: Files + AllocGlobal + Clone + Drop>(rt: &R) -> Result<Vec<String>> {
+    let mut names = Vec::new(rt.alloc());
+    for entry in fs::read_dir(rt, ".")? {
+        let entry = entry?;
+        if entry.file_name().ends_with(".rows") {
+            names.push(String::from_str(rt.alloc(), entry.file_name())?)?;
+        }
+    }
+    names.sort()?;
+    Ok(names)
+}
+
+fn run_tables<R: Files + Print + AllocGlobal + Threads + Wait + Sync>(
+    rt: &R,
+    names: &[String],
+) -> Result<Tally> {
     let mut tally = Tally::default();
-    for name in names.iter().skip(1) {
+    for name in names {
         let text = fs::read_to_string(rt, name.as_str()).context(format_args!("reading {name}"))?;
         let mut session = Session::new(rt, name.as_str(), tally);
         tally = session.run(text.as_str())?;
