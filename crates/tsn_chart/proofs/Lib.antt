@@ -1,4 +1,3 @@
-pub mod Octets
 pub mod Runs
 pub mod Longest
 pub mod Listing

@@ -7,7 +7,8 @@ use Rattle.tsn_model.specs.declared.GateEntry.{GateEntry}
 use Rattle.tsn_model.specs.Gates.{cycle_of, background_octet}
 use Rattle.tsn_chart.specs.declared.rest.Run.{Run}
 use Rattle.tsn_chart.specs.Rest.{go_on}
-use Rattle.tsn_chart.proofs.Octets.{octet_at, cycle_of-nil, cycle_of-push, octet_at-append_left, octet_at-push}
+use Rattle.tsn_gate.specs.Entries.{octet_at}
+use Rattle.tsn_gate.proofs.Entries.{cycle_of-nil, cycle_of-push, octet_at-append_left, octet_at-push}
 
 -- each instant from start on and before end is open
 pub record Opens (entries : List GateEntry) (start end : ℕ) : Type 0 where
@@ -47,7 +48,7 @@ Opens-front entries entry start end last below part is = record { at = λ t low 
 closed_ends : (entries : List GateEntry) (entry : GateEntry) → entry.octet ≢ background_octet → (start end : ℕ) → cycle_of entries < end → end ≤ cycle_of entries + entry.interval
     → Opens (entries ++ entry ∷ []) start end → end ≤ start
 closed_ends entries entry closed start end past within is = elim (cases_lt start end) [
-  | inl some ↦ absurd (closed (sym (octet_at-push entries entry (end - 1) (omega arith) (omega arith)) ∙ is.at (end - 1) (omega arith) (omega arith)))
+  | inl some ↦ absurd (closed (sym (octet_at-push entries entry [] (end - 1) (omega arith) (omega arith)) ∙ is.at (end - 1) (omega arith) (omega arith)))
   | inr none ↦ none
 ]
 
@@ -82,7 +83,7 @@ open_current entries entry current opened has =
       is_open = record {
         at = λ t low high. elim (cases_lt t (cycle_of entries)) [
           | inl early ↦ octet_at-append_left entries (entry ∷ []) t early ∙ has.is_open.at t (omega arith) early
-          | inr late ↦ octet_at-push entries entry t late (omega arith) ∙ opened
+          | inr late ↦ octet_at-push entries entry [] t late (omega arith) ∙ opened
         ];
       };
       most = λ start below is. elim (cases_lt start (cycle_of entries)) [

@@ -1,7 +1,6 @@
 -- What a link gets in all is the cycle.
-use Rattle.std.proofs.Common.{All, ◌≡◌, ℕ, ◌+◌, ◌%◌, ◌≤◌, ◌<◌, ◌⊎◌, List, [], ◌∷◌, ◌++◌, length, get_or, take, drop, refl, sym, ap, ◌∙◌, arith, add-one, drop-cons, inl, inr}
+use Rattle.std.proofs.Common.{All, ◌≡◌, ℕ, ◌+◌, ◌%◌, ◌≤◌, ◌<◌, ◌⊎◌, List, [], ◌∷◌, length, get_or, take, refl, ap, arith, inl, inr}
 use Rattle.std.proofs.lemmas.Bool.Decides.{nat_tests}
-use Rattle.std.proofs.lemmas.List.{take-append-drop, get_or_default}
 use Rattle.std.proofs.lemmas.List.Elements.{All-head, All-tail}
 use Rattle.std.proofs.lemmas.List.Sums.{sum_by-cons}
 use Rattle.std.proofs.lemmas.List.FromFn.{get_or-map-range_with_len, length-map-range_with_len}
@@ -14,7 +13,8 @@ use Rattle.tsn_gate.specs.GateLists.{IsWantedList, AreWantedLists}
 use Rattle.tsn_chart.specs.declared.stream.StreamShare.{StreamShare}
 use Rattle.tsn_chart.specs.declared.link.LinkShare.{LinkShare}
 use Rattle.tsn_chart.specs.Shares.{stream_share, stream_shares, time_in, time_of, AreLinkShares}
-use Rattle.tsn_chart.proofs.Octets.{cycle_of-nil, cycle_of-cons, cycle_of_part}
+use Rattle.tsn_gate.proofs.Entries.{cycle_of-nil, cycle_of-cons}
+use Rattle.tsn_gate.proofs.Playing.{cycle_of_part, IsOctetAt-entry}
 
 abbrev IsKnown : GateEntry → Type 0
 IsKnown entry = (entry.octet ≡ scheduled_octet) ⊎ (entry.octet ≡ closed_octet) ⊎ (entry.octet ≡ background_octet)
@@ -61,12 +61,6 @@ time_of-all (entry ∷ entries) all =
     let whole = cycle_of-cons entry entries in
     omega arith
 
--- the list around entry i
-split_at : (entries : List GateEntry) (i : ℕ) (entry : GateEntry) → i < length entries → entry ≡ get_or entries i entry → entries ≡ take i entries ++ entry ∷ drop (i + 1) entries
-split_at entries i entry inside is =
-    let rest : drop i entries ≡ get_or entries i entry ∷ drop (i + 1) entries = rw add-one (drop-cons entries i entry inside) in
-    sym (take-append-drop i entries) ∙ (ap (λ xs. take i entries ++ xs) rest ∙ ap (λ e. take i entries ++ e ∷ drop (i + 1) entries) (sym is))
-
 -- the gates that are asked for at the start of an entry are its own
 IsKnown-wanted : (network : Network) (offsets : List ℕ) (link t octet : ℕ) → IsWanted network offsets link t octet → (octet ≡ scheduled_octet) ⊎ (octet ≡ closed_octet) ⊎ (octet ≡ background_octet)
 IsKnown-wanted network offsets link t octet (inl window) = inl window.1
@@ -76,21 +70,13 @@ IsKnown-wanted network offsets link t octet (inr (inr rest)) = inr (inr rest.2)
 all_known : (network : Network) (offsets : List ℕ) (list : LinkGates) → IsWantedList network offsets list → All IsKnown list.entries
 all_known network offsets list is k d inside =
     let entries = list.entries in
-    let entry = get_or entries k d in
     let t = cycle_of (take k entries) in
     let part = cycle_of_part entries k d inside in
-    let lasts : 1 ≤ entry.interval = is.positive k d inside in
+    let lasts : 1 ≤ (get_or entries k d).interval = is.positive k d inside in
     let whole = is.whole in
     let here : t % cycle_of entries ≡ t = mod-eq_of_lt (let below : t < cycle_of entries = omega arith in below) in
-    IsKnown-wanted network offsets list.link t entry.octet (is.wanted t entry.octet (omega arith) (record {
-      before = take k entries;
-      after = drop (k + 1) entries;
-      entry = entry;
-      split = split_at entries k entry inside (get_or_default entries k d entry inside);
-      begun = omega arith;
-      not_ended = omega arith;
-      octet_is = refl;
-    }))
+    IsKnown-wanted network offsets list.link t (get_or entries k d).octet (is.wanted t (get_or entries k d).octet (omega arith)
+    (IsOctetAt-entry entries t k 0 d inside (omega arith) (omega arith)))
 
 pub shares_whole : (network : Network) (offsets : List ℕ) (lists : List LinkGates) (shares : List LinkShare) → AreWantedLists network offsets lists
     → AreLinkShares network lists shares

@@ -3,7 +3,7 @@ use Rattle.std.proofs.lemmas.List.Sums.{fold_more}
 use Rattle.tsn_model.specs.declared.GateEntry.{GateEntry}
 use Rattle.tsn_chart.specs.declared.rest.Run.{Run}
 use Rattle.tsn_chart.specs.Rest.{go_on}
-use Rattle.tsn_chart.proofs.Octets.{cycle_of_more, cycle_of_part}
+use Rattle.tsn_gate.proofs.Playing.{cycle_of_more, cycle_of_part}
 use Rattle.tsn_chart.proofs.Runs.{go_on-le}
 use Rattle.tsn_chart.proofs.rest.go_through.Goals as goal
 
