@@ -14,14 +14,12 @@ ghost use Rattle.tsn_conflict.specs.Kept.{AreConflictsOf};
 
 mod bench;
 mod looks;
-mod networks;
 mod offsets;
 mod search;
 mod settlements;
 mod steps;
 mod told;
 
-use std::alloc::Global;
 use std::io::ErrorKind;
 use std::process::ExitCode;
 use std::rt::{Clock, Env, Files};
@@ -29,7 +27,7 @@ use std::{env, io};
 use tsn_conflict::conflicts;
 use tsn_conflict::sharing::Conflicts;
 use tsn_model::NoMemory;
-use tsn_net::read_problem;
+use tsn_networks::{Network, TEN, TWO};
 use tsn_timing::Timing;
 
 // Memory was wanting twice, or where nothing was called yet.
@@ -60,20 +58,15 @@ fn call<R: Print + AllocGlobal>(rt: &R) -> ExitCode {
 }
 
 fn call_networks<R: Print + AllocGlobal>(rt: &R) -> Result<(), NoMemory> {
-    call_all(rt, "two streams", tsn_networks::TWO_STREAMS)?;
-    call_all(rt, "star of ten", networks::STAR_OF_TEN)
+    call_all(rt, "two streams", TWO)?;
+    call_all(rt, "star of ten", TEN)
 }
 
 // Makes the calls over a network.
-fn call_all<R: Print + AllocGlobal>(rt: &R, name: &str, text: &str) -> Result<(), NoMemory> {
-    let timing = timing_of(rt.alloc(), text)?;
-    call_over(rt, name, &timing)
-}
-
-fn timing_of(alloc: Global, text: &str) -> Result<Timing, NoMemory> {
-    match read_problem(alloc, text.as_bytes()) {
-        Ok(problem) => problem.timing(alloc),
-        Err(_) => Err(NoMemory),
+fn call_all<R: Print + AllocGlobal>(rt: &R, name: &str, network: Network) -> Result<(), NoMemory> {
+    match network.timing(rt.alloc(), 1_000_000) {
+        Some(timing) => call_over(rt, name, &timing),
+        None => Err(NoMemory),
     }
 }
 

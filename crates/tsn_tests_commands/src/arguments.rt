@@ -3,13 +3,14 @@
 use std::process::Abort;
 use tsn_cli::valid_run;
 use tsn_device::memory::{MemorySink, MemorySource, NEVER};
-use tsn_networks::TWO_STREAMS;
+use tsn_networks::TWO;
 use tsn_words::{Words, WordsFault, words_from};
 
 /// The run ends with this line and status 6.
 fn rejects<R: Abort + AllocGlobal>(rt: &R, offsets: &[u64], line: &str) {
     let alloc = rt.alloc();
-    let mut source = MemorySource::new(TWO_STREAMS.as_bytes(), 100, NEVER);
+    let file = TWO.file(alloc, 1_000_000).expect(rt, "memory");
+    let mut source = MemorySource::new(file.as_bytes(), 100, NEVER);
     let mut sink = MemorySink::new(alloc, 3, NEVER);
     let status = valid_run(alloc, &mut source, offsets, &mut sink);
     assert_eq!(rt; status, 6, "{line}");

@@ -1,25 +1,17 @@
-//! Tests of calls behind the commands that no row of words and files makes: of words, files, times, least offsets, gate lists,
-//! replays and pictures. A crate with tests is proved twice, so they stand apart.
+//! Tests of calls behind the commands that no row of words and files makes: of words, files, times, least offsets, gate lists and
+//! replays. A crate with tests is proved twice, so they stand apart.
 #![tactic(auto)]
 
 #[cfg(test)]
 mod arguments;
 #[cfg(test)]
-mod charts;
-#[cfg(test)]
 mod devices;
-#[cfg(test)]
-mod faults;
 #[cfg(test)]
 mod files;
 #[cfg(test)]
 mod gate_lists;
 #[cfg(test)]
-mod inputs;
-#[cfg(test)]
 mod offsets;
-#[cfg(test)]
-mod problems;
 #[cfg(test)]
 mod replays;
 #[cfg(test)]

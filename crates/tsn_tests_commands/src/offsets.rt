@@ -1,7 +1,5 @@
 //! Times and least offsets.
 
-mod arc_stack;
 mod arcs;
-mod found;
-mod least_offsets;
-mod timing;
+mod stack;
+mod times;

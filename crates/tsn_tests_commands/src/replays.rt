@@ -1,8 +1,4 @@
 //! The replay of cycles.
 
-mod networks;
-mod open_gates;
-mod openings;
 mod playing;
-mod replays;
-mod rings;
+mod worked;

@@ -1,7 +1,8 @@
-//! Texts of pictures and of fields, of names too that no network file can have.
+//! Texts of pictures and of fields, of names too that no network file can have, and of faults that no command can meet.
 
-use std::test::Fail;
+use std::test::*;
 use tsn_chart::words::{write_microseconds, write_name, write_whole};
+use tsn_gate::ReplayFault;
 use tsn_text::write_quoted;
 
 #[test]
@@ -34,5 +35,25 @@ fn a_quote_stands_twice_in_a_field(rt: HostRuntime) -> Result<(), Fail> {
     write_quoted(&mut text, "four")?;
     write_quoted(&mut text, "a \"b\"\",c")?;
     assert_eq!(&rt; text.as_str(), "\"four\"\"a \"\"b\"\"\"\",c\"");
+    Ok(())
+}
+
+/// A command replays the lists of its plan, which are in order.
+#[test]
+fn a_replay_says_what_it_refuses(rt: HostRuntime) -> Result<(), Fail> {
+    for (fault, words) in [
+        (
+            ReplayFault::UnknownLink,
+            "a list or a background frame is of no link, or a link has not one list",
+        ),
+        (
+            ReplayFault::Limit,
+            "a list or a background frame is outside the limits",
+        ),
+        (ReplayFault::Memory, "no memory"),
+    ] {
+        let text = format!(in rt.alloc(); "{fault}")?;
+        assert!(&rt; text.as_str() == words, "{text}");
+    }
     Ok(())
 }

@@ -1,4 +1,3 @@
 pub mod Solving
-pub mod Orders
 pub mod Crossing
 pub mod Numbers

@@ -35,4 +35,6 @@ holds_two ps qs first second k low =
 pub two_left : {X : Type 0} (xs ys zs : List X) (x y : X) → xs ≡ ys ++ y ∷ [] → ys ≡ zs ++ x ∷ [] → length xs ≡ 2 → xs ≡ x ∷ y ∷ []
 two_left xs ys [] x y last first two = last ∙ ap (λ l. l ++ y ∷ []) first
 two_left xs ys (z ∷ zs) x y last first two =
-    absurd (let whole = ap length last in let front = ap length first in let one = length-append ys (y ∷ []) in let other = length-append (z ∷ zs) (x ∷ []) in omega (arith, whole, front, one, other, two))
+    absurd
+    (let whole = ap length last in let front = ap length first in let one = length-append ys (y ∷ []) in
+    let other = length-append (z ∷ zs) (x ∷ []) in omega (arith, whole, front, one, other, two))

@@ -1,10 +1,6 @@
-//! Conflicts, looks at nodes of a search, and its book.
+//! Conflicts, looks at nodes of a search, and steps of a search that two tellers share.
 
-mod answers;
-mod below;
-mod book;
-mod branch;
-mod networks;
+mod looks;
 mod nodes;
 mod rows;
 mod shared_links;

@@ -2,11 +2,8 @@
 //! nodes.
 
 mod accounts;
-mod alone;
 mod bags;
-mod hostile;
 mod methods;
-mod networks;
+mod over;
 mod planner;
-mod supervisors;
-mod workers;
+mod witness;

@@ -23,10 +23,10 @@ pub enum There {
     Elsewhere,
 }
 
-/// The calls that fail, by how they are noted, and how they fail.
+/// The calls that fail, by how they are noted, between semicolons, and how they fail.
 #[derive(Clone, Copy)]
 pub struct Failing {
-    pub calls: &'static [&'static str],
+    pub calls: &'static str,
     pub kind: ErrorKind,
 }
 
@@ -43,8 +43,8 @@ impl Notes {
     /// Notes a call, which may fail.
     fn note(&self, call: &str) -> io::Result<()> {
         self.push(call)?;
-        for failing in self.failing.calls {
-            if *failing == call {
+        for failing in self.failing.calls.split("; ") {
+            if failing == call {
                 return Err(Error::from(self.failing.kind));
             }
         }

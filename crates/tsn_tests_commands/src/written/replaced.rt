@@ -2,6 +2,7 @@
 ghost use Rattle.std.specs.Prelude.{◌<◌, ◌-◌, ◌^◌};
 
 use super::noted::{Failing, NotedFiles, There};
+use crate::texts::parted;
 use std::alloc::Global;
 use std::io::ErrorKind;
 use std::process::Abort;
@@ -13,63 +14,47 @@ use tsn_device::device::{Sink, write_all, write_whole};
 /// How four bytes are written.
 #[derive(Clone, Copy)]
 struct Case {
-    path: &'static str,
     there: There,
-    failing: Failing,
+    path: &'static str,
     /// Whether it is said that all is written.
     ends: bool,
+    failing: Failing,
 }
 
-/// All is written to `plan`, and no call fails.
-const GOOD: Case = Case {
-    path: "plan",
-    there: There::Nothing,
-    failing: Failing {
-        calls: &[],
-        kind: ErrorKind::PermissionDenied,
-    },
-    ends: true,
-};
+/// A case by what is there and the path; by whether it is ended; and by which calls fail how, as `denied: write 4`.
+fn case_of(place: &'static str, end: &str, failing: &'static str) -> Result<Case, Fail> {
+    let (there, path) = parted(place)?;
+    let (how, calls) = failing.split_once(": ").unwrap_or(("", ""));
+    Ok(Case {
+        there: there_of(there)?,
+        path,
+        ends: end == "ended",
+        failing: Failing {
+            calls,
+            kind: kind_of(how),
+        },
+    })
+}
 
-/// All is written so over an old file; by a link to it; and where the path leads to a file that it doesn't name.
-const OLD: Case = Case {
-    there: There::File,
-    ..GOOD
-};
+fn there_of(word: &str) -> Result<There, Fail> {
+    match word {
+        "nothing" => Ok(There::Nothing),
+        "file" => Ok(There::File),
+        "elsewhere" => Ok(There::Elsewhere),
+        _ => Err(Fail::from("no such place")),
+    }
+}
 
-const LINK: Case = Case {
-    path: "link",
-    ..OLD
-};
-
-const ELSEWHERE: Case = Case {
-    there: There::Elsewhere,
-    ..GOOD
-};
-
-/// It isn't said that all is written.
-const UNENDED: Case = Case {
-    ends: false,
-    ..GOOD
-};
-
-/// All is written, and these calls fail so.
-fn failing(there: There, calls: &'static [&'static str], kind: ErrorKind) -> Case {
-    Case {
-        there,
-        failing: Failing { calls, kind },
-        ..GOOD
+fn kind_of(word: &str) -> ErrorKind {
+    match word {
+        "exists" => ErrorKind::AlreadyExists,
+        "busy" => ErrorKind::ResourceBusy,
+        _ => ErrorKind::PermissionDenied,
     }
 }
 
 /// Whether four bytes are written to a file without a failure; the sink is then closed, or only let go.
-fn is_written<'a, R: Files>(
-    rt: &'a R,
-    alloc: Global,
-    path: &'a str,
-    ends: bool,
-    closes: bool,
-) -> bool {
+fn writes<'a, R: Files>(rt: &'a R, alloc: Global, path: &'a str, ends: bool, closes: bool) -> bool {
     match FileSink::new(rt, alloc, Some(path)) {
         Ok(mut sink) => {
             let written = write_to(&mut sink, ends);
@@ -94,102 +79,46 @@ fn write_to<W: Sink>(sink: &mut W, ends: bool) -> bool
     }
 }
 
-/// Writing so fails or doesn't, by these calls. Where it is said that all is written, or a call fails, nothing is left to be closed.
-fn comes_to(
-    rt: &(impl Abort + AllocGlobal),
-    case: Case,
-    holds: bool,
-    wanted: &str,
-) -> Result<(), Fail> {
+/// Four bytes are written so, or aren't, by these calls. Where it is said that all is written, or a call fails, nothing is left to be
+/// closed.
+fn expect_calls<R: Abort + AllocGlobal>(rt: &R, case: Case, wanted: &str) -> Result<(), Fail> {
     for closes in [true, !case.ends] {
         let files = NotedFiles::new(rt.alloc(), case.there, case.failing)?;
-        let written = is_written(&files, rt.alloc(), case.path, case.ends, closes);
+        let is_written = writes(&files, rt.alloc(), case.path, case.ends, closes);
         let calls = files.calls();
-        assert_eq!(rt; calls.as_str(), wanted);
-        assert_eq!(rt; written, holds, "{wanted}");
+        let answer = if is_written { "written" } else { "refused" };
+        let found = format!(in rt.alloc(); "{answer} by {calls}")?;
+        assert_eq!(rt; found.trim_ascii(), wanted);
     }
     Ok(())
 }
 
-#[test]
-fn a_file_is_put_into_its_place(rt: HostRuntime) -> Result<(), Fail> {
-    let taken = failing(There::Nothing, &["make new"], ErrorKind::AlreadyExists);
-    let owned = failing(There::File, &["own new 0 0"], ErrorKind::PermissionDenied);
-    let busy = failing(
-        There::Nothing,
-        &["rename new plan"],
-        ErrorKind::ResourceBusy,
-    );
-    for (case, wanted) in [
-        (
-            GOOD,
-            "make new; remove new; make new; write 4; sync; rename new plan; ",
-        ),
-        (
-            OLD,
-            "open plan; make new; own new 0 0; mode 100644; remove new; make new; own new 0 0; mode 100644; write 4; sync; rename new plan; ",
-        ),
-        (
-            LINK,
-            "open link; make new; own new 0 0; mode 100644; remove new; make new; own new 0 0; mode 100644; write 4; sync; rename new plan; ",
-        ),
-        (
-            owned,
-            "open plan; make new; own new 0 0; mode 100644; remove new; make new; own new 0 0; mode 100644; write 4; sync; rename new plan; ",
-        ),
-        (ELSEWHERE, "open plan; create plan; write 4; "),
-        (
-            taken,
-            "make new; make plan.tsn-unfinished-11; remove plan.tsn-unfinished-11; make new; make plan.tsn-unfinished-11; write 4; sync; rename plan.tsn-unfinished-11 plan; ",
-        ),
-        (
-            busy,
-            "make new; remove new; make new; write 4; sync; rename new plan; copy new plan; remove new; ",
-        ),
-    ] {
-        comes_to(&rt, case, true, wanted)?;
-    }
-    Ok(())
-}
+/// Over nothing, over an old file, by a link to it, and where the path leads to a file that it doesn't name: whether four bytes are
+/// written, and by which calls, where these fail.
+const ROWS: &str = "\
+nothing plan, ended, = written by make new; remove new; make new; write 4; sync; rename new plan;
+file plan, ended, = written by open plan; make new; own new 0 0; mode 100644; remove new; make new; own new 0 0; mode 100644; write 4; sync; rename new plan;
+file link, ended, = written by open link; make new; own new 0 0; mode 100644; remove new; make new; own new 0 0; mode 100644; write 4; sync; rename new plan;
+file plan, ended, denied: own new 0 0 = written by open plan; make new; own new 0 0; mode 100644; remove new; make new; own new 0 0; mode 100644; write 4; sync; rename new plan;
+elsewhere plan, ended, = written by open plan; create plan; write 4;
+nothing plan, ended, exists: make new = written by make new; make plan.tsn-unfinished-11; remove plan.tsn-unfinished-11; make new; make plan.tsn-unfinished-11; write 4; sync; rename plan.tsn-unfinished-11 plan;
+nothing plan, ended, busy: rename new plan = written by make new; remove new; make new; write 4; sync; rename new plan; copy new plan; remove new;
+nothing plan, unended, = written by make new; remove new; make new; write 4; remove new;
+nothing plan, ended, denied: make new = refused by make new;
+file plan, ended, denied: open plan = refused by open plan;
+file plan, ended, denied: mode 100644 = refused by open plan; make new; own new 0 0; mode 100644; remove new;
+nothing plan, ended, denied: write 4 = refused by make new; remove new; make new; write 4; remove new;
+nothing plan, ended, denied: sync = refused by make new; remove new; make new; write 4; sync; remove new;
+nothing plan, ended, denied: rename new plan = refused by make new; remove new; make new; write 4; sync; rename new plan; remove new;
+nothing plan, ended, busy: rename new plan; copy new plan = refused by make new; remove new; make new; write 4; sync; rename new plan; copy new plan; remove new;";
 
 #[test]
-fn nothing_unfinished_is_left(rt: HostRuntime) -> Result<(), Fail> {
-    let denied = ErrorKind::PermissionDenied;
-    comes_to(
-        &rt,
-        UNENDED,
-        true,
-        "make new; remove new; make new; write 4; remove new; ",
-    )?;
-    for (case, wanted) in [
-        (failing(There::Nothing, &["make new"], denied), "make new; "),
-        (failing(There::File, &["open plan"], denied), "open plan; "),
-        (
-            failing(There::File, &["mode 100644"], denied),
-            "open plan; make new; own new 0 0; mode 100644; remove new; ",
-        ),
-        (
-            failing(There::Nothing, &["write 4"], denied),
-            "make new; remove new; make new; write 4; remove new; ",
-        ),
-        (
-            failing(There::Nothing, &["sync"], denied),
-            "make new; remove new; make new; write 4; sync; remove new; ",
-        ),
-        (
-            failing(There::Nothing, &["rename new plan"], denied),
-            "make new; remove new; make new; write 4; sync; rename new plan; remove new; ",
-        ),
-        (
-            failing(
-                There::Nothing,
-                &["rename new plan", "copy new plan"],
-                ErrorKind::ResourceBusy,
-            ),
-            "make new; remove new; make new; write 4; sync; rename new plan; copy new plan; remove new; ",
-        ),
-    ] {
-        comes_to(&rt, case, false, wanted)?;
+fn files_are_put_into_their_places(rt: HostRuntime) -> Result<(), Fail> {
+    for row in ROWS.lines() {
+        let (asked, wanted) = row.split_once(" = ").ok_or("no answer")?;
+        let (place, rest) = asked.split_once(", ").ok_or("no end")?;
+        let (end, failing) = rest.split_once(",").ok_or("no failing")?;
+        expect_calls(&rt, case_of(place, end, failing.trim_ascii())?, wanted)?;
     }
     Ok(())
 }

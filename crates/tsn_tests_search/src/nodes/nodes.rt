@@ -1,16 +1,20 @@
 //! The nodes of these tests, and what looks find there. What calls a look does nothing else: all that its contract says
 //! would stand in the way of each further proof. What has many fields goes to `drop`, here and in the other modules, so that
 //! how it is let go is no part of a test's own proof.
-ghost use Rattle.std.specs.Prelude.{IfSome, option_copied};
+ghost use Rattle.std.specs.Prelude.{◌≡◌, ◌-◌, IfSome, length, option_copied, take};
+ghost use Rattle.tsn_branch.specs.Least.{ComesWithSplit, IsLeastAbove};
+ghost use Rattle.tsn_conflict.specs.Kept.{AreConflictsOf};
+ghost use Rattle.tsn_node.specs.Path.{IsUndecided};
 ghost use Rattle.tsn_timing.specs.Solution.{IsSolved};
 ghost use Rattle.tsn_node.specs.Outcome.{outcome_of};
-ghost use Rattle.tsn_node.specs.Right.{HasProof};
+ghost use Rattle.tsn_node.specs.Right.{HasProof, SplitsUndecided};
 
 use crate::nodes::rows::{cut, number, numbers, place};
 use std::process::Abort;
 use tsn_book::Event;
-use tsn_branch::{fits, look};
+use tsn_branch::{Least, fits, look, look_from};
 use tsn_conflict::conflicts;
+use tsn_conflict::sharing::Conflicts;
 use tsn_node::outcome::Look;
 use tsn_node::{Node, Side, Triple};
 use tsn_timing::{Solved, Timing};
@@ -129,4 +133,83 @@ pub fn event_of<R: Abort + AllocGlobal>(rt: &R, timing: &Timing, asked: &str) ->
     let node = node_at(rt, path);
     let look = found(rt, timing, &node, asked);
     Event { node, look }
+}
+
+/// What a look finds, and what the children of its node are looked at from.
+type Found = (Look, Option<Least>);
+
+fn find_at<R: Abort + AllocGlobal>(
+    rt: &R,
+    timing: &Timing,
+    shared: &Conflicts,
+    node: &Node,
+    parent: Option<&Least>,
+    target: u64,
+) -> Found
+    requires conflicts { AreConflictsOf timing.now shared.now }
+    requires parent { IfSome (option_copied parent) (IsLeastAbove timing.now node.now) }
+    ensures undecided { SplitsUndecided timing.now node.now (outcome_of result.0) }
+    ensures least { ComesWithSplit timing.now node.now (outcome_of result.0) result.1 }
+{
+    assert!(rt; fits(shared, node));
+    look_from(rt.alloc(), timing, shared, node, parent, target, None).expect(rt, "memory")
+}
+
+/// The node one decision below.
+fn child(rt: &impl Abort, node: &Node, triple: Triple, side: Side) -> Node
+    requires { IsUndecided node.now triple }
+    ensures { take (length result - 1) result ≡ node.now }
+{
+    match node.child(triple, side) {
+        Ok(child) => child,
+        Err(_) => panic!(rt; "memory"),
+    }
+}
+
+/// What is found on that side of a node that is split.
+fn find_below<R: Abort + AllocGlobal>(
+    rt: &R,
+    timing: &Timing,
+    shared: &Conflicts,
+    above: &Node,
+    found: &Found,
+    side: Side,
+    target: u64,
+) -> Found
+    requires conflicts { AreConflictsOf timing.now shared.now }
+    requires undecided { SplitsUndecided timing.now above.now (outcome_of found.now.0) }
+    requires least { ComesWithSplit timing.now above.now (outcome_of found.now.0) found.now.1 }
+{
+    match found {
+        (Look::Split(triple), Some(least)) => {
+            let node = child(rt, above, *triple, side);
+            find_at(rt, timing, shared, &node, Some(least), target)
+        }
+        _ => panic!(rt; "no split"),
+    }
+}
+
+/// What a look finds on a side of the root below the target, from the root's least offsets.
+pub fn looked_from<R: Abort + AllocGlobal>(
+    rt: &R,
+    timing: &Timing,
+    side: &str,
+    target: u64,
+) -> Look {
+    let shared = conflicts(rt.alloc(), timing).expect(rt, "memory");
+    let root = Node::root(rt.alloc());
+    let above = find_at(rt, timing, &shared, &root, None, target);
+    let (look, least) = find_below(
+        rt,
+        timing,
+        &shared,
+        &root,
+        &above,
+        side_of(rt, side),
+        target,
+    );
+    drop(least);
+    drop(above);
+    drop(shared);
+    look
 }

@@ -1,54 +1,58 @@
 //! What a supervisor hears, added up: each node is told of once, behind a pass of the supervisor.
 
-use crate::workers::networks::{TEN, TWELVE};
-use crate::workers::planner::{Outcome, expect, planned_by, settled_by};
-use crate::workers::supervisors::{AccountingSupervisor, MeetingSupervisor, WaitingSupervisor};
+use crate::workers::planner::{Outcome, by, expect, expect_stopped, few_by, planned};
+use crate::workers::witness::{Account, Order, Witness};
 use std::process::Abort;
-use std::sync::Wait;
 use std::test::*;
-use std::thread::Threads;
-use tsn_networks::TWO_STREAMS;
+use tsn_networks::{TEN, TWELVE, TWO};
 
 /// The least flowspan of the star of ten.
 const LEAST: u64 = 8_300;
 
-/// Less nodes than are below each side of the star's root.
-const LIMIT: usize = 50;
-
 /// By one worker, by several, by the caller behind workers that are stopped, and by as many as there may be. Of several the caller
 /// has the last number.
-const PLANS: [(usize, bool, u64); 4] = [(1, true, 0), (4, true, 4), (4, false, 4), (16, true, 16)];
+const PLANS: [(usize, Order, usize); 4] = [
+    (1, Order::Work, 0),
+    (4, Order::Work, 4),
+    (4, Order::StopBatches, 4),
+    (16, Order::Work, 16),
+];
 
 #[test]
 fn each_node_is_told_of_once(rt: HostRuntime) -> Result<(), Fail> {
-    for (workers, goes_on, last) in PLANS {
-        let supervisor = AccountingSupervisor::new(goes_on);
-        let found = planned_by(&rt, rt.alloc(), TEN, &supervisor, workers)?;
+    for (workers, order, last) in PLANS {
+        let witness = Witness::new(rt, workers, order);
+        let found = planned(&rt, TEN, &witness, by(workers))?;
         expect(&rt, &found, LEAST);
-        expect_sums(&rt, &supervisor, &found);
-        assert_eq!(rt; supervisor.last(), last);
+        expect_sums(&rt, &witness.account(), &found, last);
     }
     Ok(())
 }
 
 /// Nothing is open at the end, so one node more is closed than is split.
-fn expect_sums(rt: &impl Abort, supervisor: &AccountingSupervisor, found: &Outcome) {
-    let (nodes, splits) = supervisor.sums();
-    assert_eq!(rt; nodes, found.settled as u64);
-    assert_eq!(rt; nodes, splits.saturating_mul(2).saturating_add(1));
-    assert_eq!(rt; supervisor.least(), found.flowspan);
-    assert_eq!(rt; supervisor.late(), 0);
+fn expect_sums(rt: &impl Abort, account: &Account, found: &Outcome, last: usize) {
+    assert_eq!(rt; account.nodes, found.settled as u64);
+    assert_eq!(rt;
+        account.nodes,
+        account.splits.saturating_mul(2).saturating_add(1)
+    );
+    assert_eq!(rt; Some(account.least), found.flowspan);
+    assert_eq!(rt; account.late, 0);
+    assert!(rt; account.passes_of(last) > 0);
+    assert_eq!(rt;
+        account.passes_below(last.saturating_add(1)),
+        account.all_passes()
+    );
 }
 
 /// Where a worker is held at the supervisor until the other one has settled what may be settled, it has settled nothing.
 #[test]
 fn what_is_held_by_the_supervisor_isnt_settled(rt: HostRuntime) -> Result<(), Fail> {
-    let supervisor = WaitingSupervisor::new(LIMIT as u64);
-    assert_eq!(rt;
-        settled_by(&rt, rt.alloc(), TEN, &supervisor, 2, LIMIT)?,
-        LIMIT
-    );
-    assert_eq!(rt; supervisor.sums(), (0, LIMIT as u64));
+    // Less nodes than are below each side of the star's root.
+    let witness = Witness::new(rt, 2, Order::HoldZero(50));
+    expect_stopped(&rt, TEN, &witness, few_by(2, 50))?;
+    let account = witness.account();
+    assert_eq!(&rt; (account.by_zero, account.nodes), (0, 50));
     Ok(())
 }
 
@@ -56,15 +60,11 @@ fn what_is_held_by_the_supervisor_isnt_settled(rt: HostRuntime) -> Result<(), Fa
 #[test]
 fn a_batch_has_sixty_four_nodes(rt: HostRuntime) -> Result<(), Fail> {
     for workers in 1..3 {
-        let supervisor = AccountingSupervisor::new(true);
-        assert_eq!(rt;
-            settled_by(&rt, rt.alloc(), TWELVE, &supervisor, workers, 100)?,
-            100
-        );
-        let (nodes, splits) = supervisor.sums();
-        assert_eq!(rt; nodes, 100);
-        assert!(rt; splits <= nodes);
-        assert_eq!(rt; supervisor.most(), 64);
+        let witness = Witness::new(rt, workers, Order::Work);
+        expect_stopped(&rt, TWELVE, &witness, few_by(workers, 100))?;
+        let account = witness.account();
+        assert_eq!(&rt; (account.nodes, account.most), (100, 64));
+        assert!(&rt; account.splits <= account.nodes);
     }
     Ok(())
 }
@@ -73,37 +73,39 @@ fn a_batch_has_sixty_four_nodes(rt: HostRuntime) -> Result<(), Fail> {
 /// arrives 2252 ns after it is sent; and one of the two streams' three nodes, which is solved by one of the workers.
 #[test]
 fn what_is_solved_last_is_told(rt: HostRuntime) -> Result<(), Fail> {
-    expect_told(&rt, TWELVE, 1, 67, 9_644)?;
-    expect_told(&rt, TWO_STREAMS, 2, 2, 2_924)
-}
-
-fn expect_told<R: AllocGlobal + Abort + Threads + Wait + Sync>(
-    rt: &R,
-    text: &str,
-    workers: usize,
-    limit: usize,
-    flowspan: u64,
-) -> Result<(), Fail> {
-    let supervisor = AccountingSupervisor::new(true);
-    let settled = settled_by(rt, rt.alloc(), text, &supervisor, workers, limit)?;
-    assert_eq!(rt; settled, limit);
-    assert_eq!(rt;
-        supervisor.sums(),
-        (limit as u64, (limit as u64).saturating_sub(1))
-    );
-    assert_eq!(rt; supervisor.least(), flowspan);
+    for (network, workers, limit, flowspan) in [(TWELVE, 1, 67, 9_644), (TWO, 2, 2, 2_924)] {
+        let witness = Witness::new(rt, workers, Order::Work);
+        expect_stopped(&rt, network, &witness, few_by(workers, limit))?;
+        let account = witness.account();
+        assert_eq!(&rt; account.nodes, limit as u64);
+        assert_eq!(&rt; account.splits.saturating_add(1), account.nodes);
+        assert_eq!(&rt; account.least, flowspan);
+    }
     Ok(())
 }
 
-/// Two workers that meet are two.
+/// One worker settles the root and its two sides, as far as the limit goes, each behind one pass.
+#[test]
+fn one_worker_passes_once_a_settlement(rt: HostRuntime) -> Result<(), Fail> {
+    for (limit, flowspan) in [
+        (1, None),
+        (2, None),
+        (3, Some(2_924)),
+        (1_000_000, Some(2_924)),
+    ] {
+        let witness = Witness::new(rt, 1, Order::Work);
+        let found = planned(&rt, TWO, &witness, few_by(1, limit))?;
+        assert_eq!(&rt; (found.flowspan, found.settled), (flowspan, limit.min(3)));
+        assert_eq!(&rt; witness.account().passes_of(0), found.settled as u64);
+    }
+    Ok(())
+}
+
+/// A worker that waits for the other one meets it only where each has a thread of its own.
 #[test]
 fn a_plan_by_two_is_made_by_two(rt: HostRuntime) -> Result<(), Fail> {
-    let supervisor = MeetingSupervisor::new(rt);
-    expect(
-        &rt,
-        &planned_by(&rt, rt.alloc(), TWO_STREAMS, &supervisor, 2)?,
-        2_924,
-    );
-    assert!(rt; supervisor.has_brought_together());
+    let witness = Witness::new(rt, 2, Order::Meet);
+    expect(&rt, &planned(&rt, TWO, &witness, by(2))?, 2_924);
+    assert!(&rt; !witness.account().went_alone);
     Ok(())
 }

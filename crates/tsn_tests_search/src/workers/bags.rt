@@ -6,40 +6,6 @@ use std::test::Fail;
 use tsn_node::{NoMemory, Node, Side, Triple};
 use tsn_worker::{Bag, DequeBag};
 
-/// A bag that pops the node pushed last, and steals none.
-#[derive(Drop)]
-pub struct StackBag {
-    nodes: Vec<Node>,
-}
-
-impl Bag for StackBag {
-    fn push(&mut self, node: Node) -> Result<(), Node> {
-        match self.nodes.push(node) {
-            Ok(()) => Ok(()),
-            Err(refused) => Err(refused.value),
-        }
-    }
-
-    fn pop(&mut self) -> Option<Node> {
-        self.nodes.pop()
-    }
-
-    fn steal(&mut self) -> Option<Node> {
-        None
-    }
-}
-
-/// So many stacks.
-pub fn stacks(alloc: Global, workers: usize) -> Result<Vec<StackBag>, Fail> {
-    let mut bags = Vec::new(alloc);
-    for _worker in 0..workers {
-        bags.push(StackBag {
-            nodes: Vec::new(alloc),
-        })?;
-    }
-    Ok(bags)
-}
-
 /// A stack that notes which node is pushed first: a digit for each decision, 1 for Left and 2 for Right.
 #[derive(Drop)]
 pub struct NotingBag<'a> {
@@ -91,119 +57,55 @@ pub fn noting_bags<'a>(alloc: Global, notes: &'a [AtomicU64]) -> Result<Vec<Noti
     Ok(bags)
 }
 
+/// What a bag does to nodes.
+#[derive(Clone, Copy)]
+pub enum Spoil {
+    /// It loses each second one pushed.
+    Loses,
+    /// It has each one pushed twice.
+    Doubles,
+    /// It takes none.
+    Refuses,
+    /// Before each one it hands out another, whose decision is on a link that no two streams share.
+    MakesUp,
+}
+
 /// A bag that does to the nodes of another what it shouldn't.
-pub trait SpoiledBag: Bag {
-    fn over(alloc: Global, own: DequeBag) -> Self;
+#[derive(Drop)]
+pub struct SpoiledBag {
+    alloc: Global,
+    own: DequeBag,
+    spoil: Spoil,
+    keeps: bool,
+    next: Option<Node>,
 }
 
 /// A bag for each worker, each of which steals from all others.
-pub fn spoiled_bags<B: SpoiledBag>(alloc: Global, workers: usize) -> Result<Vec<B>, Fail> {
+pub fn spoiled_bags(alloc: Global, workers: usize, spoil: Spoil) -> Result<Vec<SpoiledBag>, Fail> {
     let mut bags = Vec::new(alloc);
     for own in DequeBag::make(alloc, workers)? {
-        bags.push(B::over(alloc, own))?;
+        bags.push(SpoiledBag {
+            alloc,
+            own,
+            spoil,
+            keeps: false,
+            next: None,
+        })?;
     }
     Ok(bags)
 }
 
-/// A bag that loses every second node pushed.
-#[derive(Drop)]
-pub struct LossyBag {
-    own: DequeBag,
-    keeps: bool,
-}
-
-impl SpoiledBag for LossyBag {
-    fn over(_alloc: Global, own: DequeBag) -> LossyBag {
-        LossyBag { own, keeps: false }
-    }
-}
-
-impl Bag for LossyBag {
-    fn push(&mut self, node: Node) -> Result<(), Node> {
-        self.keeps = !self.keeps;
-        if self.keeps {
-            self.own.push(node)
-        } else {
-            Ok(())
-        }
-    }
-
-    fn pop(&mut self) -> Option<Node> {
-        self.own.pop()
-    }
-
-    fn steal(&mut self) -> Option<Node> {
-        self.own.steal()
-    }
-}
-
-/// A bag that has each node pushed twice.
-#[derive(Drop)]
-pub struct DoublingBag {
-    own: DequeBag,
-}
-
-impl SpoiledBag for DoublingBag {
-    fn over(_alloc: Global, own: DequeBag) -> DoublingBag {
-        DoublingBag { own }
-    }
-}
-
-impl Bag for DoublingBag {
-    fn push(&mut self, node: Node) -> Result<(), Node> {
-        if let Ok(copy) = node.copy() {
-            let _ = self.own.push(copy);
-        }
-        self.own.push(node)
-    }
-
-    fn pop(&mut self) -> Option<Node> {
-        self.own.pop()
-    }
-
-    fn steal(&mut self) -> Option<Node> {
-        self.own.steal()
-    }
-}
-
-/// A bag that takes no node.
-#[derive(Drop)]
-pub struct RefusingBag {
-    own: DequeBag,
-}
-
-impl SpoiledBag for RefusingBag {
-    fn over(_alloc: Global, own: DequeBag) -> RefusingBag {
-        RefusingBag { own }
-    }
-}
-
-impl Bag for RefusingBag {
-    fn push(&mut self, node: Node) -> Result<(), Node> {
-        Err(node)
-    }
-
-    fn pop(&mut self) -> Option<Node> {
-        self.own.pop()
-    }
-
-    fn steal(&mut self) -> Option<Node> {
-        self.own.steal()
-    }
-}
-
-/// A bag that hands out, before each node, one whose decision is on a link that no two streams share.
-#[derive(Drop)]
-pub struct ForgingBag {
-    alloc: Global,
-    own: DequeBag,
-    next: Option<Node>,
-}
-
-impl ForgingBag {
-    // A forged node, behind which this one comes.
+impl SpoiledBag {
+    // The node, or a made up one before it.
     fn hand_out(&mut self, node: Node) -> Node {
-        match forged(self.alloc) {
+        match self.spoil {
+            Spoil::MakesUp => self.hand_out_behind(node),
+            Spoil::Loses | Spoil::Doubles | Spoil::Refuses => node,
+        }
+    }
+
+    fn hand_out_behind(&mut self, node: Node) -> Node {
+        match node_on(self.alloc, 0) {
             Ok(other) => {
                 self.next = Some(node);
                 other
@@ -213,31 +115,31 @@ impl ForgingBag {
     }
 }
 
-fn forged(alloc: Global) -> Result<Node, NoMemory> {
+/// A node by the link of its one decision.
+pub fn node_on(alloc: Global, link: usize) -> Result<Node, NoMemory> {
     let root = Node::root(alloc);
-    root.child(
-        Triple {
-            left: 0,
-            right: 1,
-            link: 0,
-            lag: 0,
-        },
-        Side::Left,
-    )
+    let triple = Triple {
+        left: 0,
+        right: 1,
+        link,
+        lag: 0,
+    };
+    root.child(triple, Side::Left)
 }
 
-impl SpoiledBag for ForgingBag {
-    fn over(alloc: Global, own: DequeBag) -> ForgingBag {
-        ForgingBag {
-            alloc,
-            own,
-            next: None,
-        }
-    }
-}
-
-impl Bag for ForgingBag {
+impl Bag for SpoiledBag {
     fn push(&mut self, node: Node) -> Result<(), Node> {
+        self.keeps = !self.keeps;
+        match self.spoil {
+            Spoil::Loses if !self.keeps => return Ok(()),
+            Spoil::Refuses => return Err(node),
+            Spoil::Doubles => {
+                if let Ok(copy) = node.copy() {
+                    let _ = self.own.push(copy);
+                }
+            }
+            Spoil::Loses | Spoil::MakesUp => {}
+        }
         self.own.push(node)
     }
 
