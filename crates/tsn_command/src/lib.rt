@@ -3,10 +3,9 @@
 #![tactic(auto)]
 
 mod command;
-pub mod options;
 mod plan;
 pub mod planning;
 
 pub use command::{run, run_to};
 pub use plan::{plan_answer, plan_run};
-pub use tsn_plan_output::{NO_SCHEDULE, PlanEnd};
+pub use tsn_prover::{NO_SCHEDULE, PlanEnd};

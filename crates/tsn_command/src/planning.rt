@@ -1,26 +1,25 @@
 //! The command that plans a network.
-ghost use Rattle.std.specs.Prelude.{◌≡◌, [], ◌∷◌, IfSome, is_some, option_map};
-ghost use Rattle.tsn_given.specs.Run.{failed_in, sink_over};
-ghost use Rattle.tsn_plan_output.specs.Plan.{PlanAnswers};
+ghost use Rattle.std.specs.Prelude.{◌≡◌, is_some};
+ghost use Rattle.tsn_given.specs.Run.{failed_in, sink_over, taken_in};
+ghost use Rattle.tsn_prover.specs.Plan.{PlanAnswers};
 ghost use Rattle.tsn_given.specs.Runs.{OverNetwork, RunsTold};
 ghost use Rattle.tsn_prover.specs.Files.{OverFiles};
 ghost use Rattle.tsn_prover.specs.Devices.{devices_of};
-ghost use Rattle.tsn_command.specs.Options.{effort_of};
-ghost use Rattle.tsn_command.specs.Asked.{RunsPlan};
+ghost use Rattle.tsn_command.specs.Asked.{RunsPlan, effort_of};
 
-use crate::options::effort_of;
 use crate::plan::plan_answer;
 use std::alloc::Global;
 use std::io::Eprint;
 use std::sync::Wait;
 use std::thread::Threads;
 use std::time::Clock;
+use tsn_answer::Effort;
 use tsn_given::json::tell_answer;
 use tsn_given::reason::{fault_of, source_line, write_line};
 use tsn_given::told::Told;
 use tsn_given::{Given, Made, Ran, outcome_of};
 use tsn_prover::{
-    PlanFiles, Unwritten, end_progress, file_line, plan_files, progress_of, stop_or, unwritable,
+    Files, Unwritten, end_progress, file_line, plan_files, progress_of, stop_or, unwritable,
 };
 use tsn_words::PlanWords;
 
@@ -61,19 +60,17 @@ fn plan_to<'a, T: Threads + Wait + Sync, C: Clock + Eprint + Sync, G: Given<'a>,
     given: &mut G,
     output: W,
     words: PlanWords<'a>,
-    files: PlanFiles<G::File>,
+    files: Files<G::File, Option<G::File>>,
 ) -> Ran<W>
-    requires plan { G.makes_plan given.old (option_map (λ path. path.now) words.plan) files.plan }
-    requires cert { IfSome files.cert (λ cert. G.makes_cert given.old (option_map (λ path. path.now) words.cert) cert) }
     requires wanted { is_some files.cert ≡ is_some words.cert }
     requires failures { (G.File.failed files.plan ≡ 0) × (failed_in G.File.failed files.cert ≡ 0) }
     requires output { W.failed output ≡ 0 }
     ensures { OverNetwork G.Source.given G.Source.failed G.Source.is_at_end (G.opens_network given.old words.entry.network.now)
-        (λ sources. OverFiles G.File.taken G.File.failed files.plan files.cert
+        (λ sources. OverFiles G.File.taken G.File.failed (taken_in G.File.taken) (failed_in G.File.failed) files.plan files.cert
         (λ written. RunsTold words.entry.json (PlanAnswers (effort_of words.entry) (is_some words.entry.cert)) sources written
         (sink_over W.taken W.failed output result.output) result.status)) }
 {
-    let PlanFiles { mut plan, mut cert } = files;
+    let Files { mut plan, mut cert } = files;
     let mut network = given.network(words.network);
     let progress = progress_of(console, words.workers, words.progress);
     let answer = plan_answer(
@@ -98,4 +95,15 @@ fn plan_to<'a, T: Threads + Wait + Sync, C: Clock + Eprint + Sync, G: Given<'a>,
     let known = outcome_of(&answer).stop();
     let reason = stop_or(alloc, known, "prove NET PLAN --cert FILE", stopped);
     tell_answer(alloc, given, output, Told { answer, reason }, words.json)
+}
+
+// How a plan is searched for.
+fn effort_of(words: PlanWords<'_>) -> Effort
+    ensures { result ≡ effort_of words.entry }
+{
+    Effort {
+        method: words.search,
+        workers: words.workers,
+        limit: words.steps,
+    }
 }

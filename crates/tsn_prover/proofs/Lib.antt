@@ -1,3 +1,8 @@
-pub mod FilesLemmas
+pub mod EndLemmas
+pub mod PieceLemmas
+mod TreeLemmas
+mod PrintLemmas
+pub mod PlanLemmas
 mod ProveLemmas
-mod ProvedLemmas
+mod HeldFormed
+mod LawLemmas

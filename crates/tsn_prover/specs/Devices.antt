@@ -8,7 +8,7 @@ use Rattle.tsn_words.specs.declared.words.ProveWords.{ProveWords}
 use Rattle.tsn_given.specs.Run.{SinkRun, SourceRun}
 use Rattle.tsn_prover.specs.Prove.{ProveAnswers}
 use Rattle.tsn_given.specs.Runs.{OverCert, OverNetwork, OverPlan, RunsTold}
-use Rattle.tsn_prover.specs.Files.{MadeProofFiles}
+use Rattle.tsn_prover.specs.Files.{MadeFiles}
 use Rattle.tsn_prover.specs.Unmade.{IsUnmade}
 
 -- What a command reads from and writes to. Of a source: what it gave, how many reads of it failed, whether it is at its end, and whether it is that of a
@@ -68,6 +68,7 @@ abbrev pub RunsProve : {S F : Type 0} → Devices S F → ProveWords → SinkRun
 RunsProve devices words output status =
     let plan_path = option_map (λ path. path.now) words.plan in
     let cert_path = option_map (λ path. path.now) words.cert in
-    OnPlan devices words.network.now words.given.now (λ sources. MadeProofFiles devices.taken devices.spoilt (devices.makes_cert cert_path)
-    (devices.makes_plan plan_path) (λ files. RunsTold words.json (ProveAnswers words.steps) sources files output status))
+    OnPlan devices words.network.now words.given.now (λ sources. MadeFiles devices.taken devices.spoilt devices.taken devices.spoilt
+    (devices.makes_cert cert_path) (devices.makes_plan plan_path)
+    (λ files. RunsTold words.json (ProveAnswers words.steps) sources files output status))
     ⊎ CannotBegin devices words.network.now plan_path cert_path words.json output status

@@ -1,7 +1,8 @@
+pub mod Pieces
 pub mod Files
+pub mod RunOutput
 pub mod Unmade
 pub mod Devices
-pub mod Finding
-pub mod ProofOutput
+pub mod Plan
 pub mod Prove
-pub mod ProveLaws
+pub mod Laws

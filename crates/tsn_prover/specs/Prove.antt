@@ -2,8 +2,10 @@
 --     outcome_for                                              what is answered of a plan
 --     cert_for, plan_for, output_of                            the texts of what was found of it
 --     ProveAnswers                                             the answer to the files read so far
---     FindsAs, FindsIn, ProveFinds                             what is found of a plan, as a value
-use Rattle.std.specs.Prelude.{◌≡◌, ◌⊎◌, ℕ, List, [], ◌∷◌, Ok, Option, Some, None}
+--     counted, found_of, FindsAs, FindsIn, ProveFinds                   what is found of a plan, as a value
+--     Judges                                                   what is printed of a plan
+use Rattle.std.specs.Global.{Global}
+use Rattle.std.specs.Prelude.{◌≡◌, ◌⊎◌, ℕ, List, [], ◌∷◌, String, string_bytes, Ok, Option, Some, None}
 use Rattle.tsn_model.specs.Network.{Network}
 use Rattle.tsn_net.specs.File.{States}
 use Rattle.tsn_timing.specs.Problem.{NamedNetwork}
@@ -17,13 +19,13 @@ use Rattle.tsn_cert.specs.Argument.{argument_text}
 use Rattle.tsn_answer.specs.declared.proof.Proof.{Proof}
 use Rattle.tsn_answer.specs.declared.proof.Proof.TheVariants.{Proved, Undercut, Stopped}
 use Rattle.tsn_answer.specs.Proof.{IsProof}
-use Rattle.tsn_prover.specs.declared.finding.Finding.{Finding}
-use Rattle.tsn_prover.specs.Finding.{finding_of}
+use Rattle.tsn_prover.specs.declared.run_output.RunOutput.{RunOutput}
+use Rattle.tsn_prover.specs.RunOutput.{printed}
 use Rattle.tsn_given.specs.declared.outcome.Outcome.{Outcome}
 use Rattle.tsn_given.specs.declared.outcome.Outcome.TheVariants as ends
 use Rattle.tsn_given.specs.declared.outcome.Outcome.TheVariants.{RefusedPlan}
 use Rattle.tsn_given.specs.Run.{Output, Command}
-use Rattle.tsn_given.specs.Said.{line_of, status_of}
+use Rattle.tsn_given.specs.Said.{line_of, settled_of, status_of}
 use Rattle.tsn_given.specs.Outcome.{IsOutcome}
 use Rattle.tsn_reason.specs.Refusal.{RefusesNetwork, RefusesPlan}
 
@@ -75,17 +77,30 @@ ProveAnswers limit (network ∷ []) output = RefusesNetwork network output
 ProveAnswers limit (network ∷ plan ∷ []) output = (problem : NamedNetwork) × States network problem × ProvesPlan limit problem.network plan output
 ProveAnswers limit _ output = ⊥
 
+-- what is found of a plan, as a value: an outcome that counts
+abbrev pub counted : Option ℕ → Outcome → Option Outcome
+counted None outcome = None
+counted (Some count) outcome = Some outcome
+
+abbrev pub found_of : Outcome → Option Outcome
+found_of outcome = counted (settled_of outcome) outcome
+
 -- this is found of the plan, which is a valid schedule with its own flowspan, or that there is none
-abbrev pub FindsAs : ℕ → Network → Plan → Finding → Output → Type 0
+abbrev pub FindsAs : ℕ → Network → Plan → Outcome → Output → Type 0
 FindsAs limit network stated found output =
-    IsPlanRight network stated × ((proof : Proof) × IsProof network limit stated proof × (finding_of (outcome_for stated proof) ≡ Some found)
-    × (output ≡ output_of stated proof))
+    IsPlanRight network stated × ((proof : Proof) × IsProof network limit stated proof × (outcome_for stated proof ≡ found) × (output ≡ output_of stated proof))
 
 -- and of the plan of this file
-abbrev pub FindsIn : ℕ → Network → List ℕ → Finding → Output → Type 0
+abbrev pub FindsIn : ℕ → Network → List ℕ → Outcome → Output → Type 0
 FindsIn limit network file found output = (stated : Plan) × (plan_in file ≡ Ok stated) × FindsAs limit network stated found output
 
 -- the answer to the files read, by at most so many steps or conflicts, where this is found of the plan
-abbrev pub ProveFinds : ℕ → Finding → Command
+abbrev pub ProveFinds : ℕ → Outcome → Command
 ProveFinds limit found (network ∷ file ∷ []) output = (problem : NamedNetwork) × States network problem × FindsIn limit problem.network file found output
 ProveFinds limit found _ output = ⊥
+
+-- what is printed of a plan: its outcome is found of it; or it is rejected, and nothing is found
+abbrev pub Judges : ℕ → Network → Plan → RunOutput (String Global) → Type 0
+Judges limit network stated output =
+    FindsAs limit network stated output.answer.outcome (printed string_bytes (Ok output))
+    ⊎ (RejectsClaim network stated (printed string_bytes (Ok output)) × (found_of output.answer.outcome ≡ None))

@@ -6,25 +6,18 @@ use tsn_device::Failure;
 use tsn_given::Given;
 use tsn_words::{PlanWords, ProveWords};
 
-/// What a plan and its certificate are written to.
+/// What a plan and a certificate are written to.
 #[derive(Drop)]
-pub struct PlanFiles<F> {
-    pub plan: F,
-    pub cert: Option<F>,
-}
-
-/// What a better plan and a certificate are written to.
-#[derive(Drop)]
-pub struct ProofFiles<F> {
-    pub better: F,
-    pub cert: F,
+pub struct Files<P, C> {
+    pub plan: P,
+    pub cert: C,
 }
 
 /// The files that the words of `plan` name, or why one of them can't be written.
 pub fn plan_files<'a, G: Given<'a>>(
     given: &G,
     words: PlanWords<'a>,
-) -> Result<PlanFiles<G::File>, Failure<'a>>
+) -> Result<Files<G::File, Option<G::File>>, Failure<'a>>
     ensures plan { IfOk result (λ files. G.makes_plan given.now (option_map (λ path. path.now) words.entry.plan) files.plan) }
     ensures cert { IfOk result (λ files. IfSome files.cert (λ cert.
         G.makes_cert given.now (option_map (λ path. path.now) words.entry.cert) cert)) }
@@ -38,21 +31,21 @@ pub fn plan_files<'a, G: Given<'a>>(
         Some(path) => Some(given.cert_file(Some(path))?),
         None => None,
     };
-    Ok(PlanFiles { plan, cert })
+    Ok(Files { plan, cert })
 }
 
-/// The files that the words of `prove` name, or why one of them can't be written.
+/// The files that the words of `prove` name, the plan's for a better one, or why one of them can't be written.
 pub fn proof_files<'a, G: Given<'a>>(
     given: &G,
     words: ProveWords<'a>,
-) -> Result<ProofFiles<G::File>, Failure<'a>>
-    ensures better { IfOk result (λ files. G.makes_plan given.now (option_map (λ path. path.now) words.entry.plan) files.better) }
+) -> Result<Files<G::File, G::File>, Failure<'a>>
+    ensures plan { IfOk result (λ files. G.makes_plan given.now (option_map (λ path. path.now) words.entry.plan) files.plan) }
     ensures cert { IfOk result (λ files. G.makes_cert given.now (option_map (λ path. path.now) words.entry.cert) files.cert) }
-    ensures failures { IfOk result (λ files. (G.File.failed files.better ≡ 0) × (G.File.failed files.cert ≡ 0)) }
+    ensures failures { IfOk result (λ files. (G.File.failed files.cert ≡ 0) × (G.File.failed files.plan ≡ 0)) }
     ensures refused { OnErr result (G.refuses_plan given.now (option_map (λ path. path.now) words.entry.plan)
         ⊎ G.refuses_cert given.now (option_map (λ path. path.now) words.entry.cert)) }
 {
-    let better = given.plan_file(words.plan)?;
+    let plan = given.plan_file(words.plan)?;
     let cert = given.cert_file(words.cert)?;
-    Ok(ProofFiles { better, cert })
+    Ok(Files { plan, cert })
 }

@@ -1,23 +1,27 @@
-//! The run of `prove`, which searches for a proof of a plan, over readers and writers of bytes; and that command by its words, over
-//! whatever it is given. What `plan` shares with it stands here too: the files that are written, and how a search ended, or why none
-//! began.
+//! The two commands that search: what `plan` prints and writes of what its search found, and the run of `prove`, which searches for a
+//! proof of a plan, over readers and writers of bytes; that command by its words too, over whatever it is given. And what both share:
+//! the files that are written, and how a search ended, or why none began.
 #![tactic(auto)]
 
+mod certificate;
 pub mod ended;
 pub mod files;
-pub mod finding;
 mod judge;
-mod print_proof;
+pub mod laws;
+pub mod output;
+pub mod print;
 pub mod proof;
-mod proof_output;
-pub mod prove_laws;
 mod reason;
 mod run;
+pub mod run_output;
 pub mod unwritten;
 
-pub use ended::{end_progress, file_line, progress_of, stop_or};
-pub use files::{PlanFiles, plan_files};
-pub use finding::{Finding, Spans, finding_of};
+pub use ended::{PlanEnd, end_progress, end_run, file_line, progress_of, stop_or};
+pub use files::{Files, plan_files};
+pub use output::{alone, output_for};
+pub use print::write_plan;
 pub use proof::prove;
-pub use run::{ProofEnd, prove_answer, prove_run};
+pub use run::{prove_answer, prove_run};
+pub use run_output::{RunOutput, Written};
+pub use tsn_given::run::NO_SCHEDULE;
 pub use unwritten::{Unwritten, unwritable};

@@ -1,13 +1,13 @@
 //! The command that proves a plan.
-ghost use Rattle.std.specs.Prelude.{◌≡◌, option_map};
+ghost use Rattle.std.specs.Prelude.{◌≡◌};
 ghost use Rattle.tsn_given.specs.Run.{sink_over};
 ghost use Rattle.tsn_prover.specs.Prove.{ProveAnswers};
 ghost use Rattle.tsn_given.specs.Runs.{OverPlan, RunsTold};
-ghost use Rattle.tsn_prover.specs.Files.{OverProofFiles};
+ghost use Rattle.tsn_prover.specs.Files.{OverFiles};
 ghost use Rattle.tsn_prover.specs.Devices.{RunsProve, devices_of};
 
 use crate::ended::{end_progress, progress_of, stop_or};
-use crate::files::{ProofFiles, proof_files};
+use crate::files::{Files, proof_files};
 use crate::reason::undercut_line;
 use crate::run::prove_answer;
 use crate::unwritten::{Unwritten, unwritable};
@@ -56,20 +56,18 @@ fn prove_to<'a, C: Clock + Eprint, G: Given<'a>, W: Made>(
     given: &mut G,
     output: W,
     words: ProveWords<'a>,
-    files: ProofFiles<G::File>,
+    files: Files<G::File, G::File>,
 ) -> Ran<W>
-    requires better { G.makes_plan given.old (option_map (λ path. path.now) words.plan) files.better }
-    requires cert { G.makes_cert given.old (option_map (λ path. path.now) words.cert) files.cert }
-    requires failures { (G.File.failed files.better ≡ 0) × (G.File.failed files.cert ≡ 0) }
+    requires failures { (G.File.failed files.cert ≡ 0) × (G.File.failed files.plan ≡ 0) }
     requires output { W.failed output ≡ 0 }
     ensures { OverPlan G.Source.given G.Source.failed G.Source.is_at_end (G.opens_network given.old words.entry.network.now)
         (G.opens_plan given.old words.entry.given.now)
-        (λ sources. OverProofFiles G.File.taken G.File.failed files.cert files.better
+        (λ sources. OverFiles G.File.taken G.File.failed G.File.taken G.File.failed files.cert files.plan
         (λ written. RunsTold words.entry.json (ProveAnswers words.entry.steps) sources written
         (sink_over W.taken W.failed output result.output) result.status)) }
 {
-    let ProofFiles {
-        mut better,
+    let Files {
+        plan: mut better,
         mut cert,
     } = files;
     let mut network = given.network(words.network);

@@ -1,6 +1,5 @@
 //! By what a plan is undercut, in a line of words.
 
-use crate::finding::{Finding, Spans, finding_of};
 use std::alloc::{AllocError, Global};
 use tsn_given::Outcome;
 use tsn_text::line_of;
@@ -8,17 +7,19 @@ use tsn_text::line_of;
 /// The line on a plan of the file of this name that a valid schedule undercuts; None where none does, or where there is no memory
 /// for the line.
 pub(crate) fn undercut_line(alloc: Global, name: &str, outcome: Outcome) -> Option<String> {
-    match finding_of(outcome) {
-        Some(Finding::Undercut(spans)) => undercut_text(alloc, name, spans).ok(),
-        Some(Finding::Proved) => None,
-        Some(Finding::Stopped(_)) => None,
-        None => None,
-    }
+    let Outcome::Undercut { stated, better, .. } = outcome else {
+        return None;
+    };
+    undercut_text(alloc, name, stated, better).ok()
 }
 
-// The text on a plan of the file of this name, and on the better one.
-fn undercut_text(alloc: Global, name: &str, spans: Spans) -> Result<String, AllocError> {
-    let Spans { stated, better } = spans;
+// The text on a plan of the file of this name and of this flowspan, if it is a schedule, and on that of the better one, in nanoseconds.
+fn undercut_text(
+    alloc: Global,
+    name: &str,
+    stated: Option<u64>,
+    better: u64,
+) -> Result<String, AllocError> {
     let mut text = line_of(alloc, name);
     text.push_str("a schedule of flowspan ");
     text.push_number(better);

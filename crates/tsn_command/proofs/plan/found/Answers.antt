@@ -1,10 +1,26 @@
-use Rattle.tsn_given.specs.Run.{reading_of}
-use Rattle.tsn_plan_output.proofs.PlanLemmas.{took_stop}
+use Rattle.tsn_prover.proofs.PlanLemmas.{found_comes, found_knows, none_open, wanted_by}
 use Rattle.tsn_command.proofs.plan.found.Goals as goal
 
-pub returns-in-Ok-clause-stops : goal.returns-in-Ok-clause-stops
-returns-in-Ok-clause-stops g c =
-    let whole = c.in_ok-file.ensures.whole in
-    let network = reading_of (g.N.Source.given c.args.network.now) (g.N.Source.given c.read_all.new.source) (g.N.Source.is_at_end c.read_all.new.source) in
-    took_stop c.args.task.effort.limit network c.in_ok-file.file.items c.in-Ok.output (record { given = whole.0; ended = whole.1; short = whole.2 })
-    (rw c.deref.ensures.value at c.in-Ok.ensures.stops)
+pub output_for-requires : goal.output_for-requires
+output_for-requires g c =
+    none_open c.in-Taken.problem.network c.args.effort.limit c.in_ok-found-in-Taken.field-0.found c.in_ok-found-in-Taken.ensures.found
+
+pub returns-in_ok-output_for-in-Taken-clause-comes : goal.returns-in_ok-output_for-in-Taken-clause-comes
+returns-in_ok-output_for-in-Taken-clause-comes g c =
+    let network = rw c.in-Taken.is at c.in_ok-problem.ensures in
+    let left = c.in_ok-found-in-Taken in
+    let e = c.in_ok-output_for-in-Taken.ensures in
+    found_comes c.args.effort c.args.wanted _ c.in_ok-output_for-in-Taken.field-0 c.in-Taken.problem network left.field-0.found left.ensures.found e.outcome e.plan
+    e.cert left.ensures.method
+
+pub returns-in_ok-output_for-in-Taken-clause-knows : goal.returns-in_ok-output_for-in-Taken-clause-knows
+returns-in_ok-output_for-in-Taken-clause-knows g c =
+    let network = rw c.in-Taken.is at c.in_ok-problem.ensures in
+    let left = c.in_ok-found-in-Taken in
+    let e = c.in_ok-output_for-in-Taken.ensures in
+    found_knows c.args.effort c.args.wanted _ c.in_ok-output_for-in-Taken.field-0 c.in-Taken.problem network left.field-0.found left.ensures.found e.outcome e.plan
+    e.cert
+
+pub returns-in_ok-output_for-in-Taken-clause-wanted : goal.returns-in_ok-output_for-in-Taken-clause-wanted
+returns-in_ok-output_for-in-Taken-clause-wanted g c =
+    wanted_by c.args.wanted c.in_ok-found-in-Taken.field-0.found c.in_ok-output_for-in-Taken.field-0.second c.in_ok-output_for-in-Taken.ensures.cert

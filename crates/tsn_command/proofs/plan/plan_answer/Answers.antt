@@ -1,33 +1,25 @@
-use Rattle.std.proofs.Common.{rules, ◌≡◌, inl, List, [], ◌∷◌, is_some, ap, sym, ◌∙◌, subst, arith}
-use Rattle.std.proofs.lemmas.List.Elements.{All-nil}
-use Rattle.tsn_given.specs.Run.{IsOutput, IsUnread, Reading, SourceRun, reading_of, readings_of, source_over}
-use Rattle.tsn_given.specs.Said.{status_of, stop_of}
-use Rattle.tsn_given.specs.Outcome.{outcome_of}
-use Rattle.tsn_plan_output.specs.Plan.{PlanAnswers, PlanStops}
-use Rattle.tsn_plan_output.specs.PlanOutput.{IsPrinted}
-use Rattle.tsn_given.proofs.RunLemmas.{runs_over, some_of}
-use Rattle.tsn_given.proofs.SaidLemmas.{known_stop}
-use Rattle.tsn_plan_output.proofs.PlanLemmas.{kept_stop, plan_shown, stop_answered, stop_printed}
+use Rattle.std.proofs.Common.{is_some}
+use Rattle.tsn_given.specs.Said.{stop_of}
+use Rattle.tsn_prover.specs.Plan.{PlanAnswers, PlanStops}
+use Rattle.tsn_prover.specs.RunOutput.{IsPrinted, written_bytes}
+use Rattle.tsn_prover.proofs.EndLemmas.{fault_ends, none_of_fault, value_told}
+use Rattle.tsn_prover.proofs.PlanLemmas.{no_stop, plan_ends, plan_whole}
 use Rattle.tsn_command.proofs.plan.plan_answer.Goals as goal
 
-pub returns-clause-runs : goal.returns-clause-runs
-returns-clause-runs g c =
-    let network : List SourceRun =
-    source_over g.N.Source.given g.N.Source.failed g.N.Source.is_at_end c.args.network.now c.found-output.new.network ∷ [] in
-    runs_over IsPrinted (PlanAnswers c.args.effort (is_some c.args.cert.now)) network _ c.found-output.result _
-    c.found-output.ensures.failures c.write_files.ensures.written
-    (plan_shown c.args.effort (is_some c.args.cert.now) c.is_some.result (readings_of network) c.found-output.result (search rules) c.found-output.ensures.faults
-    c.found-output.ensures.answers)
-    (λ broken. inl ((λ output answers. answers), All-nil IsUnread))
+pub returns-in-Ok-clause-runs : goal.returns-in-Ok-clause-runs
+returns-in-Ok-clause-runs g c =
+    plan_ends (PlanAnswers c.args.effort (is_some c.args.cert.now)) _ _ c.in-Ok.output _ (rw c.is_some-wanted.ensures at c.in-Ok.ensures.comes)
+    c.write_plan.ensures.written
 
-pub returns-clause-stop : goal.returns-clause-stop
-returns-clause-stop g c =
-    let readings : List Reading = reading_of (g.N.Source.given c.args.network.now) (g.N.Source.given c.found-output.new.network) (g.N.Source.is_at_end c.found-output.new.network) ∷ [] in
-    some_of (stop_of (outcome_of c.write_files.result)) _
-    (λ stop is.
-    let five : status_of (outcome_of c.write_files.result) ≡ 5 = known_stop (outcome_of c.write_files.result) (ap is_some is) in
-    let whole = c.write_files.ensures.written.whole (λ broken. absurd (omega (arith, five, broken))) in
-    let shown = (stop_printed c.found-output.result whole.0 whole.1 (sym whole.2 ∙ five)).1 in
-    let kept = kept_stop c.found-output.result c.write_files.result stop c.write_files.ensures.stop is in
-    let told = stop_answered c.args.effort.limit readings c.found-output.result stop kept c.found-output.ensures.stops in
-    record { output = whole.0; answer = subst (λ o. IsOutput (PlanStops c.args.effort.limit stop) readings o) (sym shown) told; status_is = whole.2; written = whole.3 })
+pub returns-in-Ok-clause-stop : goal.returns-in-Ok-clause-stop
+returns-in-Ok-clause-stop g c =
+    value_told stop_of (PlanStops c.args.effort.limit) no_stop written_bytes IsPrinted _ _ c.in-Ok.output c.write_plan.result
+    (PlanAnswers c.args.effort (is_some c.args.cert.now)) (returns-in-Ok-clause-runs g c) c.in-Ok.ensures.knows c.write_plan.ensures.written
+    c.write_plan.ensures.outcome (plan_whole c.in-Ok.output)
+
+pub returns-in-Err-clause-runs : goal.returns-in-Err-clause-runs
+returns-in-Err-clause-runs g c =
+    fault_ends written_bytes _ _ _ _ (PlanAnswers c.args.effort (is_some c.args.cert.now)) _ c.in-Err.fault (rw c.is_some-wanted.ensures at c.in-Err.ensures.comes)
+
+pub returns-in-Err-clause-stop : goal.returns-in-Err-clause-stop
+returns-in-Err-clause-stop g c = none_of_fault stop_of (PlanStops c.args.effort.limit) no_stop _ c.in-Err.fault

@@ -8,9 +8,9 @@ returns-in-Ok g c =
     inl
     (over_along c.plan_to.ensures
     (λ network files. record {
-      plan = c.in-Ok.files.plan;
-      cert = c.in-Ok.files.cert;
-      made = (e.plan, e.cert, e.wanted);
+      first = c.in-Ok.files.plan;
+      second = c.in-Ok.files.cert;
+      made = (e.plan, (e.cert, e.wanted));
       unfailing = e.failures;
       over = files;
     }))

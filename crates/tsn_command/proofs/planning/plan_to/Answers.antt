@@ -9,8 +9,8 @@ returns g c = (
     opened = c.network-network.ensures.opened;
     unfailing = c.network-network.ensures.failures;
     ran = record {
-      plan_left = c.plan_answer-answer.new.plan;
-      cert_left = c.plan_answer-answer.new.cert;
+      first_left = c.plan_answer-answer.new.plan;
+      second_left = c.plan_answer-answer.new.cert;
       ran = let runs = rw (c.effort_of.ensures, c.requires.wanted) at c.plan_answer-answer.ensures.runs in
           told_over _ _ _ _ c.plan_answer-answer.result _ _ runs c.tell_answer.ensures;
     };

@@ -8,13 +8,7 @@ returns-in-Ok g c =
     inl
     (over_along c.prove_to.ensures
     (λ network over. over_along over
-    (λ plan files. record {
-      cert = c.in-Ok.files.cert;
-      better = c.in-Ok.files.better;
-      made = (e.cert, e.better);
-      unfailing = (e.failures.1, e.failures.0);
-      over = files;
-    })))
+    (λ plan files. record { first = c.in-Ok.files.cert; second = c.in-Ok.files.plan; made = (e.cert, e.plan); unfailing = e.failures; over = files })))
 
 pub returns-in-Err : goal.returns-in-Err
 returns-in-Err g c = inr (c.in-Err.ensures.refused, c.unwritable.ensures)

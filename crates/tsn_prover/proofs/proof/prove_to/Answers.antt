@@ -15,8 +15,8 @@ returns g c = (
         opened = c.plan-plan.ensures.opened;
         unfailing = c.plan-plan.ensures.failures;
         ran = record {
-          cert_left = c.prove_answer-answer.new.cert;
-          better_left = c.prove_answer-answer.new.better;
+          first_left = c.prove_answer-answer.new.cert;
+          second_left = c.prove_answer-answer.new.better;
           ran = told_over _ _ _ _ c.prove_answer-answer.result _ _ c.prove_answer-answer.ensures.runs c.tell_answer.ensures;
         };
       },

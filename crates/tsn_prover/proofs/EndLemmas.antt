@@ -1,0 +1,117 @@
+-- How a run that searches ends, and what is told of it as a value.
+use Rattle.std.proofs.Common.{◌≡◌, ◌⊎◌, inl, inr, ◌++◌, ℕ, List, [], ◌∷◌, Option, Some, None, Result, Ok, Err, IfOk, IfSome, refl, sym, ap, ◌∙◌, string_bytes, subst, arith}
+use Rattle.tsn_device.specs.declared.device.ReadFault.{ReadFault}
+use Rattle.tsn_device.specs.declared.device.ReadFault.TheVariants.{Broken, TooLong, Memory}
+use Rattle.tsn_given.specs.declared.answer.Answer.{Answer}
+use Rattle.tsn_given.specs.declared.outcome.Outcome.{Outcome}
+use Rattle.tsn_given.specs.declared.outcome.Outcome.TheVariants as ends
+use Rattle.tsn_given.specs.Run.{Command, EndsOver, IsLine, IsOutput, Output, RunsOver, SinkRun, SourceRun, readings_of, writing_of}
+use Rattle.tsn_given.specs.Said.{line_of, status_of}
+use Rattle.tsn_given.specs.Outcome.{ComesOver, EndsAs, IsOutputOf, IsWrittenAs, line_taken, outcome_of, told}
+use Rattle.tsn_given.proofs.RunLemmas.{Appends-nothing, Keeps-same, TellsFaults, never_both, runs_with, some_of}
+use Rattle.tsn_given.proofs.RunsLemmas.{ends_told}
+use Rattle.tsn_prover.specs.declared.run_output.RunOutput.{RunOutput}
+use Rattle.tsn_prover.specs.RunOutput.{Knows, line_alone, printed}
+
+-- what follows of a value, where there is one
+pub some_along : {X : Type 0} (found : Option X) (P Q : X → Type 0) → IfSome found P → ((x : X) → P x → Q x) → IfSome found Q
+some_along None P Q holds follows = tt
+some_along (Some x) P Q holds follows = follows x holds
+
+-- what is printed, by its outcome and texts
+pub printed_is : {S : Type 0} (text : S → List ℕ) (output : RunOutput S) (outcome : Outcome) (one two : List ℕ) → output.answer.outcome ≡ outcome
+    → string_bytes output.first ≡ one → text output.second ≡ two
+    → printed text (Ok output) ≡ record { status = status_of outcome; texts = one ∷ two ∷ line_of outcome ∷ [] }
+printed_is text output outcome one two same first second =
+    ap (λ o. record { status = status_of o; texts = string_bytes output.first ∷ text output.second ∷ line_of o ∷ [] }) same
+    ∙ ap (λ t. record { status = status_of outcome; texts = t ∷ text output.second ∷ line_of outcome ∷ [] }) first
+    ∙ ap (λ t. record { status = status_of outcome; texts = one ∷ t ∷ line_of outcome ∷ [] }) second
+
+-- a line that is refused is printed alone
+pub refused_line : {S : Type 0} (text : S → List ℕ) (output : RunOutput S) (outcome : Outcome) (line : List ℕ) → output.answer.outcome ≡ outcome
+    → string_bytes output.first ≡ [] → text output.second ≡ [] → IsLine 3 line (told outcome) → IsLine 3 line (printed text (Ok output))
+refused_line text output outcome line same first second (three, is) =
+    subst (λ (o : Output). IsLine 3 line o) (sym (printed_is text output outcome [] [] same first second)) (three, (refl, (refl, is)))
+
+-- how a fault of a source is printed
+pub printed_faults : {S : Type 0} (text : S → List ℕ) → TellsFaults (printed text)
+printed_faults text = record { too_long = (refl, (refl, (refl, refl))); memory = (refl, (refl, (refl, refl))) }
+
+-- a sink over a run in which it was left alone
+abbrev left_alone : Option (List ℕ) → ℕ → SinkRun
+left_alone taken failed = record { writing = writing_of taken taken; writes = record { before = failed; after = failed } }
+
+module _ {S : Type 0} (text : S → List ℕ) (one two : Option (List ℕ)) (one_failed two_failed : ℕ) where
+  abbrev left : ReadFault → List SinkRun
+  left fault = left_alone one one_failed ∷ left_alone two two_failed ∷ line_taken (line_of (outcome_of (Err fault))) ∷ []
+
+  -- where a file wasn't read, none is written
+  fault_told : (fault : ReadFault)
+      → IsWrittenAs {A = RunOutput S} (λ o shown. shown ≡ printed text o) (Err fault) (left fault) (status_of (outcome_of (Err fault)))
+  fault_told TooLong = record {
+    whole = λ done. (printed text (Err TooLong), refl, refl, (Appends-nothing one, (Appends-nothing two, (refl, tt))), (refl, (refl, refl)));
+    unread = λ broken. cc;
+    device = λ device unbroken. absurd (omega (arith, device));
+    beginning = λ failed. absurd (failed refl);
+  }
+  fault_told Memory = record {
+    whole = λ done. (printed text (Err Memory), refl, refl, (Appends-nothing one, (Appends-nothing two, (refl, tt))), (refl, (refl, refl)));
+    unread = λ broken. cc;
+    device = λ device unbroken. absurd (omega (arith, device));
+    beginning = λ failed. absurd (failed refl);
+  }
+  fault_told Broken = record {
+    whole = λ done. absurd (done refl);
+    unread = λ broken. (refl, (Keeps-same one, (Keeps-same two, Keeps-same (Some []))), (refl, (refl, refl)));
+    device = λ device unbroken. absurd (unbroken refl);
+    beginning = λ failed. absurd (failed refl);
+  }
+
+  pub fault_ends : (command : Command) (sources : List SourceRun) (fault : ReadFault) → ComesOver {A = RunOutput S} (printed text) command sources (Err fault)
+      → EndsAs command sources (left_alone one one_failed ∷ left_alone two two_failed ∷ []) (outcome_of (Err fault))
+  fault_ends command sources fault comes =
+      runs_with (printed text) command sources (left fault) (Err fault) (status_of (outcome_of (Err fault))) comes (fault_told fault)
+
+-- what a run answers is told as a value; of a fault none is
+module _ {X : Type 0} (value : Outcome → Option X) (tells : X → Command) (of_fault : (fault : ReadFault) → value (outcome_of (Err fault)) ≡ None) where
+  pub none_of_fault : (P : X → Type 0) (fault : ReadFault) → IfSome (value (outcome_of (Err fault))) P
+  none_of_fault P fault = subst (λ found. IfSome found P) (sym (of_fault fault)) tt
+
+  -- what was known of what was to be written; the run itself says over which sources and files
+  pub value_told : {S : Type 0} (text : S → List ℕ) (Prints : Result (RunOutput S) ReadFault → Output → Type 0) (sources : List SourceRun)
+      (sinks : List SinkRun) (output : RunOutput S) (answer : Result Answer ReadFault) (ran : Command)
+      → RunsOver ran sources sinks (status_of (outcome_of answer)) → Knows text value tells sources (Ok output)
+      → IsWrittenAs Prints (Ok output) sinks (status_of (outcome_of answer)) → IfOk answer (λ a. a.outcome ≡ output.answer.outcome)
+      → ((shown : Output) (x : X) → Prints (Ok output) shown → value output.answer.outcome ≡ Some x → shown.status ≡ status_of output.answer.outcome
+      → shown ≡ printed text (Ok output))
+      → IfSome (value (outcome_of answer)) (λ x. EndsOver (tells x) sources sinks (status_of (outcome_of answer)))
+  value_told text Prints sources sinks output (Err fault) ran runs knows written same whole = none_of_fault _ fault
+  value_told text Prints sources sinks output (Ok answer) ran runs knows written same whole =
+      some_of (value answer.outcome) _
+      (λ x is.
+      let all = written.whole (λ device. omega (arith, answer.not_device, device)) in
+      let kept : value output.answer.outcome ≡ Some x = ap value (sym same) ∙ is in
+      let shown : all.0 ≡ printed text (Ok output) = whole all.0 x all.1 kept (sym all.2 ∙ ap status_of same) in
+      let known = subst (λ v. IfSome v (λ y. IsOutput (tells y) (readings_of sources) (printed text (Ok output)))) kept knows in
+      record {
+        output = all.0;
+        answer = subst (λ o. IsOutput (tells x) (readings_of sources) o) (sym shown) known;
+        status_is = all.2;
+        written = all.3;
+      })
+
+  -- and is known once the line is written
+  pub value_over : (sources : List SourceRun) (files : List SinkRun) (answer : Result Answer ReadFault) (output : SinkRun) (outcome : Outcome)
+      (ran : Command) (shown : ℕ) → RunsOver ran sources (files ++ output ∷ []) shown → IsWrittenAs IsOutputOf answer (output ∷ []) (status_of outcome) → (outcome ≡ ends.Failed) ⊎ (outcome ≡ outcome_of answer)
+      → IfSome (value (outcome_of answer))
+      (λ x. EndsOver (tells x) sources (files ++ line_taken (line_of (outcome_of answer)) ∷ []) (status_of (outcome_of answer)))
+      → IfSome (value outcome) (λ x. EndsOver (tells x) sources (files ++ output ∷ []) (status_of outcome))
+  value_over sources files answer output outcome ran shown runs written (inl failed) known =
+      subst (λ o. IfSome (value o) (λ x. EndsOver (tells x) sources (files ++ output ∷ []) (status_of o))) (sym failed) (none_of_fault _ Broken)
+  value_over sources files (Err fault) output outcome ran shown runs written (inr same) known =
+      subst (λ o. IfSome (value o) (λ x. EndsOver (tells x) sources (files ++ output ∷ []) (status_of o))) (sym same) (none_of_fault _ fault)
+  value_over sources files (Ok answer) output outcome ran shown runs written (inr same) known =
+      subst (λ o. IfSome (value o) (λ x. EndsOver (tells x) sources (files ++ output ∷ []) (status_of outcome))) (sym same)
+      (some_along (value answer.outcome) _ _ known
+      (λ x ended. ends_told (tells x) sources files (Ok answer) output (status_of outcome) ended written
+      (λ device. omega (arith, answer.not_device, ap status_of same, device))))
